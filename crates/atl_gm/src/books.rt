@@ -1,4 +1,4 @@
-//! The subcommand `books`: prints the books of a campaign's file.
+//! The subcommand `books`: prints the books of a campaign's file. See docs/FORMATS.md, "Books".
 use crate::database::{Opening, Work, work_on};
 use crate::failure::Failure;
 use crate::options;
@@ -9,7 +9,7 @@ use clap::{Arg, ArgMatches};
 use sqlite::Alter;
 use std::alloc::{AllocError, Global};
 
-/// Asks for the text of the books. A service that is closed has none, as after a failure of the database.
+/// The work of `books`: makes the text of the books. A closed service gives Store.
 struct Asking;
 
 impl Work for Asking {
@@ -23,7 +23,7 @@ impl Work for Asking {
     }
 }
 
-/// Prints the books of a campaign.
+/// The subcommand `books`, which prints the books of a campaign.
 pub struct Books;
 
 impl Subcommand for Books {

@@ -11,7 +11,8 @@ use clap::{Arg, ArgMatches};
 use sqlite::Alter;
 use std::alloc::{AllocError, Global};
 
-/// A month to close, with the moderator's pass text, and the dice whose words it is closed with.
+/// The work of `close`: closes this month, with the moderator's pass text and the words of the
+/// dice.
 #[derive(Clone, Copy)]
 struct Closing<'a> {
     alloc: Global,
@@ -32,7 +33,7 @@ impl<'a> Work for Closing<'a> {
     }
 }
 
-/// Closes a month, and prints its number.
+/// The subcommand `close`, which closes a month and prints its number.
 pub struct Close;
 
 impl Subcommand for Close {

@@ -1,4 +1,4 @@
-//! Opens the database file of a campaign, runs the subcommand's work on it, and closes it.
+//! Opens the database file of a campaign, runs a subcommand's work on it, and shuts it.
 use crate::failure::Failure;
 use atl_service::{Answer, Command, Refused, Service, found, open, upgrade};
 use sqlite::{Alter, Connection, FileFrom, FileStore, Start, Wary};
@@ -7,15 +7,15 @@ use std::alloc::Global;
 use std::fs;
 use std::io::ErrorKind;
 
-/// What a subcommand does with a campaign, over any store.
+/// The work of a subcommand on an open campaign, over any store.
 pub trait Work {
-    /// What is printed of the work.
+    /// The type of the work's result.
     type Done: Drop;
 
     fn run<S: Alter>(&self, service: &mut Service<S>) -> Result<Self::Done, Failure>;
 }
 
-/// The answer to the command.
+/// The work of a command: running it; the result is its answer.
 impl Work for Command {
     type Done = Answer;
 
@@ -24,12 +24,12 @@ impl Work for Command {
     }
 }
 
-/// How the campaign of a file is opened.
+/// How the campaign of a file is obtained: founded, opened or upgraded.
 #[derive(Clone, Copy)]
 pub enum Opening<'a> {
     /// It is founded by a world text, with the moderator's pass text. The file may be made for it.
     Founded { world: &'a str, pass: &'a str },
-    /// It is in the file.
+    /// It is opened from the file.
     Kept,
     /// It is in the file in the first format, and is upgraded by a new world text.
     Upgraded { world: &'a str },
@@ -54,8 +54,8 @@ fn has_folder(rt: &HostRuntime, path: &str) -> Result<bool, Failure> {
     }
 }
 
-/// Why a path without a file is refused: there is no campaign, or, where the folder isn't there either, no database could be
-/// opened.
+/// Why a path without a file is refused: NotACampaign, or Store where the folder isn't there
+/// either.
 fn without_file(rt: &HostRuntime, path: &str) -> Failure {
     match has_folder(rt, path) {
         Ok(true) => Failure::NotACampaign,
@@ -94,7 +94,7 @@ fn connect<S: Start>(
     }
 }
 
-/// The campaign of a database, with its service.
+/// The service of the campaign of a database, which is founded, opened or upgraded.
 fn open_service<S: Alter>(
     alloc: Global,
     conn: Connection<S>,
@@ -107,7 +107,8 @@ fn open_service<S: Alter>(
     }
 }
 
-/// Does the work on the campaign, and returns its result and the connection.
+/// Opens the campaign of a connection, does the work on it, and returns its result and the
+/// connection.
 fn run_work<S: Alter + Drop, W: Work>(
     alloc: Global,
     conn: Connection<S>,
@@ -123,27 +124,28 @@ fn run_work<S: Alter + Drop, W: Work>(
     }
 }
 
-/// Copies the log into the file and closes both, so that the file alone holds all that was done.
-fn close<D: Disk + Drop>(conn: Connection<FileStore<D>>) -> Result<(), Failure> {
+/// Copies the log into the database file and shuts both, so that the file alone holds all changes.
+fn shut<D: Disk + Drop>(conn: Connection<FileStore<D>>) -> Result<(), Failure> {
     match conn.close() {
         Ok(()) => Ok(()),
         Err(error) => Err(Failure::from(error)),
     }
 }
 
-/// The result of the work, or the first failure: that of the work, then that of closing the file.
+/// The result of the work, or the first failure: that of the work, then that of shutting the file.
 fn both_results<T: Drop>(
     done: Result<T, Failure>,
-    closing: Result<(), Failure>,
+    shutting: Result<(), Failure>,
 ) -> Result<T, Failure> {
     let done = done?;
-    closing?;
+    shutting?;
     Ok(done)
 }
 
-/// Does the work on the campaign of the file at the path. Afterwards the file alone holds the campaign, whatever came of the
-/// work. If closing the file fails, the work may have been done, and a log is next to the file. Only `found` works on a file
-/// that is missing or too short for a database.
+/// Opens the campaign of the file at the path, does the work on it, and shuts the file. Afterwards
+/// the file alone holds the campaign, whatever came of the work. If shutting it fails, the work may
+/// have been done, and a log is next to the file. Only `found` works on a file that is missing or
+/// too short for a database.
 pub fn work_on<W: Work>(
     rt: &HostRuntime,
     path: &str,
@@ -155,5 +157,5 @@ pub fn work_on<W: Work>(
     }
     let conn = connect(rt, path, Wary)?;
     let (done, conn) = run_work(rt.alloc(), conn, opening, work);
-    both_results(done, close(conn))
+    both_results(done, shut(conn))
 }

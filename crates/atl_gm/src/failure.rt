@@ -1,4 +1,5 @@
-//! Why the program fails, and what it prints of that on standard error. See docs/FORMATS.md, "The program".
+//! The failures of the program, and their lines on standard error. See docs/FORMATS.md, "The
+//! program".
 use atl_service::{Cause, Refusal};
 use atl_tables::WorldFault;
 use sqlite::{Error, ErrorCode};
@@ -118,6 +119,7 @@ impl<'a> fmt::Display for OneLine<'a> {
     }
 }
 
+/// Prints the line of a fault of a world file: its number, name and path.
 fn print_world_fault<R: Eprint>(rt: &R, fault: &WorldFault) -> io::Result<()> {
     let Some(number) = fault.number() else {
         return eprintln!(rt; "fault: Memory");
@@ -133,7 +135,7 @@ fn print_world_fault<R: Eprint>(rt: &R, fault: &WorldFault) -> io::Result<()> {
 }
 
 impl Failure {
-    /// Memory if the system had none, else the other failure.
+    /// The failure for an error of the system: Memory if it had none, else `other`.
     pub fn of_system(error: io::Error, other: Failure) -> Failure {
         match error.kind() {
             ErrorKind::OutOfMemory => Failure::Memory,

@@ -1,9 +1,10 @@
-//! Reads the files that the command line names, and standard input.
+//! Reads the text files that the command line names, and standard input.
 use crate::failure::Failure;
 use std::alloc::Global;
 use std::io::Read;
 use std::{fs, io};
 
+/// The failure for an error of reading: File, or Memory.
 fn unread(error: io::Error) -> Failure {
     Failure::of_system(error, Failure::File)
 }

@@ -1,4 +1,4 @@
-//! The subcommand `found`: founds a campaign in a file.
+//! The subcommand `found`: founds a campaign in a file. See docs/FORMATS.md, "The program".
 use crate::database::{Opening, Work, work_on};
 use crate::failure::Failure;
 use crate::files::text_at;
@@ -10,7 +10,7 @@ use clap::{Arg, ArgMatches};
 use sqlite::Alter;
 use std::alloc::{AllocError, Global};
 
-/// Counts the regions of the world.
+/// The work of `found` once the campaign is founded: counts the regions of its world.
 struct CountRegions;
 
 impl Work for CountRegions {
@@ -21,7 +21,8 @@ impl Work for CountRegions {
     }
 }
 
-/// Founds a campaign by the world of a file, with the moderator's pass text, and prints how many regions it has.
+/// The subcommand `found`, which founds a campaign by a world file and prints its number of
+/// regions.
 pub struct Found;
 
 impl Subcommand for Found {

@@ -11,7 +11,7 @@ use clap::{Arg, ArgMatches};
 use sqlite::Alter;
 use std::alloc::{AllocError, Global};
 
-/// A faction to join under the name, with the pass text, and the dice that say where.
+/// The work of `join`: a faction of this name and pass text joins in the region that the dice pick.
 #[derive(Clone, Copy)]
 struct Joining<'a> {
     alloc: Global,
@@ -32,7 +32,7 @@ impl<'a> Work for Joining<'a> {
     }
 }
 
-/// Has a faction join, and prints its number and that of its unit.
+/// The subcommand `join`, which has a faction join and prints its number and that of its unit.
 pub struct Join;
 
 impl Subcommand for Join {

@@ -9,10 +9,11 @@ use atl_tables::Sequence;
 use clap::{Arg, ArgMatches};
 use std::alloc::{AllocError, Global};
 
-/// How many bytes of a file are read: one more than a mailing may have, so that a longer one is refused as TooLong.
+/// The most bytes of a file that are read: one more than a mailing may have, so that a longer one
+/// is refused as TooLong.
 const READ_BYTES: u64 = MOST_BYTES as u64 + 1;
 
-/// The command that hands in the mailing of the file.
+/// The command Mail with the mailing of the file.
 fn mailing(rt: &HostRuntime, options: &ArgMatches<'_>) -> Result<atl_service::Command, Failure> {
     let faction = options::number_of(options, options::FACTION)?;
     let pass = options::text_of(options, options::PASS)?;
@@ -25,7 +26,8 @@ fn mailing(rt: &HostRuntime, options: &ArgMatches<'_>) -> Result<atl_service::Co
     })
 }
 
-/// Keeps the mailing of a file, and prints how many orders it has, and its faulty lines.
+/// The subcommand `mail`, which stores the mailing of a file and prints its orders' count and its
+/// faulty lines.
 pub struct Mail;
 
 impl Subcommand for Mail {

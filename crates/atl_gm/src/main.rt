@@ -27,7 +27,7 @@ use std::alloc::{AllocError, Global};
 use std::process::ExitCode;
 use std::{env, io};
 
-/// The subcommands, each of a module, in the order of the help.
+/// The list of all subcommands, in the order of the help, as nested pairs.
 type All = (
     trial::Trial,
     (
@@ -48,7 +48,7 @@ type All = (
     ),
 );
 
-/// The command line: one level of subcommands.
+/// The parser of the command line, with one level of subcommands.
 fn command_line<'a>(alloc: Global) -> Result<Command<'a>, AllocError> {
     let line = Command::new(alloc, "atl_gm")
         .about("Moderates a campaign of Atlantis 1.0, the peaceful profile")
@@ -56,7 +56,7 @@ fn command_line<'a>(alloc: Global) -> Result<Command<'a>, AllocError> {
     All::add_to(alloc, line)
 }
 
-/// Runs the subcommand that was asked for.
+/// Runs the subcommand that the command line names.
 fn dispatch(rt: &HostRuntime, matches: &ArgMatches<'_>) -> Result<(), Failure> {
     match matches.subcommand() {
         Some((name, options)) => All::run(rt, name, options),
@@ -64,7 +64,7 @@ fn dispatch(rt: &HostRuntime, matches: &ArgMatches<'_>) -> Result<(), Failure> {
     }
 }
 
-/// Why a command line is not taken.
+/// The failure for a command line that the parser refuses.
 fn refused_line(error: Error) -> Failure {
     if error.kind() == ErrorKind::OutOfMemory {
         return Failure::Memory;
@@ -72,7 +72,7 @@ fn refused_line(error: Error) -> Failure {
     Failure::CommandLine(error)
 }
 
-/// Why there are no words: one of them is no text, or there was no memory.
+/// The failure for a command line that can't be read: a word is not UTF-8, or out of memory.
 fn unread_line(command: &mut Command<'_>, error: io::Error) -> Failure {
     if error.kind() == io::ErrorKind::OutOfMemory {
         return Failure::Memory;
@@ -83,7 +83,7 @@ fn unread_line(command: &mut Command<'_>, error: io::Error) -> Failure {
     }
 }
 
-/// The words that the program was called with.
+/// The words of the command line, as texts.
 fn words(rt: &HostRuntime, command: &mut Command<'_>) -> Result<Vec<String>, Failure> {
     match env::args(rt) {
         Ok(args) => Ok(args.collect(rt.alloc())?),
@@ -91,6 +91,7 @@ fn words(rt: &HostRuntime, command: &mut Command<'_>) -> Result<Vec<String>, Fai
     }
 }
 
+/// Checks the stack, parses the command line, and runs its subcommand.
 fn run(rt: &HostRuntime) -> Result<(), Failure> {
     if !stack::has_room() {
         return Err(Failure::Memory);

@@ -1,37 +1,37 @@
-//! The options of a subcommand: each takes a value and has to be given.
+//! The options of the subcommands, and their values. Each takes a value and has to be given.
 use crate::failure::Failure;
 use atl_http::Dice;
 use clap::{Arg, ArgMatches, value_parser};
 use std::alloc::Global;
 
-/// The file of the campaign.
+/// The name of the option for the file of the campaign.
 pub const DB: &str = "db";
 
-/// The file of a world.
+/// The name of the option for a world file.
 pub const WORLD: &str = "world";
 
-/// The file of a mailing.
+/// The name of the option for the file of a mailing.
 pub const FILE: &str = "file";
 
-/// A pass text.
+/// The name of the option for a pass text.
 pub const PASS: &str = "pass";
 
-/// The name of a faction that joins.
+/// The name of the option for the name of a faction that joins.
 pub const NAME: &str = "name";
 
-/// The number of a faction.
+/// The name of the option for a faction's number.
 pub const FACTION: &str = "faction";
 
-/// The number of a month.
+/// The name of the option for a month's number.
 pub const MONTH: &str = "month";
 
-/// The port that is served.
+/// The name of the option for the port that is served.
 pub const PORT: &str = "port";
 
-/// How many connections are served.
+/// The name of the option for the count of connections.
 pub const COUNT: &str = "count";
 
-/// The seed of the dice.
+/// The name of the option for the seed of the dice.
 pub const SEED: &str = "seed";
 
 /// An option whose value is a text, and what the help says of it.
@@ -97,22 +97,22 @@ pub fn seed<'a>(alloc: Global) -> Arg<'a> {
     )
 }
 
-/// The text that was given.
+/// The text that was given for this option.
 pub fn text_of<'a>(options: &ArgMatches<'a>, name: &str) -> Result<&'a str, Failure> {
     options.get_str(name).ok_or(Failure::NoValue)
 }
 
-/// The number that was given.
+/// The number of 32 bits that was given for this option.
 pub fn number_of(options: &ArgMatches<'_>, name: &str) -> Result<u32, Failure> {
     options.get_one(name).ok_or(Failure::NoValue)
 }
 
-/// The number of a port that was given.
+/// The port that was given for this option.
 pub fn port_of(options: &ArgMatches<'_>, name: &str) -> Result<u16, Failure> {
     options.get_one(name).ok_or(Failure::NoValue)
 }
 
-/// The number that was given, of 64 bits.
+/// The number of 64 bits that was given for this option.
 fn long_number_of(options: &ArgMatches<'_>, name: &str) -> Result<u64, Failure> {
     options.get_one(name).ok_or(Failure::NoValue)
 }

@@ -1,4 +1,4 @@
-//! What the program prints on standard output. See docs/FORMATS.md, "The program".
+//! Prints the answers to commands on standard output. See docs/FORMATS.md, "The program".
 use crate::database::{Opening, Work, work_on};
 use crate::failure::Failure;
 use crate::options;
@@ -7,7 +7,7 @@ use atl_service::{Answer, Fault};
 use clap::ArgMatches;
 use std::io;
 
-/// The failure Output if a line could not be printed.
+/// The result of printing: the failure Output if a line could not be printed.
 pub fn print_result(written: io::Result<()>) -> Result<(), Failure> {
     match written {
         Ok(()) => Ok(()),
@@ -15,6 +15,7 @@ pub fn print_result(written: io::Result<()>) -> Result<(), Failure> {
     }
 }
 
+/// Prints a faulty line of a mailing: its number, and the fault's number and name.
 fn print_line<R: Print>(rt: &R, faulty: &FaultyLine) -> io::Result<()> {
     let line = faulty.line;
     let number = faulty.fault.number();
@@ -22,6 +23,7 @@ fn print_line<R: Print>(rt: &R, faulty: &FaultyLine) -> io::Result<()> {
     println!(rt; "line {line}: {number} {name}")
 }
 
+/// Prints the answer to a mailing: the counts of orders and faults, and each faulty line.
 fn print_mailing<R: Print>(rt: &R, orders: usize, faults: &[FaultyLine]) -> io::Result<()> {
     let count = faults.len();
     println!(rt; "{orders} orders, {count} faults")?;

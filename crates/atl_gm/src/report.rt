@@ -7,7 +7,7 @@ use atl_tables::Sequence;
 use clap::{Arg, ArgMatches};
 use std::alloc::{AllocError, Global};
 
-/// The command that asks for the report.
+/// The command Report by the options.
 fn request(rt: &HostRuntime, options: &ArgMatches<'_>) -> Result<atl_service::Command, Failure> {
     let faction = options::number_of(options, options::FACTION)?;
     let pass = options::text_of(options, options::PASS)?;
@@ -17,7 +17,7 @@ fn request(rt: &HostRuntime, options: &ArgMatches<'_>) -> Result<atl_service::Co
     })
 }
 
-/// Prints the stored report of a faction.
+/// The subcommand `report`, which prints the stored report of a faction.
 pub struct Report;
 
 impl Subcommand for Report {

@@ -1,4 +1,4 @@
-//! Serves the campaign of a file over HTTP, to this machine alone.
+//! The subcommand `serve`: serves the campaign of a file over HTTP, to this machine alone.
 use crate::database::{Opening, Work, work_on};
 use crate::failure::Failure;
 use crate::options;
@@ -12,7 +12,8 @@ use std::alloc::{AllocError, Global};
 use std::io;
 use std::net::{Ipv4Addr, TcpListener};
 
-/// So many connections to a port of this machine, with the dice of a seed.
+/// The work of `serve`: serves `count` connections to a port of this machine, with the dice of a
+/// seed.
 #[derive(Clone, Copy)]
 struct Serving<'a> {
     rt: &'a HostRuntime,
@@ -21,7 +22,7 @@ struct Serving<'a> {
     dice: Dice,
 }
 
-/// Why the port can't be had.
+/// The failure for a port that can't be bound: Net, or Memory.
 fn unbound(error: io::Error) -> Failure {
     Failure::of_system(error, Failure::Net)
 }
@@ -47,7 +48,7 @@ impl<'a> Work for Serving<'a> {
     }
 }
 
-/// Serves so many connections, and prints nothing.
+/// The subcommand `serve`, which serves a count of connections and prints nothing.
 pub struct Serve;
 
 impl Subcommand for Serve {

@@ -1,9 +1,9 @@
 //! Checks that the stack is large enough for the program.
 
-/// How many bytes of the stack are touched: more than any command needs.
+/// The number of bytes of the stack that are touched: more than any command needs.
 const STACK_BYTES: usize = 262_144;
 
-/// Sets each byte.
+/// Sets each byte of the buffer to this one.
 #[inline(never)]
 fn fill(room: &mut [u8], byte: u8) {
     for each in room {
@@ -11,7 +11,7 @@ fn fill(room: &mut [u8], byte: u8) {
     }
 }
 
-/// Whether each byte is this one.
+/// Whether each byte of the buffer is this one.
 #[inline(never)]
 fn is_filled(room: &[u8], byte: u8) -> bool {
     for each in room {
@@ -22,8 +22,9 @@ fn is_filled(room: &[u8], byte: u8) -> bool {
     true
 }
 
-/// Touches as much of the stack as any command may need. Under a smaller limit the system ends the program here, before it has done
-/// anything. True where it returns: the question keeps a compiler from leaving out the writes.
+/// Writes to as much of the stack as any command may need, and returns true. Under a smaller limit
+/// the system ends the program here, before it has done anything. The test of the bytes keeps a
+/// compiler from leaving out the writes.
 #[inline(never)]
 pub fn has_room() -> bool {
     let mut room = [0; STACK_BYTES];

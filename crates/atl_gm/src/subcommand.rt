@@ -1,9 +1,9 @@
-//! The subcommands, as a list from which both the command line and the choice of what is run come.
+//! The traits of a subcommand and of a list of them, which makes the parser and picks what is run.
 use crate::failure::Failure;
 use clap::{Arg, ArgMatches, Command};
 use std::alloc::{AllocError, Global};
 
-/// A subcommand: its place on the command line, and what it does.
+/// A subcommand: its name, help and options on the command line, and what it does.
 pub trait Subcommand {
     const NAME: &'static str;
 
@@ -27,7 +27,7 @@ pub trait Subcommands {
     fn run(rt: &HostRuntime, name: &str, options: &ArgMatches<'_>) -> Result<(), Failure>;
 }
 
-/// The command of the subcommand.
+/// The parser of a subcommand, by its name, help and options.
 fn command_of<'a, S: Subcommand>(alloc: Global) -> Result<Command<'a>, AllocError> {
     let name: &'a str = S::NAME;
     let about: &'a str = S::ABOUT;

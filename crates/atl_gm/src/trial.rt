@@ -10,6 +10,7 @@ use clap::ArgMatches;
 use sqlite::{Connection, MemStore};
 use std::alloc::{AllocError, Global};
 
+/// The command with which the faction Avalon joins.
 fn join(alloc: Global) -> Result<atl_service::Command, Failure> {
     Ok(atl_service::Command::Join {
         name: Sequence::from_slice(alloc, b"Avalon")?,
@@ -18,6 +19,7 @@ fn join(alloc: Global) -> Result<atl_service::Command, Failure> {
     })
 }
 
+/// The command for the report of faction 1.
 fn report(alloc: Global) -> Result<atl_service::Command, Failure> {
     Ok(atl_service::Command::Report {
         faction: 1,
@@ -25,7 +27,7 @@ fn report(alloc: Global) -> Result<atl_service::Command, Failure> {
     })
 }
 
-/// The answer to a report after a joining, or to the joining where it fails.
+/// Runs the join and then the report; returns the answer to the report, or to a join that failed.
 fn report_after_join(
     service: &mut Service<MemStore>,
     join: &atl_service::Command,
@@ -37,7 +39,7 @@ fn report_after_join(
     }
 }
 
-/// The answer to a report in a campaign that is founded for it in a database.
+/// Founds a campaign in the database, runs join and report, and returns the answer.
 fn first_report(
     alloc: Global,
     conn: Connection<MemStore>,
@@ -51,7 +53,7 @@ fn first_report(
     }
 }
 
-/// The answer to the report, in a campaign in memory by the world text.
+/// The answer to the report of a new faction in a campaign founded in memory by the world text.
 fn answer(alloc: Global, world_text: &str) -> Result<Answer, Failure> {
     let join = join(alloc)?;
     let report = report(alloc)?;
@@ -59,7 +61,8 @@ fn answer(alloc: Global, world_text: &str) -> Result<Answer, Failure> {
     first_report(alloc, conn, world_text, &join, &report)
 }
 
-/// Founds a campaign with pass `gm` by the world text on standard input, joins `Avalon` with pass `pw` and word 0, and
+/// The subcommand `trial`: founds a campaign with pass `gm` by the world text on standard input,
+/// joins `Avalon` with pass `pw` and word 0, and
 /// prints the faction's report.
 pub struct Trial;
 

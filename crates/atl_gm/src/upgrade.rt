@@ -1,4 +1,5 @@
-//! The subcommand `upgrade`: upgrades a file of the first format.
+//! The subcommand `upgrade`: upgrades a file of the first format to the second. See
+//! docs/FORMATS.md, "Upgrading a file".
 use crate::database::{Opening, Work, work_on};
 use crate::failure::Failure;
 use crate::files::text_at;
@@ -10,7 +11,7 @@ use clap::{Arg, ArgMatches};
 use sqlite::Alter;
 use std::alloc::{AllocError, Global};
 
-/// Counts the markets of all regions of the world.
+/// The work of `upgrade` once the file is upgraded: counts the markets of all regions of its world.
 struct CountMarkets;
 
 impl Work for CountMarkets {
@@ -25,7 +26,8 @@ impl Work for CountMarkets {
     }
 }
 
-/// Upgrades a campaign of the first format by the world of a file, and prints how many markets it has.
+/// The subcommand `upgrade`, which upgrades a file by a world file and prints its number of
+/// markets.
 pub struct Upgrade;
 
 impl Subcommand for Upgrade {

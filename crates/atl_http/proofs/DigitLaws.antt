@@ -1,4 +1,4 @@
--- Numbers of few digits.
+-- Law: a number of `i + 1` decimal digits is below 10 to the power `i + 1`, if its first `i` are below 10 to the power `i`.
 use Rattle.std.proofs.Common.{◌≡◌, ℕ, ◌+◌, ◌*◌, ◌^◌, ◌<◌, ap, ◌∙◌, add-one, arith}
 use Rattle.std.proofs.Math.Nat.{pow-succ'}
 

@@ -1,4 +1,4 @@
--- Laws of rows with a common front, and of a number behind it.
+-- Laws on the router's rows: looking up a path after a common prefix, and a number after the prefix.
 use Rattle.std.proofs.Common.{get_or, ltb, ◌&&◌, ◌≡◌, ◌≢◌, ℕ, ◌-◌, ◌<◌, ◌⊎◌, inl, inr, List, [], ◌∷◌, ◌++◌, length, take, drop, Option, Some, None, Bool, true, false, cond, refl, sym, ap, ◌∙◌, subst, arith, nat_eq, ◌==◌}
 use Rattle.std.specs.Prelude.{option_and_then}
 use Rattle.std.specs.Cmp.Lexicographic.{pointwise}
@@ -18,8 +18,9 @@ use Rattle.std.proofs.lemmas.List.Folds.{list_all_at}
 use Rattle.std.specs.Str.Parse.{digits_value}
 use Rattle.std.specs.Prelude.{nat_lt, nat_le}
 
--- ---- what stands behind a front
+-- ---- the rest of a path after a prefix
 
+-- `after_prefix` compares the first bytes, and then the rest
 behind_step : (x y : ℕ) (w p : List ℕ) → after_prefix (x ∷ w) (y ∷ p) ≡ cond (y == x) (after_prefix w p) None
 behind_step x y w p =
     elim (y == x) as (λ t. cond (t && pointwise nat_eq (take (length w) p) w) (Some (drop (length w) p)) None ≡ cond t (after_prefix w p) None) [
@@ -33,12 +34,13 @@ behind_by x y w p rest true e ih k =
     rw (same, ih k) refl
 behind_by x y w p rest false e ih k = cc
 
+-- a path whose rest after a prefix is `rest` is the prefix and then `rest`
 pub behind_is : (w p rest : List ℕ) → after_prefix w p ≡ Some rest → p ≡ w ++ rest
 behind_is [] p rest h = cc
 behind_is (x ∷ w) [] rest h = cc
 behind_is (x ∷ w) (y ∷ p) rest h = behind_by x y w p rest (y == x) refl (λ k. behind_is w p rest k) (sym (behind_step x y w p) ∙ h)
 
--- rows with a common front
+-- the next law, where it is known whether the first bytes are equal
 front_by : (x y : ℕ) (w p : List ℕ) (t : Rows) (v : Bool) → (y == x) ≡ v → first (prepend w t) p ≡ option_and_then (λ rest. first t rest) (after_prefix w p) → seek 0 (step y (prepend (x ∷ w) t)) p ≡ option_and_then (λ rest. first t rest) (cond v (after_prefix w p) None)
 front_by x y w p t true e ih =
     let same : y ≡ x = grind (arith, nat_tests) in
@@ -47,6 +49,7 @@ front_by x y w p t false e ih =
     let differ : x ≢ y = λ q. grind (arith, nat_tests) in
     rw (step-miss y x w t differ) (seek-empty 0 p)
 
+-- looking up a path in rows with a common prefix looks up its rest after the prefix
 pub first_behind : (w : List ℕ) (t : Rows) (path : List ℕ) → IsText w → first (prepend w t) path ≡ option_and_then (λ rest. first t rest) (after_prefix w path)
 unfolding seek
 first_behind [] t path h = ap (λ r. first r path) (prepend-nil t)
@@ -56,44 +59,51 @@ first_behind (x ∷ w) t (y ∷ p) h =
     ∙ front_by x y w p t (y == x) refl (first_behind w t p h.1)
     ∙ ap (λ r. option_and_then (λ rest. first t rest) r) (sym (behind_step x y w p))
 
--- ---- a number behind a front
+-- ---- a number after a prefix
 
+-- the row of a parameter alone, which takes a text without a slash
 abbrev pub number_row : ℕ → Rows
 number_row key = (param_token ∷ [], key) ∷ []
 
+-- a digit and then digits hold no slash
 slash_step : (b : ℕ) (p : List ℕ) (t : Bool) → is_ascii_digit b ≡ t → (list_all is_ascii_digit p ≡ true → has_slash p ≡ false) → (t && list_all is_ascii_digit p) ≡ true → has_slash (b ∷ p) ≡ false
 slash_step b p true e ih h =
     let differ : (b == 47) ≡ false = grind (arith, nat_tests) in
     rw differ (ih h)
 slash_step b p false e ih h = cc
 
+-- digits hold no slash
 no_slash : (p : List ℕ) → list_all is_ascii_digit p ≡ true → has_slash p ≡ false
 no_slash [] h = refl
 no_slash (b ∷ p) h = slash_step b p (is_ascii_digit b) refl (λ k. no_slash p k) h
 
+-- a digit is not the parameter's token
 first_digit : (b : ℕ) (p : List ℕ) (t : Bool) → is_ascii_digit b ≡ t → (t && list_all is_ascii_digit p) ≡ true → (param_token == b) ≡ false
 first_digit b p true e h = grind (arith, nat_tests)
 first_digit b p false e h = cc
 
--- a text without a slash is taken whole
+-- the parameter takes a whole text without a slash
 taken_whole : (key b : ℕ) (p : List ℕ) → (param_token == b) ≡ false → has_slash (b ∷ p) ≡ false → first (number_row key) (b ∷ p) ≡ Some key
 unfolding seek
 taken_whole key b p e h =
     let whole : after_param (([], key) ∷ []) (b ∷ p) ≡ Some key = after_param-end [] (Some key) b p tt refl h in
     rw (e, seek-empty 0 p, whole) refl
 
--- the route, or none
+-- The lookup found this key, or nothing.
 abbrev IsAt : ℕ → Option ℕ → Type 0
 IsAt key found = (found ≡ Some key) ⊎ (found ≡ None)
 
+-- two look-ups of one key, one after the other, find it or nothing
 or_either : (key : ℕ) (a b : Option ℕ) → IsAt key a → IsAt key b → IsAt key (or_else a b)
 or_either key a b (inl e) h = inl (ap (λ x. or_else x b) e)
 or_either key a b (inr e) h = subst (λ x. IsAt key (or_else x b)) (sym e) h
 
+-- a row that has ended finds nothing for a path that goes on
 pub end_none : (key b : ℕ) (p : List ℕ) → seek 0 (([], key) ∷ []) (b ∷ p) ≡ None
 unfolding seek
 end_none key b p = simp (seek-empty 0 p, param_step-empty (b ∷ p), seek-empty ((param_step {K = ℕ} [] (b ∷ p)).0 - 1) p)
 
+-- a row that has ended finds its key at the end of the path, or nothing
 end_alone : (key : ℕ) (p : List ℕ) → IsAt key (seek 0 (([], key) ∷ []) p)
 unfolding seek
 end_alone key [] = inl refl
@@ -107,6 +117,7 @@ after_by : (key b : ℕ) (p : List ℕ) (t : Bool) → has_slash (b ∷ p) ≡ t
 after_by key b p true h = inr (after_param-stop [] (Some key) b p refl h)
 after_by key b p false h = inl (after_param-end [] (Some key) b p tt refl h)
 
+-- a parameter finds its key or nothing
 one_or_none : (key b : ℕ) (p : List ℕ) → IsAt key (first (number_row key) (b ∷ p))
 unfolding seek
 one_or_none key b p =
@@ -122,19 +133,22 @@ small_by : (test : ℕ → Bool) (b : ℕ) (t : Bool) → test b ≡ t → (test
 small_by test b true e small h = small e
 small_by test b false e small h = absurd (h refl)
 
+-- a text whose bytes pass a test for ASCII is UTF-8
 all_utf8 : (test : ℕ → Bool) → ((b : ℕ) → test b ≡ true → b < 128) → (p : List ℕ) → list_all test p ≡ true → IsUtf8 p
 all_utf8 test small p h =
     IsUtf8-from_ascii p (IsAscii-from_all p (λ k d l. small_by test (get_or p k d) (test (get_or p k d)) refl (small (get_or p k d)) (λ e.
     let none = list_all_at test p k d l e in
     cc)))
 
+-- digits are UTF-8
 digits_utf8 : (p : List ℕ) → list_all is_ascii_digit p ≡ true → IsUtf8 p
 digits_utf8 p h = all_utf8 is_ascii_digit (λ b e. grind (arith, nat_tests)) p h
 
+-- a text of bytes below 128 is UTF-8
 pub ascii_utf8 : (p : List ℕ) → list_all (λ b. ltb b 128) p ≡ true → IsUtf8 p
 ascii_utf8 p h = all_utf8 (λ b. ltb b 128) (λ b e. grind (arith, nat_tests)) p h
 
--- what is found behind a front is a number, or nothing that leads anywhere
+-- The lookup after a prefix finds the key and the text is UTF-8 or no number, or it finds nothing and the text is no number.
 abbrev pub NumberSays : ℕ → List ℕ → Type 0
 NumberSays key rest = ((first (number_row key) rest ≡ Some key) × ((number_of rest ≡ None) ⊎ IsUtf8 rest)) ⊎ ((first (number_row key) rest ≡ None) × (number_of rest ≡ None))
 
@@ -142,6 +156,7 @@ found_or_none : (key : ℕ) (rest : List ℕ) → number_of rest ≡ None → Is
 found_or_none key rest none (inl e) = inl (e, inl none)
 found_or_none key rest none (inr e) = inr (e, none)
 
+-- `NumberSays` of a text, where it is known whether it is of digits
 number_by : (key b : ℕ) (p : List ℕ) (t : Bool) → list_all is_ascii_digit (b ∷ p) ≡ t → NumberSays key (b ∷ p)
 unfolding number_of
 number_by key b p true e = inl (taken_whole key b p (first_digit b p (is_ascii_digit b) refl e) (no_slash (b ∷ p) e), inr (digits_utf8 (b ∷ p) e))
@@ -149,6 +164,7 @@ number_by key b p false e =
     let none : number_of (b ∷ p) ≡ None = rw e (number_none (nat_lt 0 (length (b ∷ p))) (nat_le (length (b ∷ p)) 9) (Some (digits_value 10 (b ∷ p)))) in
     found_or_none key (b ∷ p) none (one_or_none key b p)
 
+-- every text after a prefix fulfils `NumberSays`
 pub number_says : (key : ℕ) (rest : List ℕ) → NumberSays key rest
 unfolding seek number_of
 number_says key [] = inr (refl, refl)

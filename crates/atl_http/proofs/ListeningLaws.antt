@@ -1,4 +1,4 @@
--- Laws of connections that are served one after another.
+-- Laws on serving connections one after another: one round of the loop, and its end.
 use Rattle.std.proofs.Common.{◌≡◌, ℕ, suc, ◌+◌, ◌<◌, ◌≤◌, sym, subst, arith}
 use Rattle.std.specs.Prelude.{Ok, Err}
 use Rattle.sqlite_trees.specs.declared.store.Store.{Ghosts}
@@ -6,19 +6,21 @@ use Rattle.atl_service.specs.Service.{ServiceValue}
 use Rattle.atl_http.specs.declared.dice.Dice.{Dice}
 use Rattle.atl_http.specs.declared.listening.ListenFault.{ListenFault}
 use Rattle.atl_http.specs.declared.listening.ListenFault.TheVariants.{Net, Memory}
-use Rattle.atl_http.specs.Listening.{Attends, ServesInTurn, ServesEach}
+use Rattle.atl_http.specs.Listening.{ServesConnection, ServesInTurn, ServesEach}
 
--- at most so many requests were served
+-- At most `count` requests were served one after another.
 abbrev pub HasServed : {S : Type 0} → Ghosts S → Dice → (count : ℕ) → (old new : ServiceValue S) → Type 0
 HasServed g dice count old new = (served : ℕ) × (served ≤ count) × ServesInTurn g dice served old new
 
-pub one_more : {S : Type 0} (g : Ghosts S) (dice : Dice) (count : ℕ) (old between new after : ServiceValue S) → after ≡ new → HasServed g dice count old between → Attends g dice between (Ok tt) new → HasServed g dice (count + 1) old after
-one_more g dice count old between new after e (served, few, turn) h = (suc served, omega (arith, few), (between, turn, subst (λ s. Attends g dice between (Ok tt) s) (sym e) h))
+-- a round in which a request was served
+pub one_more : {S : Type 0} (g : Ghosts S) (dice : Dice) (count : ℕ) (old between new after : ServiceValue S) → after ≡ new → HasServed g dice count old between → ServesConnection g dice between (Ok tt) new → HasServed g dice (count + 1) old after
+one_more g dice count old between new after e (served, few, turn) h = (suc served, omega (arith, few), (between, turn, subst (λ s. ServesConnection g dice between (Ok tt) s) (sym e) h))
 
-pub as_many : {S : Type 0} (g : Ghosts S) (dice : Dice) (count : ℕ) (old between after : ServiceValue S) → after ≡ between → HasServed g dice count old between → HasServed g dice (count + 1) old after
-as_many g dice count old between after e (served, few, turn) = (served, omega (arith, few), subst (λ s. ServesInTurn g dice served old s) (sym e) turn)
+-- a round whose connection was aborted by its peer, so that no request was served
+pub connection_aborted : {S : Type 0} (g : Ghosts S) (dice : Dice) (count : ℕ) (old between after : ServiceValue S) → after ≡ between → HasServed g dice count old between → HasServed g dice (count + 1) old after
+connection_aborted g dice count old between after e (served, few, turn) = (served, omega (arith, few), subst (λ s. ServesInTurn g dice served old s) (sym e) turn)
 
--- a connection could not be served
-pub ended : {S : Type 0} (g : Ghosts S) (dice : Dice) (done count : ℕ) (old between new : ServiceValue S) (fault : ListenFault) → done < count → HasServed g dice done old between → Attends g dice between (Err fault) new → ServesEach g dice count old (Err fault) new
+-- the loop ends with the fault of a round
+pub ended : {S : Type 0} (g : Ghosts S) (dice : Dice) (done count : ℕ) (old between new : ServiceValue S) (fault : ListenFault) → done < count → HasServed g dice done old between → ServesConnection g dice between (Err fault) new → ServesEach g dice count old (Err fault) new
 ended g dice done count old between new Net more h none = absurd none
 ended g dice done count old between new Memory more (served, few, turn) h = (served, omega (arith, few, more), between, turn, h)

@@ -1,4 +1,4 @@
--- Bytes behind a request that was judged change nothing, and it is judged in one way alone.
+-- Laws on pieces: bytes after a final verdict change nothing, and no input has two final verdicts.
 use Rattle.std.proofs.Common.{◌≡◌, ℕ, ◌≤◌, ◌+◌, ◌-◌, Bool, true, false, cond, List, [], ◌++◌, length, take, nat_lt, refl, sym, ap, ◌∙◌, subst, inl, inr, arith}
 use Rattle.std.specs.Prelude.{Result, Ok, Err}
 use Rattle.std.proofs.lemmas.List.{append-nil, take-append-le, length-append}
@@ -17,7 +17,7 @@ use Rattle.atl_http.proofs.HeadLaws.{head_stays, refused_stays}
 
 -- ---- more bytes
 
--- a body that is whole stays what it is
+-- the verdict on a whole body stays with more bytes, where it is known whether the body is short
 ended_at : (short : Bool) (route : Route) (size : ℕ) (pass rest more : List ℕ) → nat_lt (length rest) size ≡ short → IsFinal (cond short More (verdict_on_request (request_of route pass (take size rest)))) → cond (nat_lt (length (rest ++ more)) size) More (verdict_on_request (request_of route pass (take size (rest ++ more)))) ≡ cond short More (verdict_on_request (request_of route pass (take size rest)))
 ended_at true route size pass rest more e final = absurd final
 ended_at false route size pass rest more e final =
@@ -26,14 +26,17 @@ ended_at false route size pass rest more e final =
     ap (λ t. cond t More (verdict_on_request (request_of route pass (take size (rest ++ more))))) longer
     ∙ ap (λ body. verdict_on_request (request_of route pass body)) (take-append-le size rest more long)
 
+-- a final verdict by the checks stays with more bytes
 ended_still : (wanted : Result (Route × ℕ × List ℕ) Problem) (rest more : List ℕ) → IsFinal (verdict_with_body wanted rest) → verdict_with_body wanted (rest ++ more) ≡ verdict_with_body wanted rest
 ended_still (Err problem) rest more final = refl
 ended_still (Ok (route, size, pass)) rest more final = ended_at (nat_lt (length rest) size) route size pass rest more refl final
 
+-- a head that is too long stays so with more bytes
 long_stays : (input more : List ℕ) → IsTooLong input → IsTooLong (input ++ more)
 long_stays input more (long, none) =
     ((let k = length-append input more in omega (arith, long, k)), subst HasNoRequest (sym (take-append-le most_head input more long)) none)
 
+-- a final verdict stays with more bytes
 pub judged_still : (input more : List ℕ) (v : Verdict) → Judges input v → IsFinal v → Judges (input ++ more) v
 judged_still input more v (whole head rest h e) final =
     whole head (rest ++ more) (head_stays input more head rest h) (e ∙ sym (ended_still (head_checks head.minor head.method head.target (fields_of head)) rest more (subst IsFinal e final)))
@@ -43,7 +46,7 @@ judged_still input more v (unfinished h e) final = absurd (subst IsFinal e final
 
 -- ---- one verdict
 
--- what has a head isn't refused
+-- an input with a whole head isn't refused
 not_refused : (input : List ℕ) (head : RequestHead) (rest : List ℕ) → HasHead input head rest → IsRefused input → ⊥
 not_refused input head rest h (inl never) = never [] head rest (subst (λ l. ReadsRequest l head rest) (sym (append-nil input)) h.reads)
 not_refused input head rest h (inr (exceeds, over)) =
@@ -55,13 +58,14 @@ take-append-more n xs ys h =
     let e : n ≡ length xs + (n - length xs) = omega arith in
     ap (λ k. take k (xs ++ ys)) e ∙ take-append-add xs ys (n - length xs)
 
--- a head that is whole stands in the bytes that it may have
+-- an input with a whole head isn't too long
 not_too_long : (input : List ℕ) (head : RequestHead) (rest : List ℕ) → HasHead input head rest → IsTooLong input → ⊥
 not_too_long input head rest h (long, none) =
     let front : take most_head input ≡ print_request head ++ take (most_head - length (print_request head)) rest =
     ap (λ l. take most_head l) h.reads.1 ∙ take-append-more most_head (print_request head) rest h.bytes in
     none head (take (most_head - length (print_request head)) rest) (h.reads.0, front)
 
+-- two final verdicts on one input are equal
 pub one_verdict : (input : List ℕ) (v w : Verdict) → Judges input v → Judges input w → IsFinal v → IsFinal w → v ≡ w
 one_verdict input v w (whole head rest h e) (whole other behind k f) final last =
     let same = request_unique input head other rest behind h.reads k.reads in

@@ -1,4 +1,4 @@
--- The reply to the answer of a command: its status and its body. See docs/FORMATS.md, "HTTP".
+-- `answer_reply`: status and body of the reply to each answer of a command. See docs/FORMATS.md, "HTTP".
 use Rattle.std.specs.Prelude.{ℕ, List, [], ◌∷◌, codes, None}
 use Rattle.std.specs.Fmt.{decimal}
 use Rattle.atl_tables.specs.Texts.{◌▸◌}
@@ -11,35 +11,41 @@ use Rattle.atl_service.specs.declared.command.Refusal.TheVariants.{NameTaken, Fu
 use Rattle.atl_service.specs.Numbers.{number_of, refusal_name, fault_name}
 use Rattle.atl_http.specs.Replies.{Reply, json, plain, no_number, error_body}
 
--- ---- what was done
+-- ---- the bodies of commands that were carried out
 
+-- the body for a join: {"faction":F,"unit":U}
 unfoldable pub joined_body : (faction unit : ℕ) → List ℕ
 joined_body faction unit = codes "{\"faction\":" ▸ decimal faction ▸ codes ",\"unit\":" ▸ decimal unit ▸ codes "}"
 
--- a faulty line, with the number of what is wrong with it
+-- a faulty line as [L,K]: its number and the number of its fault
 unfoldable pub pair : FaultyLine → List ℕ
 pair faulty = codes "[" ▸ decimal faulty.line ▸ codes "," ▸ decimal (fault_number faulty.fault) ▸ codes "]"
 
+-- the further faulty lines, each with a comma in front
 abbrev pub more_pairs : List FaultyLine → List ℕ
 more_pairs [] = []
 more_pairs (faulty ∷ more) = (codes "," ▸ pair faulty) ▸ more_pairs more
 
+-- all faulty lines, with commas between them
 abbrev pub pairs : List FaultyLine → List ℕ
 pairs [] = []
 pairs (faulty ∷ more) = pair faulty ▸ more_pairs more
 
+-- the body for a mailing: {"faults":[..],"orders":N}
 unfoldable pub mailed_body : (orders : ℕ) → List FaultyLine → List ℕ
 mailed_body orders faults = codes "{\"faults\":[" ▸ pairs faults ▸ codes "],\"orders\":" ▸ decimal orders ▸ codes "}"
 
+-- the body for a closed month: {"month":M}
 unfoldable pub month_body : (month : ℕ) → List ℕ
 month_body month = codes "{\"month\":" ▸ decimal month ▸ codes "}"
 
+-- a reply of status 200
 abbrev pub success : (kind body : List ℕ) → Reply
 success kind body = record { status = 200; allow = None; kind = kind; body = body }
 
 -- ---- refusals and faults
 
--- what isn't named here is a bad request
+-- the HTTP status for a refusal; 400 for those that aren't named
 abbrev pub refusal_status : Refusal → ℕ
 refusal_status NameTaken = 409
 refusal_status Full = 409
@@ -52,11 +58,13 @@ refusal_status Gone = 403
 refusal_status TooLong = 413
 refusal_status why = 400
 
+-- the reply to a refusal or a fault: its name and number as JSON
 abbrev pub failure : (status : ℕ) → (name : List ℕ) → (number : ℕ) → Reply
 failure status name number = record { status = status; allow = None; kind = json; body = error_body name number }
 
 -- ---- the whole
 
+-- the reply to an answer; a fault has status 500
 abbrev pub answer_reply : Answer → Reply
 answer_reply (Joined faction unit) = success json (joined_body faction unit)
 answer_reply (Mailed orders faults) = success json (mailed_body orders faults)

@@ -1,4 +1,4 @@
--- The checks of a whole head and of the bytes after it, in their order. See docs/FORMATS.md, "HTTP".
+-- `verdict_of`: the checks of a whole head and its body, in their order. See docs/FORMATS.md, "HTTP".
 use Rattle.std.specs.Prelude.{ℕ, Bool, true, false, ◌||◌, ◌==◌, nat_lt, bytes_eq, codes, if◌then◌else◌, List, [], ◌∷◌, length, take, Option, Some, None, is_some, Result, Ok, Err, option_and_then}
 use Rattle.std.specs.Str.{is_utf8}
 use Rattle.httparse.specs.Grammar.{RequestHead}
@@ -18,18 +18,20 @@ use Rattle.atl_orders.specs.Limits.{most_bytes}
 use Rattle.atl_http.specs.Routes.{number_of, path_of, route_of, method_of}
 use Rattle.atl_http.specs.Fields.{Pair, fields_of, values_of, only}
 
--- the value, or a problem where there is none
+-- the value, or this problem if there is none
 abbrev pub or_problem : {A : Type 0} → Problem → Option A → Result A Problem
 or_problem problem None = Err problem
 or_problem problem (Some x) = Ok x
 
 -- ---- the first check: a request of HTTP/1.1 has exactly one Host
 
+-- whether a request of HTTP/1.1 has exactly one Host; one of HTTP/1.0 needs none
 unfoldable pub has_host : (minor : ℕ) → List Pair → Bool
 has_host minor fields = minor == 0 || is_some (only (values_of (codes "Host") fields))
 
 -- ---- the second: a route, and its method
 
+-- the route, if there is one and this is its method
 abbrev pub with_method : (method : List ℕ) → Option Route → Result Route Problem
 with_method method None = Err NoRoute
 with_method method (Some route) = if bytes_eq method (method_of route) then Ok route else Err (BadMethod route)
@@ -40,26 +42,28 @@ requested_route minor method target fields = if has_host minor fields then with_
 
 -- ---- the third: how many bytes the body of a POST has
 
--- a body has no more bytes than a mailing
+-- the length of a body, if it is a number and at most the most bytes of a mailing
 abbrev pub size_within : Option ℕ → Result ℕ Problem
 size_within None = Err BadRequest
 size_within (Some n) = if nat_lt most_bytes n then Err BodyTooLong else Ok n
 
--- as the fields Content-Length say, which some requests may lack
+-- the length that the values of Content-Length declare: one value, or none if it is optional
 abbrev pub declared : (optional : Bool) → List (List ℕ) → Result ℕ Problem
 declared true [] = Ok 0
 declared false [] = Err NoLength
 declared optional (value ∷ []) = size_within (number_of value)
 declared optional (value ∷ other ∷ more) = Err BadRequest
 
+-- the length, if there is no field Transfer-Encoding; else NoLength
 abbrev pub unless_coded : List (List ℕ) → Result ℕ Problem → Result ℕ Problem
 unless_coded [] size = size
 unless_coded (coding ∷ more) size = Err NoLength
 
+-- the length of the body of a POST, by its fields
 unfoldable pub posted_size : (optional : Bool) → List Pair → Result ℕ Problem
 posted_size optional fields = unless_coded (values_of (codes "Transfer-Encoding") fields) (declared optional (values_of (codes "Content-Length") fields))
 
--- the body of a GET isn't read, and that of a closing may be missing
+-- the number of body bytes that are read: none for a GET; for `/close` Content-Length may be missing
 abbrev pub size_of : Route → List Pair → Result ℕ Problem
 size_of Join fields = posted_size false fields
 size_of (Orders faction) fields = posted_size false fields
@@ -68,9 +72,11 @@ size_of (Report faction) fields = Ok 0
 
 -- ---- the fourth: exactly one pass text, but for a joining
 
+-- the value of Atlantis-Pass, if there is exactly one; else NoPass
 unfoldable pub pass_field : List Pair → Result (List ℕ) Problem
 pass_field fields = or_problem NoPass (only (values_of (codes "Atlantis-Pass") fields))
 
+-- the pass text that a route needs; a join needs none in its head
 abbrev pub pass_of : Route → List Pair → Result (List ℕ) Problem
 pass_of Join fields = Ok []
 pass_of (Orders faction) fields = pass_field fields
@@ -79,15 +85,15 @@ pass_of (Report faction) fields = pass_field fields
 
 -- ---- the fifth: the body
 
--- what a text of JSON says
+-- the value of a body in JSON; None if it is not UTF-8 or not JSON
 abbrev pub json_of : List ℕ → Option Data
 json_of body = if is_utf8 body then read body else None
 
--- the text under a key
+-- the text under a key of an object of JSON
 abbrev pub text_at : List ℕ → Data → Option (List ℕ)
 text_at key d = option_and_then as_str (get key d)
 
--- an object with the texts name and pass
+-- the join that a body asks for: an object of JSON with the texts `name` and `pass`, else BadJson
 unfoldable pub joining : List ℕ → Result Request Problem
 joining body = do
   said ← or_problem BadJson (json_of body)
@@ -95,6 +101,7 @@ joining body = do
   pass ← or_problem BadJson (text_at (codes "pass") said)
   Ok (request.Join name pass)
 
+-- what a route with this pass text and body asks for
 abbrev pub request_of : Route → (pass body : List ℕ) → Result Request Problem
 request_of Join pass body = joining body
 request_of (Orders faction) pass body = Ok (request.Orders faction pass body)
@@ -103,7 +110,7 @@ request_of (Report faction) pass body = Ok (request.Report faction pass)
 
 -- ---- the whole
 
--- the first four checks: the route of a head, how many bytes of body it has, and its pass text
+-- the first four checks: route, number of body bytes and pass text of a head, or the first problem
 unfoldable pub head_checks : (minor : ℕ) → (method target : List ℕ) → List Pair → Result (Route × ℕ × List ℕ) Problem
 head_checks minor method target fields = do
   route ← requested_route minor method target fields
@@ -111,15 +118,16 @@ head_checks minor method target fields = do
   pass ← pass_of route fields
   Ok (route, size, pass)
 
+-- the verdict on a request whose body is whole
 abbrev pub verdict_on_request : Result Request Problem → Verdict
 verdict_on_request (Err problem) = Refused problem
 verdict_on_request (Ok asked) = Asks asked
 
--- a request whose body is whole
+-- the verdict on a head of these checks and the bytes after it: More while the body isn't whole
 abbrev pub verdict_with_body : Result (Route × ℕ × List ℕ) Problem → (rest : List ℕ) → Verdict
 verdict_with_body (Err problem) rest = Refused problem
 verdict_with_body (Ok (route, size, pass)) rest = if nat_lt (length rest) size then More else verdict_on_request (request_of route pass (take size rest))
 
--- what a head comes to, with the bytes behind it
+-- the verdict on a whole head and the bytes after it
 abbrev pub verdict_of : RequestHead → (rest : List ℕ) → Verdict
 verdict_of head rest = verdict_with_body (head_checks head.minor head.method head.target (fields_of head)) rest

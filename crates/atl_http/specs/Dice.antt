@@ -3,23 +3,23 @@ use Rattle.std.specs.Prelude.{ℕ, zero, suc, List, [], ◌∷◌}
 use Rattle.rand_pcg.specs.Lcg.{Lcg, started, increment_of}
 use Rattle.rand_pcg.specs.Pcg.{multiplier_64, pcg32}
 
--- the stream of a faction that joins is this and its number; that of a month is its number, which is below
+-- 10,000: a faction that joins has the stream of this plus its number; a month has the stream of its number, which is lower
 unfoldable pub joining_streams : ℕ
 joining_streams = 10000
 
--- the generator of a seed and a stream
+-- the generator (PCG32) of a seed and a stream
 unfoldable pub generator : (seed stream : ℕ) → Lcg
 generator seed stream = started 64 multiplier_64 seed (increment_of 64 stream)
 
--- the word that a generator gives
+-- the next word of a generator, from 0 to 4,294,967,295
 unfoldable pub word_of : Lcg → ℕ
 word_of g = (pcg32 g).0
 
--- the generator that is left behind that word
+-- the generator after giving that word
 unfoldable pub next_generator : Lcg → Lcg
 next_generator g = (pcg32 g).1
 
--- so many words, one after another
+-- the first `count` words of a generator
 unfoldable pub first_words : (count : ℕ) → Lcg → List ℕ
 first_words zero g = []
 first_words (suc count) g = word_of g ∷ first_words count (next_generator g)

@@ -4,18 +4,19 @@ use Rattle.std.specs.Str.{str_eq_ignore_ascii_case}
 use Rattle.httparse.specs.Grammar.{RequestHead}
 use Rattle.httparse.specs.Spans.{name_and_value}
 
--- a field's name, and its value without the blanks around it
+-- a field: its name, and its value without the blanks around it
 abbrev pub Pair : Type 0
 Pair = List ℕ × List ℕ
 
+-- the fields of a head, as names and values
 abbrev pub fields_of : RequestHead → List Pair
 fields_of head = map name_and_value head.fields
 
--- the values of the fields of a name, in any case
+-- the values of all fields of a name, ignoring ASCII case
 unfoldable pub values_of : List ℕ → List Pair → List (List ℕ)
 values_of name fields = map (λ f. f.1) (filter (λ f. str_eq_ignore_ascii_case f.0 name) fields)
 
--- the one value, where there is exactly one
+-- the value, if there is exactly one
 abbrev pub only : List (List ℕ) → Option (List ℕ)
 only [] = None
 only (value ∷ []) = Some value

@@ -1,4 +1,4 @@
--- When the received bytes hold a whole head, an unfinished one, a refused one, or one that is too long.
+-- `Judges`: the verdict on the bytes received so far, by their head: whole, unfinished, refused or too long. See docs/FORMATS.md, "HTTP".
 use Rattle.std.specs.Prelude.{◌≡◌, ℕ, ◌≤◌, ◌<◌, ◌⊎◌, List, [], length, take, ◌++◌, ⊤}
 use Rattle.httparse.specs.Grammar.{RequestHead, print_request, ReadsRequest, NeverHasRequest, HasNoRequest, MayBecomeRequest}
 use Rattle.httparse.specs.Spans.{RequestExceeds, RequestOverflows}
@@ -11,7 +11,7 @@ use Rattle.atl_http.specs.declared.request.Progress.{Progress}
 use Rattle.atl_http.specs.declared.request.Progress.TheVariants as progress
 use Rattle.atl_http.specs.Checks.{verdict_of}
 
--- the most bytes of a head, its empty line among them
+-- the most bytes of a head, with its empty line
 abbrev pub most_head : ℕ
 most_head = 8192
 
@@ -19,53 +19,54 @@ most_head = 8192
 abbrev pub most_fields : ℕ
 most_fields = 32
 
--- the input begins with this head, and then goes on
+-- The input begins with this whole head within the limits, and `rest` follows.
 pub record HasHead (input : List ℕ) (head : RequestHead) (rest : List ℕ) : Type 0 where
   pub reads : ReadsRequest input head rest
   pub bytes : length (print_request head) ≤ most_head
   pub fields : length head.fields ≤ most_fields
 
--- whatever comes, the input is no head, or has a field too many
+-- Whatever bytes follow, the input has no good head: it never becomes one, or it has too many fields.
 abbrev pub IsRefused : List ℕ → Type 0
 IsRefused input = NeverHasRequest input ⊎ (RequestExceeds most_fields input × RequestOverflows most_fields input)
 
--- so many bytes have come, and their head isn't whole
+-- The first 8,192 bytes have come, and they hold no whole head.
 abbrev pub IsTooLong : List ℕ → Type 0
 IsTooLong input = (most_head ≤ length input) × HasNoRequest (take most_head input)
 
--- a head that isn't whole, and may become one
+-- The head isn't whole, and with further bytes it may become so.
 pub record IsUnfinished (input : List ℕ) : Type 0 where
   pub short : length input < most_head
   pub none : HasNoRequest input
   pub open_end : MayBecomeRequest input
 
--- What the input so far comes to. Of a target that is still read, and of a field too many that is, both of the last two may be said.
+-- This is the verdict on the bytes received so far. While a target or one field too many is still arriving, both `refused` and `unfinished` may apply.
 pub data Judges (input : List ℕ) (verdict : Verdict) : Type 0 where
   whole : (head : RequestHead) → (rest : List ℕ) → HasHead input head rest → verdict ≡ verdict_of head rest → Judges input verdict
   too_long : IsTooLong input → verdict ≡ Refused BadRequest → Judges input verdict
   refused : IsRefused input → verdict ≡ Refused BadRequest → Judges input verdict
   unfinished : IsUnfinished input → verdict ≡ More → Judges input verdict
 
--- the request is whole, or refused
+-- The verdict needs no more bytes: the request is whole, or refused.
 abbrev pub IsFinal : Verdict → Type 0
 IsFinal More = ⊥
 IsFinal (Refused problem) = ⊤
 IsFinal (Asks asked) = ⊤
 
--- a verdict behind which no more is read
+-- the verdict of an outcome: refused, or asking for a command
 abbrev pub final : Outcome → Verdict
 final (outcome.Refused problem) = Refused problem
 final (outcome.Asks asked) = Asks asked
 
--- fewer bytes more than so many don't make the request whole
+-- With fewer than `count` more bytes the request isn't whole.
 abbrev pub IsShortBy : (seen : List ℕ) → (count : ℕ) → Type 0
 IsShortBy seen count = (more : List ℕ) → length more < count → Judges (seen ++ more) More
 
--- what the bytes come to, or by how many their request is short
+-- The progress on these bytes is right: their verdict, or a number of missing bytes, at least one.
 abbrev pub ComesTo : (seen : List ℕ) → Progress → Type 0
 ComesTo seen (progress.Lacks count) = (0 < count) × IsShortBy seen count
 ComesTo seen (progress.Ends outcome) = Judges seen (final outcome)
 
+-- the verdict of a progress: More while bytes are missing
 abbrev pub verdict_by : Progress → Verdict
 verdict_by (progress.Lacks count) = More
 verdict_by (progress.Ends outcome) = final outcome
@@ -74,11 +75,11 @@ verdict_by (progress.Ends outcome) = final outcome
 abbrev pub most_at_once : ℕ
 most_at_once = 8192
 
--- Nothing was read behind bytes that came to something: the request wasn't whole before the last read, or nothing was read at all.
+-- No read was done after the request was whole or refused: before the last read the verdict was More, or nothing was read at all.
 abbrev pub IsReadSoFar : List ℕ → Type 0
 IsReadSoFar seen = (seen ≡ []) ⊎ ((front : List ℕ) × (last : List ℕ) × (seen ≡ front ++ last) × (length last ≤ most_at_once) × Judges front More)
 
--- It doesn't matter in which pieces a request comes: bytes behind one that was judged change nothing, and it is judged in one way alone.
+-- It doesn't matter in which pieces a request comes: bytes after a final verdict change nothing, and no input has two final verdicts.
 abbrev pub PiecesDoNotMatter : Type 0
 PiecesDoNotMatter =
     ((input more : List ℕ) (v : Verdict) → Judges input v → IsFinal v → Judges (input ++ more) v)

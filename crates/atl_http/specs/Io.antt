@@ -1,4 +1,5 @@
--- What reading a request and writing a reply leave, and what stands between them. `before` and `after` are the known bytes that a reader has left, or that a writer holds.
+-- What reading a request, running its command and writing the reply return and leave.
+-- `before` and `after` are the bytes, if they are known, that a reader has left or that a writer holds.
 use Rattle.std.specs.Prelude.{◌≡◌, ◌≤◌, ◌<◌, ◌⊎◌, ℕ, List, [], ◌++◌, length, take, string_bytes, Option, Some, None, Result, Ok, Err, ⊤}
 use Rattle.std.specs.Io.KnownBytes.{Keeps, Appends, Consumes, IsAtEnd}
 use Rattle.std.specs.declared.alloc.AllocError.{AllocError}
@@ -16,7 +17,7 @@ use Rattle.atl_http.specs.Serving.{IsReply}
 
 -- ---- reading
 
--- so many bytes more were read behind what had come, or nothing was
+-- One read added `count` bytes to those that had come, or failed and added nothing.
 abbrev pub ReadsMore : (before after : Option (List ℕ)) → (old new : List ℕ) → Result ℕ HttpFault → Type 0
 ReadsMore before after old new (Ok count) = (piece : List ℕ) × (length piece ≡ count) × (count ≤ most_at_once) × Consumes before after piece × (new ≡ old ++ piece)
 ReadsMore before after old new (Err Cut) = Keeps before after × IsAtEnd after × (new ≡ old)
@@ -24,7 +25,7 @@ ReadsMore before after old new (Err ReadFault) = Keeps before after × (new ≡ 
 ReadsMore before after old new (Err WriteFault) = ⊥
 ReadsMore before after old new (Err Memory) = ⊤
 
--- a request was read, with all that was seen of it
+-- The bytes `seen` were read, and no more than needed: their verdict is the outcome, or More if the input ended or a read failed.
 abbrev pub Receives : (before after : Option (List ℕ)) → (seen : List ℕ) → Result Outcome HttpFault → Type 0
 Receives before after seen (Ok outcome) = Consumes before after seen × IsReadSoFar seen × Judges seen (final outcome)
 Receives before after seen (Err Cut) = Consumes before after seen × Judges seen More × IsAtEnd after
@@ -34,11 +35,11 @@ Receives before after seen (Err Memory) = ⊤
 
 -- ---- writing
 
--- the message is the reply
+-- The message has the status and the bytes of the reply.
 abbrev pub Says : Reply → Message → Type 0
 Says reply message = (message.status ≡ reply.status) × (string_bytes message.bytes ≡ bytes_of reply)
 
--- all bytes were written, or a front of them that isn't all
+-- All bytes were written, or with WriteFault only the first `count` of them.
 abbrev pub Sends : (before after : Option (List ℕ)) → (bytes : List ℕ) → Result (Unit {0}) HttpFault → Type 0
 Sends before after bytes (Ok done) = Appends before after bytes
 Sends before after bytes (Err Cut) = ⊥
@@ -46,7 +47,7 @@ Sends before after bytes (Err ReadFault) = ⊥
 Sends before after bytes (Err WriteFault) = (count : ℕ) × (count < length bytes) × Appends before after (take count bytes)
 Sends before after bytes (Err Memory) = ⊥
 
--- a request was told of, unless there was no memory; a command may have been run then
+-- The message is the reply to the outcome; without memory there is none, and the command may have been run or not.
 abbrev pub RepliesWith : {S : Type 0} → Ghosts S → Dice → (old : ServiceValue S) → Outcome → Result Message AllocError → (new : ServiceValue S) → Type 0
 RepliesWith g dice old outcome (Ok message) new = (reply : Reply) × Says reply message × IsReply g dice old outcome reply new
 RepliesWith g dice old outcome (Err e) new = (new ≡ old) ⊎ ((reply : Reply) × IsReply g dice old outcome reply new)

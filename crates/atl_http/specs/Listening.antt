@@ -1,4 +1,4 @@
--- What serving connections leaves of a service, whatever their peers send and take.
+-- What serving connections one after another leaves of a service, whatever the peers send and take. See docs/FORMATS.md, "HTTP".
 use Rattle.std.specs.Prelude.{◌≡◌, ◌≢◌, ◌≤◌, ◌<◌, ℕ, zero, suc, Result, Ok, Err}
 use Rattle.sqlite_trees.specs.declared.store.Store.{Ghosts}
 use Rattle.atl_service.specs.Service.{ServiceValue}
@@ -9,24 +9,24 @@ use Rattle.atl_http.specs.declared.io.HttpFault.{HttpFault}
 use Rattle.atl_http.specs.declared.io.HttpFault.TheVariants as http
 use Rattle.atl_http.specs.Serving.{Known, Serves}
 
--- one request is served, to this end
+-- One request is served with this result, over some bytes read and written.
 abbrev pub IsServed : {S : Type 0} → Ghosts S → Dice → (old : ServiceValue S) → Result ℕ HttpFault → (new : ServiceValue S) → Type 0
 IsServed g dice old told new = (before : Known) × (after : Known) × Serves g dice before after old told new
 
--- the one request of a connection is served, and there is memory for it, or there is none
-abbrev pub Attends : {S : Type 0} → Ghosts S → Dice → (old : ServiceValue S) → Result (Unit {0}) ListenFault → (new : ServiceValue S) → Type 0
-Attends g dice old (Ok done) new = (told : Result ℕ HttpFault) × (told ≢ Err http.Memory) × IsServed g dice old told new
-Attends g dice old (Err Memory) new = IsServed g dice old (Err http.Memory) new
-Attends g dice old (Err Net) new = ⊥
+-- The one request of a connection is served; Err Memory says that memory ran out, and Ok that it didn't.
+abbrev pub ServesConnection : {S : Type 0} → Ghosts S → Dice → (old : ServiceValue S) → Result (Unit {0}) ListenFault → (new : ServiceValue S) → Type 0
+ServesConnection g dice old (Ok done) new = (told : Result ℕ HttpFault) × (told ≢ Err http.Memory) × IsServed g dice old told new
+ServesConnection g dice old (Err Memory) new = IsServed g dice old (Err http.Memory) new
+ServesConnection g dice old (Err Net) new = ⊥
 
--- so many requests are served one after another, and there is memory for each
+-- `count` requests are served one after another, and memory runs out for none.
 abbrev pub ServesInTurn : {S : Type 0} → Ghosts S → Dice → (count : ℕ) → (old new : ServiceValue S) → Type 0
 ServesInTurn g dice zero old new = new ≡ old
-ServesInTurn {S} g dice (suc count) old new = (between : ServiceValue S) × ServesInTurn g dice count old between × Attends g dice between (Ok tt) new
+ServesInTurn {S} g dice (suc count) old new = (between : ServiceValue S) × ServesInTurn g dice count old between × ServesConnection g dice between (Ok tt) new
 
 -- At most so many requests are served one after another; where memory runs out for one of them, that one is the last.
 abbrev pub ServesEach : {S : Type 0} → Ghosts S → Dice → (count : ℕ) → (old : ServiceValue S) → Result (Unit {0}) ListenFault → (new : ServiceValue S) → Type 0
 ServesEach g dice count old (Ok done) new = (served : ℕ) × (served ≤ count) × ServesInTurn g dice served old new
 ServesEach g dice count old (Err Net) new = (served : ℕ) × (served < count) × ServesInTurn g dice served old new
 ServesEach {S} g dice count old (Err Memory) new =
-    (served : ℕ) × (served < count) × (between : ServiceValue S) × ServesInTurn g dice served old between × Attends g dice between (Err Memory) new
+    (served : ℕ) × (served < count) × (between : ServiceValue S) × ServesInTurn g dice served old between × ServesConnection g dice between (Err Memory) new

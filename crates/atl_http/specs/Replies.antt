@@ -8,40 +8,45 @@ use Rattle.atl_http.specs.declared.problem.Problem.TheVariants.{BadRequest, NoRo
 use Rattle.atl_http.specs.declared.route.Route.{Route}
 use Rattle.atl_http.specs.Routes.{method_of}
 
--- a reply's status, the route whose method is allowed where another one was asked for, what its body is, and its body
+-- a reply: its status, the route for the line `Allow` (with 405 alone), its content type, and its body
 pub record Reply : Type 0 where
   pub status : ℕ
   pub allow : Option Route
   pub kind : List ℕ
   pub body : List ℕ
 
+-- the content type of every reply but a report
 abbrev pub json : List ℕ
 json = codes "application/json"
 
+-- the content type of a report
 abbrev pub plain : List ℕ
 plain = codes "text/plain"
 
 -- ---- its bytes
 
+-- the line `Allow` with the method of the route, if there is one
 abbrev pub allow_line : Option Route → List ℕ
 allow_line None = []
 allow_line (Some route) = codes "Allow: " ▸ method_of route ▸ codes "\r\n"
 
--- the lines that every reply begins with
+-- the status line and the three fields that every reply begins with
 unfoldable pub head_of : (status : ℕ) → (kind body : List ℕ) → List ℕ
 head_of status kind body =
     codes "HTTP/1.1 " ▸ decimal status ▸ codes " " ▸ unwrap_or (reason_phrase status) [] ▸ codes "\r\nContent-Type: " ▸ kind
     ▸ codes "\r\nContent-Length: " ▸ decimal (length body) ▸ codes "\r\nConnection: close\r\n"
 
+-- all bytes of a reply: lines, empty line, body
 abbrev pub bytes_of : Reply → List ℕ
 bytes_of r = head_of r.status r.kind r.body ▸ allow_line r.allow ▸ codes "\r\n" ▸ r.body
 
--- ---- what is told of a problem
+-- ---- the reply to a problem
 
--- the number of an error that has none
+-- 0, the number in the body of an error that has none
 abbrev pub no_number : ℕ
 no_number = 0
 
+-- the name of a problem, in ASCII
 abbrev pub problem_name : Problem → List ℕ
 problem_name BadRequest = codes "BadRequest"
 problem_name NoRoute = codes "NoRoute"
@@ -51,6 +56,7 @@ problem_name BodyTooLong = codes "BodyTooLong"
 problem_name NoPass = codes "NoPass"
 problem_name BadJson = codes "BadJson"
 
+-- the HTTP status for a problem; 400 for those that aren't named
 abbrev pub problem_status : Problem → ℕ
 problem_status NoRoute = 404
 problem_status (BadMethod route) = 405
@@ -58,13 +64,15 @@ problem_status NoLength = 411
 problem_status BodyTooLong = 413
 problem_status p = 400
 
+-- the route whose method the reply names: that of BadMethod
 abbrev pub allowed : Problem → Option Route
 allowed (BadMethod route) = Some route
 allowed p = None
 
--- the body that tells an error, with its number
+-- the body of an error: {"error":"NAME","number":K}
 unfoldable pub error_body : (name : List ℕ) → (number : ℕ) → List ℕ
 error_body name number = codes "{\"error\":\"" ▸ name ▸ codes "\",\"number\":" ▸ decimal number ▸ codes "}"
 
+-- the reply to a request with this problem
 abbrev pub problem_reply : Problem → Reply
 problem_reply p = record { status = problem_status p; allow = allowed p; kind = json; body = error_body (problem_name p) no_number }

@@ -7,23 +7,24 @@ use Rattle.std.specs.Str.Parse.{digits_value}
 use Rattle.atl_http.specs.declared.route.Route.{Route}
 use Rattle.atl_http.specs.declared.route.Route.TheVariants.{Join, Orders, Close, Report}
 
--- the most digits of a number
+-- the most digits of a number in a path
 abbrev pub most_digits : ℕ
 most_digits = 9
 
--- a number of at least one digit
+-- the number that 1 to 9 decimal digits write; None for any other text
 unfoldable pub number_of : List ℕ → Option ℕ
 number_of bytes = if nat_lt 0 (length bytes) && (nat_le (length bytes) most_digits && list_all is_ascii_digit bytes) then Some (digits_value 10 bytes) else None
 
--- what stands behind a text at the front of another
+-- the text without this prefix, if it begins with it
 abbrev pub after_prefix : List ℕ → List ℕ → Option (List ℕ)
 after_prefix front text = if pointwise nat_eq (take (length front) text) front then Some (drop (length front) text) else None
 
--- the route whose number stands behind a front, or what comes of a path without the front
+-- the route with the number after a prefix, or `other` if the path lacks the prefix
 abbrev pub numbered : (ℕ → Route) → Option (List ℕ) → Option Route → Option Route
 numbered route None other = other
 numbered route (Some parameter) other = option_map route (number_of parameter)
 
+-- whether a byte is a question mark
 abbrev pub is_question : ℕ → Bool
 is_question b = b == 63
 

@@ -1,4 +1,4 @@
--- For proofs alone: the routes as a router stores them, and the route that each key means.
+-- For proofs alone: the four routes as the router of `matchit` stores them, and the route that each key means.
 use Rattle.std.specs.Prelude.{ℕ, zero, suc, ◌+◌, List, [], ◌∷◌, ◌++◌, length, codes, Option, Some, None, option_map}
 use Rattle.matchit.specs.Rows.{Rows, RowsOf, param_token}
 use Rattle.matchit.specs.Router.{RouteOf, rename}
@@ -8,25 +8,26 @@ use Rattle.atl_http.specs.declared.route.RouteKey.{RouteKey}
 use Rattle.atl_http.specs.declared.route.RouteKey.TheVariants.{Join, Orders, Close, Report}
 use Rattle.atl_http.specs.Routes.{number_of}
 
--- a route with a number behind a front
+-- a route of the router: a prefix, and a number after it
 abbrev pub numbered_route : (front : List ℕ) → RouteKey → RouteOf RouteKey
 numbered_route front place = record { pattern = front ++ param_token ∷ []; text = front ++ codes "{number}"; names = (length front + 1, length front + 7) ∷ []; value = place }
 
--- the routes in the router's order
+-- the route of each index in the router's order, which is that of the texts
 abbrev pub kept_at : ℕ → RouteOf RouteKey
 kept_at zero = numbered_route (codes "/close/") Close
 kept_at (suc zero) = record { pattern = codes "/join"; text = codes "/join"; names = []; value = Join }
 kept_at (suc (suc zero)) = numbered_route (codes "/orders/") Orders
 kept_at (suc (suc (suc more))) = numbered_route (codes "/report/") Report
 
--- their rows, each with its place in that order
+-- the rows of the router, each with the index of its route
 abbrev pub rows : Rows
 rows = (codes "/close/" ++ param_token ∷ [], 0) ∷ (codes "/join", 1) ∷ (codes "/orders/" ++ param_token ∷ [], 2) ∷ (codes "/report/" ++ param_token ∷ [], 3) ∷ []
 
+-- the rows of the router, each with its route
 abbrev pub kept : RowsOf (RouteOf RouteKey)
 kept = rename kept_at rows
 
--- the route of a place, by the text of its number
+-- the route of a key of the router, with the number that the text after the prefix writes
 abbrev pub route_in : RouteKey → Option (List ℕ) → Option Route
 route_in Join parameter = Some route.Join
 route_in Orders None = None

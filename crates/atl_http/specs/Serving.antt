@@ -1,4 +1,4 @@
--- What serving one request returns, and what it leaves of the service.
+-- `Serves`: what serving one request returns, writes, and leaves of the service. See docs/FORMATS.md, "HTTP".
 use Rattle.std.specs.Prelude.{◌≡◌, ◌+◌, ◌<◌, ◌⊎◌, ℕ, List, length, take, Option, Some, None, Result, Ok, Err}
 use Rattle.std.specs.FinMap.{len}
 use Rattle.std.specs.Io.KnownBytes.{Keeps, Appends, Consumes, IsAtEnd}
@@ -27,38 +27,39 @@ abbrev pub next_faction : Option CampaignValue → ℕ
 next_faction None = 0
 next_faction (Some c) = c.next_faction
 
--- the command that a request asks for, with the words of the dice: of the faction that comes next, or of the month, one for each region
+-- the command that a request asks for, with the word of the dice for the faction that joins next, or the words for the month, one for each region
 abbrev pub command_of : Dice → (next regions : ℕ) → Request → Command
 command_of dice next regions (Join name pass) = command.Join name pass (word_of (generator dice.seed (joining_streams + next)))
 command_of dice next regions (Orders faction pass text) = command.Mail faction pass text
 command_of dice next regions (Close month pass) = command.Close month pass (first_words regions (generator dice.seed month))
 command_of dice next regions (Report faction pass) = command.Report faction pass
 
+-- the same, with the next faction and the regions of this service
 abbrev pub command_in : {S : Type 0} → Dice → ServiceValue S → Request → Command
 command_in dice old request = command_of dice (next_faction old.campaign) (len old.world.regions) request
 
--- the reply to what a request comes to, and what is left of it: nothing is changed, or the command was run
+-- This is the reply to an outcome: a refused request changes nothing, and one that asks for a command has it run.
 abbrev pub IsReply : {S : Type 0} → Ghosts S → Dice → (old : ServiceValue S) → Outcome → Reply → (new : ServiceValue S) → Type 0
 IsReply g dice old (Refused problem) reply new = (reply ≡ problem_reply problem) × (new ≡ old)
 IsReply g dice old (Asks request) reply new = (answer : Answer) × Runs g old (command_in dice old request) answer new × (reply ≡ answer_reply answer)
 
--- the reply to the bytes that were seen, behind which no more were read
+-- This is the reply to the bytes `seen`, after which no more were read.
 abbrev pub RepliesTo : {S : Type 0} → Ghosts S → Dice → (old : ServiceValue S) → (seen : List ℕ) → Reply → (new : ServiceValue S) → Type 0
 RepliesTo g dice old seen reply new = (outcome : Outcome) × IsReadSoFar seen × Judges seen (final outcome) × IsReply g dice old outcome reply new
 
--- the bytes that are known: those that a reader has left, and those that a writer holds
+-- the bytes that a reader has left and those that a writer holds, as far as they are known
 pub record Known : Type 0 where
   pub left : Option (List ℕ)
   pub held : Option (List ℕ)
 
--- the number of a fault
+-- the number of a fault of HTTP, from 1 to 3; Memory has none
 abbrev pub fault_number : HttpFault → Option ℕ
 fault_number Cut = Some 1
 fault_number ReadFault = Some 2
 fault_number WriteFault = Some 3
 fault_number Memory = None
 
--- Of the bytes that were seen the status and all bytes of the reply; or there is no reply, or a part of it.
+-- One request was served: with Ok the whole reply to the bytes seen was written; with a fault none of it, or a part.
 abbrev pub Serves : {S : Type 0} → Ghosts S → Dice → (before after : Known) → (old : ServiceValue S) → Result ℕ HttpFault → (new : ServiceValue S) → Type 0
 Serves g dice before after old (Ok status) new =
     (seen : List ℕ) × (reply : Reply) × Consumes before.left after.left seen × RepliesTo g dice old seen reply new × (status ≡ reply.status) × Appends before.held after.held (bytes_of reply)

@@ -1,4 +1,4 @@
-//! The replies to the answers of commands. See docs/FORMATS.md, "HTTP".
+//! Writes the reply to the answer of a command: status and body. See docs/FORMATS.md, "HTTP".
 ghost use Rattle.std.specs.Prelude.{◌≡◌, ◌++◌, IfOk, OnOk, string_bytes};
 ghost use Rattle.atl_http.specs.Answered.{joined_body, pair, more_pairs, pairs, mailed_body, month_body, refusal_status, success, answer_reply};
 ghost use Rattle.atl_http.specs.Replies.{json};
@@ -27,6 +27,7 @@ fn write_pair(out: &mut String, faulty: &FaultyLine) -> Result<(), AllocError>
     write!(out, "[{line},{number}]")
 }
 
+/// Writes the further faulty lines, each with a comma in front.
 fn write_more_pairs(out: &mut String, faults: &[FaultyLine]) -> Result<(), AllocError>
     ensures { OnOk result (string_bytes out.new ≡ string_bytes out.old ++ more_pairs faults.now) }
 {
@@ -37,6 +38,7 @@ fn write_more_pairs(out: &mut String, faults: &[FaultyLine]) -> Result<(), Alloc
     Ok(())
 }
 
+/// Writes all faulty lines, with commas between them.
 fn write_pairs(out: &mut String, faults: &[FaultyLine]) -> Result<(), AllocError>
     ensures { OnOk result (string_bytes out.new ≡ string_bytes out.old ++ pairs faults.now) }
 {
@@ -66,7 +68,7 @@ fn month_body(alloc: Global, month: u32) -> Result<String, AllocError>
     format!(in alloc; "{{\"month\":{month}}}")
 }
 
-/// The status of the reply to a refusal.
+/// The HTTP status for a refusal, from 400 to 413.
 fn refusal_status(refusal: Refusal) -> StatusCode
     ensures { result ≡ refusal_status refusal }
 {
@@ -87,7 +89,7 @@ fn refusal_status(refusal: Refusal) -> StatusCode
     }
 }
 
-/// The reply to a refusal: its number and name.
+/// The reply to a refusal: its status, and its number and name as JSON.
 fn refusal_message(alloc: Global, refusal: Refusal) -> Result<Message, AllocError>
     ensures { IfOk result (Says (answer_reply (Answer.Refused refusal))) }
 {
@@ -100,7 +102,7 @@ fn refusal_message(alloc: Global, refusal: Refusal) -> Result<Message, AllocErro
     )
 }
 
-/// The reply to a fault: its number and name.
+/// The reply to a fault of a command: status 500, and its name with the number 0 as JSON.
 fn fault_message(alloc: Global, fault: Fault) -> Result<Message, AllocError>
     ensures { IfOk result (Says (answer_reply (Answer.Fault fault))) }
 {
@@ -113,14 +115,14 @@ fn fault_message(alloc: Global, fault: Fault) -> Result<Message, AllocError>
     )
 }
 
-/// The reply to a command that was carried out.
+/// The reply to a command that was carried out: status 200 and this body in JSON.
 fn success_message(alloc: Global, body: &str) -> Result<Message, AllocError>
     ensures { IfOk result (Says (success json body.now)) }
 {
     reply_message(alloc, StatusCode::OK, None, JSON, body)
 }
 
-/// The reply to an answer. AllocError without memory for its bytes.
+/// The reply to the answer of a command. AllocError without memory for its bytes.
 pub fn answer_message(alloc: Global, answer: &Answer) -> Result<Message, AllocError>
     ensures { IfOk result (Says (answer_reply answer.now)) }
 {

@@ -1,5 +1,5 @@
-//! Counts the reads of one request and the writes of its reply, and keeps the result of the last
-//! one.
+//! Counts the reads of one request and the interrupted writes of its reply, and keeps the outcome
+//! of the last one.
 ghost use Rattle.std.specs.Prelude.{◌≡◌, ◌↔◌, ◌+◌, ◌<◌, IsTrue, length};
 ghost use Rattle.std.specs.IoError.{error_kind};
 ghost use Rattle.atl_http.specs.Calls.{IsReadOutcome, IsWriteOutcome};
@@ -12,10 +12,10 @@ pub const MOST_READS: u32 = 1_000_000;
 /// The most writes of one reply that may be interrupted.
 pub const MOST_INTERRUPTED: u32 = 1_000_000;
 
-/// What came of one read.
+/// The outcome of one read.
 #[derive(Drop, Clone, Copy)]
 pub enum ReadOutcome {
-    /// So many bytes.
+    /// The number of bytes read, at least one.
     Piece(usize),
     /// The input has no more bytes.
     End,
@@ -23,24 +23,24 @@ pub enum ReadOutcome {
     Failed,
 }
 
-/// What became of one write.
+/// The outcome of one write.
 #[derive(Drop, Clone, Copy)]
 pub enum WriteOutcome {
-    /// So many bytes were taken.
+    /// The number of bytes written, at least one.
     Taken(usize),
     Interrupted,
     /// The write failed, or took no byte.
     Failed,
 }
 
-/// The reads of one request: how many there were, and what came of the last one.
+/// The reads of one request: how many there were, and the outcome of the last one.
 #[derive(Drop, Clone, Copy)]
 pub struct Reads {
     count: u32,
     last: ReadOutcome,
 }
 
-/// The writes of one reply: how many of them were interrupted, and what became of the last one.
+/// The writes of one reply: how many of them were interrupted, and the outcome of the last one.
 #[derive(Drop, Clone, Copy)]
 pub struct Writes {
     interrupted: u32,
@@ -81,7 +81,7 @@ fn write_outcome(returned: io::Result<usize>) -> WriteOutcome
 impl Reads {
     ghost use Rattle.atl_http.specs.Calls.{most_reads, no_reads, ReadsOnce};
 
-    /// No read so far.
+    /// The count before the first read.
     pub fn none() -> Reads
         ensures { result ≡ no_reads }
     {
@@ -98,7 +98,7 @@ impl Reads {
         self.count
     }
 
-    /// Reads once, to the front of the room, and returns what came.
+    /// Reads once, to the front of the buffer `room`, counts the read, and returns its outcome.
     pub fn read<R: Read>(&mut self, reader: &mut R, room: &mut [u8]) -> ReadOutcome
         requires room { 0 < length room.old }
         requires few { self.old.count < most_reads }
@@ -115,7 +115,7 @@ impl Reads {
 impl Writes {
     ghost use Rattle.atl_http.specs.Calls.{most_interrupted, no_writes, WritesOnce};
 
-    /// No write so far.
+    /// The count before the first write.
     pub fn none() -> Writes
         ensures { result ≡ no_writes }
     {
@@ -132,7 +132,7 @@ impl Writes {
         self.interrupted
     }
 
-    /// Writes once, and returns what became of it.
+    /// Writes once, counts an interrupted write, and returns the outcome.
     pub fn write<W: Write>(&mut self, writer: &mut W, rest: &[u8]) -> WriteOutcome
         requires { self.old.interrupted < most_interrupted }
         ensures { WritesOnce (W.contents writer.old) (W.contents writer.new) rest.now self.old

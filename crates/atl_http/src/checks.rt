@@ -1,4 +1,4 @@
-//! Checks the head of a request, in the order of docs/FORMATS.md, "HTTP".
+//! Checks the head and the body of a request, in the order of docs/FORMATS.md, "HTTP".
 ghost use Rattle.std.specs.Prelude.{◌≡◌, All, length, bytes_eq};
 ghost use Rattle.httparse.specs.Spans.{IsHeaderWithin};
 ghost use Rattle.serde_json.specs.View.{view};
@@ -24,6 +24,7 @@ const TRANSFER_ENCODING: &[u8] = b"Transfer-Encoding";
 
 const CONTENT_LENGTH: &[u8] = b"Content-Length";
 
+/// The name of the field with a pass text.
 const PASS: &[u8] = b"Atlantis-Pass";
 
 /// Whether a request of HTTP/1.1 has exactly one Host.
@@ -35,8 +36,8 @@ fn has_host(minor: u8, bytes: &[u8], fields: &[HeaderSpan]) -> bool
     minor == 0 || only_value(bytes, fields, HOST).is_some()
 }
 
-/// The route of a request, if its method is the route's: BadRequest, NoRoute or BadMethod where it isn't, Memory without memory for
-/// the routes.
+/// The route of a request, by the first two checks: BadRequest, NoRoute or BadMethod if one fails,
+/// Memory without memory for the routes.
 #[tactic(auto, unfolding(crate::specs::Checks::requested_route))]
 fn requested_route(
     alloc: Global,
@@ -67,7 +68,7 @@ fn is_method(method: &[u8], route: Route) -> bool
     method == route.method().as_str().as_bytes()
 }
 
-/// The length that a text says, if a body may have it.
+/// The length of a body that a value of Content-Length gives, if it is at most that of a mailing.
 fn size_within(text: &[u8]) -> Result<usize, CheckError>
     ensures { Gives (λ size. size) result (size_within (number_of text.now)) }
 {
@@ -78,7 +79,7 @@ fn size_within(text: &[u8]) -> Result<usize, CheckError>
     }
 }
 
-/// The length of the body of a POST.
+/// The length of the body of a POST, in bytes, by its fields; the third check.
 #[tactic(auto, unfolding(crate::specs::Checks::posted_size))]
 fn posted_size(is_optional: bool, bytes: &[u8], fields: &[HeaderSpan]) -> Result<usize, CheckError>
     requires { All (IsHeaderWithin (length bytes.now)) fields.now }
@@ -98,7 +99,7 @@ fn posted_size(is_optional: bool, bytes: &[u8], fields: &[HeaderSpan]) -> Result
     }
 }
 
-/// The length of the body that is read.
+/// The number of body bytes that are read for a route: 0 for a GET.
 fn size_of(route: Route, bytes: &[u8], fields: &[HeaderSpan]) -> Result<usize, CheckError>
     requires { All (IsHeaderWithin (length bytes.now)) fields.now }
     ensures { Gives (λ size. size) result (size_of route (seen bytes.now fields.now)) }
@@ -110,7 +111,7 @@ fn size_of(route: Route, bytes: &[u8], fields: &[HeaderSpan]) -> Result<usize, C
     }
 }
 
-/// The pass text, whose field is there exactly once.
+/// The value of Atlantis-Pass, if there is exactly one; else NoPass.
 #[tactic(auto, unfolding(crate::specs::Checks::pass_field))]
 fn pass_field<'a>(bytes: &'a [u8], fields: &[HeaderSpan]) -> Result<&'a [u8], CheckError>
     requires { All (IsHeaderWithin (length bytes.now)) fields.now }
@@ -122,7 +123,7 @@ fn pass_field<'a>(bytes: &'a [u8], fields: &[HeaderSpan]) -> Result<&'a [u8], Ch
     }
 }
 
-/// The pass text that a route needs.
+/// The pass text of the head, if the route needs one; empty for a join. The fourth check.
 fn pass_of<'a>(route: Route, bytes: &'a [u8], fields: &[HeaderSpan]) -> Result<&'a [u8], CheckError>
     requires { All (IsHeaderWithin (length bytes.now)) fields.now }
     ensures { Gives (λ pass. pass.now) result (pass_of route (seen bytes.now fields.now)) }
@@ -133,7 +134,7 @@ fn pass_of<'a>(route: Route, bytes: &'a [u8], fields: &[HeaderSpan]) -> Result<&
     }
 }
 
-/// What a head asks for.
+/// A head that passed the first four checks: its route, the length of its body, its pass text.
 #[derive(Drop, Clone, Copy)]
 pub struct ParsedHead<'a> {
     pub route: Route,
@@ -162,7 +163,7 @@ pub fn head_checks<'a>(
     Ok(ParsedHead { route, size, pass })
 }
 
-/// What a body of JSON says.
+/// The value of a body in JSON; BadJson if it is not UTF-8 or not JSON.
 fn json_of(alloc: Global, body: &[u8]) -> Result<Value, CheckError>
     ensures { Gives view result (or_problem BadJson (json_of body.now)) }
 {
@@ -176,7 +177,7 @@ fn json_of(alloc: Global, body: &[u8]) -> Result<Value, CheckError>
     }
 }
 
-/// The text under a key.
+/// The text under a key of an object of JSON; BadJson if there is none.
 fn text_at<'a>(said: &'a Value, key: &str) -> Result<&'a str, CheckError>
     ensures { Gives (λ text. text.now) result
         (or_problem BadJson (text_at key.now (view said.now))) }
@@ -187,7 +188,7 @@ fn text_at<'a>(said: &'a Value, key: &str) -> Result<&'a str, CheckError>
     }
 }
 
-/// The join that a body asks for.
+/// The join that a body of JSON asks for, with its name and pass text; the fifth check.
 #[tactic(auto, unfolding(crate::specs::Checks::joining))]
 fn joining(alloc: Global, body: &[u8]) -> Result<Request, CheckError>
     ensures { Gives (λ request. request) result (joining body.now) }

@@ -1,4 +1,4 @@
-//! The words of the dice: for a join, and for a month. See docs/FORMATS.md, "Dice".
+//! The dice: random words from a seed, for a join and for a month. See docs/FORMATS.md, "Dice".
 ghost use Rattle.std.specs.Prelude.{◌≡◌, ◌+◌, IfOk};
 ghost use Rattle.atl_http.specs.Dice.{joining_streams, word_of, generator, first_words};
 
@@ -6,7 +6,8 @@ use rand_core::utils::NextWord;
 use rand_pcg::Lcg64Xsh32;
 use std::alloc::{AllocError, Global};
 
-/// The stream of a faction that joins is this number plus its own, so that it is no month's.
+/// 10,000: a faction that joins has the random stream of this plus its number, so that it is no
+/// month's.
 const JOINING_STREAMS: u64 = 10_000;
 
 /// Dice, by the seed that a club chose. The same seed gives the same words. See docs/FORMATS.md, "Dice".

@@ -7,7 +7,7 @@ ghost use Rattle.atl_http.specs.Finding.{HasValues, one_more, seen};
 
 use httparse::spans::{HeaderSpan, Span};
 
-/// Whether a name is among the fields once or several times, and where its value is.
+/// The result of a lookup by name: no field, one field with the span of its value, or several.
 #[derive(Drop, Clone, Copy)]
 pub enum FieldLookup {
     Nowhere,
@@ -22,7 +22,7 @@ fn is_same(name: &[u8], other: &[u8]) -> bool
     name.eq_ignore_ascii_case(other)
 }
 
-/// What is found, with one value more.
+/// The result of a lookup after one more value was found.
 fn with_value(found: FieldLookup, value: Span) -> FieldLookup
     ensures { result ≡ one_more found value }
 {
@@ -32,7 +32,7 @@ fn with_value(found: FieldLookup, value: Span) -> FieldLookup
     }
 }
 
-/// Where the value of a name is, among the fields whose places these are.
+/// Looks up a name among the fields of a head, which are given as spans of the bytes.
 #[tactic(auto, unfolding(crate::specs::Fields::values_of))]
 pub fn find_value(bytes: &[u8], fields: &[HeaderSpan], name: &[u8]) -> FieldLookup
     requires { All (IsHeaderWithin (length bytes.now)) fields.now }
@@ -47,7 +47,7 @@ pub fn find_value(bytes: &[u8], fields: &[HeaderSpan], name: &[u8]) -> FieldLook
     found
 }
 
-/// The value of a name that is there exactly once.
+/// The value of a field, if exactly one field has this name.
 pub fn only_value<'a>(bytes: &'a [u8], fields: &[HeaderSpan], name: &[u8]) -> Option<&'a [u8]>
     requires { All (IsHeaderWithin (length bytes.now)) fields.now }
     ensures { option_map (λ value. value.now) result

@@ -1,4 +1,5 @@
-//! Reads a request in pieces, and writes its reply.
+//! Reads a request in pieces from a reader, and writes a reply to a writer. See docs/FORMATS.md,
+//! "For developers".
 ghost use Rattle.std.specs.Prelude.{◌≡◌, ◌≤◌, ◌+◌, [], length, IfOk, OnOk};
 ghost use Rattle.atl_http.specs.Heads.{most_at_once, IsShortBy, ComesTo};
 ghost use Rattle.atl_http.specs.Calls.{most_reads, no_reads, GoesOn, EndsReading, no_writes, EndsWriting};
@@ -14,7 +15,7 @@ use std::io::{Read, Write};
 /// The most bytes that one read takes.
 const MOST_AT_ONCE: usize = 8_192;
 
-/// Why a connection has ended without a reply, or within one. See docs/FORMATS.md, "HTTP".
+/// Why serving a request ended without a reply, or with a part of one. See docs/FORMATS.md, "HTTP".
 #[derive(Drop, Clone, Copy, Debug, PartialEq, Eq)]
 pub enum HttpFault {
     /// The input ended before the request was whole. No command was run, and nothing written.
@@ -31,7 +32,7 @@ pub enum HttpFault {
 impl HttpFault {
     ghost use Rattle.atl_http.specs.Serving.{fault_number};
 
-    /// The number of the fault; Memory has none.
+    /// The number of the fault, from 1 to 3; Memory has none.
     pub fn number(self) -> Option<u8>
         ensures { result ≡ fault_number self }
     {
@@ -66,8 +67,9 @@ impl From<AllocError> for HttpFault {
     }
 }
 
-/// Reads once, appends what came, and returns how many bytes that were: none if the read was interrupted. Cut at
-/// the end of the input, ReadFault where the read fails or 1,000,000 were done before, Memory without memory for what came.
+/// Reads once, appends the bytes to `seen`, and returns their number: 0 if the read was
+/// interrupted. Cut at the end of the input, ReadFault where the read fails or 1,000,000 were done
+/// before, Memory without memory for the bytes.
 fn read_more<R: Read>(
     reader: &mut R,
     reads: &mut Reads,
@@ -96,8 +98,8 @@ fn read_more<R: Read>(
     }
 }
 
-/// Writes all bytes. WriteFault where a write fails or takes no byte, or 1,000,000 writes were interrupted: then a front of them is
-/// written.
+/// Writes all bytes. WriteFault where a write fails or takes no byte, or 1,000,000 writes were
+/// interrupted: then only the first bytes are written.
 pub fn send<W: Write>(writer: &mut W, writes: &mut Writes, bytes: &[u8]) -> Result<(), HttpFault>
     requires { writes.old ≡ no_writes }
     ensures sends { Sends (W.contents writer.old) (W.contents writer.new) bytes.now result }
@@ -114,7 +116,7 @@ pub fn send<W: Write>(writer: &mut W, writes: &mut Writes, bytes: &[u8]) -> Resu
     Ok(())
 }
 
-/// The room for one read.
+/// A buffer of 8,192 zeros for the bytes of one read.
 fn room(alloc: Global) -> Result<Vec<u8>, AllocError>
     ensures { IfOk result (λ room. length room.items ≡ most_at_once) }
 {
@@ -123,7 +125,7 @@ fn room(alloc: Global) -> Result<Vec<u8>, AllocError>
     Ok(room)
 }
 
-/// What the bytes that have come come to: judged anew only where no more are known to be lacking.
+/// The progress on the bytes received so far; they are parsed only if none are known to be missing.
 fn progress_if_due(alloc: Global, seen: &[u8], lacking: usize) -> Result<Progress, AllocError>
     requires { IsShortBy seen.now lacking }
     ensures { IfOk result (ComesTo seen.now) }
@@ -134,7 +136,7 @@ fn progress_if_due(alloc: Global, seen: &[u8], lacking: usize) -> Result<Progres
     progress_of(alloc, seen)
 }
 
-/// Reads until the request is whole or refused, and leaves in `seen` all that was read.
+/// The loop of `receive`, with a buffer for one read.
 fn receive_in<R: Read>(
     alloc: Global,
     reader: &mut R,
@@ -162,8 +164,9 @@ fn receive_in<R: Read>(
     }
 }
 
-/// Reads until the request is whole or refused, and leaves in `seen` all that was read. Cut where the input ends before, ReadFault
-/// where a read fails or 1,000,000 reads haven't brought all of it, Memory without memory for what is read or asked.
+/// Reads until the request is whole or refused, and leaves in `seen` all that was read. Cut where
+/// the input ends before, ReadFault where a read fails or 1,000,000 reads haven't brought all of
+/// it, Memory without memory for the bytes or the request.
 pub fn receive<R: Read>(
     alloc: Global,
     reader: &mut R,

@@ -1,5 +1,5 @@
 //! Serves connections of a listener, one after another.
-ghost use Rattle.atl_http.specs.Listening.{Attends, ServesEach};
+ghost use Rattle.atl_http.specs.Listening.{ServesConnection, ServesEach};
 
 use crate::dice::Dice;
 use crate::io::HttpFault;
@@ -12,17 +12,17 @@ use std::io::ErrorKind;
 use std::net::{TcpListener, TcpStream};
 use std::rt::Clock;
 
-/// Why no more connections are served.
+/// Why serving connections stopped early.
 #[derive(Drop, Clone, Copy, Debug, PartialEq, Eq)]
 pub enum ListenFault {
-    /// No connection can be taken.
+    /// The system gives no further connection.
     Net,
     /// There was no memory for a request or its reply.
     Memory,
 }
 
-/// Serves the one request of a connection. A peer that sends or takes too slowly is left. A connection without a whole request or
-/// reply counts as served.
+/// Serves the one request of a connection. One whose peer sends or takes too slowly is given up. A
+/// connection without a whole request or reply counts as served. The only error is Memory.
 fn serve_stream<C: Clock, S: Alter>(
     alloc: Global,
     clock: &C,
@@ -30,7 +30,7 @@ fn serve_stream<C: Clock, S: Alter>(
     service: &mut Service<S>,
     dice: Dice,
 ) -> Result<(), ListenFault>
-    ensures { Attends S.Store dice service.old result service.new }
+    ensures { ServesConnection S.Store dice service.old result service.new }
 {
     let patience = Patience::new(clock);
     let patience = &patience;
@@ -43,9 +43,10 @@ fn serve_stream<C: Clock, S: Alter>(
     }
 }
 
-/// Serves so many connections of a bound listener, one after another, one request each. A connection that its peer ends before it is
-/// taken counts among them. Net where no connection can be taken; Memory where there was none for a request or its reply: the
-/// connections before are served, and no more are taken. The clock says how long a peer has been waited for.
+/// Serves `count` connections of a bound listener, one after another, one request each. A
+/// connection that its peer ends before it is accepted counts among them. Net where none can be
+/// accepted; Memory where there was none for a request or its reply: the connections before are
+/// served, and no more are accepted. The clock says how long a peer has been waited for.
 pub fn serve_each<C: Clock, S: Alter>(
     alloc: Global,
     clock: &C,

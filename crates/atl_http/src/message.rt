@@ -11,16 +11,16 @@ use http::StatusCode;
 use std::alloc::{AllocError, Global};
 use std::fmt::Write;
 
-/// What the body of an answer is, but for a report.
+/// The content type of every reply but a report.
 pub const JSON: &str = "application/json";
 
-/// What a report is.
+/// The content type of a report.
 pub const PLAIN: &str = "text/plain";
 
-/// What stands in for the number of an error that has none.
+/// The number in the body of an error that has none.
 pub const NO_NUMBER: u8 = 0;
 
-/// A reply: its status, and all its bytes.
+/// A reply as it is sent: its status, and all its bytes from the status line on.
 pub struct Message {
     pub status: u16,
     pub bytes: String,
@@ -32,7 +32,7 @@ impl Drop for Message {
     }
 }
 
-/// The phrase of a status; nothing where it has none.
+/// The reason phrase of a status, as `Not Found`; empty where it has none.
 fn phrase_of(status: StatusCode) -> &'static str
     ensures { result.now ≡ unwrap_or (reason_phrase status) [] }
 {
@@ -42,7 +42,7 @@ fn phrase_of(status: StatusCode) -> &'static str
     }
 }
 
-/// Writes the lines that every reply begins with.
+/// Writes the status line and the three fields that every reply begins with.
 #[tactic(auto, unfolding(crate::specs::Replies::head_of))]
 fn write_head(
     out: &mut String,
@@ -76,7 +76,7 @@ fn write_allowed(out: &mut String, allow: Option<Route>) -> Result<(), AllocErro
     }
 }
 
-/// The reply of these parts. AllocError without memory for its bytes.
+/// The reply with this status, route for `Allow`, content type and body. AllocError without memory.
 pub fn reply_message(
     alloc: Global,
     status: StatusCode,
@@ -97,7 +97,7 @@ pub fn reply_message(
     })
 }
 
-/// The body of a reply to an error: its number and name.
+/// The body of a reply to an error: its name and number as JSON.
 #[tactic(auto, unfolding(crate::specs::Replies::error_body))]
 fn error_body(alloc: Global, name: &str, number: u8) -> Result<String, AllocError>
     ensures { IfOk result (λ body. string_bytes body ≡ error_body name.now number) }
@@ -105,7 +105,7 @@ fn error_body(alloc: Global, name: &str, number: u8) -> Result<String, AllocErro
     format!(in alloc; "{{\"error\":\"{name}\",\"number\":{number}}}")
 }
 
-/// The reply to an error. AllocError without memory for its bytes.
+/// The reply with this status to an error of this name and number. AllocError without memory.
 pub fn error_message(
     alloc: Global,
     status: StatusCode,
@@ -126,7 +126,7 @@ pub fn error_message(
     reply_message(alloc, status, allow, JSON, body.as_str())
 }
 
-/// The reply to a request with a problem. AllocError without memory for its bytes.
+/// The reply to a request that failed a check. AllocError without memory for its bytes.
 pub fn problem_message(alloc: Global, problem: Problem) -> Result<Message, AllocError>
     ensures { IfOk result (Says (problem_reply problem)) }
 {

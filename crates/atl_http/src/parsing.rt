@@ -1,4 +1,5 @@
-//! Parses the bytes received so far: a whole request, a refused one, or more to read.
+//! Parses the bytes received so far: a whole request, a refused one, or an unfinished one. See
+//! docs/FORMATS.md, "HTTP".
 ghost use Rattle.std.specs.Prelude.{◌≡◌, ◌≤◌, All, IfOk, length, take, drop};
 ghost use Rattle.httparse.specs.Spans.{IsHeaderWithin, IsRequestWithin, IsRequestOf};
 ghost use Rattle.atl_http.specs.Checks.{head_checks};
@@ -18,8 +19,8 @@ const MOST_HEAD: usize = 8_192;
 /// The most fields of a head.
 const MOST_FIELDS: usize = 32;
 
-/// What a whole head comes to with the bytes after it, or how many more are missing. AllocError without memory for the routes or
-/// for what is asked.
+/// The verdict on a whole head and the bytes after it, or how many bytes of the body are missing.
+/// AllocError without memory for the routes or the request.
 fn progress_with_body(
     alloc: Global,
     minor: u8,
@@ -49,7 +50,7 @@ fn progress_with_body(
     }
 }
 
-/// The bytes in which the head has to end.
+/// The first 8,192 bytes, in which the head has to end.
 #[tactic(auto, using(std::proofs::lemmas::List::take_min, crate::proofs::HeadLaws::front_within))]
 fn front_of(seen: &[u8]) -> &[u8]
     ensures front { result.now ≡ take most_head seen.now }
@@ -58,7 +59,7 @@ fn front_of(seen: &[u8]) -> &[u8]
     &seen[..MOST_HEAD.min(seen.len())]
 }
 
-/// What parsing the front of the bytes gives.
+/// The result of parsing the first bytes as a head: whole, unfinished or refused.
 #[derive(Drop, Clone, Copy)]
 pub enum HeadParse {
     Whole(RequestSpans),
@@ -67,7 +68,7 @@ pub enum HeadParse {
     Refused,
 }
 
-/// Parses the front of the bytes as a head, which has as many fields at most as there is room for.
+/// Parses the first bytes as a head; one with more than 32 fields is refused.
 fn parse_head(front: &[u8], fields: &mut [HeaderSpan]) -> HeadParse
     requires { length fields.old ≡ most_fields }
     ensures tells { ParsesHead front.now fields.new result }
@@ -80,7 +81,7 @@ fn parse_head(front: &[u8], fields: &mut [HeaderSpan]) -> HeadParse
     }
 }
 
-/// The fields that were found.
+/// The first `count` fields, which were found.
 fn first_fields(fields: &[HeaderSpan], count: usize) -> &[HeaderSpan]
     requires { count ≤ length fields.now }
     ensures { result.now ≡ take count fields.now }
@@ -96,7 +97,7 @@ pub fn rest_after(seen: &[u8], len: usize) -> &[u8]
     &seen[len..]
 }
 
-/// What bytes come to that begin with a whole head.
+/// The progress on bytes that begin with a whole head.
 fn progress_past_head(
     alloc: Global,
     seen: &[u8],
@@ -118,7 +119,7 @@ fn progress_past_head(
     progress_with_body(alloc, head.version, method, target, front, fields, rest)
 }
 
-/// What the bytes come to, with room for the fields of their head.
+/// The progress on the bytes, with a buffer for the fields of their head.
 fn progress_in(
     alloc: Global,
     seen: &[u8],
@@ -136,8 +137,8 @@ fn progress_in(
     }
 }
 
-/// What the bytes received so far come to, or how many more are missing: one of a head that isn't whole, and of a body
-/// that isn't, all that are missing. AllocError as of `verdict_on`.
+/// The verdict on the bytes received so far, or how many more are missing: 1 while the head isn't
+/// whole, then the rest of the body. AllocError as of `verdict_on`.
 pub fn progress_of(alloc: Global, seen: &[u8]) -> Result<Progress, AllocError>
     ensures { IfOk result (ComesTo seen.now) }
 {
@@ -145,8 +146,8 @@ pub fn progress_of(alloc: Global, seen: &[u8]) -> Result<Progress, AllocError>
     progress_in(alloc, seen, &mut fields)
 }
 
-/// What the bytes that have come of a request come to. AllocError without memory for the routes or for what is asked. See
-/// docs/FORMATS.md, "HTTP".
+/// The verdict on the bytes received so far: more to read, refused, or a request. AllocError
+/// without memory for the routes or the request. See docs/FORMATS.md, "HTTP".
 pub fn verdict_on(alloc: Global, seen: &[u8]) -> Result<Verdict, AllocError>
     ensures { IfOk result (Judges seen.now) }
 {

@@ -1,4 +1,5 @@
-//! The peer of a connection, with a time limit for each call and for all of them.
+//! Reads from and writes to a connection's peer, with a time limit for each call and for all of
+//! them.
 use std::cell::Cell;
 use std::io;
 use std::io::{ErrorKind, Read, Write};
@@ -6,13 +7,14 @@ use std::net::TcpStream;
 use std::rt::Clock;
 use std::time::{Duration, Instant};
 
-/// How many seconds a peer is waited for at one read or one write.
+/// The most seconds that one read or one write waits for the peer.
 const CALL_SECONDS: u64 = 10;
 
-/// How many seconds a peer is waited for in all. In this time a line of 1.1 kB a second carries the longest mailing.
+/// The most seconds that all reads and writes of a connection wait for its peer. In this time a
+/// line of 1.1 kB a second carries the longest mailing.
 const WHOLE_SECONDS: u64 = 60;
 
-/// How long a peer is still waited for. The time that the command itself takes doesn't count.
+/// The time that a peer is still waited for. The time that the command itself takes doesn't count.
 pub struct Patience<'a, C: Clock> {
     clock: &'a C,
     left: Cell<Duration>,
@@ -32,7 +34,7 @@ impl<'a, C: Clock> Patience<'a, C> {
         }
     }
 
-    /// How long the peer is waited for at the call that begins now, and the time now. TimedOut once nothing is left.
+    /// The time limit of the call that begins now, and the time now. TimedOut once no time is left.
     fn begin(&self) -> io::Result<(Duration, Instant)> {
         let left = self.left.get();
         if left.is_zero() {
@@ -42,7 +44,7 @@ impl<'a, C: Clock> Patience<'a, C> {
         Ok((wait, Instant::now(self.clock)?))
     }
 
-    /// Takes the time since a call began from what is left.
+    /// Subtracts the time since a call began from the time left.
     fn spend(&self, begun: Instant) -> io::Result<()> {
         let spent = begun.elapsed(self.clock)?;
         self.left.set(self.left.get().saturating_sub(spent));
@@ -50,8 +52,8 @@ impl<'a, C: Clock> Patience<'a, C> {
     }
 }
 
-/// The peer of a connection: what it sends is read, and what it takes is written. Where the system refuses to set a time-out, the
-/// call has none, since the peer has done nothing wrong.
+/// A connection as a reader and a writer with time limits. Where the system refuses to set a
+/// time-out, the call has none, since the peer has done nothing wrong.
 pub struct Peer<'a, C: Clock> {
     pub stream: &'a TcpStream,
     pub patience: &'a Patience<'a, C>,

@@ -1,5 +1,5 @@
-//! What can be wrong with a request: the names and statuses of the checks. See docs/FORMATS.md,
-//! "HTTP".
+//! The problems of a request that fails a check, with their names and HTTP statuses. See
+//! docs/FORMATS.md, "HTTP".
 ghost use Rattle.std.specs.Prelude.{◌≡◌};
 ghost use Rattle.atl_http.specs.Replies.{problem_name, problem_status};
 
@@ -29,7 +29,7 @@ pub enum Problem {
 }
 
 impl Problem {
-    /// The problem's name, as replies have it.
+    /// The problem's name, as `NoRoute` in the body of the reply.
     pub fn name(self) -> &'static str
         ensures { result.now ≡ problem_name self }
     {
@@ -58,7 +58,7 @@ impl Problem {
     }
 }
 
-/// Its name.
+/// The problem's name, as `NoRoute`.
 impl fmt::Display for Problem {
     fn fmt<W: fmt::Write>(&self, f: &mut fmt::Formatter<W>) -> fmt::Result {
         write!(f, "{}", self.name())
@@ -67,7 +67,7 @@ impl fmt::Display for Problem {
 
 impl Error for Problem {}
 
-/// Why there is nothing to go on with: there was no memory, or a check failed.
+/// Why checking a request ended: out of memory, or a check failed.
 #[derive(Drop, Clone, Copy)]
 pub enum CheckError {
     Memory,

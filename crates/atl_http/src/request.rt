@@ -7,7 +7,7 @@ use atl_service::Command;
 use atl_tables::Sequence;
 use std::alloc::{AllocError, Global};
 
-/// What is asked for by a whole request that passes every check.
+/// A whole request that passed every check of its form: what it asks for.
 pub enum Request {
     /// A faction joins, under a name, with a pass text of its own.
     Join {
@@ -53,8 +53,9 @@ impl Drop for Request {
 impl Request {
     ghost use Rattle.atl_http.specs.Serving.{command_of};
 
-    /// The command that is asked for, with the words of the dice: of the faction that comes next, or of a month for so many
-    /// regions. AllocError without memory for them.
+    /// The command that the request asks for, with the word of the dice for the faction `next` that
+    /// joins, or the words for a month, one for each of `regions`. AllocError without memory for
+    /// them.
     pub fn into_command(
         self,
         alloc: Global,
@@ -92,10 +93,10 @@ impl Request {
     }
 }
 
-/// What the bytes that have come of a request come to.
+/// The verdict on the bytes received so far.
 #[derive(Drop)]
 pub enum Verdict {
-    /// The request isn't whole.
+    /// The request isn't whole: more is to be read.
     More,
     /// The request fails a check, whatever follows.
     Refused(Problem),
@@ -103,7 +104,7 @@ pub enum Verdict {
     Asks(Request),
 }
 
-/// What a request comes to once no more of it is read.
+/// The final verdict on a request, after which no more is read.
 #[derive(Drop)]
 pub enum Outcome {
     /// The request fails a check.
@@ -112,10 +113,10 @@ pub enum Outcome {
     Asks(Request),
 }
 
-/// What the bytes received so far come to, or how many more are missing.
+/// The final verdict on the bytes received so far, or how many more are missing.
 #[derive(Drop)]
 pub enum Progress {
-    /// The request isn't whole, and won't be with fewer bytes more than so many, at least one.
+    /// The request isn't whole, and needs at least this many bytes more, which is 1 or more.
     Lacks(usize),
     Ends(Outcome),
 }
@@ -123,7 +124,7 @@ pub enum Progress {
 impl Progress {
     ghost use Rattle.atl_http.specs.Heads.{verdict_by};
 
-    /// What the bytes come to.
+    /// The verdict: More while bytes are missing.
     pub fn verdict(self) -> Verdict
         ensures { result ≡ verdict_by self }
     {

@@ -11,10 +11,10 @@ use matchit::Router;
 use std::alloc::{AllocError, Global};
 use std::str;
 
-/// The most digits of a number.
+/// The most digits of a number in a path.
 const MOST_DIGITS: usize = 9;
 
-/// What a path leads to, with its number. See docs/FORMATS.md, "HTTP".
+/// The route of a path, with the number in it. See docs/FORMATS.md, "HTTP".
 #[derive(Drop, Clone, Copy, Debug, PartialEq, Eq)]
 pub enum Route {
     Join,
@@ -26,7 +26,7 @@ pub enum Route {
     Report(u32),
 }
 
-/// What a path leads to, whatever its number.
+/// A route without its number, as the router stores it.
 #[derive(Drop, Clone, Copy)]
 pub enum RouteKey {
     Join,
@@ -47,7 +47,7 @@ impl Route {
     }
 }
 
-/// The number that 1 to 9 digits write.
+/// The number that 1 to 9 decimal digits write; None for any other text.
 #[tactic(auto, unfolding(crate::specs::Routes::number_of))]
 pub fn number_of(bytes: &[u8]) -> Option<u32>
     ensures { result ≡ number_of bytes.now }
@@ -65,13 +65,14 @@ pub fn number_of(bytes: &[u8]) -> Option<u32>
     Some(value as u32)
 }
 
+/// The index of the first question mark.
 fn first_question(bytes: &[u8]) -> Option<usize>
     ensures { result ≡ position is_question bytes.now }
 {
     bytes.iter().position(|byte| *byte == b'?')
 }
 
-/// Where the path of a target ends.
+/// The index where the path of a target ends: that of the first question mark, or its length.
 #[tactic(auto, using(atl_orders::proofs::WordLaws::found_or_len, atl_orders::proofs::WordLaws::found_within))]
 fn end_of_path(target: &[u8]) -> usize
     ensures value { result ≡ position_or_len is_question target.now }
@@ -80,7 +81,7 @@ fn end_of_path(target: &[u8]) -> usize
     first_question(target).unwrap_or(target.len())
 }
 
-/// The path of a target.
+/// The path of a target: the part before the first question mark.
 pub fn path_of(target: &[u8]) -> &[u8]
     ensures { result.now ≡ path_of target.now }
 {
@@ -88,7 +89,7 @@ pub fn path_of(target: &[u8]) -> &[u8]
     &target[..end]
 }
 
-/// Adds a route to a router.
+/// Adds a route to a router; `place` is the key that the route leads to.
 fn add(router: &mut Router<RouteKey>, route: &str, place: RouteKey) -> Result<(), AllocError>
     ensures { OnOk result (InsertsRead (parse_route route.now) place router.old router.new
         (Ok tt)) }
@@ -111,7 +112,7 @@ fn router(alloc: Global) -> Result<Router<RouteKey>, AllocError>
     Ok(router)
 }
 
-/// The route of a place, by the text of its number.
+/// The route of the key `place`, with the number that the text `parameter` writes.
 fn route_in(place: RouteKey, parameter: Option<&str>) -> Option<Route>
     ensures { result ≡ route_in place (option_map (λ text. text.now) parameter.entry) }
 {
@@ -124,7 +125,7 @@ fn route_in(place: RouteKey, parameter: Option<&str>) -> Option<Route>
     }
 }
 
-/// What a path leads to, by a router of the four routes.
+/// The route of a path, by a router of the four routes.
 fn route_by(router: &Router<RouteKey>, path: &str) -> Option<Route>
     requires { router.now ≡ kept }
     ensures { result ≡ route_of path.now }
@@ -135,7 +136,7 @@ fn route_by(router: &Router<RouteKey>, path: &str) -> Option<Route>
     }
 }
 
-/// What a path leads to. AllocError without memory for the routes.
+/// The route of a path; None if it has none. AllocError without memory for the routes.
 pub fn route_of(alloc: Global, path: &[u8]) -> Result<Option<Route>, AllocError>
     ensures { IfOk result (λ route. route ≡ route_of path.now) }
 {

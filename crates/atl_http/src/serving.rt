@@ -17,8 +17,9 @@ use sqlite::Alter;
 use std::alloc::{AllocError, Global};
 use std::io::{Read, Write};
 
-/// Runs the command that a request asks for: a join with the word that the dice give for the faction that comes next, a close
-/// with their words for its month, one for each region. AllocError without memory for them: then nothing is changed.
+/// Runs the command that a request asks for, and returns its answer: a join with the word of the
+/// dice for the faction that joins next, a close with their words for its month, one for each
+/// region. AllocError without memory for these: then nothing is changed.
 pub fn run_request<S: Alter>(
     alloc: Global,
     service: &mut Service<S>,
@@ -39,7 +40,8 @@ pub fn run_request<S: Alter>(
     Ok(service.run(&command))
 }
 
-/// The reply to what a request comes to. AllocError without memory for it, when a command may have been run.
+/// Runs the command of a request, or refuses the request, and returns the reply. AllocError without
+/// memory for it, when the command may have been run.
 fn reply_to<S: Alter>(
     alloc: Global,
     service: &mut Service<S>,
@@ -57,8 +59,7 @@ fn reply_to<S: Alter>(
     }
 }
 
-/// Reads one request, judges it, runs the command that it asks for, and writes the reply, as `serve_one` does; the reads and the writes
-/// are counted.
+/// Serves one request as `serve_one` does, and counts its reads and writes.
 pub fn serve_counted<R: Read, W: Write, S: Alter>(
     alloc: Global,
     reader: &mut R,
@@ -90,9 +91,10 @@ pub fn serve_counted<R: Read, W: Write, S: Alter>(
     }
 }
 
-/// Reads one request, judges it, runs the command that it asks for, and writes the reply, of which it gives the status. The
-/// words of a join and of a close are those of the dice. Once the request is whole or refused, nothing more is read. It ends after
-/// at most 1,000,000 reads, and as many writes that are interrupted. A fault says why there is no reply, or only a part. See docs/FORMATS.md, "HTTP".
+/// Reads one request, checks it, runs its command, writes the reply, and returns the status. The
+/// words of a join and of a close are those of the dice. Once the request is whole or refused,
+/// nothing more is read. It ends after at most 1,000,000 reads, and as many writes that are
+/// interrupted. A fault says why there is no reply, or only a part. See docs/FORMATS.md, "HTTP".
 pub fn serve_one<R: Read, W: Write, S: Alter>(
     alloc: Global,
     reader: &mut R,

@@ -1,4 +1,4 @@
--- A command that is refused is answered, and changes nothing.
+-- Law for commands that `step` refuses: answering Refused with nothing changed fulfils `Answers`.
 use Rattle.std.proofs.Common.{◌≡◌, refl}
 use Rattle.sqlite_trees.specs.declared.store.Store.{Ghosts}
 use Rattle.sqlite.specs.Held.{Held}

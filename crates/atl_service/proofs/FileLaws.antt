@@ -1,4 +1,4 @@
--- A shielded connection over files.
+-- Law: a shielded connection over files has a clean disk, or two digests have collided.
 use Rattle.std.proofs.Common.{◌≡◌, ◌⊎◌, ℕ, Bool, true, false, List, IsTrue, inl, inr, refl}
 use Rattle.std.proofs.lemmas.Bool.{false≢true}
 use Rattle.sqlite_disk.specs.Events.{Event, replay}

@@ -1,4 +1,4 @@
--- A founding.
+-- Laws on `found`: a founding fulfils `Founds`, a refusal `RefusesFounding`, and the new service is consistent.
 use Rattle.std.proofs.Common.{◌≡◌, ◌⊎◌, Bool, true, false, List, ℕ, Result, Ok, Some, refl, sym, ap, ◌∙◌, subst, inl, inr, arith}
 use Rattle.std.proofs.lemmas.Bool.{false≢true}
 use Rattle.sqlite_trees.specs.declared.store.Store.{Ghosts}
@@ -21,25 +21,27 @@ use Rattle.atl_store.specs.Faults.{create_fault}
 use Rattle.atl_store.specs.OwnStatements.{OfFounding}
 use Rattle.atl_store.proofs.CauseLaws.{gives_among}
 use Rattle.atl_service.specs.Causes.{FoundsBy}
-use Rattle.atl_service.specs.Service.{Stands}
+use Rattle.atl_service.specs.Service.{IsConsistent}
 use Rattle.atl_service.specs.declared.command.Cause.{Cause}
 use Rattle.atl_service.specs.declared.command.Cause.TheVariants.{World as BadWorld, BadPassText}
 use Rattle.atl_service.specs.declared.command.Cause.TheVariants as none
-use Rattle.atl_service.specs.Found.{Founds, FailsToFound, Leaves, RefusesFounding, IsCause, Prepares, RefusesToWrite, of_creation}
+use Rattle.atl_service.specs.Found.{Founds, FailsToFound, LeavesByCause, RefusesFounding, IsCause, Prepares, RefusesToWrite, of_creation}
 use Rattle.atl_service.proofs.CauseLaws.{creation_failed, creation_lacked}
 
 module _ {S : Type 0} (g : Ghosts S) where
+  -- a connection is a later state of itself
   later_itself : (conn : Held S) → IsLater (state g conn) (state g conn)
   later_itself conn = record { clean = λ clean. clean; counts = omega arith; shield = λ k. k }
 
+  -- an unchanged connection fulfils what a failed founding leaves
   nothing_done : (conn : Held S) (text pass : List ℕ) → FailsToFound g conn text pass conn
   nothing_done conn text pass = record { tables = λ clean. spares_itself (state g conn); unfounded = λ bad. refl; crash = λ clean w is db may. inl may }
 
-  -- a founding that was refused before the store was asked
+  -- a founding refused by a check before the tables are created leaves the connection as it was
   pub spared : (conn : Held S) (text pass : List ℕ) (why : Cause) → ((is_there : Bool) → IsCause text pass is_there why) → RefusesFounding g conn text pass why conn
   spared conn text pass why cause = record { cause = cause (has_campaign conn.schema); leaves = leaves why cause; later = later_itself conn }
     where
-      leaves : (why : Cause) → ((is_there : Bool) → IsCause text pass is_there why) → Leaves g conn text pass conn why
+      leaves : (why : Cause) → ((is_there : Bool) → IsCause text pass is_there why) → LeavesByCause g conn text pass conn why
       leaves (BadWorld fault) is = refl
       leaves BadPassText is = refl
       leaves none.NotEmpty is = refl
@@ -51,15 +53,16 @@ module _ {S : Type 0} (g : Ghosts S) where
       leaves none.Store is = absurd (false≢true (sym (is true).2))
       leaves none.Memory is = (nothing_done conn text pass, inl refl)
 
-  -- the service that is founded stands
-  pub founded_stands : (conn : Held S) (w : WorldValue) (c : CampaignValue) (text : List ℕ) → conn.in_transaction ≡ false → IsGood w c → world_of text ≡ Ok w → HoldsCampaign g conn text c → Stands g conn w c true
-  founded_stands conn w c text idle good is holds = record {
+  -- the service of a founded (or upgraded) campaign is consistent
+  pub founded_consistent : (conn : Held S) (w : WorldValue) (c : CampaignValue) (text : List ℕ) → conn.in_transaction ≡ false → IsGood w c → world_of text ≡ Ok w → HoldsCampaign g conn text c → IsConsistent g conn w c true
+  founded_consistent conn w c text idle good is holds = record {
     idle = idle;
     good = λ up. good;
     tables = λ up clean. let kept = holds clean in subst (λ t. Keeps (state g conn) t c) (sym (world_text_is (state g conn) text c kept)) kept;
     text = λ up clean. ap world_of (world_text_is (state g conn) text c (holds clean)) ∙ is;
   }
 
+  -- a founding whose tables were created fulfils `Founds`
   pub founds_on : (old conn : Held S) (w : WorldValue) (c : CampaignValue) (text pass : List ℕ) → Prepares text pass w c → Creates g text c old conn → IsLater (state g old) (state g conn) → Founds g old text pass (record { conn = conn; world = w; campaign = Some c })
   founds_on old conn w c text pass made creates later = record {
     fresh = creates.fresh;
@@ -71,8 +74,9 @@ module _ {S : Type 0} (g : Ghosts S) where
     later = later;
   }
 
-  -- the founding that the store refused
+  -- ---- a founding whose tables could not be created
   module _ (old new : Held S) (w : WorldValue) (c : CampaignValue) (text pass : List ℕ) (made : Prepares text pass w c) (later : IsLater (state g old) (state g new)) where
+    -- tables that could not be created fulfil what a failed founding leaves
     failed : FailsToCreate g text c old new → FailsToFound g old text pass new
     failed fails = record {
       tables = fails.tables;
@@ -83,7 +87,7 @@ module _ {S : Type 0} (g : Ghosts S) where
         ok_same : (a b : WorldValue) → ◌≡◌ {A = Result WorldValue WorldFault} (Ok a) (Ok b) → a ≡ b
         ok_same a b e = cc
 
-    -- the campaign is the one that the text and the pass text found
+    -- the statements at fault are those of the founding by this text and pass text
     told_by_founding : (fault : CreateFault) → IsTold g (OfFounding text c) create_fault old new fault → IsTold g (FoundsBy text pass) create_fault old new fault
     told_by_founding fault told = (
       told.0,
@@ -91,6 +95,7 @@ module _ {S : Type 0} (g : Ghosts S) where
       gives_among g (OfFounding text c) (FoundsBy text pass) (λ sql params own. (w, made.world, subst (λ (d : CampaignValue). OfFounding text d sql params) made.campaign own)) told.0 old new told.2,
     )
 
+    -- if creating the tables fails, the founding is refused by the fault's cause
     pub refused_by_store : (fault : CreateFault) → RefusesToCreate g text c old new fault → RefusesFounding g old text pass (of_creation fault) new
     refused_by_store NotEmpty refused = record { cause = ((w, made.world), made.pass_is_good, refused.0); leaves = refused.1; later = later }
     refused_by_store Store refused = record { cause = ((w, made.world), made.pass_is_good, refused.0.fresh); leaves = (failed refused.0, broken refused.1); later = later }

@@ -1,4 +1,4 @@
--- What the step makes of a command Join, for each result of `join`, and what the store is to write of it.
+-- Laws on a command Join: what `step` makes of it for each result of `join_of`, and that the store can write the result.
 use Rattle.std.proofs.Common.{◌≡◌, ◌+◌, ◌-◌, ℕ, pos, List, [], Bool, true, false, cond, not, Option, Some, is_some, IsSome, Ok, Err, refl, sym, ap, ◌∙◌, subst, arith}
 use Rattle.std.specs.FinMap.{get, insert}
 use Rattle.atl_tables.specs.Names.{name_ok, pass_ok}
@@ -38,16 +38,17 @@ module _ (w : WorldValue) (c : CampaignValue) (name pass : List ℕ) (word : ℕ
   unfolding step
   steps_on d n m a b e = rw (a, b, e) refl
 
--- where a join is accepted, it is the joining
+-- if the two tests of `join_of` let it succeed with `y`, then `y` is the joined campaign `x`
 accepted : {S : Type 0} (taken full : Bool) (x y : S) → cond taken (Err NameTaken) (cond full (Err Full) (Ok x)) ≡ Ok y → x ≡ y
 accepted true full x y e = cc
 accepted false true x y e = cc
 accepted false false x y e = cc
 
--- the faction, its unit and its report are there
+-- a value that was found is there (used for the faction, its unit and its report)
 is_there : {V : Type 0} (o : Option V) (v : V) → o ≡ Some v → IsSome o
 is_there o v is = ap is_some is
 
+-- after a join and its first report, the new faction, its unit and its report are there, and the numbers count them
 arrival : (w : WorldValue) (name pass : List ℕ) (word : ℕ) (c : CampaignValue) → IsGood w c → HasArrival (reported w (joined w name pass word c) c.next_faction) c.next_faction
 unfolding joined
 arrival w name pass word c good =
@@ -64,6 +65,7 @@ arrival w name pass word c good =
       report = is_there _ report (get_inserted c.reports c.next_faction report);
     }
 
+-- the same for the result of `join_of`
 pub arrives : (w : WorldValue) (name pass : List ℕ) (word : ℕ) (c d : CampaignValue) (n m : ℕ) → IsGood w c → join_of w name pass word c ≡ Ok (d, (n, m)) → HasArrival (reported w d n) n
 unfolding join_of
 arrives w name pass word c d n m good e =
@@ -72,7 +74,7 @@ arrives w name pass word c d n m good e =
     let number : c.next_faction ≡ n = ap (λ p. p.1.0) is in
     subst (λ (s : CampaignValue). HasArrival (reported w s n) n) same (subst (λ k. HasArrival (reported w (joined w name pass word c) k) k) number (arrival w name pass word c good))
 
--- with its first report it is one that the store can write
+-- a join with its first report is one that the store can write (`IsJoining`)
 pub joining_is : (w : WorldValue) (name pass : List ℕ) (word : ℕ) (c d : CampaignValue) (n m : ℕ) → IsGood w c → join_of w name pass word c ≡ Ok (d, (n, m)) → IsJoining c n (reported w d n)
 unfolding join_of
 joining_is w name pass word c d n m good e =

@@ -1,4 +1,4 @@
--- An opening.
+-- Laws on `open`: it gives back what was stored, or refuses and leaves the tables; the opened service is consistent.
 use Rattle.std.proofs.Common.{◌≡◌, Bool, false, true, not, Some, refl, ap, ◌∙◌, subst, inl, arith}
 use Rattle.sqlite_trees.specs.declared.store.Store.{Ghosts}
 use Rattle.sqlite.specs.Effect.{Database}
@@ -18,17 +18,18 @@ use Rattle.atl_service.specs.Service.{IsService}
 use Rattle.atl_service.specs.Opened.{ComesBack, Opens, RefusesOpening, of_loading}
 use Rattle.sqlite.specs.State.{HasCleanDisk}
 
--- a connection that commits by itself is in no transaction
+-- if the test for autocommit is true, the connection is in no transaction
 pub is_idle : (told busy : Bool) → told ≡ not busy → told ≡ true → busy ≡ false
 is_idle told false is so = refl
 is_idle told true is so = cc
 
+-- if the test for autocommit is false, the connection is in a transaction
 pub is_busy : (told busy : Bool) → told ≡ not busy → told ≡ false → busy ≡ true
 is_busy told false is so = cc
 is_busy told true is so = refl
 
 module _ {S : Type 0} (g : Ghosts S) where
-  -- what is not touched is left alone
+  -- an unchanged connection is left alone (`LeavesAlone`)
   pub alone_itself : (conn : Held S) → LeavesAlone g conn conn
   alone_itself conn = record {
     spares = λ clean. spares_itself (state g conn);
@@ -36,19 +37,21 @@ module _ {S : Type 0} (g : Ghosts S) where
     mode = refl;
   }
 
-  -- a connection that is in a transaction is not asked
+  -- a connection in a transaction is refused with Store and left as it is
   pub refused_unasked : (conn : Held S) → conn.in_transaction ≡ true → RefusesOpening g conn (of_loading Store) conn
   refused_unasked conn busy = record { fault = Store; why_is = refl; cause = λ clean. inl busy; alone = alone_itself conn; later = later _ _ _ (alone_itself conn).survives }
 
   module _ (old new : Held S) (alone : LeavesAlone g old new) where
+    -- an opening whose load failed is refused by that fault
     pub refused_by_load : (fault : StoreFault) → (HasCleanDisk (state g new) → RefusesToLoad g old fault) → RefusesOpening g old (of_loading fault) new
     refused_by_load fault cause = record { fault = fault; why_is = refl; cause = cause; alone = alone; later = later _ _ _ alone.survives }
 
     module _ (w : WorldValue) (c : MarkedCampaign) (loads : Loads g old new w c) where
+      -- a loaded campaign fulfils `Opens`
       pub opens : Opens g old (record { conn = new; world = w; campaign = Some c.value })
       opens = record { campaign = c; is_open = refl; loads = loads; alone = alone; later = later _ _ _ alone.survives }
 
-      -- what was held before is what is loaded
+      -- the text, world and campaign that the tables held are those that are loaded
       pub comes_back : ComesBack g old (record { conn = new; world = w; campaign = Some c.value })
       comes_back clean text v d reads good held =
           let kept = loads.tables clean in
@@ -60,9 +63,9 @@ module _ {S : Type 0} (g : Ghosts S) where
           let worlds : w ≡ v = holds_one_world w v db there text c.value d (loads.world clean) reads rows were.rows in
           (texts, worlds, ap Some (holds_one v db there text c.value d (subst (λ p. IsGood p c.value) worlds loads.good) good rows were.rows).1)
 
-      -- the service that is opened stands
-      pub opened_stands : old.in_transaction ≡ false → IsService g new w c true
-      opened_stands idle = record {
-        stands = record { idle = alone.mode ∙ idle; good = λ up. loads.good; tables = λ up. loads.tables; text = λ up. loads.world };
+      -- the opened service is consistent
+      pub opened_consistent : old.in_transaction ≡ false → IsService g new w c true
+      opened_consistent idle = record {
+        consistent = record { idle = alone.mode ∙ idle; good = λ up. loads.good; tables = λ up. loads.tables; text = λ up. loads.world };
         unmarked = λ up. loads.unmarked;
       }

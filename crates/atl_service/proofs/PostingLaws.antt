@@ -1,4 +1,4 @@
--- Mailings that are taken one after the other: only the last one of each faction counts.
+-- Law: of stored mailings only the last one of each faction counts for closing a month.
 use Rattle.std.proofs.Common.{◌≡◌, ◌==◌, ℕ, Bool, true, false, cond, not, List, [], ◌∷◌, Option, Some, None, Result, Ok, Err, refl, sym, ap, ◌∙◌, arith}
 use Rattle.std.proofs.lemmas.Bool.Decides.{nat_tests}
 use Rattle.std.specs.Option.{option_or}
@@ -20,37 +20,44 @@ use Rattle.atl_service.specs.declared.command.Refusal.TheVariants as why
 use Rattle.atl_service.specs.Step.{faction_with_pass, mailed, mailed_by, run_of, step}
 use Rattle.atl_service.specs.Posting.{AreMailed, IsMailed, OnlyTheLastMailCounts, last_text}
 
--- ---- one mailing that is taken is kept
+-- ---- one mailing that is answered Mailed is stored
 
 module _ (c : CampaignValue) (faction : ℕ) (text : List ℕ) where
-  abbrev Keeps : CampaignValue × Answer → Type 0
-  Keeps made = IsMailed made.1 → made.0 ≡ with_mail c faction text
+  -- If the answer is Mailed, the campaign has this text as the faction's mail.
+  abbrev StoresIfMailed : CampaignValue × Answer → Type 0
+  StoresIfMailed made = IsMailed made.1 → made.0 ≡ with_mail c faction text
 
-  kept_own : (other : Bool) (done : CampaignValue × Answer) → Keeps done → Keeps (cond other (c, Refused why.WrongFaction) done)
+  -- `StoresIfMailed` holds with the test that the header names the sender
+  kept_own : (other : Bool) (done : CampaignValue × Answer) → StoresIfMailed done → StoresIfMailed (cond other (c, Refused why.WrongFaction) done)
   kept_own true done keeps taken = absurd taken
   kept_own false done keeps taken = keeps taken
 
-  kept_read : (read : Result Reading MailFault) → Keeps (mailed c faction text read)
+  -- `StoresIfMailed` holds of each result of reading the mailing
+  kept_read : (read : Result Reading MailFault) → StoresIfMailed (mailed c faction text read)
   kept_read (Ok r) taken = kept_own (not (r.faction == faction)) _ (λ _. refl) taken
   kept_read (Err TooLong) taken = absurd taken
   kept_read (Err NoHeader) taken = absurd taken
   kept_read (Err BadHeader) taken = absurd taken
   kept_read (Err Memory) taken = absurd taken
 
-  kept_here : (gone : Bool) (done : CampaignValue × Answer) → Keeps done → Keeps (cond gone (c, Refused why.Gone) done)
+  -- `StoresIfMailed` holds with the test that the faction isn't gone
+  kept_here : (gone : Bool) (done : CampaignValue × Answer) → StoresIfMailed done → StoresIfMailed (cond gone (c, Refused why.Gone) done)
   kept_here true done keeps taken = absurd taken
   kept_here false done keeps taken = keeps taken
 
-  kept_by : (w : WorldValue) (who : Result Faction Refusal) → Keeps (mailed_by w c faction text who)
+  -- `StoresIfMailed` holds with the test of number and pass text
+  kept_by : (w : WorldValue) (who : Result Faction Refusal) → StoresIfMailed (mailed_by w c faction text who)
   kept_by w (Err refusal) taken = absurd taken
   kept_by w (Ok f) taken = kept_here f.gone (mailed c faction text (reading w text)) (kept_read (reading w text)) taken
 
-  kept : (w : WorldValue) (pass : List ℕ) → Keeps (step w c (Mail faction pass text))
+  -- a command Mail that is answered Mailed stores its text
+  kept : (w : WorldValue) (pass : List ℕ) → StoresIfMailed (step w c (Mail faction pass text))
   unfolding step
   kept w pass = kept_by w (faction_with_pass pass (get c.factions faction))
 
--- ---- the mail behind a list of them
+-- ---- the mail after a list of mailings
 
+-- the mail after these commands, if each mailing is stored
 abbrev posted : FinMap nat_cmp (List ℕ) → List Command → FinMap nat_cmp (List ℕ)
 posted mail [] = mail
 posted mail (Join _ _ _ ∷ more) = posted mail more
@@ -58,6 +65,7 @@ posted mail (Mail faction _ text ∷ more) = posted (insert mail faction text) m
 posted mail (Close _ _ _ ∷ more) = posted mail more
 posted mail (Report _ _ ∷ more) = posted mail more
 
+-- running stored mailings changes the mail alone, to `posted`
 run_posts : (w : WorldValue) (c : CampaignValue) (sent : List Command) → AreMailed w c sent → (run_of w c sent).0 ≡ record c { mail = posted c.mail sent }
 run_posts w c [] all = refl
 run_posts w c (Join _ _ _ ∷ more) all = absurd all
@@ -66,7 +74,7 @@ run_posts w c (Mail faction pass text ∷ more) all =
 run_posts w c (Close _ _ _ ∷ more) all = absurd all
 run_posts w c (Report _ _ ∷ more) all = absurd all
 
--- a faction's mail is then its last text
+-- a faction's mail after the list is its last text in it
 get_posted : (mail : FinMap nat_cmp (List ℕ)) (sent : List Command) (n : ℕ) → get (posted mail sent) n ≡ last_text n (get mail n) sent
 get_posted mail [] n = refl
 get_posted mail (Join _ _ _ ∷ more) n = get_posted mail more n
@@ -79,7 +87,7 @@ get_posted mail (Mail faction pass text ∷ more) n =
 get_posted mail (Close _ _ _ ∷ more) n = get_posted mail more n
 get_posted mail (Report _ _ ∷ more) n = get_posted mail more n
 
--- what was there before doesn't matter where something was sent
+-- the mail before the list counts only for factions without a mailing in it
 last_or : (n : ℕ) (before other : Option (List ℕ)) (sent : List Command) → last_text n (option_or before other) sent ≡ option_or (last_text n before sent) other
 last_or n before other [] = refl
 last_or n before other (Join _ _ _ ∷ more) = last_or n before other more
@@ -91,6 +99,7 @@ last_or n before other (Mail faction pass text ∷ more) = ap (λ o. last_text n
 last_or n before other (Close _ _ _ ∷ more) = last_or n before other more
 last_or n before other (Report _ _ ∷ more) = last_or n before other more
 
+-- lists with the same last text of each faction give the same mail
 same_mail : (mail : FinMap nat_cmp (List ℕ)) (sent others : List Command) → ((n : ℕ) → last_text n None sent ≡ last_text n None others) → posted mail sent ≡ posted mail others
 same_mail mail sent others same = same_map nat_cmp_total nat_cmp-IsAntisymmetric (posted mail sent) (posted mail others) (λ n.
     get_posted mail sent n ∙ last_or n None (get mail n) sent ∙ ap (λ o. option_or o (get mail n)) (same n) ∙ sym (get_posted mail others n ∙ last_or n None (get mail n) others))

@@ -1,4 +1,4 @@
--- From the answer to one command to what `run` promises.
+-- Laws on `run`: from what `answer_to` promises (`Answers`, `GivesUp`) to what `run` promises (`Runs`), and the invariant.
 use Rattle.std.proofs.Common.{◌≡◌, Bool, true, false, cond, Some, None, IfSome, refl, sym, ap, ap₂, ◌∙◌, subst}
 use Rattle.std.proofs.lemmas.Bool.{false≢true}
 use Rattle.sqlite_trees.specs.declared.store.Store.{Ghosts}
@@ -15,13 +15,13 @@ use Rattle.atl_service.specs.declared.command.Answer.TheVariants.{Joined, Mailed
 use Rattle.atl_store.specs.declared.fault.WriteFault.{WriteFault}
 use Rattle.atl_store.specs.declared.fault.WriteFault.TheVariants as write
 use Rattle.atl_store.specs.Keeps.{HoldsCampaign}
-use Rattle.atl_service.specs.Service.{ServiceValue, text_in, Stands}
+use Rattle.atl_service.specs.Service.{ServiceValue, text_in, IsConsistent}
 use Rattle.atl_service.specs.Answering.{Answers, GivesUp, LeavesIdle, of_write}
 use Rattle.atl_service.specs.Causes.{OfCommand, HasCause}
 use Rattle.atl_service.specs.Runs.{Runs, RunsOpen, Closes}
 
 module _ {S : Type 0} (g : Ghosts S) where
-  -- what contracts see of these fields
+  -- the value of a service with these fields, as contracts see it
   abbrev pub shown : Held S → WorldValue → CampaignValue → Bool → ServiceValue S
   shown conn w c is_open = record { conn = conn; world = w; campaign = cond is_open (Some c) None }
 
@@ -29,29 +29,32 @@ module _ {S : Type 0} (g : Ghosts S) where
     abbrev pub Answered : Answer → Type 0
     Answered = Answers g w c conn command c' conn'
 
-    holding : (answer : Answer) → Stands g conn w c true → LeavesIdle g conn conn' → Answered answer → HoldsCampaign g conn' (text_in g conn) c'
+    -- after an answered command the tables hold the new campaign
+    holding : (answer : Answer) → IsConsistent g conn w c true → LeavesIdle g conn conn' → Answered answer → HoldsCampaign g conn' (text_in g conn) c'
     holding answer stands leaves done clean = done.tables clean (text_in g conn) (stands.tables refl (leaves.later.clean clean))
 
-    -- the service stands after a command that was answered
-    stands_open : (answer : Answer) → Stands g conn w c true → LeavesIdle g conn conn' → Answered answer → Stands g conn' w c' true
-    stands_open answer stands leaves done = record {
+    -- an open service is consistent after a command that was answered
+    consistent_open : (answer : Answer) → IsConsistent g conn w c true → LeavesIdle g conn conn' → Answered answer → IsConsistent g conn' w c' true
+    consistent_open answer stands leaves done = record {
       idle = leaves.idle;
       good = λ up. done.good;
       tables = λ up clean. let kept = holding answer stands leaves done clean in subst (λ t. Keeps (state g conn') t c') (sym (world_text_is (state g conn') (text_in g conn) c' kept)) kept;
       text = λ up clean. ap world_of (world_text_is (state g conn') (text_in g conn) c' (holding answer stands leaves done clean)) ∙ stands.text refl (leaves.later.clean clean);
     }
 
-    pub stands_after : (answer : Answer) (is_open : Bool) → is_open ≡ true → Stands g conn w c is_open → LeavesIdle g conn conn' → Answered answer → Stands g conn' w c' is_open
-    stands_after answer true up stands leaves done = stands_open answer stands leaves done
-    stands_after answer false up stands leaves done = absurd (false≢true up)
+    -- the same, with the flag that the service is open
+    pub consistent_after : (answer : Answer) (is_open : Bool) → is_open ≡ true → IsConsistent g conn w c is_open → LeavesIdle g conn conn' → Answered answer → IsConsistent g conn' w c' is_open
+    consistent_after answer true up stands leaves done = consistent_open answer stands leaves done
+    consistent_after answer false up stands leaves done = absurd (false≢true up)
 
-    -- the tables of an open service
-    pub tables_after : (answer : Answer) (is_open : Bool) → is_open ≡ true → Stands g conn w c is_open → LeavesIdle g conn conn' → Answered answer
+    -- after an answered command the tables of an open service hold its campaign
+    pub tables_after : (answer : Answer) (is_open : Bool) → is_open ≡ true → IsConsistent g conn w c is_open → LeavesIdle g conn conn' → Answered answer
         → IfSome (shown conn' w c' is_open).campaign (λ d. HoldsCampaign g conn' (text_in g conn') d)
-    tables_after answer true up stands leaves done = (stands_open answer stands leaves done).tables refl
+    tables_after answer true up stands leaves done = (consistent_open answer stands leaves done).tables refl
     tables_after answer false up stands leaves done = absurd (false≢true up)
 
-    runs_open : (answer : Answer) → Stands g conn w c true → LeavesIdle g conn conn' → Answered answer → RunsOpen g c (shown conn w c true) command answer (shown conn' w c' true)
+    -- an answered command of an open service fulfils `RunsOpen`
+    runs_open : (answer : Answer) → IsConsistent g conn w c true → LeavesIdle g conn conn' → Answered answer → RunsOpen g c (shown conn w c true) command answer (shown conn' w c' true)
     runs_open (Joined f u) stands leaves done = record { after = c'; step = done.step_is; same = refl; tables = holding (Joined f u) stands leaves done }
     runs_open (Mailed n fs) stands leaves done = record { after = c'; step = done.step_is; same = refl; tables = holding (Mailed n fs) stands leaves done }
     runs_open (MonthDone n) stands leaves done = record { after = c'; step = done.step_is; same = refl; tables = holding (MonthDone n) stands leaves done }
@@ -59,19 +62,21 @@ module _ {S : Type 0} (g : Ghosts S) where
     runs_open (Refused r) stands leaves done = (done.step_is ∙ ap (λ d. (d, Refused r)) done.same.0, ap₂ (λ h d. shown h w d true) done.same.1 done.same.0)
     runs_open (Fault f) stands leaves done = absurd done.sound
 
-    pub runs_on : (old : ServiceValue S) (answer : Answer) (is_open : Bool) → shown conn w c is_open ≡ old → is_open ≡ true → Stands g conn w c is_open → LeavesIdle g conn conn' → Answered answer → Runs g old command answer (shown conn' w c' is_open)
+    -- an answered command fulfils `Runs`
+    pub runs_on : (old : ServiceValue S) (answer : Answer) (is_open : Bool) → shown conn w c is_open ≡ old → is_open ≡ true → IsConsistent g conn w c is_open → LeavesIdle g conn conn' → Answered answer → Runs g old command answer (shown conn' w c' is_open)
     runs_on old answer true seen up stands leaves done = subst (λ e. Runs g e command answer (shown conn' w c' true)) seen (runs_open answer stands leaves done)
     runs_on old answer false seen up stands leaves done = absurd (false≢true up)
 
-    -- the call gave up
+    -- The command ended in a fault.
     abbrev pub GaveUp : Type 0
     GaveUp = GivesUp g w c conn command conn'
 
-    closes_open : Stands g conn w c true → LeavesIdle g conn conn' → GaveUp → Closes g c (shown conn w c true) command (shown conn' w c' false)
+    -- a command that ended in a fault closes the service
+    closes_open : IsConsistent g conn w c true → LeavesIdle g conn conn' → GaveUp → Closes g c (shown conn w c true) command (shown conn' w c' false)
     closes_open stands leaves gave_up = record { same = refl; tables = λ clean. gave_up clean (text_in g conn) (stands.tables refl (leaves.later.clean clean)) }
 
-    -- what is told is the fault of the store
-    pub closes_for : (old : ServiceValue S) (fault : WriteFault) (told : Failure) (is_open : Bool) → told ≡ of_write fault → shown conn w c is_open ≡ old → is_open ≡ true → Stands g conn w c is_open → LeavesIdle g conn conn' → GaveUp → HasCause g (OfCommand w c command) conn conn' (of_write fault)
+    -- a command that ended in a fault fulfils `Runs`, with the fault of the store as the answer
+    pub closes_for : (old : ServiceValue S) (fault : WriteFault) (told : Failure) (is_open : Bool) → told ≡ of_write fault → shown conn w c is_open ≡ old → is_open ≡ true → IsConsistent g conn w c is_open → LeavesIdle g conn conn' → GaveUp → HasCause g (OfCommand w c command) conn conn' (of_write fault)
         → Runs g old command (Fault told) (shown conn' w c' false)
     closes_for old fault told true is seen up stands leaves gave_up cause = subst (λ e. Runs g e command (Fault told) (shown conn' w c' false)) seen (subst (λ t. RunsOpen g c (shown conn w c true) command (Fault t) (shown conn' w c' false)) (sym is) (closes fault cause))
       where

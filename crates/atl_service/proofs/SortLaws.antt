@@ -1,4 +1,4 @@
--- The events of each faction, listed one after another.
+-- Laws on sorting events by faction: the lists are each faction's own events, and a report needs only those.
 use Rattle.std.proofs.Common.{Result, Ok, Err, ◌≡◌, ◌==◌, ◌++◌, ◌+◌, ◌<◌, ℕ, Bool, true, false, cond, List, [], ◌∷◌, Option, Some, unwrap_or, refl, sym, ap, ◌∙◌, arith, length, get_or, drop}
 use Rattle.std.specs.Prelude.{OnOk}
 use Rattle.std.specs.Ordering.{nat_cmp}
@@ -16,18 +16,20 @@ use Rattle.atl_report.proofs.EventLaws.{only_what_is_seen_is_told}
 use Rattle.atl_service.specs.Closing.{reported_with}
 use Rattle.atl_service.specs.Sorting.{events_of, with_event}
 
--- the list of a faction once an event is put at the end of that of another, or of this one
+-- a faction's list after an event was added to it (`b` is true) or to another one
 by_faction : (b : Bool) (o : Option (List Event)) (listed rest : List Event) (e : Event) → (b ≡ true → listed ≡ unwrap_or o [])
     → unwrap_or (cond b (Some (listed ++ (e ∷ []))) o) [] ++ rest ≡ unwrap_or o [] ++ cond b (e ∷ rest) rest
 by_faction true o listed rest e h = ap (λ l. (l ++ (e ∷ [])) ++ rest) (h refl) ∙ append_assoc (unwrap_or o []) (e ∷ []) rest
 by_faction false o listed rest e h = refl
 
+-- equal numbers have the same list
 same_list : (sorted : FinMap nat_cmp (List Event)) (q r : ℕ) → (r == q) ≡ true → events_of sorted r ≡ events_of sorted q
 same_list sorted q r h = ap (events_of sorted) (equal q r h)
   where
     equal : (q r : ℕ) → (r == q) ≡ true → r ≡ q
     equal q r h = grind (arith, nat_tests)
 
+-- adding an event to its list and then the rest gives the same as the list and then the event and the rest
 event_goes_on : (sorted : FinMap nat_cmp (List Event)) (e : Event) (es : List Event) (n : ℕ)
     → events_of (with_event sorted e) n ++ own_events n es ≡ events_of sorted n ++ own_events n (e ∷ es)
 event_goes_on sorted e es n =
@@ -35,7 +37,7 @@ event_goes_on sorted e es n =
     ∙ ap (λ b. unwrap_or (cond b (Some (events_of sorted e.faction ++ (e ∷ []))) (get sorted n)) [] ++ own_events n es) (key_turned n e.faction)
     ∙ by_faction (e.faction == n) (get sorted n) (events_of sorted e.faction) (own_events n es) e (same_list sorted n e.faction)
 
--- an event more of these, at this place
+-- one round of the loop: the event of index `i` is added to its faction's list
 pub sorted_on : (sorted new : FinMap nat_cmp (List Event)) (events : List Event) (i : ℕ) (d : Event) (whole : List Event) (n : ℕ) → i < length events → new ≡ with_event sorted (get_or events i d)
     → events_of sorted n ++ own_events n (drop i events) ≡ whole → events_of new n ++ own_events n (drop (i + 1) events) ≡ whole
 sorted_on sorted new events i d whole n h is so_far =
@@ -44,6 +46,7 @@ sorted_on sorted new events i d whole n h is so_far =
     ∙ ap (λ es. events_of sorted n ++ own_events n es) (sym (drop_more events i d h))
     ∙ so_far
 
+-- before the first event every list is empty
 pub none_sorted : (m : FinMap nat_cmp (List Event)) → m ≡ empty → (n : ℕ) → events_of m n ≡ []
 none_sorted m h n = ap (λ (m : FinMap nat_cmp (List Event)). events_of m n) h ∙ ap (λ o. unwrap_or o []) (get-empty nat_cmp n)
 

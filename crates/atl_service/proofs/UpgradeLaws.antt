@@ -1,4 +1,4 @@
--- An upgrade.
+-- Laws on `upgrade`: an upgraded file fulfils `UpgradesTo`, and its service is consistent.
 use Rattle.std.proofs.Common.{List, ℕ, true, Some, refl}
 use Rattle.sqlite_trees.specs.declared.store.Store.{Ghosts}
 use Rattle.sqlite.specs.Held.{Held, state}
@@ -9,12 +9,13 @@ use Rattle.atl_store.specs.Upgrading.{Upgrades}
 use Rattle.atl_store.proofs.WorldTextLaws.{world_text_is}
 use Rattle.atl_service.specs.Service.{IsService}
 use Rattle.atl_service.specs.Upgraded.{UpgradesTo}
-use Rattle.atl_service.proofs.FoundServiceLaws.{founded_stands}
+use Rattle.atl_service.proofs.FoundServiceLaws.{founded_consistent}
 
 module _ {S : Type 0} (g : Ghosts S) (text : List ℕ) (old new : Held S) (w : WorldValue) (c : MarkedCampaign) (upgrades : Upgrades g text old new w c) where
+  -- an upgrade of the store fulfils `UpgradesTo`
   pub upgrades_to : IsLater (state g old) (state g new) → UpgradesTo g old text (record { conn = new; world = w; campaign = Some c.value })
   upgrades_to later = record { campaign = c; is_open = refl; upgrades = upgrades; text_is = λ clean. world_text_is (state g new) text c.value (upgrades.tables clean); later = later }
 
-  -- the service that is upgraded stands
-  pub upgraded_stands : IsService g new w c true
-  upgraded_stands = record { stands = founded_stands g new w c.value text upgrades.idle upgrades.good upgrades.world upgrades.tables; unmarked = λ up. upgrades.unmarked }
+  -- the upgraded service is consistent
+  pub upgraded_consistent : IsService g new w c true
+  upgraded_consistent = record { consistent = founded_consistent g new w c.value text upgrades.idle upgrades.good upgrades.world upgrades.tables; unmarked = λ up. upgrades.unmarked }

@@ -1,4 +1,4 @@
--- What answering one command does while the service is open. `before` and `old` are the campaign and the connection before it, `after` and `new` those after it.
+-- What answering one command does to campaign and tables while the service is open: from campaign `before` and connection `old` to `after` and `new`.
 use Rattle.std.specs.Prelude.{◌≡◌, ℕ, List, false, ⊤}
 use Rattle.sqlite_trees.specs.declared.store.Store.{Ghosts}
 use Rattle.sqlite.specs.Held.{Held, state}
@@ -21,49 +21,49 @@ use Rattle.atl_service.specs.declared.command.Fault.TheVariants as fault
 use Rattle.atl_service.specs.declared.command.Refusal.TheVariants as why
 use Rattle.atl_service.specs.Step.{step}
 
--- an answer that is no fault
-abbrev pub IsSound : Answer → Type 0
-IsSound (Fault _) = ⊥
-IsSound _ = ⊤
+-- The answer is no `Fault`.
+abbrev pub IsNoFault : Answer → Type 0
+IsNoFault (Fault _) = ⊥
+IsNoFault _ = ⊤
 
--- P, if the answer is a refusal or a report
-abbrev pub IfIdle : Answer → Type 0 → Type 0
-IfIdle (Joined _ _) P = ⊤
-IfIdle (Mailed _ _) P = ⊤
-IfIdle (MonthDone _) P = ⊤
-IfIdle (Text _) P = P
-IfIdle (Refused _) P = P
-IfIdle (Fault _) P = ⊤
+-- P holds, if the answer is a report (`Text`) or a refusal.
+abbrev pub IfTextOrRefused : Answer → Type 0 → Type 0
+IfTextOrRefused (Joined _ _) P = ⊤
+IfTextOrRefused (Mailed _ _) P = ⊤
+IfTextOrRefused (MonthDone _) P = ⊤
+IfTextOrRefused (Text _) P = P
+IfTextOrRefused (Refused _) P = P
+IfTextOrRefused (Fault _) P = ⊤
 
--- The answer and the campaign are the step's. The campaign is good, and tables that held the one before hold it.
+-- A command was answered without a fault: answer and new campaign are those of `step`, and the tables hold the new campaign if they held the old one.
 pub record Answers {S : Type 0} (g : Ghosts S) (w : WorldValue) (before : CampaignValue) (old : Held S) (command : Command) (after : CampaignValue) (new : Held S) (answer : Answer) : Type 0 where
   pub step_is : step w before command ≡ (after, answer)
-  pub sound : IsSound answer
-  pub same : IfIdle answer ((after ≡ before) × (new ≡ old))
+  pub sound : IsNoFault answer
+  pub same : IfTextOrRefused answer ((after ≡ before) × (new ≡ old))
   pub good : IsGood w after
   pub tables : HasCleanDisk (state g new) → (text : List ℕ) → Keeps (state g old) text before → Keeps (state g new) text after
 
--- There is no answer. Tables that held the campaign before stop at it, and a crash leaves it or the step's.
+-- A command failed with a fault: tables that held the campaign before the command still do (`Stops`); a crash leaves that one or the one after `step`.
 abbrev pub GivesUp : {S : Type 0} → Ghosts S → WorldValue → CampaignValue → Held S → Command → Held S → Type 0
 GivesUp g w before old command new = HasCleanDisk (state g new) → (text : List ℕ) → Keeps (state g old) text before → LeavesAfterFault (state g old).faults (state g new) text before (step w before command).0
 
--- answered or not, the connection is in no transaction, no failure of its disk is forgotten, and other tables stay as they are
+-- After any command, answered or failed: the connection is in no transaction, its count of disk failures has not sunk, and other tables are unchanged.
 pub record LeavesIdle {S : Type 0} (g : Ghosts S) (old new : Held S) : Type 0 where
   pub idle : new.in_transaction ≡ false
   pub later : IsLater (state g old) (state g new)
   pub others : HasCleanDisk (state g new) → LeavesOthersAlone (state g old) (state g new)
 
--- what is told of a fault of the store
+-- the service's fault for a fault of the store: Memory for Memory, Store for Store
 abbrev pub of_write : WriteFault → Failure
 of_write write.Memory = fault.Memory
 of_write write.Store = fault.Store
 
--- a mailing that is not kept is refused by the step, but for lack of memory
+-- A mailing that is not stored: `step` refuses it for this reason. Of running out of memory nothing is said.
 abbrev pub Denies : WorldValue → CampaignValue → Command → MailError → Type 0
 Denies w c command (unkept.Refused why) = step w c command ≡ (c, Refused why)
 Denies w c command unkept.Memory = ⊤
 
--- what becomes of a mailing that can't be read
+-- the refusal for a mailing that can't be read, or Memory
 abbrev pub mail_error : MailFault → MailError
 mail_error mail.TooLong = unkept.Refused why.TooLong
 mail_error mail.NoHeader = unkept.Refused why.NoHeader

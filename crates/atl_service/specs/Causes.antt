@@ -1,4 +1,4 @@
--- The causes of Memory and Store, for a command and for founding.
+-- Why a command or a founding ended in the fault Memory or Store: the error that one of its own statements gave.
 use Rattle.std.specs.Prelude.{◌≡◌, ◌⊎◌, ℕ, List, Bool, true, false, Ok}
 use Rattle.sqlite_trees.specs.declared.store.Store.{Ghosts}
 use Rattle.sqlite.specs.declared.error.Error.{Error}
@@ -20,40 +20,40 @@ use Rattle.atl_service.specs.Step.{step}
 
 -- ---- the statements that may be at fault
 
--- those of a command, with the rows of the campaign after it
+-- the statements that write a command, with the rows of the campaign after it; none for a report
 abbrev pub OfCommand : WorldValue → CampaignValue → Command → Statements
 OfCommand w c (Join name pass word) = OfJoining c.next_faction (step w c (Join name pass word)).0
 OfCommand w c (Mail faction pass text) = OfMail faction text
 OfCommand w c (Close month pass words) = OfChange (step w c (Close month pass words)).0
 OfCommand w c (Report faction pass) = λ sql params. ⊥
 
--- those of the founding of a world text
+-- the statements that found a campaign with this world text and pass text
 abbrev pub FoundsBy : List ℕ → List ℕ → Statements
 FoundsBy text pass sql params = (w : WorldValue) × (world_of text ≡ Ok w) × OfFounding text (founded_of w pass) sql params
 
 -- ---- causes
 
--- A call of the transaction that runs these statements gave an error, which is lack of memory or isn't.
+-- A call of the transaction that runs the statements `own` gave an error; `memory` says whether it was out of memory.
 pub record GivesError {S : Type 0} (g : Ghosts S) (own : Statements) (memory : Bool) (old new : Held S) : Type 0 where
   pub error : Error
   pub memory_is : is_memory error ≡ memory
   pub given : Gives g own error old new
 
--- The connection is as it was, or a call of the writing reported that memory ran out.
+-- The connection is unchanged, or, if the disk is clean, a call of the write ran out of memory.
 abbrev pub LacksMemory : {S : Type 0} → Ghosts S → Statements → Held S → Held S → Type 0
 LacksMemory g own old new = (new ≡ old) ⊎ (HasCleanDisk (state g new) → GivesError g own true old new)
 
--- A call of the writing gave another error.
-abbrev pub FailsToWrite : {S : Type 0} → Ghosts S → Statements → Held S → Held S → Type 0
-FailsToWrite g own old new = HasCleanDisk (state g new) → GivesError g own false old new
+-- If the disk is clean, a call of the write gave an error other than out of memory.
+abbrev pub GivesOtherError : {S : Type 0} → Ghosts S → Statements → Held S → Held S → Type 0
+GivesOtherError g own old new = HasCleanDisk (state g new) → GivesError g own false old new
 
 -- Why a command ended in this fault, by the connection before and after it. Closed has no cause here, since no command ran.
 abbrev pub HasCause : {S : Type 0} → Ghosts S → Statements → Held S → Held S → Fault → Type 0
 HasCause g own old new Memory = LacksMemory g own old new
-HasCause g own old new Store = FailsToWrite g own old new
+HasCause g own old new Store = GivesOtherError g own old new
 HasCause g own old new Closed = ⊥
 
--- A fault of a command has its cause, and the connection that the command found held the campaign.
+-- The fault of a command has its cause, and, if the disk is clean, the tables before the command held the campaign `c`.
 pub record IsFault {S : Type 0} (g : Ghosts S) (text : List ℕ) (w : WorldValue) (c : CampaignValue) (command : Command) (fault : Fault) (new : Held S) : Type 0 where
   pub old : Held S
   pub held : HasCleanDisk (state g new) → Keeps (state g old) text c

@@ -15,41 +15,41 @@ use Rattle.atl_report.specs.Sight.{view_of}
 
 -- ---- the mail
 
--- what is read of a text; nothing where it can't be read
+-- what a mailing's text was read as, in a list of one; no reading if it can't be read
 abbrev pub read_of : Result Reading MailFault → List Reading
 read_of (Ok r) = r ∷ []
 read_of (Err fault) = []
 
--- the mail as it is read, by the numbers of the factions
+-- the readings of all stored mailings, in the order of the factions' numbers
 abbrev pub readings : WorldValue → CampaignValue → List Reading
 readings w c = flat_map (λ e. read_of (reading w e.1)) (entries c.mail)
 
--- what is wrong with a text that is read
+-- the faulty lines of a mailing that was read; none if it can't be read
 abbrev pub faults_of : Result Reading MailFault → List FaultyLine
 faults_of (Ok r) = r.faults
 faults_of (Err fault) = []
 
--- what is wrong with a mail; nothing where there is none
+-- the faulty lines of a stored mailing; none if there is no mailing
 abbrev pub faults_in : WorldValue → Option (List ℕ) → List FaultyLine
 faults_in w None = []
 faults_in w (Some text) = faults_of (reading w text)
 
 -- ---- the reports
 
--- the campaign with a new report for a faction, of what it sees, with what is wrong with its mail and the events that are its own
+-- the campaign with a new report for a faction: what it sees, the faulty lines of its mailing, and its own among the events
 abbrev pub reported_with : WorldValue → CampaignValue → ℕ → List FaultyLine → List Event → CampaignValue
 reported_with w c faction faults events = with_report c faction (report_of w (view_of w c faction) faults events)
 
--- the same, with what is wrong with the mail of each faction
+-- the same, where `faults` gives the faulty lines of each faction's mailing
 abbrev pub reported_to : WorldValue → (ℕ → List FaultyLine) → List Event → CampaignValue → ℕ → CampaignValue
 reported_to w faults events c faction = reported_with w c faction (faults faction) events
 
 -- ---- the whole
 
--- a campaign and what came of its orders: the month is counted, the mail is taken away, and each faction that wasn't gone before has a new report
-abbrev pub told_after : WorldValue → CampaignValue → CampaignValue × List Event → CampaignValue
-told_after w before (after, events) = fold (reported_to w (λ n. faults_in w (get before.mail n)) events) (after_month after) (active before)
+-- the campaign after a month's phases with the month counted, the mail removed, and a new report for each faction that wasn't gone before
+abbrev pub with_month_reports : WorldValue → CampaignValue → CampaignValue × List Event → CampaignValue
+with_month_reports w before (after, events) = fold (reported_to w (λ n. faults_in w (get before.mail n)) events) (after_month after) (active before)
 
--- the campaign after a month
+-- the campaign after closing a month with these words of the dice: mail read, phases run, month counted, reports stored
 unfoldable pub closed : WorldValue → CampaignValue → List ℕ → CampaignValue
-closed w c words = told_after w c (month_of w c (by_faction (readings w c)) words)
+closed w c words = with_month_reports w c (month_of w c (by_faction (readings w c)) words)

@@ -17,10 +17,10 @@ use Rattle.atl_store.specs.declared.fault.CreateFault.TheVariants as create
 use Rattle.atl_service.specs.declared.command.Cause.{Cause}
 use Rattle.atl_service.specs.declared.command.Cause.TheVariants.{World as BadWorld, BadPassText, NotEmpty, NotACampaign, OldFormat, NotOld, Damaged, Differs, Store, Memory}
 use Rattle.atl_store.specs.OwnStatements.{Statements}
-use Rattle.atl_service.specs.Causes.{FoundsBy, FailsToWrite, LacksMemory}
+use Rattle.atl_service.specs.Causes.{FoundsBy, GivesOtherError, LacksMemory}
 use Rattle.atl_service.specs.Service.{ServiceValue, text_in}
 
--- There was no table `campaign`. Now the service is open, with the world of the text and the founded campaign, and its tables hold the rows of both.
+-- A campaign was founded: the service is open with the text's world and the founded campaign, and its tables hold both. There was no table `campaign`.
 pub record Founds {S : Type 0} (g : Ghosts S) (old : Held S) (text pass : List ℕ) (made : ServiceValue S) : Type 0 where
   pub fresh : has_campaign old.schema ≡ false
   pub world : world_of text ≡ Ok made.world
@@ -34,7 +34,7 @@ pub record Founds {S : Type 0} (g : Ghosts S) (old : Held S) (text pass : List �
 abbrev pub IsWorldText : List ℕ → Type 0
 IsWorldText text = (w : WorldValue) × (world_of text ≡ Ok w)
 
--- the first of the checks that fails; what only an opening or an upgrade finds is never told
+-- This is the cause of the first check of a founding that fails; `is_there` says whether a table `campaign` exists. Causes of opening and upgrading never apply.
 abbrev pub IsCause : List ℕ → List ℕ → Bool → Cause → Type 0
 IsCause text pass is_there (BadWorld fault) = world_of text ≡ Err fault
 IsCause text pass is_there BadPassText = IsWorldText text × (pass_ok pass ≡ false)
@@ -47,42 +47,43 @@ IsCause text pass is_there Differs = ⊥
 IsCause text pass is_there Store = IsWorldText text × (pass_ok pass ≡ true) × (is_there ≡ false)
 IsCause text pass is_there Memory = ⊤
 
--- The database could not be written, or there was no memory: while the connection is open its tables are as they were, and a crash leaves what it left before or the founded campaign. Where the text is no world, or the pass text isn't good, nothing is changed at all.
+-- What a founding leaves that failed with Store or Memory: the tables are as before while the connection is open, and a crash leaves what it left before or the founded campaign.
+-- If the text is no world, or the pass text isn't good, nothing is changed at all.
 pub record FailsToFound {S : Type 0} (g : Ghosts S) (old : Held S) (text pass : List ℕ) (new : Held S) : Type 0 where
   pub tables : HasCleanDisk (state g new) → ChangesNothing (state g old) (state g new)
   pub unfounded : (¬ IsWorldText text) ⊎ (pass_ok pass ≡ false) → new ≡ old
   pub crash : HasCleanDisk (state g new) → (w : WorldValue) → world_of text ≡ Ok w → MayFound (state g old) text (founded_of w pass) (state g new)
 
--- The database has a table, an index or a view, or the connection is in a transaction, and nothing is changed; or neither is so, and a call of the writing gave another error than lack of memory.
+-- Why a founding fails with Store: the connection isn't ready (`IsReady`) and nothing is changed, or it is, and a call of the write gave an error other than out of memory.
 abbrev pub RefusesToWrite : {S : Type 0} → Ghosts S → Statements → Held S → Held S → Type 0
-RefusesToWrite g own old new = ((¬ IsReadyToCreate (state g old)) × (new ≡ old)) ⊎ (IsReadyToCreate (state g old) × FailsToWrite g own old new)
+RefusesToWrite g own old new = ((¬ IsReadyToCreate (state g old)) × (new ≡ old)) ⊎ (IsReadyToCreate (state g old) × GivesOtherError g own old new)
 
--- After a check that fails nothing is changed. What Store and Memory leave is in `FailsToFound`.
-abbrev pub Leaves : {S : Type 0} → Ghosts S → Held S → List ℕ → List ℕ → Held S → Cause → Type 0
-Leaves g old text pass new (BadWorld fault) = new ≡ old
-Leaves g old text pass new BadPassText = new ≡ old
-Leaves g old text pass new NotEmpty = new ≡ old
-Leaves g old text pass new NotACampaign = ⊥
-Leaves g old text pass new OldFormat = ⊥
-Leaves g old text pass new NotOld = ⊥
-Leaves g old text pass new (Damaged rule) = ⊥
-Leaves g old text pass new Differs = ⊥
-Leaves g old text pass new Store = FailsToFound g old text pass new × RefusesToWrite g (FoundsBy text pass) old new
-Leaves g old text pass new Memory = FailsToFound g old text pass new × LacksMemory g (FoundsBy text pass) old new
+-- What a refused founding leaves, by its cause: nothing is changed after a failed check; Store and Memory leave what `FailsToFound` says.
+abbrev pub LeavesByCause : {S : Type 0} → Ghosts S → Held S → List ℕ → List ℕ → Held S → Cause → Type 0
+LeavesByCause g old text pass new (BadWorld fault) = new ≡ old
+LeavesByCause g old text pass new BadPassText = new ≡ old
+LeavesByCause g old text pass new NotEmpty = new ≡ old
+LeavesByCause g old text pass new NotACampaign = ⊥
+LeavesByCause g old text pass new OldFormat = ⊥
+LeavesByCause g old text pass new NotOld = ⊥
+LeavesByCause g old text pass new (Damaged rule) = ⊥
+LeavesByCause g old text pass new Differs = ⊥
+LeavesByCause g old text pass new Store = FailsToFound g old text pass new × RefusesToWrite g (FoundsBy text pass) old new
+LeavesByCause g old text pass new Memory = FailsToFound g old text pass new × LacksMemory g (FoundsBy text pass) old new
 
--- The founding is refused by the first check that fails.
+-- A founding was refused: its cause is the first check that fails, and the connection is left as that cause allows.
 pub record RefusesFounding {S : Type 0} (g : Ghosts S) (old : Held S) (text pass : List ℕ) (why : Cause) (new : Held S) : Type 0 where
   pub cause : IsCause text pass (has_campaign old.schema) why
-  pub leaves : Leaves g old text pass new why
+  pub leaves : LeavesByCause g old text pass new why
   pub later : IsLater (state g old) (state g new)
 
--- the world of the text, and the campaign that is founded in it
+-- `w` is the world of the text, the pass text is good, and `c` is the campaign founded in that world
 pub record Prepares (text pass : List ℕ) (w : WorldValue) (c : CampaignValue) : Type 0 where
   pub world : world_of text ≡ Ok w
   pub pass_is_good : pass_ok pass ≡ true
   pub campaign : c ≡ founded_of w pass
 
--- ---- what becomes of a fault
+-- ---- the cause for a fault of the world text, or of creating the tables
 
 abbrev pub of_world : WorldFault → Cause
 of_world world.Memory = Memory

@@ -1,4 +1,4 @@
--- For proofs alone: what the mail of a campaign was read as, and when a month is closed.
+-- For proofs alone: the mail of a campaign as it was read, and what closing a month requires.
 use Rattle.std.specs.Prelude.{◌≡◌, ◌<◌, ◌++◌, ℕ, List, [], All, fold, map, length, unwrap_or}
 use Rattle.std.specs.List.{AllByRecursion, flat_map}
 use Rattle.std.specs.Ordering.{nat_cmp}
@@ -18,7 +18,7 @@ use Rattle.atl_service.specs.declared.command.Answer.TheVariants.{MonthDone}
 use Rattle.atl_service.specs.Closing.{closed, faults_of, read_of, readings, reported_to}
 use Rattle.atl_service.specs.Step.{step}
 
--- the mailings and what is wrong with each, where this mail, of which each text is a mailing of its faction, is left to be read
+-- A part of the mail is read: these mailings and faulty lines, with those still to be read of `rest`, are those of the whole mail. Each text in `rest` is a mailing of its faction.
 abbrev pub ReadSoFar : WorldValue → CampaignValue → List Mailing → FinMap nat_cmp (List FaultyLine) → List (ℕ × List ℕ) → Type 0
 ReadSoFar w c mailings faults rest =
     (map reading_of mailings ++ flat_map (λ e. read_of (reading w e.1)) rest ≡ readings w c)
@@ -26,21 +26,21 @@ ReadSoFar w c mailings faults rest =
     × (entries faults ++ map (λ e. (e.0, faults_of (reading w e.1))) rest ≡ entries (mapped (λ text. faults_of (reading w text)) c.mail))
     × EachOf IsMailingOf rest
 
--- the mail as it is read, and what is wrong with it, under each faction's number
+-- All mail of the campaign is read: `r` has the mailings in their order, and the faulty lines of each under its faction's number.
 pub record HasRead (w : WorldValue) (c : CampaignValue) (r : ReadMail) : Type 0 where
   pub readings_are : map reading_of r.mailings.items ≡ readings w c
   pub read : All (IsReadWith w) r.mailings.items
   pub faults : r.faults ≡ mapped (λ text. faults_of (reading w text)) c.mail
 
--- each of these factions is there
+-- Each of these numbers is a faction's of the campaign.
 abbrev pub AreThere : CampaignValue → List ℕ → Type 0
 AreThere c factions = AllByRecursion (λ n. IsThere c.factions n) factions
 
--- the campaign with the reports of what is told
+-- the campaign with a new report for each faction that `outcome` lists, of its faulty lines and events
 abbrev pub reported_to_all : WorldValue → CampaignValue → MonthResult → CampaignValue
 reported_to_all w c outcome = fold (reported_to w (λ n. unwrap_or (get outcome.faults n) []) outcome.events.items) c outcome.factions.items
 
--- nothing stands against the closing of a month
+-- Closing this month is not refused: pass text, month and count of words are right.
 pub record MayClose (w : WorldValue) (c : CampaignValue) (month : ℕ) (pass words : List ℕ) : Type 0 where
   pub step_is : step w c (Close month pass words) ≡ (closed w c words, MonthDone month)
   pub early : c.month < last_month

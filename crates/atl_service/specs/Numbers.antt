@@ -22,12 +22,15 @@ refusal WrongMonth = (12, codes "WrongMonth")
 refusal MonthLimit = (13, codes "MonthLimit")
 refusal WrongDice = (14, codes "WrongDice")
 
+-- the number of a refusal, from 1 to 14
 abbrev pub number_of : Refusal → ℕ
 number_of why = (refusal why).0
 
+-- the name of a refusal, in ASCII
 abbrev pub refusal_name : Refusal → List ℕ
 refusal_name why = (refusal why).1
 
+-- the name of a fault of a command, in ASCII
 abbrev pub fault_name : Fault → List ℕ
 fault_name Memory = codes "Memory"
 fault_name Store = codes "Store"

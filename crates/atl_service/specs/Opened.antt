@@ -1,4 +1,4 @@
--- What `open` returns and leaves.
+-- What `open` returns and leaves. See docs/FORMATS.md, "Opening a file".
 use Rattle.std.specs.Prelude.{◌≡◌, ℕ, List, Some, Ok}
 use Rattle.sqlite_trees.specs.declared.store.Store.{Ghosts}
 use Rattle.sqlite.specs.Held.{Held, state}
@@ -15,7 +15,7 @@ use Rattle.atl_service.specs.declared.command.Cause.{Cause}
 use Rattle.atl_service.specs.declared.command.Cause.TheVariants.{NotACampaign, OldFormat, Damaged, Store, Memory}
 use Rattle.atl_service.specs.Service.{ServiceValue, text_in}
 
--- The service is open, with the world and the good campaign that the tables hold, and the tables are as they were.
+-- A campaign was opened: the service has the world and the good campaign that the tables hold, and the tables are unchanged.
 pub record Opens {S : Type 0} (g : Ghosts S) (old : Held S) (made : ServiceValue S) : Type 0 where
   pub campaign : MarkedCampaign
   pub is_open : made.campaign ≡ Some campaign.value
@@ -23,13 +23,13 @@ pub record Opens {S : Type 0} (g : Ghosts S) (old : Held S) (made : ServiceValue
   pub alone : LeavesAlone g old made.conn
   pub later : IsLater (state g old) (state g made.conn)
 
--- A world text and a good campaign of its world that the connection held are those of the service.
+-- What was stored comes back: if the disk is clean and the tables held a text, its world and a good campaign of it, the service has the same three.
 abbrev pub ComesBack : {S : Type 0} → Ghosts S → Held S → ServiceValue S → Type 0
 ComesBack g old made =
     HasCleanDisk (state g made.conn) → (text : List ℕ) (w : WorldValue) (c : CampaignValue) → world_of text ≡ Ok w → IsGood w c → HoldsCampaign g old text c
     → (text_in g made.conn ≡ text) × (made.world ≡ w) × (made.campaign ≡ Some c)
 
--- what is told of a fault of the loading
+-- the cause that `open` reports for a fault of loading, of the same name
 abbrev pub of_loading : StoreFault → Cause
 of_loading load.NotACampaign = NotACampaign
 of_loading load.OldFormat = OldFormat
@@ -37,7 +37,7 @@ of_loading (load.Damaged rule) = Damaged rule
 of_loading load.Store = Store
 of_loading load.Memory = Memory
 
--- The opening is refused for what the loading refuses, and the tables are as they were.
+-- An opening was refused: for a fault that loading gives (if the disk is clean), and the tables are unchanged.
 pub record RefusesOpening {S : Type 0} (g : Ghosts S) (old : Held S) (why : Cause) (new : Held S) : Type 0 where
   pub fault : StoreFault
   pub why_is : why ≡ of_loading fault

@@ -1,4 +1,4 @@
--- A law: of a faction's mailings for a month only the last one counts. See docs/RULES.md, "Mail".
+-- The statement that of a faction's mailings for a month only the last one counts. See docs/RULES.md, "Mail".
 use Rattle.std.specs.Prelude.{◌≡◌, ◌==◌, ◌∷◌, [], ℕ, List, ⊤, Option, Some, None, if◌then◌else◌}
 use Rattle.atl_tables.specs.Worlds.{WorldValue}
 use Rattle.atl_state.specs.Campaign.{CampaignValue}
@@ -8,7 +8,7 @@ use Rattle.atl_service.specs.declared.command.Answer.{Answer}
 use Rattle.atl_service.specs.declared.command.Answer.TheVariants.{Joined, Mailed, MonthDone, Text, Refused, Fault}
 use Rattle.atl_service.specs.Step.{step, run_of}
 
--- a mailing was taken
+-- The answer says that a mailing was stored.
 abbrev pub IsMailed : Answer → Type 0
 IsMailed (Joined _ _) = ⊥
 IsMailed (Mailed _ _) = ⊤
@@ -17,7 +17,7 @@ IsMailed (Text _) = ⊥
 IsMailed (Refused _) = ⊥
 IsMailed (Fault _) = ⊥
 
--- from a campaign on, each command is a mailing that is taken
+-- From campaign `c` on, each of these commands is a mailing that is stored.
 abbrev pub AreMailed : WorldValue → CampaignValue → List Command → Type 0
 AreMailed w c [] = ⊤
 AreMailed w c (Join _ _ _ ∷ more) = ⊥
@@ -33,7 +33,7 @@ last_text n other (Mail faction _ text ∷ more) = last_text n (if faction == n 
 last_text n other (Close _ _ _ ∷ more) = last_text n other more
 last_text n other (Report _ _ ∷ more) = last_text n other more
 
--- Two lists of mailings that are all taken, with the same last text of each faction: the same closing after either gives one campaign and one answer.
+-- After two lists of stored mailings with the same last text of each faction, closing a month gives the same campaign and answer.
 abbrev pub OnlyTheLastMailCounts : Type 0
 OnlyTheLastMailCounts =
     (w : WorldValue) (c : CampaignValue) (sent others : List Command) (month : ℕ) (pass words : List ℕ)

@@ -1,4 +1,4 @@
--- The value of a service in contracts: connection, world and campaign.
+-- A service as contracts see it: its connection, its world and, while it is open, its campaign; and its invariant.
 use Rattle.std.specs.Prelude.{◌≡◌, ℕ, List, Bool, true, false, Option, Ok, refl}
 use Rattle.std.specs.Coded.{Coded, code_by, coded×, coded_option}
 use Rattle.sqlite_trees.specs.declared.store.Store.{Ghosts}
@@ -12,12 +12,13 @@ use Rattle.atl_state.specs.Good.{IsGood}
 use Rattle.atl_store.specs.Keeps.{HoldsCampaign}
 use Rattle.atl_store.specs.WorldText.{world_text}
 
--- the connection, the world, and the campaign, which is there while the service is open
+-- the value of a service: connection, world, and the campaign while the service is open, else None
 pub record ServiceValue (S : Type 0) : Type 0 where
   pub conn : Held S
   pub world : WorldValue
   pub campaign : Option CampaignValue
 
+-- for proofs alone: the encoding of a service's value by its parts, which the kit asks of each type
 abbrev pub service_code : {S : Type 0} → Coded S → Coded (ServiceValue S)
 service_code {S} store =
     code_by (Held S × (WorldValue × Option CampaignValue)) (coded× (held_code store) (coded× world_code (coded_option campaign_code)))
@@ -25,18 +26,18 @@ service_code {S} store =
     (λ p. record { conn = p.0; world = p.1.0; campaign = p.1.1 })
     (λ _. refl)
 
--- the world text of the tables
+-- the world text that the tables of the connection hold
 abbrev pub text_in : {S : Type 0} → Ghosts S → Held S → List ℕ
 text_in g conn = world_text (state g conn)
 
--- While a service is open, its campaign is good, and its tables hold the rows of the campaign and of a text of its world.
-pub record Stands {S : Type 0} (g : Ghosts S) (conn : Held S) (w : WorldValue) (c : CampaignValue) (is_open : Bool) : Type 0 where
+-- The service is consistent: in no transaction and, while open, its campaign is good and its tables hold the campaign and a text of its world.
+pub record IsConsistent {S : Type 0} (g : Ghosts S) (conn : Held S) (w : WorldValue) (c : CampaignValue) (is_open : Bool) : Type 0 where
   pub idle : conn.in_transaction ≡ false
   pub good : is_open ≡ true → IsGood w c
   pub tables : is_open ≡ true → HoldsCampaign g conn (text_in g conn) c
   pub text : is_open ≡ true → HasCleanDisk (state g conn) → world_of (text_in g conn) ≡ Ok w
 
--- What is true of every service: it stands, and while it is open nothing of its campaign is marked.
+-- The invariant of every service: it is consistent, and while it is open its campaign's dirty set is empty.
 pub record IsService {S : Type 0} (g : Ghosts S) (conn : Held S) (w : WorldValue) (c : MarkedCampaign) (is_open : Bool) : Type 0 where
-  pub stands : Stands g conn w c.value is_open
+  pub consistent : IsConsistent g conn w c.value is_open
   pub unmarked : is_open ≡ true → c.marks ≡ no_marks

@@ -5,14 +5,14 @@ use Rattle.std.specs.FinMap.{FinMap, get, insert}
 use Rattle.atl_records.specs.declared.event.Event.{Event}
 use Rattle.atl_report.specs.Events.{own_events}
 
--- what is listed of a faction
+-- the events listed under a faction's number; none if there is no list
 abbrev pub events_of : FinMap nat_cmp (List Event) → ℕ → List Event
 events_of sorted faction = unwrap_or (get sorted faction) []
 
--- with one more at the end of its faction's
+-- the lists with one event more, at the end of its faction's list
 abbrev pub with_event : FinMap nat_cmp (List Event) → Event → FinMap nat_cmp (List Event)
 with_event sorted e = insert sorted e.faction (events_of sorted e.faction ++ (e ∷ []))
 
--- under each faction's number stand its own events, in their order
+-- Under each faction's number are its own events, in their order.
 abbrev pub AreSorted : List Event → FinMap nat_cmp (List Event) → Type 0
 AreSorted events sorted = (faction : ℕ) → events_of sorted faction ≡ own_events faction events

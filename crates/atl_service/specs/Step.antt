@@ -1,4 +1,4 @@
--- What one command, and a list of commands, make of a campaign, and how they are answered.
+-- `step` and `run_of`: the campaign after one command and after a list, with the answers; the refusals in their order.
 use Rattle.std.specs.Prelude.{◌==◌, ◌+◌, ◌∷◌, [], ℕ, List, length, not, nat_eq, nat_lt, if◌then◌else◌, Option, Some, None, Result, Ok, Err, unwrap_or}
 use Rattle.std.specs.Cmp.Lexicographic.{pointwise}
 use Rattle.std.specs.FinMap.{get, len}
@@ -22,23 +22,24 @@ use Rattle.atl_service.specs.declared.command.Refusal.{Refusal}
 use Rattle.atl_service.specs.declared.command.Refusal.TheVariants as why
 use Rattle.atl_service.specs.declared.command.Fault.TheVariants as faults
 
--- the campaign with a new report for a faction, of what it sees; nothing is told of orders
+-- the campaign with a new report for a faction of what it sees, without faulty lines and events
 abbrev pub reported : WorldValue → CampaignValue → ℕ → CampaignValue
 reported w c faction = reported_with w c faction [] []
 
--- a joining, with the first report
+-- the campaign and answer for a result of `join_of`: the first report is stored, or the join refused
 abbrev pub joined_with : WorldValue → CampaignValue → Result (CampaignValue × (ℕ × ℕ)) JoinFault → CampaignValue × Answer
 joined_with w c (Ok (after, (faction, unit))) = (reported w after faction, Joined faction unit)
 joined_with w c (Err NameTaken) = (c, Refused why.NameTaken)
 joined_with w c (Err Full) = (c, Refused why.Full)
 joined_with w c (Err Memory) = (c, Fault faults.Memory)
 
--- The faction that was found under a number, if the pass text is its own; else NoFaction or WrongPass.
+-- The faction found under a number, if the pass text is its own; else NoFaction or WrongPass.
 abbrev pub faction_with_pass : List ℕ → Option Faction → Result Faction Refusal
 faction_with_pass pass None = Err why.NoFaction
 faction_with_pass pass (Some f) = if not (pointwise nat_eq f.pass pass) then Err why.WrongPass else Ok f
 
--- A mailing that was read is kept in place of an older one, and the answer has the number of its orders and its faulty lines. One that can't be read is refused, and one that names another faction. A faulty line is no reason to refuse.
+-- The campaign with a mailing stored in place of an older one, and the answer with its number of orders and its faulty lines.
+-- One that can't be read is refused, and one that names another faction. A faulty line is no reason to refuse.
 abbrev pub mailed : CampaignValue → ℕ → List ℕ → Result Reading MailFault → CampaignValue × Answer
 mailed c faction text (Ok r) =
     if not (r.faction == faction) then (c, Refused why.WrongFaction)
@@ -48,19 +49,19 @@ mailed c faction text (Err mail.NoHeader) = (c, Refused why.NoHeader)
 mailed c faction text (Err mail.BadHeader) = (c, Refused why.BadHeader)
 mailed c faction text (Err mail.Memory) = (c, Fault faults.Memory)
 
--- the mailing of the faction that was identified
+-- the same, once the faction is identified by number and pass text; a faction that is gone is refused
 abbrev pub mailed_by : WorldValue → CampaignValue → ℕ → List ℕ → Result Faction Refusal → CampaignValue × Answer
 mailed_by w c faction text (Err refusal) = (c, Refused refusal)
 mailed_by w c faction text (Ok f) =
     if f.gone then (c, Refused why.Gone)
     else mailed c faction text (reading w text)
 
--- the stored report of the faction that was identified
-abbrev pub told_of : CampaignValue → ℕ → Result Faction Refusal → CampaignValue × Answer
-told_of c faction (Err refusal) = (c, Refused refusal)
-told_of c faction (Ok f) = (c, Text (unwrap_or (get c.reports faction) []))
+-- the unchanged campaign, and as the answer the stored report of the identified faction (empty if none is stored), or the refusal
+abbrev pub report_answer : CampaignValue → ℕ → Result Faction Refusal → CampaignValue × Answer
+report_answer c faction (Err refusal) = (c, Refused refusal)
+report_answer c faction (Ok f) = (c, Text (unwrap_or (get c.reports faction) []))
 
--- The month after the one last closed is closed, with a word of the dice for each region; else the first refusal.
+-- The campaign after closing a month, which is the one after the month last closed, with a word of the dice for each region; else the first refusal.
 abbrev pub closed_by : WorldValue → CampaignValue → ℕ → List ℕ → List ℕ → CampaignValue × Answer
 closed_by w c month pass words =
     if not (pointwise nat_eq c.pass pass) then (c, Refused why.WrongPass)
@@ -69,7 +70,7 @@ closed_by w c month pass words =
     else (if not (length words == len w.regions) then (c, Refused why.WrongDice)
     else (closed w c words, MonthDone month))))
 
--- the campaign after a command, and its answer
+-- the campaign after one command, and its answer; a refused command leaves the campaign as it is
 unfoldable pub step : WorldValue → CampaignValue → Command → CampaignValue × Answer
 step w c (Join name pass word) =
     if not (name_ok name) then (c, Refused why.BadName)
@@ -77,7 +78,7 @@ step w c (Join name pass word) =
     else joined_with w c (join_of w name pass word c))
 step w c (Mail faction pass text) = mailed_by w c faction text (faction_with_pass pass (get c.factions faction))
 step w c (Close month pass words) = closed_by w c month pass words
-step w c (Report faction pass) = told_of c faction (faction_with_pass pass (get c.factions faction))
+step w c (Report faction pass) = report_answer c faction (faction_with_pass pass (get c.factions faction))
 
 -- the campaign after a list of commands, and the list of answers
 abbrev pub run_of : WorldValue → CampaignValue → List Command → CampaignValue × List Answer

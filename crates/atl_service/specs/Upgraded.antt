@@ -12,7 +12,8 @@ use Rattle.atl_service.specs.declared.command.Cause.{Cause}
 use Rattle.atl_service.specs.declared.command.Cause.TheVariants.{World, NotACampaign, NotOld, Damaged, Differs, Store, Memory}
 use Rattle.atl_service.specs.Service.{ServiceValue, text_in}
 
--- The service is open, with the world of the new text and the good campaign that the tables held, which has nothing in stock; the tables hold the rows of both. No failure of the disk is forgotten (`later`).
+-- A file was upgraded: the service is open with the new text's world and the campaign that the tables held, which has nothing in stock, and the tables hold both.
+-- No failure of the disk is forgotten (`later`).
 pub record UpgradesTo {S : Type 0} (g : Ghosts S) (old : Held S) (text : List ℕ) (made : ServiceValue S) : Type 0 where
   pub campaign : MarkedCampaign
   pub is_open : made.campaign ≡ Some campaign.value
@@ -20,7 +21,7 @@ pub record UpgradesTo {S : Type 0} (g : Ghosts S) (old : Held S) (text : List �
   pub text_is : HasCleanDisk (state g made.conn) → text_in g made.conn ≡ text
   pub later : IsLater (state g old) (state g made.conn)
 
--- what is told of a fault of the upgrade
+-- the cause that `upgrade` reports for a fault of the store's upgrade, of the same name
 abbrev pub of_upgrading : UpgradeFault → Cause
 of_upgrading upgrade.NotACampaign = NotACampaign
 of_upgrading upgrade.NotOld = NotOld
@@ -30,7 +31,7 @@ of_upgrading upgrade.Differs = Differs
 of_upgrading upgrade.Store = Store
 of_upgrading upgrade.Memory = Memory
 
--- The upgrade is refused for what the store refuses. While the connection is open the tables are as before; a crash leaves them so, or upgraded.
+-- An upgrade was refused, for the fault that the store gives. While the connection is open the tables are as before; a crash leaves them so, or upgraded.
 pub record RefusesUpgrade {S : Type 0} (g : Ghosts S) (old : Held S) (text : List ℕ) (why : Cause) (new : Held S) : Type 0 where
   pub fault : UpgradeFault
   pub why_is : why ≡ of_upgrading fault

@@ -1,4 +1,5 @@
-//! The answer to one command, while the service is open. See docs/RULES.md, "Refusals and faults".
+//! Answers one command while the service is open: tests the refusals, changes campaign and tables.
+//! See docs/RULES.md, "Refusals and faults".
 ghost use Rattle.std.specs.Prelude.{◌≡◌, length, false, Ok, Err, Some, IfOk, IfErr, OnOk, OnErr};
 ghost use Rattle.std.specs.FinMap as map;
 ghost use Rattle.atl_orders.specs.Mailing.{IsMailingOf};
@@ -6,7 +7,7 @@ ghost use Rattle.atl_state.specs.Good.{IsGood, IsActive};
 ghost use Rattle.atl_state.specs.Marks.{no_marks};
 ghost use Rattle.atl_state.specs.Campaign.{with_mail};
 ghost use Rattle.atl_service.specs.Step.{faction_with_pass, step};
-ghost use Rattle.atl_service.specs.Answering.{Answers, Denies, GivesUp, IsSound, LeavesIdle, of_write, mail_error};
+ghost use Rattle.atl_service.specs.Answering.{Answers, Denies, GivesUp, IsNoFault, LeavesIdle, of_write, mail_error};
 ghost use Rattle.atl_service.specs.Causes.{OfCommand, HasCause};
 
 use crate::closing::close;
@@ -19,7 +20,8 @@ use atl_tables::{Sequence, Text, World, name_ok, pass_ok};
 use sqlite::{Alter, Connection};
 use std::alloc::{AllocError, Global};
 
-/// The answer to a command Join. The commit is the last call that can fail.
+/// Carries out a command Join, or refuses it, and returns the answer. The commit is the last call
+/// that can fail.
 fn join<S: Alter>(
     alloc: Global,
     world: &World,
@@ -81,7 +83,7 @@ fn faction_with_pass<'a>(
     Ok(known)
 }
 
-/// Why a mailing is not kept.
+/// Why a mailing is not stored: a refusal, or out of memory.
 #[derive(Drop, Clone, Copy)]
 enum MailError {
     Refused(Refusal),
@@ -111,7 +113,7 @@ impl From<MailFault> for MailError {
     }
 }
 
-/// The mailing that is to be kept, or the first reason why it is not.
+/// The mailing that a command Mail asks to store, as it was read; or the first reason to refuse it.
 #[tactic(auto, unfolding(crate::specs::Step::step))]
 fn mailing_to_keep(
     alloc: Global,
@@ -145,7 +147,8 @@ fn mailing_to_keep(
     Ok(mailing)
 }
 
-/// The answer to a command Mail. The commit is the last call that can fail.
+/// Carries out a command Mail, or refuses it, and returns the answer. The commit is the last call
+/// that can fail.
 fn mail<S: Alter>(
     alloc: Global,
     world: &World,
@@ -182,7 +185,8 @@ fn mail<S: Alter>(
     Ok(Answer::Mailed { orders, faults })
 }
 
-/// The answer to a command Report.
+/// The answer to a command Report: a copy of the stored report, empty if there is none, or a
+/// refusal.
 #[tactic(auto, unfolding(crate::specs::Step::step))]
 fn report(
     alloc: Global,
@@ -194,7 +198,7 @@ fn report(
     ensures step { IfOk result
         (λ answer. step world.now campaign.now.value (Command.Report faction pass.now)
         ≡ (campaign.now.value, answer)) }
-    ensures sound { IfOk result IsSound }
+    ensures sound { IfOk result IsNoFault }
 {
     if let Err(refusal) = faction_with_pass(campaign, faction, pass) {
         return Ok(Answer::Refused(refusal));
@@ -206,7 +210,8 @@ fn report(
     Ok(Answer::Text(text))
 }
 
-/// The answer to a command. After an Err the campaign may be changed in part; the tables are as before.
+/// Carries out any command, or refuses it, and returns the answer. After an Err the campaign may be
+/// changed in part; the tables are as before.
 pub(crate) fn answer_to<S: Alter>(
     alloc: Global,
     world: &World,

@@ -1,4 +1,5 @@
-//! Closing a month. See docs/RULES.md, "Closing a month".
+//! Closes a month: reads the mail, runs the phases, stores the reports, writes the tables. See
+//! docs/RULES.md, "Closing a month".
 ghost use Rattle.std.specs.Prelude.{◌≡◌, ◌<◌, ℕ, false, IfOk, IfErr, OnOk, OnErr, length};
 ghost use Rattle.std.specs.FinMap as map;
 ghost use Rattle.atl_orders.specs.declared.fault.MailFault.TheVariants.{Memory};
@@ -25,14 +26,14 @@ use sqlite::{Alter, Connection};
 use std::alloc::{AllocError, Global};
 use std::mem;
 
-/// The mail as it was read: the mailings, and what is wrong with each, by faction.
+/// All mail of a campaign as it was read: the mailings, and the faulty lines of each by faction.
 #[derive(Drop)]
 pub(crate) struct ReadMail {
     pub(crate) mailings: Vec<Mailing>,
     pub(crate) faults: Numbered<Sequence<FaultyLine>>,
 }
 
-/// The fault of a text that can be read: memory ran out.
+/// AllocError for the fault Memory, the only one that reading a stored mailing can give.
 fn out_of_memory(fault: MailFault) -> AllocError
     requires { fault ≡ Memory }
 {
@@ -40,7 +41,7 @@ fn out_of_memory(fault: MailFault) -> AllocError
     AllocError
 }
 
-/// Reads a stored text. It was read when it came, so this fails only if memory runs out.
+/// Reads a stored mailing. It was read when it came, so this fails only if memory runs out.
 fn read_stored(alloc: Global, world: &World, text: &[u8]) -> Result<Mailing, AllocError>
     requires { (faction : ℕ) × IsMailingOf faction text.now }
     ensures kept { IfOk result (λ m. m.text ≡ text.now) }
@@ -52,7 +53,7 @@ fn read_stored(alloc: Global, world: &World, text: &[u8]) -> Result<Mailing, All
     }
 }
 
-/// Reads the mail of a good campaign.
+/// Reads all stored mailings of a good campaign.
 fn read_mail(alloc: Global, world: &World, campaign: &Campaign) -> Result<ReadMail, AllocError>
     requires { IsGood world.now campaign.now.value }
     ensures { IfOk result (HasRead world.now campaign.now.value) }
@@ -68,8 +69,9 @@ fn read_mail(alloc: Global, world: &World, campaign: &Campaign) -> Result<ReadMa
     Ok(ReadMail { mailings, faults })
 }
 
-/// Runs a month, counts it, and takes the mail away. What changed is marked. Returns what the reports say of the month. Without
-/// memory the campaign is given up, and a blank one is in its place.
+/// Runs the month's phases, counts the month, and removes the mail. What changed is in the dirty
+/// set. Returns what the reports need of the month. Without memory the campaign is lost, and a
+/// blank one is in its place.
 fn turn_month(
     alloc: Global,
     world: &World,
@@ -100,7 +102,7 @@ fn turn_month(
     })
 }
 
-/// Checks that a month may be closed; else the first reason why it is not.
+/// Checks pass text, month and count of words of a command Close; the error is the first refusal.
 #[tactic(auto, unfolding(crate::specs::Step::step))]
 fn check_close(
     world: &World,
@@ -130,7 +132,8 @@ fn check_close(
     Ok(())
 }
 
-/// The answer to a command Close. The commit is the last call that can fail.
+/// Carries out a command Close, or refuses it, and returns the answer. The commit is the last call
+/// that can fail.
 pub(crate) fn close<S: Alter>(
     alloc: Global,
     world: &World,

@@ -15,8 +15,8 @@ use std::alloc::AllocError;
 use std::error::Error;
 use std::fmt;
 
-/// What a club asks of its campaign. Names, pass texts and mailings are any bytes. Each command has its rules in a section of
-/// docs/RULES.md.
+/// A command to a campaign: join, mail, close or report. Names, pass texts and mailings are any
+/// bytes. Each command has its rules in a section of docs/RULES.md.
 pub enum Command {
     /// A faction joins. See docs/RULES.md, "Joining".
     Join {
@@ -90,11 +90,11 @@ pub enum Refusal {
     BadPassText = 2,
     /// Some faction ever joined under this name.
     NameTaken = 3,
-    /// No faction, or no unit, more can come.
+    /// A limit is reached: no further faction, or no further unit, is possible.
     Full = 4,
     /// No faction has this number.
     NoFaction = 5,
-    /// The pass text is another one.
+    /// The pass text is not that of the faction, or of the moderator.
     WrongPass = 6,
     /// The faction has no unit left.
     Gone = 7,
@@ -110,12 +110,12 @@ pub enum Refusal {
     WrongMonth = 12,
     /// Month 9,999 was closed, and no month can be closed after it.
     MonthLimit = 13,
-    /// There isn't one word for each region.
+    /// The count of words isn't that of the world's regions.
     WrongDice = 14,
 }
 
 impl Refusal {
-    /// The refusal's number, as answers have it. See docs/FORMATS.md, "Refusals".
+    /// The refusal's number, from 1 to 14, as answers have it. See docs/FORMATS.md, "Refusals".
     pub fn number(self) -> u8
         ensures { result ≡ number_of self }
     {
@@ -146,7 +146,7 @@ impl Error for Refusal {}
 /// or after the command. See docs/RULES.md, "Refusals and faults".
 #[derive(Drop, Clone, Copy, Debug, PartialEq, Eq)]
 pub enum Fault {
-    /// There was no memory. The service is closed from then on.
+    /// Out of memory. The service is closed from then on.
     Memory,
     /// The database refused for another cause. The service is closed from then on.
     Store,
@@ -167,7 +167,7 @@ impl Fault {
     }
 }
 
-/// Its name.
+/// The fault's name, as `Store`.
 impl fmt::Display for Fault {
     fn fmt<W: fmt::Write>(&self, f: &mut fmt::Formatter<W>) -> fmt::Result {
         write!(f, "{}", self.name())

@@ -1,4 +1,5 @@
-//! A law on campaigns in files: a shielded disk is clean, or two digests have collided.
+//! A law on campaigns in files: the disk of a shielded connection is clean, or two digests have
+//! collided.
 ghost use Rattle.std.specs.Prelude.{◌⊎◌};
 ghost use Rattle.sqlite.specs.Files.{file_state};
 ghost use Rattle.sqlite.specs.State.{HasCleanDisk};
@@ -9,10 +10,12 @@ use crate::service::Service;
 use sqlite::{FileStore, Start};
 use sqlite_disk::{Calls, Modelled};
 
-/// Does nothing. Its clause is the law that a service over files, of which each call is recorded, has a clean disk where its
-/// connection is shielded, unless a digest of 64 bits has collided. The kit's open shields a connection whose disk is clean
-/// then, and `found`, `open`, `upgrade`, `run` and `run_all` keep it shielded. So all that is said of tables at the end of a
-/// call holds of a file whose disk was clean as it was opened, unless a digest has collided. See docs/PROVED.md, "Premises".
+/// Law: if a service's connection is shielded, its disk is clean, or two digests have collided.
+/// Does nothing: the law is its clause, for a service over files of which each call is recorded.
+/// The digests have 64 bits. The kit's open shields a connection whose disk is clean then, and
+/// `found`, `open`, `upgrade`, `run` and `run_all` keep it shielded. So all that is said of tables
+/// at the end of a call holds of a file whose disk was clean as it was opened, unless a digest has
+/// collided. See docs/PROVED.md, "Premises".
 pub fn a_shielded_disk_is_clean<C: Calls, S: Start>(service: &Service<FileStore<Modelled<C, S>>>)
     ensures { (file_state service.now.conn).IsShielded → HasCleanDisk (file_state service.now.conn)
         ⊎ HasCollided (start_of S.Start) (λ f. C.Calls.history (calls_of f))

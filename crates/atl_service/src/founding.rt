@@ -1,4 +1,5 @@
-//! Reads the world and makes the first campaign. See docs/RULES.md, "Founding".
+//! Reads the world text and makes the campaign that is founded in it. See docs/RULES.md,
+//! "Founding".
 ghost use Rattle.std.specs.Prelude.{◌≤◌, Bool, IfOk, IfErr};
 ghost use Rattle.atl_records.specs.Limits.{most_things};
 ghost use Rattle.atl_state.specs.Good.{IsGood};
@@ -9,7 +10,8 @@ use atl_state::{Campaign, founded};
 use atl_tables::{World, pass_ok, read_world};
 use std::alloc::Global;
 
-/// The world of a text and the campaign that is founded in it; or the first check that fails.
+/// The world of a text and the campaign that is founded in it; or the cause of the first check that
+/// fails.
 pub(crate) fn world_and_campaign(
     alloc: Global,
     world_text: &str,

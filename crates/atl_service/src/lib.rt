@@ -1,4 +1,5 @@
-//! The service: carries out the commands of a campaign and stores what they change.
+//! The commands of a campaign: join, mail, close, report. Carries them out and stores what they
+//! change.
 #![tactic(auto)]
 
 mod answering;

@@ -1,4 +1,5 @@
-//! The stored reports. See docs/RULES.md, "Reports".
+//! Makes and stores reports: the first one of a faction, and all of a month. See docs/RULES.md,
+//! "Reports".
 ghost use Rattle.std.specs.Prelude.{◌≡◌, OnOk, OnErr, unwrap_or, []};
 ghost use Rattle.std.specs.FinMap as map;
 ghost use Rattle.atl_state.specs.Covers.{MarksChanges};
@@ -15,7 +16,8 @@ use atl_state::{Campaign, Event};
 use atl_tables::{Numbered, Sequence, Text, World, let_go};
 use std::alloc::{AllocError, Global};
 
-/// What the reports say of a month: the factions that get one, what is wrong with the mail of each, and what came of the orders.
+/// What the reports of a month need: the factions that get one, the faulty lines of each one's
+/// mailing, and the events of all.
 pub(crate) struct MonthResult {
     pub(crate) factions: Vec<u32>,
     pub(crate) faults: Numbered<Sequence<FaultyLine>>,
@@ -28,8 +30,8 @@ impl Drop for MonthResult {
     }
 }
 
-/// Stores a new report for a faction, of what it sees, with what is wrong with its mail and with the events that are its own,
-/// and marks it. Without memory for it the campaign stays as it is.
+/// Stores a new report for a faction: what it sees, these faulty lines, and its own of the events.
+/// The report becomes dirty. Without memory for it the campaign stays as it is.
 fn store_report_with(
     alloc: Global,
     world: &World,
@@ -52,7 +54,8 @@ fn store_report_with(
     Ok(())
 }
 
-/// Stores a first report for a faction, of what it sees, and marks it. Without memory for it the campaign stays as it is.
+/// Stores the first report of a faction: what it sees. The report becomes dirty. Without memory for
+/// it the campaign stays as it is.
 pub(crate) fn store_report(
     alloc: Global,
     world: &World,
@@ -68,7 +71,7 @@ pub(crate) fn store_report(
     store_report_with(alloc, world, campaign, &sites, faction, &[], &[])
 }
 
-/// Stores a new report for a faction, with what is wrong with its mail and with its own events of the month.
+/// Stores a faction's report of the month, with the faulty lines of its mailing and its own events.
 fn report_to(
     alloc: Global,
     world: &World,
@@ -91,7 +94,8 @@ fn report_to(
     store_report_with(alloc, world, campaign, sites, faction, faults, events)
 }
 
-/// Stores a new report for each of the factions that get one.
+/// Stores a report of the month for each faction of the list, with structures and events sorted
+/// before.
 fn report_to_each(
     alloc: Global,
     world: &World,
@@ -112,7 +116,7 @@ fn report_to_each(
     Ok(())
 }
 
-/// Stores a new report for each of the factions that get one. The structures of each region
+/// Stores a report of the month for each faction that gets one. The structures of each region
 /// and the events of each faction are found once for all of them.
 pub(crate) fn report_to_all(
     alloc: Global,

@@ -1,5 +1,5 @@
-//! The service: a world and a campaign with the connection that stores them. `found`, `open` and
-//! `upgrade` make one.
+//! The service: a world and a campaign with the database connection that stores them. `found`,
+//! `open` and `upgrade` make one; `run` and `run_all` carry out commands.
 ghost use Rattle.std.specs.Prelude.{◌≡◌, Ok, IfOk, IfErr, OnErr, IfSome, IsSome, is_some, option_map, string_bytes};
 ghost use Rattle.std.specs.Option.{option_copied};
 ghost use Rattle.sqlite.specs.Held.{state};
@@ -59,7 +59,7 @@ impl<S: Alter> Service<S> {
     ghost use Rattle.atl_service.specs.Service.{IsService, text_in};
     ghost use Rattle.atl_service.specs.Runs.{Runs, RunsAll, HeadlineAt};
 
-    /// The service of a campaign that its connection holds, while it is open.
+    /// An open service of a campaign whose rows are in the tables of the connection.
     fn opened(alloc: Global, conn: Connection<S>, world: World, campaign: Campaign) -> Service<S>
         requires { IsService S.Store conn world campaign true }
         ensures { result ≡ record { conn = conn; world = world; campaign = Some campaign.value } }
@@ -124,7 +124,8 @@ impl<S: Alter> Service<S> {
         Ok(answers)
     }
 
-    /// The campaign, while the service is open. Nothing of it is marked: all that changed has been written.
+    /// The campaign, while the service is open. Its dirty set is empty: all changes have been
+    /// written.
     pub fn campaign(&self) -> Option<&Campaign>
         ensures value { option_map (λ c. c.value) (option_copied result) ≡ self.now.campaign }
         ensures good { IfSome self.now.campaign (IsGood self.now.world) }

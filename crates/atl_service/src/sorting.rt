@@ -1,4 +1,4 @@
-//! The events of a month, sorted by faction.
+//! Sorts the events of a month by faction, for the reports.
 ghost use Rattle.std.specs.Prelude.{◌≡◌, IfOk, OnOk, unwrap_or, []};
 ghost use Rattle.std.specs.FinMap as map;
 ghost use Rattle.atl_service.specs.Sorting.{AreSorted, with_event};
@@ -7,7 +7,8 @@ use atl_state::Event;
 use atl_tables::{Numbered, Sequence};
 use std::alloc::{AllocError, Global};
 
-/// Lists an event as the last one of its faction. Without memory the lists are to be given up.
+/// Adds an event at the end of its faction's list. Without memory the lists are not usable any
+/// more.
 fn add_event(
     alloc: Global,
     sorted: &mut Numbered<Sequence<Event>>,
@@ -39,7 +40,7 @@ pub(crate) fn events_by_faction(
     Ok(sorted)
 }
 
-/// The list under a number; the empty one if there is none.
+/// The list under a number, such as a faction's; the empty one if there is none.
 pub(crate) fn list_of<T: Drop>(lists: &Numbered<Sequence<T>>, number: u32) -> &[T]
     ensures { result.now ≡ unwrap_or (map.get lists.now number) [] }
 {

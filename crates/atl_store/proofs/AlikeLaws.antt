@@ -1,4 +1,4 @@
--- Two good campaigns whose rows one database holds are one campaign.
+-- Law: two good campaigns whose rows one database holds are equal.
 use Rattle.std.proofs.Common.{◌≡◌, ◌≢◌, ◌+◌, ◌∙◌, ℕ, ℤ, zero, suc, pos, negsuc, Bool, true, false, List, Some, inl, inr, refl, sym, ap, arith}
 use Rattle.std.specs.Prelude.{◌⊎◌}
 use Rattle.std.specs.Ordering.{nat_cmp}
@@ -34,30 +34,34 @@ use Rattle.atl_store.proofs.ThingLaws.{same_sort}
 
 -- ---- maps whose rows tell their numbers and values
 
--- two lines are the same only under one number and of one value
+-- A row of a map determines its number and its value: equal rows of the two maps have both equal.
 abbrev Tells : {V : Type 0} → (ℕ → V → Row) → FinMap nat_cmp V → FinMap nat_cmp V → Type 0
 Tells {V} line m k = (n p : ℕ) (v u : V) → get m n ≡ Some v → get k p ≡ Some u → line n v ≡ line p u → (n ≡ p) × (v ≡ u)
 
 module _ {V : Type 0} (line : ℕ → V → Row) (rows : List Row) where
-  -- a line of one map is a line of the other
+  -- an entry of one map has an entry of the other with the same row
   other_line : (m k : FinMap nat_cmp V) → Is rows (RowsOf line m) → Is rows (RowsOf line k) → (n : ℕ) (v : V) → get m n ≡ Some v → RowsOf line k (line n v)
   other_line m k a b n v is = (b (line n v)).0 ((a (line n v)).1 (n, v, is, refl))
 
+  -- each entry of one map is in the other, if the rows determine number and value
   one_way : (m k : FinMap nat_cmp V) → Tells line m k → Is rows (RowsOf line m) → Is rows (RowsOf line k) → Every (λ n v. get k n ≡ Some v) m
   one_way m k tells a b n v is =
       let (p, u, there, same) = other_line m k a b n v is in
       let at = tells n p v u is there same in
       ap (get k) at.0 ∙ there ∙ sym (ap Some at.1)
 
+  -- two maps with the same rows are equal, if the rows determine number and value
   same_values : (m k : FinMap nat_cmp V) → Tells line m k → Tells line k m → Is rows (RowsOf line m) → Is rows (RowsOf line k) → m ≡ k
   same_values m k there back a b = agree m k (one_way m k there a b) (one_way k m back b a)
 
+-- equal flags of rows are of equal booleans
 same_flag : (a b : Bool) → flag a ≡ flag b → a ≡ b
 same_flag true true is = refl
 same_flag true false is = cc
 same_flag false true is = cc
 same_flag false false is = refl
 
+-- a faction's row determines its number and value
 factions_tell : (m k : FinMap nat_cmp Faction) → Every (λ n f. f.number ≡ n) m → Every (λ n f. f.number ≡ n) k → Tells faction_line m k
 factions_tell m k a b n p f g is there same =
     let at : n ≡ p = cc in
@@ -68,6 +72,7 @@ factions_tell m k a b n p f g is there same =
     let gone : f.gone ≡ g.gone = same_flag f.gone g.gone (cc) in
     (at, λ i. record { number = number i; joined_as = joined i; name = name i; pass = pass i; gone = gone i })
 
+-- a structure's row determines its number and value
 structures_tell : (m k : FinMap nat_cmp Structure) → Tells structure_line m k
 structures_tell m k n p s t is there same =
     let kind : s.kind ≡ t.kind = cc in
@@ -77,24 +82,27 @@ structures_tell m k n p s t is there same =
     let owner : s.owner ≡ t.owner = cc in
     (cc, λ i. record { kind = kind i; name = name i; region = region i; done = done i; owner = owner i })
 
+-- a mailing's row determines its number and text
 mails_tell : (m k : FinMap nat_cmp (List ℕ)) → Tells mail_row m k
 mails_tell m k n p s t is there same = (cc, cc)
 
+-- a report's row determines its number and text
 reports_tell : (m k : FinMap nat_cmp (List ℕ)) → Tells report_row m k
 reports_tell m k n p s t is there same = (cc, cc)
 
 -- ---- units, with what they have
 
--- of nothing there are none
+-- No entry of a unit's items or skills is 0.
 abbrev HaveSome : FinMap nat_cmp Unit → Type 0
 HaveSome units = Every (λ n u. (sort : ThingKind) → Every (λ thing amount. amount ≢ 0) (things_of sort u.holding)) units
 
+-- no entry of items or skills of a good campaign is 0
 have_some : (w : WorldValue) (c : CampaignValue) → IsGood w c → HaveSome c.units
 have_some w c good n u is Item thing amount there = let range = (good.sound.steady.numbers.units n u is).1.items thing amount there in λ none. omega (arith, range.0, none)
 have_some w c good n u is Skill thing amount there = let range = good.sound.steady.days n u is thing amount there in λ none. omega (arith, range.0, none)
 
 module _ (rows : List Row) (m k : FinMap nat_cmp Unit) (a : Is rows (HasRowsOf m)) (b : Is rows (HasRowsOf k)) where
-  -- what a unit has of the one it has of the other
+  -- what a unit has in one map it has in the other
   things_there : HaveSome m → (n : ℕ) (u v : Unit) → get m n ≡ Some u → get k n ≡ Some v → (sort : ThingKind) → Every (λ thing amount. get (things_of sort v.holding) thing ≡ Some amount) (things_of sort u.holding)
   things_there some n u v is there sort thing amount has =
       let row = has_row n (sort_number sort) thing amount in
@@ -108,6 +116,7 @@ module _ (rows : List Row) (m k : FinMap nat_cmp Unit) (a : Is rows (HasRowsOf m
       left ∙ got ∙ sym (ap Some count)
 
 module _ (rows goods : List Row) (m k : FinMap nat_cmp Unit) (a : Is rows (RowsOf unit_line m)) (b : Is rows (RowsOf unit_line k)) (h : Is goods (HasRowsOf m)) (j : Is goods (HasRowsOf k)) (some : HaveSome m) (more : HaveSome k) where
+  -- each unit of one campaign is in the other
   units_there : Every (λ n u. get k n ≡ Some u) m
   units_there n u is =
       let (p, v, there, same) = other_line unit_line rows m k a b n u is in
@@ -133,15 +142,16 @@ module _ (rows goods : List Row) (m k : FinMap nat_cmp Unit) (a : Is rows (RowsO
 
 -- ---- regions, with what is in stock
 
--- of nothing there are none
+-- No entry of a region's stocks is 0.
 abbrev AreInStock : FinMap nat_cmp Region → Type 0
 AreInStock regions = Every (λ n r. Every (λ item stock. stock ≢ 0) r.stocks) regions
 
+-- no stock entry of a good campaign is 0
 are_in_stock : (w : WorldValue) (c : CampaignValue) → IsGood w c → AreInStock c.regions
 are_in_stock w c good n r is item stock there = let range = (good.sound.steady.numbers.regions n r is).stocks item stock there in λ none. omega (arith, range.0, none)
 
 module _ (rows : List Row) (m k : FinMap nat_cmp Region) (a : Is rows (MarketRowsOf m)) (b : Is rows (MarketRowsOf k)) where
-  -- what is in stock in a region of the one is so in that of the other
+  -- the stocks of a region in one map are those in the other
   stocks_there : AreInStock m → (n : ℕ) (r s : Region) → get m n ≡ Some r → get k n ≡ Some s → Every (λ item stock. get s.stocks item ≡ Some stock) r.stocks
   stocks_there some n r s is there item stock has =
       let row = market_row n item stock in
@@ -154,6 +164,7 @@ module _ (rows : List Row) (m k : FinMap nat_cmp Region) (a : Is rows (MarketRow
       left ∙ got ∙ sym (ap Some count)
 
 module _ (rows stocks : List Row) (m k : FinMap nat_cmp Region) (a : Is rows (RowsOf region_line m)) (b : Is rows (RowsOf region_line k)) (h : Is stocks (MarketRowsOf m)) (j : Is stocks (MarketRowsOf k)) (some : AreInStock m) (more : AreInStock k) where
+  -- each region of one campaign is in the other
   regions_there : Every (λ n r. get k n ≡ Some r) m
   regions_there n r is =
       let (p, s, there, same) = other_line region_line rows m k a b n r is in
@@ -167,12 +178,14 @@ module _ (rows stocks : List Row) (m k : FinMap nat_cmp Region) (a : Is rows (Ro
 
 -- ---- books
 
+-- an amount is 0 or not
 none_or_some : (z : ℤ) → (z ≡ pos 0) ⊎ (z ≢ pos 0)
 none_or_some (pos zero) = inl refl
 none_or_some (pos (suc n)) = inr (λ is. cc)
 none_or_some (negsuc n) = inr (λ is. cc)
 
 module _ (rows : List Row) (m k : BooksValue) (a : Is rows (BooksRowsOf m)) (b : Is rows (BooksRowsOf k)) where
+  -- an amount that is not 0 is the same in both books
   amount_there : (e : Entry) (t : Thing) → amount_in m e t ≢ pos 0 → amount_in m e t ≡ amount_in k e t
   amount_there e t some =
       let (f, u, apart, same) = (b (books_row (entry_index e + 1) (thing_index t) (amount_in m e t))).0 ((a _).1 (e, t, some, refl)) in
@@ -184,6 +197,7 @@ module _ (rows : List Row) (m k : BooksValue) (a : Is rows (BooksRowsOf m)) (b :
       amount ∙ sym there
 
 module _ (things : ℕ) (rows : List Row) (m k : BooksValue) (g : AreBooks things m) (h : AreBooks things k) (a : Is rows (BooksRowsOf m)) (b : Is rows (BooksRowsOf k)) where
+  -- each amount is the same in both books
   same_amount : (e : Entry) (t : Thing) → amount_in m e t ≡ amount_in k e t
   same_amount e t =
       elim (none_or_some (amount_in m e t)) [
@@ -194,19 +208,22 @@ module _ (things : ℕ) (rows : List Row) (m k : BooksValue) (g : AreBooks thing
         ]
       ]
 
+  -- the books of both campaigns are equal
   one_books : m ≡ k
   one_books = same_books things m k g h same_amount
 
 -- ---- the whole
 
 module _ (db : Trees) (one other : List ℕ) (c d : CampaignValue) (h : Holds db one c) (j : Holds db other d) where
+  -- the campaign rows of both campaigns are equal
   one_row : campaign_line one c ≡ campaign_line other d
   one_row = (j.rows Own (campaign_line one c)).0 ((h.rows Own (campaign_line one c)).1 refl)
 
-  -- two texts whose rows one database holds are one text
+  -- two world texts whose rows one database holds are equal
   pub one_text : one ≡ other
   one_text = let own = one_row in cc
 
+-- two good campaigns whose rows one database holds are equal
 pub holds_one : HoldsOne
 holds_one w db one other c d good sound h j =
     let own : campaign_line one c ≡ campaign_line other d = one_row db one other c d h j in

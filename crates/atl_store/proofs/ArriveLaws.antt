@@ -1,4 +1,4 @@
--- From what the statements did to what the tables hold: one entry of a map, one amount of the books.
+-- Laws from single statements to the tables: a row put into a numbered table, and an amount of the books written.
 use Rattle.std.proofs.Common.{◌≡◌, ◌≢◌, ◌⊎◌, ◌+◌, ℕ, ℤ, pos, false, cond, List, [], ◌∷◌, take, Some, None, Less, Equal, Greater, refl, sym, ap, ◌∙◌, subst, inl, inr, arith}
 use Rattle.std.specs.Prelude.{◌↔◌}
 use Rattle.std.specs.Ordering.{nat_cmp, is_eq, int_eq}
@@ -45,13 +45,15 @@ module _ {V : Type 0} where
   nothing_is : (v : V) → None ≡ Some v → ⊥
   nothing_is v e = cc
 
+  -- a map has the entry that was inserted
   pub get_inserted : (m : FinMap nat_cmp V) (n : ℕ) (v : V) → get (insert m n v) n ≡ Some v
   get_inserted m n v = get-insert nat_cmp_total m n v n ∙ ap (λ b. cond b (Some v) (get m n)) (ap is_eq (tied_itself nat_cmp_total n))
 
+  -- an insertion leaves the other numbers
   pub get_beside : (m : FinMap nat_cmp V) (n : ℕ) (v : V) (k : ℕ) → k ≢ n → get (insert m n v) k ≡ get m k
   get_beside m n v k apart = get-insert nat_cmp_total m n v k ∙ ap (λ b. cond b (Some v) (get m k)) (other k n apart)
 
--- one put into the rows of a map is one insertion into the map
+-- putting one row into the table of a map makes it the table of the map with the entry inserted
 pub put_rows : {V : Type 0} (line : ℕ → V → Row) (numbered : (n : ℕ) (v : V) → take 1 (line n v) ≡ int n ∷ []) (rows news : List Row) (m : FinMap nat_cmp V) (n : ℕ) (v : V) → Is rows (RowsOf line m) → Is news (put 1 (line n v) (Has rows)) → Is news (RowsOf line (insert m n v))
 put_rows line numbered rows news m n v was made r = (
   λ there. elim ((made r).0 there) [
@@ -71,7 +73,7 @@ put_rows line numbered rows news m n v was made r = (
   ]),
 )
 
--- a new unit that has nothing adds no row of has
+-- a new unit that has nothing adds no row to the table `has`
 pub no_goods : (rows : List Row) (units : FinMap nat_cmp Unit) (n : ℕ) (u : Unit) → get units n ≡ None → ((sort : ThingKind) → things_of sort u.holding ≡ empty) → Is rows (HasRowsOf units) → Is rows (HasRowsOf (insert units n u))
 no_goods rows units n u fresh bare was r = (
   λ there.
@@ -93,7 +95,7 @@ module _ (c : CampaignValue) (e : Entry) (t : Thing) where
   abbrev row : Row
   row = books_row (entry_index e + 1) (thing_index t) (amount_in c.books e t)
 
-  -- the rows of the books A, with this amount settled, are those of the books B, which differ in it alone
+  -- writing one amount turns the rows of books `A` into those of books `B`, which differ in it alone
   pub settled_rows : (A B : BooksValue) (S : Set) → amount_in B e t ≡ amount_in c.books e t
       → ((f : Entry) (u : Thing) → (entry_index f ≢ entry_index e) ⊎ (thing_index u ≢ thing_index t) → amount_in B f u ≡ amount_in A f u)
       → ((r : Row) → S r ↔ BooksRowsOf A r) → (r : Row) → settled c e t S r ↔ BooksRowsOf B r
@@ -136,12 +138,15 @@ module _ (c : CampaignValue) (e : Entry) (t : Thing) where
 
 -- its statements are the ones of the amount
 module _ (c : CampaignValue) (e : Entry) (t : Thing) (n k : ℕ) (entry : n ≡ entry_index e + 1) (thing : k ≡ thing_index t) where
+  -- the upsert of an amount that is not 0 is one of its statements
   pub amount_put : (z : ℤ) → z ≡ amount_in c.books e t → z ≢ pos 0 → OfAmount c e t (upsert books_table 2) (books_row n k z)
   amount_put z amount some = rw (entry, thing, amount) (puts_amount (λ zero. some (amount ∙ zero)))
 
+  -- the deletion of an amount that is 0 is one of its statements
   pub amount_taken : amount_in c.books e t ≡ pos 0 → OfAmount c e t (deletion books_table 2) (books_key n k)
   amount_taken zero = rw (entry, thing) (drops_amount zero)
 
+-- the statements of an amount are among those of a change
 pub amount_changes : (c : CampaignValue) (e : Entry) (t : Thing) (sql : List ℕ) (params : Row) → OfAmount c e t sql params → OfChange c sql params
 amount_changes c e t sql params (puts_amount some) = changes_row (puts_row Books (λ own. (e, t, some, refl)))
 amount_changes c e t sql params (drops_amount zero) = drops_row Books (
@@ -154,6 +159,7 @@ amount_changes c e t sql params (drops_amount zero) = drops_row Books (
 
 -- the row of an amount is put, or taken out where the amount is 0
 module _ (c : CampaignValue) (e : Entry) (t : Thing) (n k : ℕ) (entry : n ≡ entry_index e + 1) (thing : k ≡ thing_index t) (old new : Database) where
+  -- putting the row of an amount that is not 0 writes the amount (`Settles`)
   pub settles_by_put : (z : ℤ) → z ≡ amount_in c.books e t → z ≢ pos 0 → Puts books_table 2 (books_row n k z) old new → Settles c e t old new
   settles_by_put z amount some did =
       let lines : amount_lines c e t ≡ books_row n k z ∷ [] = amount_is c e t n k z entry thing amount some in
@@ -166,6 +172,7 @@ module _ (c : CampaignValue) (e : Entry) (t : Thing) (n k : ℕ) (entry : n ≡ 
         others = did.others;
       }
 
+  -- deleting the row of an amount that is 0 writes the amount (`Settles`)
   pub settles_by_drop : amount_in c.books e t ≡ pos 0 → Drops books_table 2 (books_key n k) old new → Settles c e t old new
   settles_by_drop none did =
       let keys : books_key n k ≡ books_key (entry_index e + 1) (thing_index t) = rw (entry, thing) refl in

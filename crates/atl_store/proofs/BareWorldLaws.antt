@@ -1,4 +1,4 @@
--- A good campaign that has nothing in stock is good in each world that differs in markets alone.
+-- Law: a good campaign with nothing in stock is good in each world that differs in markets alone.
 use Rattle.std.proofs.Common.{◌≡◌, ℕ, false, Option, Some, None, refl, sym, ap, ◌∙◌, subst}
 use Rattle.std.specs.Prelude.{option_map}
 use Rattle.std.specs.Option.{option_map_or}
@@ -13,15 +13,18 @@ use Rattle.atl_records.specs.Every.{IsThere}
 use Rattle.atl_state.specs.Good.{HasNoStocks, IsGood}
 use Rattle.atl_records.specs.declared.records.Region.{Region}
 
+-- a region of such a campaign has no stock entry
 nothing_in_stock : (c : CampaignValue) → HasNoStocks c → (n : ℕ) (r : Region) → get c.regions n ≡ Some r → (i amount : ℕ) → ¬ (get r.stocks i ≡ Some amount)
 nothing_in_stock c bare n r is i amount there = let e = sym (get-empty {X = ℕ} nat_cmp i) ∙ ap (λ (m : FinMap nat_cmp ℕ). get m i) (sym (bare n r is)) ∙ there in absurd cc
 
 -- ---- in a world with other regions
 
 module _ (v : WorldValue) (regions : FinMap nat_cmp RegionPlan) (c : CampaignValue) (bare : HasNoStocks c) where
+  -- the world with other regions
   abbrev w : WorldValue
   w = record v { regions = regions }
 
+  -- the campaign stays good if the other regions have the same numbers and the same land
   good_with : ((n : ℕ) → is_land_at w n ≡ is_land_at v n) → ((n : ℕ) → IsThere v.regions n → IsThere regions n) → ((n : ℕ) → IsThere regions n → IsThere v.regions n) → IsGood v c → IsGood w c
   good_with land ahead back good =
       let steady = good.sound.steady in
@@ -73,6 +76,7 @@ module _ (v : WorldValue) (regions : FinMap nat_cmp RegionPlan) (c : CampaignVal
 -- ---- without its markets
 
 module _ (w : WorldValue) where
+  -- removing markets leaves which regions are land
   land_same : (n : ℕ) → is_land_at (without_markets w) n ≡ is_land_at w n
   land_same n = ap (λ o. option_map_or (is_land w.terrains) o false) (get-mapped without_market w.regions n) ∙ by_plan (get w.regions n)
     where
@@ -80,9 +84,11 @@ module _ (w : WorldValue) where
       by_plan None = refl
       by_plan (Some p) = refl
 
+  -- removing markets leaves each region
   bared : (n : ℕ) → IsThere w.regions n → IsThere (without_markets w).regions n
   bared n (p, there) = (without_market p, get-mapped without_market w.regions n ∙ ap (option_map without_market) there)
 
+  -- each region of the world without markets was there
   was_there : (n : ℕ) → IsThere (without_markets w).regions n → IsThere w.regions n
   was_there n (p, there) = by_plan (get w.regions n) refl (sym (get-mapped without_market w.regions n) ∙ there)
     where
@@ -91,12 +97,14 @@ module _ (w : WorldValue) where
       by_plan (Some q) is e = (q, is)
 
   module _ (c : CampaignValue) (bare : HasNoStocks c) where
+    -- a campaign good in a world is good in that world without its markets
     without_good : IsGood w c → IsGood (without_markets w) c
     without_good good = good_with w (without_markets w).regions c bare land_same bared was_there good
 
+    -- a campaign good in the world without markets is good in the world with them
     with_good : IsGood (without_markets w) c → IsGood w c
     with_good good = good_with (without_markets w) w.regions c bare (λ n. sym (land_same n)) was_there bared good
 
--- worlds that differ in markets alone
+-- a good campaign with nothing in stock is good in both of two worlds that differ in markets alone
 pub good_either : (v w : WorldValue) (c : CampaignValue) → without_markets w ≡ without_markets v → HasNoStocks c → IsGood v c → IsGood w c
 good_either v w c same bare good = with_good w c bare (subst (λ x. IsGood x c) (sym same) (without_good v c bare good))

@@ -1,4 +1,4 @@
--- What the statement on the table campaign means, and what it does: the row is put, or changed but for its format and its world text.
+-- Laws on the upsert of the table `campaign`: it puts the row, or changes all of it but format and world text.
 use Rattle.std.proofs.Common.{◌≡◌, ℕ, pos, List, [], ◌∷◌, refl, sym, ap, ◌∙◌}
 use Rattle.sqlite_tied.specs.Compute.{everything}
 use Rattle.sqlite.specs.declared.types.Value.TheVariants.{Null, Text}
@@ -15,7 +15,7 @@ use Rattle.atl_store.proofs.OwnRowLaws.{MeansOwn, changed_to, puts_own}
 use Rattle.atl_store.proofs.StatementLaws.{DoneBy, done_by}
 use Rattle.atl_store.proofs.Terms.{cast_int}
 
--- all is set but the format and the world text
+-- the values of the update: all are set but the format and the world text
 abbrev project : List Term
 project = col 1 0 ∷ lit Null ∷ col 1 2 ∷ col 0 0 ∷ col 0 1 ∷ col 0 2 ∷ col 0 3 ∷ col 0 4 ∷ col 1 8 ∷ []
 
@@ -30,6 +30,7 @@ changed head before world text r shows =
     let kept : column r 8 ≡ Text text = ap (λ row. column row 7) shows in
     rw (kept, format, id, cast_int (pos 1), cast_int (pos 2), cast_int (pos head.month), cast_int (pos head.next_faction), cast_int (pos head.next_unit), cast_int (pos head.next_structure)) refl
 
+-- the upsert writes the campaign row
 pub puts_campaign : (head : CampaignRowValue) (world : List ℕ) → DoneBy campaign_upsert (campaign_row_values head world) (PutsCampaignRow head world)
 puts_campaign head world = done_by campaign_upsert (campaign_row_values head world) (PutsCampaignRow head world) (λ old new count inside ran. (
   ran.1.mode ∙ sym inside,

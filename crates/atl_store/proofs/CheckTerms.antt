@@ -1,4 +1,4 @@
--- The check that a row has the number 1, as its nodes say it.
+-- Laws on the CHECK that a row's id is 1: which nodes of the parsed term say so.
 use Rattle.std.proofs.Common.{◌≡◌, ◌≢◌, ℕ, zero, suc, List, [], ◌∷◌, length, get_or, slice_get, Some, pos, refl, sym, ap}
 use Rattle.std.proofs.lemmas.Option.{get_or_from_slice_get}
 use Rattle.sqlite_value.specs.declared.value.Value.{Value}
@@ -12,17 +12,21 @@ use Rattle.sqlite_schema.specs.Code.{op_term, term_to, term_in}
 use Rattle.sqlite_schema.specs.declared.code.Op.{Op}
 use Rattle.sqlite_schema.specs.declared.code.Op.TheVariants.{Literal, Column, Unary, Binary, Case}
 
+-- the operator = of SQL
 abbrev equals : BinaryOp
 equals = Compare Eq collation.Binary
 
+-- the value 1
 abbrev one : Value
 one = Int (pos 1)
 
+-- the term "id = 1"
 abbrev is_one : Term
 is_one = op2 equals (col 1 0) (lit one)
 
 -- ---- what a term says of its node
 
+-- an operator that makes "id = 1" is a comparison of two nodes
 comparing : (below : ℕ → Term) (op : Op) → op_term below op ≡ is_one → (a : ℕ) × (b : ℕ) × (op ≡ Binary equals a b) × (below a ≡ col 1 0) × (below b ≡ lit one)
 comparing below (Literal v) says = absurd (cc)
 comparing below (Column slot at) says = absurd (cc)
@@ -30,6 +34,7 @@ comparing below (Unary op a) says = absurd (cc)
 comparing below (Binary op a b) says = (a, b, cc, cc, cc)
 comparing below (Case t a b) says = absurd (cc)
 
+-- an operator that makes the column is that column
 numbering : (below : ℕ → Term) (op : Op) → op_term below op ≡ col 1 0 → op ≡ Column 1 0
 numbering below (Literal v) says = absurd (cc)
 numbering below (Column slot at) says = cc
@@ -37,6 +42,7 @@ numbering below (Unary op a) says = absurd (cc)
 numbering below (Binary op a b) says = absurd (cc)
 numbering below (Case t a b) says = absurd (cc)
 
+-- an operator that makes the number 1 is that literal
 constant : (below : ℕ → Term) (op : Op) → op_term below op ≡ lit one → op ≡ Literal one
 constant below (Literal v) says = cc
 constant below (Column slot at) says = absurd (cc)
@@ -44,28 +50,33 @@ constant below (Unary op a) says = absurd (cc)
 constant below (Binary op a b) says = absurd (cc)
 constant below (Case t a b) says = absurd (cc)
 
--- what is read past the last node
+-- the default for a node that is missing, which is no part of the term
 abbrev past : Op
 past = Literal Null
 
+-- a node other than the default is in the list
 there : (ops : List Op) (at : ℕ) (op : Op) → op ≢ past → get_or ops at past ≡ op → slice_get ops at ≡ Some op
 there [] at op other is = absurd (other (sym is))
 there (x ∷ ops) zero op other is = ap Some is
 there (x ∷ ops) (suc at) op other is = there ops at op other is
 
+-- a node that makes the column is that column
 number_at : (ops : List Op) (depth at : ℕ) → term_to ops depth at ≡ col 1 0 → slice_get ops at ≡ Some (Column 1 0)
 number_at ops zero at says = absurd (cc)
 number_at ops (suc depth) at says = there ops at (Column 1 0) (λ same. absurd (cc)) (numbering (term_to ops depth) (get_or ops at past) says)
 
+-- a node that makes the number 1 is that literal
 one_at : (ops : List Op) (depth at : ℕ) → term_to ops depth at ≡ lit one → slice_get ops at ≡ Some (Literal one)
 one_at ops zero at says = absurd (cc)
 one_at ops (suc depth) at says = there ops at (Literal one) (λ same. absurd (cc)) (constant (term_to ops depth) (get_or ops at past) says)
 
 -- ---- the term and the three nodes
 
+-- These nodes are the term "id = 1": a comparison, the column, and the number.
 abbrev Says : List Op → ℕ → ℕ → ℕ → Type 0
 Says ops root a b = (slice_get ops root ≡ Some (Binary equals a b)) × (slice_get ops a ≡ Some (Column 1 0)) × (slice_get ops b ≡ Some (Literal one))
 
+-- a term "id = 1" has these three nodes
 says_to : (ops : List Op) (depth root : ℕ) → term_to ops depth root ≡ is_one → (a : ℕ) × (b : ℕ) × Says ops root a b
 says_to ops zero root says = absurd (cc)
 says_to ops (suc depth) root says =
@@ -79,13 +90,14 @@ read_off (x ∷ []) zero (suc a) b first second third = absurd (cc)
 read_off (x ∷ []) (suc root) a b first second third = absurd (cc)
 read_off (x ∷ y ∷ ops) root a b first second third = rw (first, second, third) refl
 
+-- these three nodes make the term "id = 1"
 said : (ops : List Op) (root a b : ℕ) → Says ops root a b → term_in ops root ≡ is_one
 said ops root a b (first, second, third) =
     read_off ops root a b (get_or_from_slice_get ops root _ past first) (get_or_from_slice_get ops a _ past second) (get_or_from_slice_get ops b _ past third)
 
 -- ---- what is tested
 
--- the root says that the nodes at two places are equal
+-- if the root compares nodes `a` and `b`, the term is "id = 1" exactly if `a` is the column and `b` the number 1
 pub compared : (ops : List Op) (root a b : ℕ) → slice_get ops root ≡ Some (Binary equals a b) → (term_in ops root ≡ is_one → (slice_get ops a ≡ Some (Column 1 0)) × (slice_get ops b ≡ Some (Literal one))) × ((slice_get ops a ≡ Some (Column 1 0)) × (slice_get ops b ≡ Some (Literal one)) → term_in ops root ≡ is_one)
 compared ops root a b first = (
   λ says.
@@ -96,7 +108,7 @@ compared ops root a b first = (
   λ both. said ops root a b (first, both.0, both.1),
 )
 
--- it says no such thing
+-- a root that is no comparison is not that of "id = 1"
 pub not_compared : (ops : List Op) (root : ℕ) → ((a b : ℕ) → slice_get ops root ≢ Some (Binary equals a b)) → term_in ops root ≢ is_one
 not_compared ops root other says =
     let (a, b, (is, number, constant)) = says_to ops (length ops) root says in

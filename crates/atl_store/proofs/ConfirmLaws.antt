@@ -1,4 +1,4 @@
--- A query outside a transaction, which commits nothing and changes nothing.
+-- Laws on a query outside a transaction: it commits nothing and changes nothing.
 use Rattle.std.proofs.Common.{◌≡◌, ℕ, Bool, true, false, cond, List, [], Result, Ok, Err, IfErr, IsErrAnd, Option, Some, None, refl, sym, ◌∙◌, subst, inl, inr}
 use Rattle.sqlite_schema.specs.declared.command.Returning.{Returning}
 use Rattle.sqlite.specs.declared.error.Error.{Error}
@@ -19,38 +19,45 @@ use Rattle.atl_store.specs.Tables.{HasTablesOf, campaign_table}
 use Rattle.atl_store.specs.declared.fault.LoadFault.{LoadFault}
 use Rattle.atl_store.specs.declared.fault.LoadFault.TheVariants as load
 
+-- an unchanged connection is at rest
 pub rests_unchanged : (old new : State) → IsUnchanged old new → Rests old new
 rests_unchanged old new h = record { was_open = λ _. h.0.was_open; same = λ _. (inr h.0.now_is, h.0.committed_is) }
 
 module _ (sql : List ℕ) (old new : State) (plain : IsPlain (understood old.now.schema sql)) where
+  -- such a query commits nothing
   pub commits_none : Survives old new (CommitsShowing sql [] old) → Survives old new (λ _. ⊥)
   commits_none = survives_weaker old new _ _ (λ _ db. never_commits sql [] old db plain)
 
-  -- what it shows leaves all as it was
+  -- a query that shows rows leaves all unchanged
   pub shown_unchanged : (rows : List Row) → Shown sql [] old new rows → IsUnchanged old new
   unfolding Shown
   shown_unchanged rows h = (subst (ShowsRows old new sql h.0 _ rows) (subst IsPlain h.1.is plain).0 h.2).3
 
+  -- an unchanged connection leaves its tables
   unchanged_stays : IsUnchanged old new → Stays old new
   unchanged_stays h = record { was_open = λ _. h.0.was_open; same = λ _. (h.0.now_is, h.0.committed_is) }
 
+  -- a rollback leaves the tables of a settled connection
   rolled_stays : IsSettled old → HasCleanDisk old → IsRolledBack old new → Stays old new
   rolled_stays settled clean h = record { was_open = h.was_open; same = λ up. let back = h.undone up in (back.0 ∙ sym (settled clean (h.was_open up)), back.1) }
 
+  -- a query that shows rows leaves the tables
   pub shown_stays : (rows : List Row) → Shown sql [] old new rows → Stays old new
   shown_stays rows h = unchanged_stays (shown_unchanged rows h)
 
+  -- a query that fails while it shows rows changes nothing
   fails_stay : (c : _) (row : Row) (e : Error) (what : Option Returning) → what ≡ None → FailsToShow old new sql c row e what → IsUnchanged old new
   fails_stay c row e None is h = h.3
   fails_stay c row e (Some what) is h = absurd (let k = is in cc)
 
+  -- a query that is refused leaves the tables, if the connection was settled
   pub refused_stays : IsSettled old → HasCleanDisk old → (e : Error) → FailsToQuery sql [] old new e → Stays old new
   unfolding FailsToQuery IsNotRun
   refused_stays settled clean e (inl (inl h)) = unchanged_stays h.1
   refused_stays settled clean e (inl (inr h)) = rolled_stays settled clean h.3
   refused_stays settled clean e (inr h) = unchanged_stays (fails_stay h.0 _ e h.0.returning (subst IsPlain h.1.is plain).0 h.2)
 
-  -- nor does what is refused, but that a transaction may be rolled back
+  -- a query that is refused leaves the connection at rest, but that a transaction may be rolled back
   pub refused_rests : (e : Error) → FailsToQuery sql [] old new e → Rests old new
   unfolding FailsToQuery IsNotRun
   refused_rests e (inl (inl h)) = rests_unchanged old new h.1
@@ -59,10 +66,12 @@ module _ (sql : List ℕ) (old new : State) (plain : IsPlain (understood old.now
 
 -- the campaign's own row can't be asked for once more
 module _ (f : Format) {S : Type 0} (g : Ghosts S) (old during : Held S) (begins : HasTablesOf f old.schema) (e : Error) (failed : FailsToQuery (selection campaign_table 1) [] (state g old) (state g during) e) where
+  -- the fault of confirming is Memory or Store, by the error
   told_by : (memory : Bool) → is_memory e ≡ memory → FailsToConfirm g old f (cond memory load.Memory load.Store)
   told_by true is = (begins, (during, e, failed, is))
   told_by false is = inr (begins, (during, e, failed, is))
 
+  -- if the campaign row can't be read a second time, confirming fails with that fault
   pub unconfirmed : {A : Type 0} (r : Result A LoadFault) → IsErrAnd r (λ told. told ≡ load_fault e) → IfErr r (FailsToConfirm g old f)
   unconfirmed (Ok a) told = tt
   unconfirmed (Err fault) told = subst (FailsToConfirm g old f) (sym told) (told_by (is_memory e) refl)

@@ -1,4 +1,4 @@
--- The texts that make the tables, and what each does.
+-- Laws on the CREATE texts of the ten tables: which table each text makes, and that all of them make the schema.
 use Rattle.std.proofs.Common.{◌≡◌, ◌++◌, ◌∷◌, ◌+◌, ◌<◌, ℕ, false, cond, nat_eq, List, [], Result, Ok, get_or, length, map, refl, sym, ap, ◌∙◌, subst, zero-add}
 use Rattle.std.proofs.lemmas.List.{get_or-map, length-map}
 use Rattle.std.proofs.lemmas.List.FromFn.{get_or-range_with_len}
@@ -27,7 +27,7 @@ use Rattle.atl_store.proofs.MakingLaws.{extends, so_many}
 use Rattle.atl_store.proofs.PartLaws.{all_among, tree_of}
 use Rattle.atl_store.proofs.WriteLaws.{weaker, among_only}
 
--- a text makes a table, which is the last of the schema then
+-- The text is a CREATE TABLE that turns the schema `before` into `after`, with this table as the last one.
 pub record IsCreate (before after : Schema) (table : Table) (text : List ℕ) : Type 0 where
   pub command : command_of (understood before text) ≡ CreateTable
   pub whole : statement_of text (understood before text) ≡ text
@@ -38,7 +38,7 @@ pub record IsCreate (before after : Schema) (table : Table) (text : List ℕ) : 
   pub last : after.tables ≡ before.tables ++ table ∷ []
   pub uncounted : lacks_sequence after ≡ false
 
--- what it does to a database of that schema
+-- running such a text on a database of that schema adds the table
 pub makes_table : (before after : Schema) (table : Table) (text : List ℕ) → IsCreate before after table text → (old new : State) (count : ℕ) → old.now.schema ≡ before → Executes text [] old new (Ok count)
     → Creates before after table.tree old.now new.now
 makes_table before after table text is old new count has ran =
@@ -48,15 +48,16 @@ makes_table before after table text is old new count has ran =
 
 -- ---- of each part
 
--- so many parts come before it
+-- the index of a part in a list
 abbrev place_among : Part → List Part → ℕ
 place_among part [] = 0
 place_among part (p ∷ parts) = cond (nat_eq (tree_of part) (tree_of p)) 0 (place_among part parts + 1)
 
+-- the index of a part in the list of all parts
 abbrev place : Part → ℕ
 place part = place_among part all_parts
 
--- its text makes its table, behind those of the parts before it
+-- the text of a part makes its table after those of the parts before it
 pub is_made : (part : Part) → IsCreate (so_many (place part)) (so_many (place part + 1)) (table_of part) (creation_of part)
 unfolding understood everything
 is_made Own = record { command = refl; whole = refl; defines = refl; plain = (refl, refl); after_is = refl; tree_is = refl; last = refl; uncounted = refl }
@@ -72,7 +73,7 @@ made_at i d small =
 
 -- ---- of all, one after another
 
--- the text is one of them, and makes the one more table
+-- The text is that of some part, and makes the schema one table longer.
 abbrev pub Makes : Schema → Schema → List ℕ → Type 1
 Makes before after text = Has (map creation_of all_parts) text × ((old new : State) → RunsStatement text [] old new → Extends before after old new)
 
@@ -84,9 +85,11 @@ makes before after table text listed is = (listed, run)
 
 -- elements with these texts
 module _ {X : Type 0} (text : X → List ℕ) (xs : List X) (all : map text xs ≡ map creation_of all_parts) where
+  -- elements with these texts are as many as the tables
   pub as_many : length xs ≡ table_count
   as_many = sym (length-map xs text) ∙ ap length all
 
+  -- the text of index `i` makes the table of index `i`
   pub makes_next : (i : ℕ) (d : X) → i < length xs → Makes (so_many i) (so_many (i + 1)) (text (get_or xs i d))
   makes_next i d small =
       let part = get_or all_parts i Own in
@@ -98,8 +101,10 @@ module _ {X : Type 0} (text : X → List ℕ) (xs : List X) (all : map text xs �
 -- ---- in a transaction
 
 module _ {S A : Type 0} (g : Ghosts S) {r : Result A Error} {a b : MutBor (Held S)} where
+  -- a write by such a text is one by the CREATE statements (`Creations`)
   pub creating : {Does : State → State → Type 0} {before after : Schema} (text : List ℕ) → Makes before after text → Writes g (Only text []) Does r a b → Writes g Creations Does r a b
   creating text makes one = among_only g text [] (makes.0, refl) one
 
+  -- running such a text is a write by the CREATE statements that makes one more table
   pub made_by : {before after : Schema} (text : List ℕ) → Makes before after text → Writes g (Only text []) (RunsStatement text []) r a b → Writes g Creations (Extends before after) r a b
   made_by text makes one = weaker g makes.1 (creating text makes one)

@@ -1,4 +1,4 @@
--- What DELETE by a test and INSERT OR REPLACE of one row make of a table.
+-- Laws on DELETE by a test and on INSERT OR REPLACE of one row: which rows the table has afterwards.
 use Rattle.std.proofs.Common.{◌≡◌, ◌≢◌, ◌⊎◌, ℕ, pos, negsuc, Bool, true, false, List, [], ◌∷◌, ◌++◌, map, flat_map, Option, Some, None, Result, Ok, Err, refl, sym, ap, ◌∙◌, subst, inl, inr}
 use Rattle.std.specs.Prelude.{cond}
 use Rattle.std.specs.List.{list_all}
@@ -31,22 +31,23 @@ use Rattle.sqlite.proofs.Callers.{one_step}
 use Rattle.atl_store.specs.Sets.{IsKeyed}
 use Rattle.atl_store.proofs.ListLaws.{keyed_without, keyed_put, has_map, map_has, AreFound, stays, was_there}
 
--- a part that gave a value did not stop on the way
+-- a step that gave a value did not stop
 pub went : {B E R : Type 0} {b : B} {Stops : E → Type 0} → ((stop : E) × Stops stop × (Ok b ≡ Err stop)) ⊎ R → R
 went (inl stopped) = absurd (let e = stopped.2 in cc)
 went (inr on) = on
 
+-- equal results have equal values
 pub same_value : {B E : Type 0} {a b : B} → ◌≡◌ {A = Result B E} (Ok a) (Ok b) → a ≡ b
 same_value e = cc
 
--- the rows that pass the test are gone, and no other
+-- The rows that pass the test are gone, and no other row and no other table changed.
 pub record Loses (schema : Schema) (table : Table) (p : Row → Bool) (db next : Trees) : Type 0 where
   pub from : (r : Row) → Has (next table.tree) r → Has (db table.tree) r × (p r ≡ false)
   pub kept : (r : Row) → Has (db table.tree) r → p r ≡ false → Has (next table.tree) r
   pub keyed : IsKeyed (next table.tree)
   pub others : (t : Table) → Has schema.tables t → t.tree ≢ table.tree → next t.tree ≡ db t.tree
 
--- the same, and the new row is there
+-- The rows that pass the test are gone, the new row is there, and nothing else changed.
 pub record Swaps (schema : Schema) (table : Table) (p : Row → Bool) (new : Row) (db next : Trees) : Type 0 where
   pub there : Has (next table.tree) new
   pub from : (r : Row) → Has (next table.tree) r → (r ≡ new) ⊎ (Has (db table.tree) r × (p r ≡ false))
@@ -68,6 +69,7 @@ module _ (schema : Schema) (table : Table) (unlinked : (olds news : List Row) �
 
   -- ---- DELETE
 
+  -- a DELETE by a test loses the rows that pass it
   pub deletes : (limit : Option ℕ) (params : Row) (q : _) (p : Row → Bool) (db : Trees) (w : Written) → IsKeyed (db table.tree)
       → ((rows : List Row) → Answers (record { schema = schema; trees = db }) q params rows → AreFound p (db table.tree) rows)
       → Deletes (record { limit = limit; keys = Enforced; schema = schema; table = table; params = params }) q db (Ok w) → Loses schema table p db w.trees
@@ -83,6 +85,7 @@ module _ (schema : Schema) (table : Table) (unlinked : (olds news : List Row) �
     abbrev task : Task
     task = record { limit = limit; keys = Enforced; schema = schema; table = table; params = params }
 
+    -- an INSERT OR REPLACE of one row swaps the rows with its key for it
     pub puts : (new : Row) (db : Trees) (w : Written) → IsKeyed (db table.tree) → Puts task new db (Ok w)
         → Has (w.trees table.tree) (cast_row table new)
         × ((r : Row) → Has (w.trees table.tree) r → (r ≡ cast_row table new) ⊎ Has (db table.tree) r)
@@ -128,6 +131,7 @@ module _ (schema : Schema) (table : Table) (unlinked : (olds news : List Row) �
           others = λ t listed other. put.3 t listed other ∙ lost.others t listed other;
         }
 
+    -- the same for one attempt to put the row
     pub tries : (new : Row) (db : Trees) (w : Written) → IsKeyed (db table.tree) → Tries task Replace [] new db (Ok w)
         → Swaps schema table (p new) (cast_row table new) db w.trees
     tries new db w keyed (inl refused) = absurd (let e = refused.1 in cc)
@@ -139,6 +143,7 @@ module _ (schema : Schema) (table : Table) (unlinked : (olds news : List Row) �
 
 -- ---- the query of a DELETE, and of a table in the order of its key
 
+-- the query of a DELETE: all rows of a tree that pass the filter
 abbrev pub delete_query : ℕ → List Term → Query
 delete_query tree filter = record {
   from = inner tree end;
@@ -152,6 +157,7 @@ delete_query tree filter = record {
   offset = lit (Int (pos 0));
 }
 
+-- a permutation has the same elements
 pub has_permuted : {X : Type 0} (xs ys : List X) (x : X) → IsPermutation xs ys → Has xs x → Has ys x
 has_permuted xs ys x h there = all_has (λ y. Has ys y) xs x (all-permutation (λ y. Has ys y) ys xs (IsPermutation-sym xs ys h) (all_from _ ys (λ y k. k))) there
 
@@ -175,6 +181,7 @@ module _ (p : Row → Bool) (f : Row → Env) where
       go true is (inr later) more = let it = more later in (it.0, inr it.1, it.2, it.3)
       go false is later more = let it = more later in (it.0, inr it.1, it.2, it.3)
 
+-- the query of a DELETE finds exactly the rows that pass its filter
 pub found_by : (tree : ℕ) (filter : List Term) (db db' : Trees) (params : Row) (rows : List Row) → db' tree ≡ db tree → IsAnswer (delete_query tree filter) db' params rows
     → AreFound (λ r. list_all (holds (params ∷ r ∷ [])) filter) (db tree) rows
 found_by tree filter db db' params rows same a =

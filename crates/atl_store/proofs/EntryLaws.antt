@@ -1,4 +1,4 @@
--- The entries of a numbered map, and the rows that stand for them.
+-- Laws on numbered maps and their rows: entries and look-ups agree, and a table filled with one row for each entry has exactly those.
 use Rattle.std.proofs.Common.{◌≡◌, ◌≢◌, ◌⊎◌, ℕ, true, false, cond, List, [], ◌∷◌, ◌++◌, take, Some, None, Less, Equal, Greater, refl, sym, ap, ◌∙◌, subst, inl, inr, true≢false}
 use Rattle.std.specs.List.{flat_map}
 use Rattle.std.specs.Ordering.{nat_cmp, is_eq, is_lt}
@@ -19,9 +19,11 @@ use Rattle.atl_store.proofs.ListLaws.{has_map, map_has}
 
 -- ---- an entry is in the list exactly where the map has it
 
+-- no number is less than itself
 pub not_less_itself : (n : ℕ) → is_lt (nat_cmp n n) ≡ false
 not_less_itself n = ap is_lt (tied_itself nat_cmp_total n)
 
+-- a lesser number is another one
 pub less_apart : (m n : ℕ) → is_lt (nat_cmp m n) ≡ true → m ≢ n
 less_apart m n less same = true≢false (sym less ∙ ap (λ k. is_lt (nat_cmp m k)) (sym same) ∙ not_less_itself m)
 
@@ -32,11 +34,13 @@ module _ {V : Type 0} where
   nothing_there : (v : V) → None ≡ Some v → ⊥
   nothing_there v e = cc
 
+  -- an entry of a list above a number is above it
   pub below_has : (k : ℕ) (es : List (ℕ × V)) (x : ℕ × V) → below_all nat_cmp k es ≡ true → Has es x → is_lt (nat_cmp k x.0) ≡ true
   below_has k [] x below there = absurd there
   below_has k (e ∷ es) x below (inl same) = ap (λ (y : ℕ × V). is_lt (nat_cmp k y.0)) same ∙ (and_parts _ _ below).0
   below_has k (e ∷ es) x below (inr later) = below_has k es x (and_parts _ _ below).1 later
 
+  -- what is found under a number is in the list
   get_has : (es : List (ℕ × V)) (n : ℕ) (v : V) → find nat_cmp n es ≡ Some v → Has es (n, v)
   get_has [] n v got = absurd (nothing_there v got)
   get_has (e ∷ es) n v got = elim (nat_cmp n e.0) as (λ o. nat_cmp n e.0 ≡ o → cond (is_eq o) (Some e.1) (find nat_cmp n es) ≡ Some v → Has (e ∷ es) (n, v)) [
@@ -48,6 +52,7 @@ module _ {V : Type 0} where
     | Greater ↦ λ _ h. inr (get_has es n v h)
   ] refl got
 
+  -- what is in a sorted list is found under its number
   has_get : (es : List (ℕ × V)) (n : ℕ) (v : V) → is_sorted nat_cmp es ≡ true → Has es (n, v) → find nat_cmp n es ≡ Some v
   has_get [] n v sorted there = absurd there
   has_get (e ∷ es) n v sorted (inl same) =
@@ -63,17 +68,21 @@ module _ {V : Type 0} where
       ] refl in
       ap (λ b. cond b (Some e.1) (find nat_cmp n es)) other ∙ has_get es n v (and_parts _ _ sorted).1 later
 
+  -- what a map gives under a number is one of its entries
   pub got_entry : (m : FinMap nat_cmp V) (n : ℕ) (v : V) → get m n ≡ Some v → Has (entries m) (n, v)
   got_entry m n v got = get_has (entries m) n v (sym (get-entries m n) ∙ got)
 
+  -- an entry of a map is what it gives under the number
   pub entry_got : (m : FinMap nat_cmp V) (n : ℕ) (v : V) → Has (entries m) (n, v) → get m n ≡ Some v
   entry_got m n v there = get-entries m n ∙ has_get (entries m) n v (is_true _ (entries_sorted m)) there
 
+  -- the entries of a map are sorted by number
   pub in_order : (m : FinMap nat_cmp V) → is_sorted nat_cmp (entries m) ≡ true
   in_order m = is_true _ (entries_sorted m)
 
 -- ---- lists made of lists
 
+-- an element of joined lists is in one of them
 pub flat_has : {X Y : Type 0} (f : X → List Y) (xs : List X) (r : Y) → Has (flat_map f xs) r → (x : X) × Has xs x × Has (f x) r
 flat_has f [] r there = absurd there
 flat_has f (x ∷ xs) r there = elim (has_either (f x) (flat_map f xs) r there) [
@@ -81,6 +90,7 @@ flat_has f (x ∷ xs) r there = elim (has_either (f x) (flat_map f xs) r there) 
   | inr more ↦ let found = flat_has f xs r more in (found.0, inr found.1, found.2)
 ]
 
+-- an element of one list is in the joined lists
 pub has_flat : {X Y : Type 0} (f : X → List Y) (xs : List X) (x : X) (r : Y) → Has xs x → Has (f x) r → Has (flat_map f xs) r
 has_flat f [] x r there here = absurd there
 has_flat f (y ∷ xs) x r (inl same) here = has_left (f y) (flat_map f xs) r (subst (λ z. Has (f z) r) same here)
@@ -88,6 +98,7 @@ has_flat f (y ∷ xs) x r (inr later) here = has_right (f y) (flat_map f xs) r (
 
 -- ---- rows with different keys, put into an empty table
 
+-- putting rows with different keys into a set adds exactly them, if no key was there
 pub puts_has : (key : ℕ) (news : List Row) (S : Set) → DifferInKey key news → ((s : Row) → S s → (x : Row) → Has news x → take key s ≢ take key x) → (r : Row) → (puts key news S r → Has news r ⊎ S r) × (Has news r ⊎ S r → puts key news S r)
 puts_has key [] S apart free r = (λ h. inr h, λ h. elim h [ inl none ↦ absurd none | inr was ↦ was ])
 puts_has key (x ∷ xs) S apart free r =
@@ -99,7 +110,7 @@ puts_has key (x ∷ xs) S apart free r =
       λ h. later.1 (elim h [ inl (inl same) ↦ inr (inl same) | inl (inr there) ↦ inl there | inr was ↦ inr (inr (was, free r was x (inl refl))) ]),
     )
 
--- a table with no row has these rows once they are put
+-- an empty table has exactly these rows once they are put
 pub filled : (key : ℕ) (rows news old : List Row) → old ≡ [] → DifferInKey key news → Is rows (puts key news (Has old)) → Is rows (Has news)
 filled key rows news old none apart made r =
     let empty : (s : Row) → Has old s → ⊥ = λ s there. subst (λ l. Has l s) none there in
@@ -108,6 +119,7 @@ filled key rows news old none apart made r =
       λ there. (made r).1 (all.1 (inl there)),
     )
 
+-- rows with different keys, and others with other keys, all have different keys
 pub apart_append : (key : ℕ) (xs ys : List Row) → DifferInKey key xs → DifferInKey key ys → ((x y : Row) → Has xs x → Has ys y → take key x ≢ take key y) → DifferInKey key (xs ++ ys)
 apart_append key [] ys one two cross = two
 apart_append key (x ∷ xs) ys one two cross = (
@@ -117,15 +129,18 @@ apart_append key (x ∷ xs) ys one two cross = (
 
 -- ---- one row for each entry
 
+-- equal keys of one number are of equal numbers
 pub same_number : (m n : ℕ) → ◌≡◌ {A = Row} (int m ∷ []) (int n ∷ []) → m ≡ n
 same_number m n e = cc
 
+-- each row made of the entries is a row of the map
 pub lines_rows : {V : Type 0} (line : ℕ → V → Row) (m : FinMap nat_cmp V) (es : List (ℕ × V)) → es ≡ entries m → (r : Row) → Has (lines_of line es) r → RowsOf line m r
 lines_rows {V} line m es same r there =
     let x = map_has (λ (x : ℕ × V). line x.0 x.1) es r there in
     (x.0.0, x.0.1, entry_got m x.0.0 x.0.1 (subst (λ (l : List (ℕ × V)). Has l x.0) same x.1), x.2)
 
 module _ {V : Type 0} (line : ℕ → V → Row) (numbered : (n : ℕ) (v : V) → take 1 (line n v) ≡ int n ∷ []) where
+  -- the rows of sorted entries have different keys
   lines_apart : (es : List (ℕ × V)) → is_sorted nat_cmp es ≡ true → DifferInKey 1 (lines_of line es)
   lines_apart [] sorted = tt
   lines_apart (e ∷ es) sorted = (
@@ -136,6 +151,7 @@ module _ {V : Type 0} (line : ℕ → V → Row) (numbered : (n : ℕ) (v : V) �
     lines_apart es (and_parts _ _ sorted).1,
   )
 
+  -- an empty table filled with the rows of the entries has exactly the map's rows
   pub rows_filled : (rows old : List Row) (m : FinMap nat_cmp V) → old ≡ [] → Is rows (puts 1 (lines_of line (entries m)) (Has old)) → Is rows (RowsOf line m)
   rows_filled rows old m none made r =
       let is = filled 1 rows (lines_of line (entries m)) old none (lines_apart (entries m) (in_order m)) made r in (

@@ -1,4 +1,4 @@
--- Empty tables are filled, one after another, until they hold the campaign.
+-- Laws on `create`: empty tables are filled, one after another, until they hold the campaign.
 use Rattle.std.proofs.Common.{◌≡◌, ◌++◌, ℕ, suc, true, List, [], ◌∷◌, take, subst, inl, inr}
 use Rattle.std.specs.List.{list_all, range_with_len}
 use Rattle.std.specs.Ordering.{nat_cmp}
@@ -24,7 +24,7 @@ use Rattle.atl_records.specs.Books.{AreBooks}
 use Rattle.atl_store.proofs.LedgerLaws.{books_filled}
 use Rattle.atl_store.proofs.WholeLaws.{inside_then, inside_weaker}
 
--- the one row of the campaign
+-- an empty table has exactly the one row that is put
 one_row : (rows old : List Row) (row : Row) → old ≡ [] → Is rows (put 1 row (Has old)) → Is rows (λ r. r ≡ row)
 one_row rows old row none made r = (
   λ there. elim ((made r).0 there) [ inl same ↦ same | inr was ↦ absurd (subst (λ l. Has l r) none was.0) ],
@@ -34,10 +34,11 @@ one_row rows old row none made r = (
 module _ (c : CampaignValue) where
   -- ---- one table
 
+  -- the campaign row is filled
   pub own_filled : (text : List ℕ) (old new : Database) → PutsCampaignRow (campaign_row_of c) text old new → FillsWithOwn text c (Own ∷ []) old new
   own_filled text old new did none = one_changed (Fills c (campaign_line text c)) Own _ old new (did.first none) (λ rows empty. one_row _ _ (campaign_line text c) empty rows)
 
-  -- of rows under a number
+  -- a table with one row for each number is filled
   pub numbered_filled : {V : Type 0} (part : Part) (line : ℕ → V → Row) → ((n : ℕ) (v : V) → take 1 (line n v) ≡ int n ∷ []) → (m : FinMap nat_cmp V) → ((own : Row) (rows : List Row) → Is rows (RowsOf line m) → Is rows (rows_for own c part)) → (es : List (ℕ × V))
       → es ≡ entries m → (old new : Database) → PutsRows (table_of part) 1 (lines_of line es) old new → FillsParts c (part ∷ []) old new
   numbered_filled {V} part line numbered m are es same old new did own = one_changed (Fills c own) part _ old new did (λ made none.
@@ -45,7 +46,7 @@ module _ (c : CampaignValue) where
       let now = rows_in (table_of part) new.trees in
       are own now (rows_filled line numbered now was m none (subst (λ (l : List (ℕ × V)). Is now (puts 1 (lines_of line l) (Has was))) same made)))
 
-  -- of rows that belong to what has a number
+  -- a table whose rows belong to numbered units or regions is filled
   pub groups_fill : {V : Type 0} (part : Part) (lines : ℕ → V → List Row) (more : ℕ) (m : FinMap nat_cmp V) → ((own : Row) → AreGroups lines (suc more) m (rows_for own c part)) → (es : List (ℕ × V)) → es ≡ entries m → (old new : Database)
       → PutsRows (table_of part) (suc more) (groups_of lines es) old new → FillsParts c (part ∷ []) old new
   groups_fill {V} part lines more m are es same old new did own = one_changed (Fills c own) part _ old new did (λ made none.
@@ -53,16 +54,19 @@ module _ (c : CampaignValue) where
       let now = rows_in (table_of part) new.trees in
       groups_filled lines more m (rows_for own c part) (are own) now was none (subst (λ (l : List (ℕ × V)). Is now (puts (suc more) (groups_of lines l) (Has was))) same made))
 
+  -- the table of the books is filled
   pub books_fill : AreBooks c.books.things c.books → (old new : Database) → PutsRows books_table 2 (things_lines c (range_with_len 0 c.books.things)) old new → FillsParts c (Books ∷ []) old new
   books_fill are old new did own = one_changed (Fills c own) Books _ old new did (λ made none. books_filled c are (rows_in books_table new.trees) (rows_in books_table old.trees) none made)
 
   -- ---- one after the other
 
+  -- filling some parts and then others fills both
   pub own_then_filled : (text : List ℕ) (ps qs : List Part) → are_apart ps qs ≡ true → (old mid new : Database) → FillsWithOwn text c ps old mid → FillsParts c qs mid new → FillsWithOwn text c (ps ++ qs) old new
   own_then_filled text ps qs apart old mid new first second none = both_changed (Fills c (campaign_line text c)) ps qs apart old mid new (first none) (second (campaign_line text c))
 
   -- ---- the whole
 
+  -- with all parts filled, the tables hold the founded campaign
   pub founding_done : (text : List ℕ) (parts : List Part) → list_all (is_among parts) all_parts ≡ true → (start mid end : State) → Inside IsBlank AreEmpty start mid → Inside HasTables (FillsWithOwn text c parts) mid end → Inside IsBlank (WritesFounding text c) start end
   founding_done text parts all start mid end first second =
       let fills = FillsWithOwn text c parts in

@@ -1,4 +1,4 @@
--- Readings one after another, each of the tables as they were before the first.
+-- Laws on reading several tables one after another: each read sees the tables as they were before the first.
 use Rattle.std.proofs.Common.{◌≡◌, ◌≢◌, ◌⊎◌, ◌++◌, ℕ, List, [], ◌∷◌, Bool, true, false, not, true≢false, IsTrue, Option, Some, None, Result, Ok, Err, IfOk, IfErr, IsErrAnd, map, refl, sym, ◌∙◌, subst, inl, inr, arith}
 use Rattle.std.specs.Option.{option_zip}
 use Rattle.std.specs.declared.vec.Vec.{Vec}
@@ -26,11 +26,12 @@ use Rattle.atl_store.proofs.ListLaws.{has_map}
 use Rattle.atl_store.proofs.PartLaws.{is_among, not_among}
 use Rattle.atl_store.proofs.PartsLaws.{every_part}
 
+-- a connection that shows rows of a query is open
 shows_open : (old new : State) (sql : List ℕ) (c : _) (row : Row) (rows : List Row) (what : Option Returning) → ShowsRows old new sql c row rows what → IsTrue old.is_open
 shows_open old new sql c row rows None h = h.3.0.was_open
 shows_open old new sql c row rows (Some what) h = h.1.shown.was_open
 
--- who shows rows is open
+-- a connection that shows rows is open
 pub shown_open : (sql : List ℕ) (old new : State) (rows : List Row) → Shown sql [] old new rows → IsTrue old.is_open
 unfolding Shown
 shown_open sql old new rows h = shows_open old new sql h.0 _ rows h.0.returning h.2
@@ -47,21 +48,24 @@ store_no_memory is = cc
 refused_no_memory : read.Refused ≢ read.Memory
 refused_no_memory is = cc
 
+-- before any call nothing is committed
 survives_start : (s : State) → Survives s s (λ _. ⊥)
 survives_start s = record { clean = omega arith; shield = λ k. k; counts = omega arith; limit = refl; closes = λ clean up. inl up; crash = λ clean db may. inl may }
 
--- what is so of each of two lists is so of both behind each other
+-- what is true of the elements of two lists is true of those of both joined
 each_of_both : {X : Type 0} (P : X → Type 0) (xs ys : List X) → ((x : X) → Has xs x → P x) → ((x : X) → Has ys x → P x) → (x : X) → Has (xs ++ ys) x → P x
 each_of_both P xs ys first second x there = elim (has_either xs ys x there) [
   | inl one ↦ first x one
   | inr one ↦ second x one
 ]
 
+-- what is true of one element is true of each of the list of it
 each_of_one : {X : Type 0} (P : X → Type 0) (x : X) → P x → (y : X) → Has (x ∷ []) y → P y
 each_of_one P x p y (inl same) = subst P (sym same) p
 each_of_one P x p y (inr none) = absurd none
 
 module _ {S : Type 0} (g : Ghosts S) where
+  -- doing nothing outside a transaction leaves the connection
   pub leaves_none : (old : Held S) → old.in_transaction ≡ false → AfterReads g old old
   leaves_none old idle = record {
     stays = λ _. record { was_open = λ up. up; same = λ up. (refl, refl) };
@@ -69,6 +73,7 @@ module _ {S : Type 0} (g : Ghosts S) where
     idle = idle;
   }
 
+  -- two calls that leave the connection leave it together
   pub leaves_then : (old mid new : Held S) → AfterReads g old mid → AfterReads g mid new → AfterReads g old new
   leaves_then old mid new one two = record {
     stays = λ clean.
@@ -82,12 +87,14 @@ module _ {S : Type 0} (g : Ghosts S) where
     idle = two.idle;
   }
 
+  -- a settled connection stays settled
   pub settled_then : (old new : Held S) → IsSettled (state g old) → AfterReads g old new → IsSettled (state g new)
   settled_then old new settled leaves clean up =
       let stays = leaves.stays clean in
       let same = stays.same up in
       same.0 ∙ settled (omega (arith, leaves.survives.clean, clean)) (stays.was_open up) ∙ sym same.1
 
+  -- a settled connection at rest leaves its tables
   rests_stays : (old new : State) → IsSettled old → HasCleanDisk old → Rests old new → Stays old new
   rests_stays old new settled clean rests = record {
     was_open = rests.was_open;
@@ -97,15 +104,19 @@ module _ {S : Type 0} (g : Ghosts S) where
   -- ---- one table
 
   module _ {A : Type 0} (sql : List ℕ) (forms : List Form) (shown : A → Row) (part : Part) (old new : Held S) (settled : IsSettled (state g old)) (idle : old.in_transaction ≡ false) where
+    -- this SELECT alone, with the forms of its columns
     abbrev this_select : List (List ℕ × List Form)
     this_select = (sql, forms) ∷ []
 
+    -- a SELECT that showed rows gave these rows
     tells : (rows : List Row) → Selects g sql old rows → Tells g old sql rows
     tells rows told = record { before = told.0; during = told.1; same = told.2.same; shown = told.3 }
 
+    -- a connection whose SELECT showed rows was open
     selects_open : (rows : List Row) → Selects g sql old rows → IsTrue (state g old).is_open
     selects_open rows told = told.2.was_open (shown_open sql _ _ rows told.3)
 
+    -- rows of one table that were read are found
     found_one : {Z : Type 0} (r : Result (Vec A Z) ReadFault) → ReadsRows g sql old forms shown r new → GivesTable g (listing_of part).since (listing_of part).in_table shown r old new → HasCleanDisk (state g new) → IfOk (kept_of r) (Found g old this_select (λ all. AreAllRows (state g old).now ((part, map shown all.items) ∷ [])))
     found_one (Ok all) reads gives clean =
         let told = reads.rows clean in
@@ -124,6 +135,7 @@ module _ {S : Type 0} (g : Ghosts S) where
     found_one (Err read.Store) reads gives clean = tt
     found_one (Err read.Refused) reads gives clean = tt
 
+    -- a connection that read one table was open
     open_one : {Z : Type 0} (r : Result (Vec A Z) ReadFault) → ReadsRows g sql old forms shown r new → HasCleanDisk (state g new) → IfOk (kept_of r) (λ _. IsTrue (state g old).is_open)
     open_one (Ok all) reads clean = let told = reads.rows clean in selects_open told.0 told.1
     open_one (Err read.OtherType) reads clean = let told = reads.other clean refl in selects_open told.0 told.1
@@ -131,13 +143,16 @@ module _ {S : Type 0} (g : Ghosts S) where
     open_one (Err read.Store) reads clean = tt
     open_one (Err read.Refused) reads clean = tt
 
+    -- a SELECT that is refused refuses the list of it
     refuses : (fault : ReadFault) → RefusesToSelect g sql old fault → RefusesOne g old this_select fault
     refuses fault refused = record { select = (sql, forms); one = inl refl; before = old; leaves = leaves_none old idle; refused = refused }
 
+    -- a read of one table may run out of memory
     wants : RefusesToSelect g sql old read.Memory ⊎ ((rows : List Row) × Selects g sql old rows) → FailsToRead g old this_select Memory
     wants (inl refused) = inl (refuses read.Memory refused)
     wants (inr told) = inr (record { select = (sql, forms); one = inl refl; before = old; leaves = leaves_none old idle; rows = told.0; answered = told.1 })
 
+    -- a fault of reading one table
     fails_one : {Z : Type 0} (r : Result (Vec A Z) ReadFault) → ReadsRows g sql old forms shown r new → HasCleanDisk (state g new) → IfErr (kept_of r) (FailsToRead g old this_select)
     fails_one (Ok all) reads clean = tt
     fails_one (Err read.OtherType) reads clean = tt
@@ -145,7 +160,7 @@ module _ {S : Type 0} (g : Ghosts S) where
     fails_one (Err read.Store) reads clean = inl (refuses read.Store (reads.refused clean not_store store_no_memory))
     fails_one (Err read.Refused) reads clean = inr (refuses read.Refused (reads.refused clean not_refused refused_no_memory))
 
-    -- what was kept of its reading
+    -- the result of reading one table, as that of reading a list of one
     pub reads_one : {Z : Type 0} (r : Result (Vec A Z) ReadFault) → ReadsRows g sql old forms shown r new → GivesTable g (listing_of part).since (listing_of part).in_table shown r old new → (kept : Result (Option (Vec A Z)) LoadFault) → kept ≡ kept_of r
         → ReadsSome g old this_select (λ all. AreAllRows (state g old).now ((part, map shown all.items) ∷ [])) kept new
     reads_one r reads gives kept is = record {
@@ -162,12 +177,15 @@ module _ {S : Type 0} (g : Ghosts S) where
   -- ---- two stages, of which the second begins where the first ended
 
   module _ (old mid : Held S) (same : (state g mid).now ≡ (state g old).now) where
+    -- rows that a SELECT gave later it would have given before, since the tables are unchanged
     told_then : (sql : List ℕ) (rows : List Row) → Tells g mid sql rows → Tells g old sql rows
     told_then sql rows told = record { before = told.before; during = told.during; same = told.same ∙ same; shown = told.shown }
 
+    -- the same for several SELECTs
     all_told_then : (selects : List (List ℕ × List Form)) → AreTold g mid selects → AreTold g old selects
     all_told_then selects all select one = let told = all select one in (told.0, told_then select.0 told.0 told.1)
 
+    -- the same for what was found
     found_then : {A : Type 0} (selects : List (List ℕ × List Form)) (P Q : A → Type 0) (o : Option A) → ((a : A) → P a → Q a) → Found g mid selects P o → Found g old selects Q o
     found_then selects P Q (Some a) weaker found = (λ select one. let told = found.0 select one in (told.0, told_then select.0 told.0 told.1, told.2), weaker a found.1)
     found_then selects P Q None weaker found = record {
@@ -179,6 +197,7 @@ module _ {S : Type 0} (g : Ghosts S) where
       other = found.other;
     }
 
+  -- a SELECT refused later is refused from the start
   refuses_then : (old mid : Held S) → AfterReads g old mid → (selects : List (List ℕ × List Form)) (fault : ReadFault) → RefusesOne g mid selects fault → RefusesOne g old selects fault
   refuses_then old mid first selects fault refused = record {
     select = refused.select;
@@ -188,6 +207,7 @@ module _ {S : Type 0} (g : Ghosts S) where
     refused = refused.refused;
   }
 
+  -- a SELECT answered later is answered from the start
   answers_then : (old mid : Held S) → AfterReads g old mid → (selects : List (List ℕ × List Form)) → AnswersOne g mid selects → AnswersOne g old selects
   answers_then old mid first selects answers = record {
     select = answers.select;
@@ -198,7 +218,7 @@ module _ {S : Type 0} (g : Ghosts S) where
     answered = answers.answered;
   }
 
-  -- a fault of a later reading
+  -- a fault of a later read is a fault of the reads from the start
   pub fails_then : (old mid : Held S) → AfterReads g old mid → (selects : List (List ℕ × List Form)) (fault : LoadFault) → FailsToRead g mid selects fault → FailsToRead g old selects fault
   fails_then old mid first selects Store (inl refused) = inl (refuses_then old mid first selects read.Store refused)
   fails_then old mid first selects Store (inr refused) = inr (refuses_then old mid first selects read.Refused refused)
@@ -209,12 +229,15 @@ module _ {S : Type 0} (g : Ghosts S) where
   fails_then old mid first selects Memory (inr answers) = inr (answers_then old mid first selects answers)
 
   module _ (old : Held S) (few more : List (List ℕ × List Form)) (within : (select : List ℕ × List Form) → Has few select → Has more select) where
+    -- a refused SELECT among few is one among more
     refuses_within : (fault : ReadFault) → RefusesOne g old few fault → RefusesOne g old more fault
     refuses_within fault refused = record { select = refused.select; one = within refused.select refused.one; before = refused.before; leaves = refused.leaves; refused = refused.refused }
 
+    -- an answered SELECT among few is one among more
     answers_within : AnswersOne g old few → AnswersOne g old more
     answers_within answers = record { select = answers.select; one = within answers.select answers.one; before = answers.before; leaves = answers.leaves; rows = answers.rows; answered = answers.answered }
 
+    -- a fault of reading few tables is one of reading more
     fails_within : (fault : LoadFault) → FailsToRead g old few fault → FailsToRead g old more fault
     fails_within Store (inl refused) = inl (refuses_within read.Store refused)
     fails_within Store (inr refused) = inr (refuses_within read.Refused refused)
@@ -224,19 +247,22 @@ module _ {S : Type 0} (g : Ghosts S) where
     fails_within Memory (inl refused) = inl (refuses_within read.Memory refused)
     fails_within Memory (inr answers) = inr (answers_within answers)
 
+    -- a value of another type in few tables is one in more
     other_within : AreTold g old more → HasOtherType g old few → HasOtherType g old more
     other_within all other = record { all = all; select = other.select; one = within other.select other.one; rows = other.rows; told = other.told; other = other.other }
 
+  -- SELECTs that gave typed rows gave rows
   told_of : (old : Held S) (selects : List (List ℕ × List Form)) → AreToldTyped g old selects → AreTold g old selects
   told_of old selects typed select one = let told = typed select one in (told.0, told.1)
 
+  -- what two reads found is found together
   found_both : {A B : Type 0} (xs ys : List (List ℕ × List Form)) (P : A → Type 0) (Q : B → Type 0) (old : Held S) (a : Option A) (b : Option B) → Found g old xs P a → Found g old ys Q b → Found g old (xs ++ ys) (λ x. P x.0 × Q x.1) (option_zip a b)
   found_both xs ys P Q old (Some a) (Some b) p q = (each_of_both (λ s. (rows : List Row) × Tells g old s.0 rows × AreTyped s.1 rows) xs ys p.0 q.0, (p.1, q.1))
   found_both xs ys P Q old (Some a) None p q = other_within old ys (xs ++ ys) (has_right xs ys) (each_of_both (λ s. (rows : List Row) × Tells g old s.0 rows) xs ys (told_of old xs p.0) q.all) q
   found_both xs ys P Q old None (Some b) p q = other_within old xs (xs ++ ys) (has_left xs ys) (each_of_both (λ s. (rows : List Row) × Tells g old s.0 rows) xs ys p.all (told_of old ys q.0)) p
   found_both xs ys P Q old None None p q = other_within old xs (xs ++ ys) (has_left xs ys) (each_of_both (λ s. (rows : List Row) × Tells g old s.0 rows) xs ys p.all q.all) p
 
-  -- what a stage found that begins where another ended
+  -- what a later stage found was in the tables before the first stage
   found_behind : {A : Type 0} (old mid new : Held S) → AfterReads g old mid → (selects : List (List ℕ × List Form)) (P Q : A → Type 0) (r : Result (Option A) LoadFault) → ReadsSome g mid selects P r new → (o : Option A) → r ≡ Ok o
       → ((state g mid).now ≡ (state g old).now → (a : A) → P a → Q a) → HasCleanDisk (state g new) → Found g old selects Q o
   found_behind old mid new before selects P Q r reads o was weaker clean =
@@ -244,6 +270,7 @@ module _ {S : Type 0} (g : Ghosts S) where
       let same = ((before.stays (omega (arith, reads.leaves.survives.clean, clean))).same up).0 in
       found_then old mid same selects P Q o (weaker same) (subst (λ r. IfOk r (Found g mid selects P)) was (reads.found clean))
 
+  -- a read with a consequence of what it found
   reads_as : {A : Type 0} (selects : List (List ℕ × List Form)) (P Q : A → Type 0) (old new : Held S) (r : Result (Option A) LoadFault) → ((a : A) → P a → Q a) → ReadsSome g old selects P r new → ReadsSome g old selects Q r new
   reads_as {A} selects P Q old new r weaker reads = record { was_open = reads.was_open; found = λ clean. found r (reads.found clean); fails = reads.fails; leaves = reads.leaves }
     where
@@ -252,7 +279,7 @@ module _ {S : Type 0} (g : Ghosts S) where
       found (Ok None) h = h
       found (Err fault) h = tt
 
-  -- the first stage ends with a fault
+  -- a fault of the first stage is a fault of both
   pub first_fails : {A B : Type 0} (xs ys : List (List ℕ × List Form)) (P : A → Type 0) (Q : B → Type 0) (old new : Held S) (fault : LoadFault) (one : Result (Option A) LoadFault) (r : Result (Option B) LoadFault)
       → ReadsSome g old xs P one new → one ≡ Err fault → IsErrAnd r (λ told. told ≡ fault) → ReadsSome g old (xs ++ ys) Q r new
   first_fails xs ys P Q old new fault one (Ok o) first was told = absurd told
@@ -266,6 +293,7 @@ module _ {S : Type 0} (g : Ghosts S) where
   -- where the second one begins
   module _ {A B : Type 0} (xs ys : List (List ℕ × List Form)) (P : A → Type 0) (Q : B → Type 0) (old mid new : Held S) (one : Result (Option A) LoadFault) (two : Result (Option B) LoadFault)
       (first : ReadsSome g old xs P one mid) (second : ReadsSome g mid ys Q two new) (a : Option A) (was_first : one ≡ Ok a) where
+    -- a fault of the second stage is a fault of both
     pub second_fails : {C : Type 0} (R : C → Type 0) (fault : LoadFault) (r : Result (Option C) LoadFault) → two ≡ Err fault → IsErrAnd r (λ told. told ≡ fault) → ReadsSome g old (xs ++ ys) R r new
     second_fails R fault (Ok o) was told = absurd told
     second_fails R fault (Err f) was told = record {
@@ -277,7 +305,7 @@ module _ {S : Type 0} (g : Ghosts S) where
       leaves = leaves_then old mid new first.leaves second.leaves;
     }
 
-    -- both are read
+    -- both stages have read their tables
     reads_both : (Q2 : B → Type 0) (b : Option B) → two ≡ Ok b → ((state g mid).now ≡ (state g old).now → (b : B) → Q b → Q2 b) → (o : Option (A × B)) → o ≡ option_zip a b → ReadsSome g old (xs ++ ys) (λ x. P x.0 × Q2 x.1) (Ok o) new
     reads_both Q2 b was weaker o is = record {
       was_open = λ clean. subst (λ r. IfOk r (λ _. IsTrue (state g old).is_open)) was_first (first.was_open (clean_mid clean));
@@ -292,7 +320,7 @@ module _ {S : Type 0} (g : Ghosts S) where
         clean_mid : HasCleanDisk (state g new) → HasCleanDisk (state g mid)
         clean_mid clean = omega (arith, second.leaves.survives.clean, clean)
 
-  -- the rows of some tables and then of others
+  -- the rows of some tables and then of others are read
   pub both_read : {A B : Type 0} (xs ys : List (List ℕ × List Form)) (some : A → ReadRows) (others : B → ReadRows) (old mid new : Held S) (one : Result (Option A) LoadFault) (two : Result (Option B) LoadFault)
       → ReadsSome g old xs (λ a. AreAllRows (state g old).now (some a)) one mid → ReadsSome g mid ys (λ b. AreAllRows (state g mid).now (others b)) two new
       → (a : Option A) → one ≡ Ok a → (b : Option B) → two ≡ Ok b → (o : Option (A × B)) → o ≡ option_zip a b → ReadsSome g old (xs ++ ys) (λ x. AreAllRows (state g old).now (some x.0 ++ others x.1)) (Ok o) new
@@ -303,11 +331,12 @@ module _ {S : Type 0} (g : Ghosts S) where
 
   -- ---- by the format
 
-  -- no rows of others
+  -- rows that were found, paired with other rows that were given
   found_with : {A B : Type 0} (old : Held S) (selects : List (List ℕ × List Form)) (P : A → Type 0) (Q : A × B → Type 0) (b : B) → ((a : A) → P a → Q (a, b)) → (o : Option A) → Found g old selects P o → Found g old selects Q (option_zip o (Some b))
   found_with old selects P Q b weaker (Some a) found = (found.0, weaker a found.1)
   found_with old selects P Q b weaker None found = found
 
+  -- all rows of some tables and none of the others are the rows of the first format
   of_first : (db : Database) (some others : ReadRows) → AreAllRows db some → map (λ read. read.0) some ≡ other_parts First → AreNone others → map (λ read. read.0) others ≡ late_parts → AreOfFormat First db (some ++ others)
   of_first db some others are early none late = record {
     each =
@@ -325,7 +354,7 @@ module _ {S : Type 0} (g : Ghosts S) where
       not_early : (part : Part) → Has late_parts part → ¬ Has (parts_in First) part
       not_early part there = not_among (parts_in First) part (no (is_among (parts_in First) part) (test_has (λ p. not (is_among (parts_in First) p)) late_parts part refl there))
 
-  -- by the first format the rows of some, and none of others
+  -- in the first format the rows of some tables are read, and none of the others
   pub reads_first : {A B : Type 0} (selects : List (List ℕ × List Form)) (some : A → ReadRows) (others : B → ReadRows) (old new : Held S) (one : Result (Option A) LoadFault) → ReadsSome g old selects (λ a. AreAllRows (state g old).now (some a)) one new
       → (a : Option A) → one ≡ Ok a → (b : B) → AreNone (others b) → ((a : A) → map (λ read. read.0) (some a) ≡ other_parts First) → map (λ read. read.0) (others b) ≡ late_parts
       → (o : Option (A × B)) → o ≡ option_zip a (Some b) → ReadsSome g old selects (λ x. AreOfFormat First (state g old).now (some x.0 ++ others x.1)) (Ok o) new
@@ -339,11 +368,11 @@ module _ {S : Type 0} (g : Ghosts S) where
     leaves = first.leaves;
   }
 
-  -- by the second all
+  -- in the second format the rows of all tables are read
   pub reads_second : {A : Type 0} (selects : List (List ℕ × List Form)) (rows : A → ReadRows) (old new : Held S) (r : Result (Option A) LoadFault) → ReadsSome g old selects (λ a. AreAllRows (state g old).now (rows a)) r new → ReadsSome g old selects (λ a. AreOfFormat Second (state g old).now (rows a)) r new
   reads_second selects rows old new r reads = reads_as selects _ _ old new r (λ a are. record { each = λ read there. inl (every_part read.0, are read there) }) reads
 
-  -- a fault ends it
+  -- a fault of one stage ends the whole read
   pub fails_as : {A B : Type 0} (selects : List (List ℕ × List Form)) (P : A → Type 0) (Q : B → Type 0) (old new : Held S) (fault : LoadFault) (one : Result (Option A) LoadFault) (r : Result (Option B) LoadFault)
       → ReadsSome g old selects P one new → one ≡ Err fault → IsErrAnd r (λ told. told ≡ fault) → ReadsSome g old selects Q r new
   fails_as selects P Q old new fault one (Ok o) first was told = absurd told
@@ -354,25 +383,27 @@ module _ {S : Type 0} (g : Ghosts S) where
     leaves = first.leaves;
   }
 
+  -- the read by the format that the campaign row has
   pub reads_by : {A : Type 0} (some others : List (List ℕ × List Form)) (rows : A → ReadRows) (old new : Held S) (r : Result (Option A) LoadFault) (f is : Format) → f ≡ is
       → ReadsSome g old (selects_by is some others) (λ a. AreOfFormat is (state g old).now (rows a)) r new → ReadsSome g old (selects_by f some others) (λ a. AreOfFormat f (state g old).now (rows a)) r new
   reads_by some others rows old new r f is same reads = subst (λ f. ReadsSome g old (selects_by f some others) (λ a. AreOfFormat f (state g old).now (rows a)) r new) (sym same) reads
 
-  -- what was found of a format behind another stage
+  -- what a later stage found of a format was in the tables before the first stage
   pub format_behind : {A : Type 0} (f : Format) (rows : A → ReadRows) (old mid new : Held S) → AfterReads g old mid → (selects : List (List ℕ × List Form)) (r : Result (Option A) LoadFault) → ReadsSome g mid selects (λ a. AreOfFormat f (state g mid).now (rows a)) r new → (o : Option A) → r ≡ Ok o
       → HasCleanDisk (state g new) → Found g old selects (λ a. AreOfFormat f (state g old).now (rows a)) o
   format_behind f rows old mid new before selects r reads o was clean =
       found_behind old mid new before selects (λ a. AreOfFormat f (state g mid).now (rows a)) (λ a. AreOfFormat f (state g old).now (rows a)) r reads o was (λ same a are. subst (λ (db : Database). AreOfFormat f db (rows a)) same are) clean
 
--- no rows of some tables and of others
+-- no rows of some tables and none of others are no rows of both
 pub both_none : (some others : ReadRows) → AreNone some → AreNone others → AreNone (some ++ others)
 both_none some others first second = each_of_both (λ read. read.1 ≡ []) some others first second
 
--- the SELECTs of a format, where some are those of the first, and with others those of the second
+-- the SELECTs of a format, if `some` are those of the first, and with `others` those of the second
 same_selects : (some others : List (List ℕ × List Form)) → some ≡ other_selects First → some ++ others ≡ other_selects Second → (f : Format) → selects_by f some others ≡ other_selects f
 same_selects some others first second First = first
 same_selects some others first second Second = second
 
+-- the read of the other tables of a format
 pub reads_others : {A S : Type 0} (g : Ghosts S) (some others : List (List ℕ × List Form)) (P : A → Type 0) (old new : Held S) (r : Result (Option A) LoadFault) (f : Format) → some ≡ other_selects First → some ++ others ≡ other_selects Second
     → ReadsSome g old (selects_by f some others) P r new → ReadsSome g old (other_selects f) P r new
 reads_others g some others P old new r f first second reads = subst (λ selects. ReadsSome g old selects P r new) (same_selects some others first second f) reads

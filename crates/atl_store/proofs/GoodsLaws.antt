@@ -1,4 +1,4 @@
--- Rows of amounts that are not 0, and so those of all that units have.
+-- Laws on the table `has`: one row for each item and skill of each unit, if its amount is not 0.
 use Rattle.std.proofs.Common.{◌≡◌, ◌≢◌, ◌==◌, ℕ, Bool, true, false, if◌then◌else◌, List, [], ◌∷◌, take, Option, Some, None, unwrap_or, refl, sym, ap, ◌∙◌, subst, inl, inr, true≢false, arith}
 use Rattle.std.specs.Ordering.{nat_cmp}
 use Rattle.std.specs.FinMap.{FinMap, entries, get, get-empty, is_sorted}
@@ -19,39 +19,46 @@ use Rattle.atl_store.proofs.EntryLaws.{apart_append, below_has, less_apart, got_
 
 -- ---- one amount
 
+-- a row of an optional list is its one row, and the condition `b` to leave it out is false
 pub optional_has : (b : Bool) (row r : Row) → Has (if b then [] else row ∷ []) r → (b ≡ false) × (r ≡ row)
 optional_has true row r there = absurd there
 optional_has false row r (inl same) = (refl, same)
 optional_has false row r (inr none) = absurd none
 
+-- an optional list has its row if the condition `b` to leave it out is false
 pub has_optional : (b : Bool) (row : Row) → b ≡ false → Has (if b then [] else row ∷ []) row
 has_optional true row is = absurd (true≢false is)
 has_optional false row is = inl refl
 
+-- one optional row has no second one with its key
 pub optional_apart : (key : ℕ) (b : Bool) (row : Row) → DifferInKey key (if b then [] else row ∷ [])
 optional_apart key true row = tt
 optional_apart key false row = (λ y none. absurd none, tt)
 
+-- a number that fails the test for 0 is not 0
 not_zero : (a : ℕ) → (a == 0) ≡ false → a ≢ 0
 not_zero a differs same = grind (arith, nat_tests)
 
+-- a number other than 0 fails the test for 0
 pub is_not_zero : (a : ℕ) → a ≢ 0 → (a == 0) ≡ false
 is_not_zero a apart = elim (cases_Bool (a == 0)) [ inl same ↦ absurd (apart (grind (arith, nat_tests))) | inr differs ↦ differs ]
 
 -- ---- the amounts under some numbers
 
 module _ (row : ℕ → ℕ → Row) where
+  -- each row of an amount is of an entry that is not 0
   pub amounts_have : (es : List (ℕ × ℕ)) (r : Row) → Has (amount_rows row es) r → (e : ℕ × ℕ) × Has es e × (e.1 ≢ 0) × (r ≡ row e.0 e.1)
   amounts_have es r there =
       let found = flat_has (λ (e : ℕ × ℕ). if e.1 == 0 then [] else row e.0 e.1 ∷ []) es r there in
       let line = optional_has (found.0.1 == 0) (row found.0.0 found.0.1) r found.2 in
       (found.0, found.1, not_zero found.0.1 line.0, line.1)
 
+  -- each entry that is not 0 has its row
   pub have_amount : (es : List (ℕ × ℕ)) (n amount : ℕ) → Has es (n, amount) → amount ≢ 0 → Has (amount_rows row es) (row n amount)
   have_amount es n amount there some =
       has_flat (λ (e : ℕ × ℕ). if e.1 == 0 then [] else row e.0 e.1 ∷ []) es (n, amount) _ there (has_optional (amount == 0) (row n amount) (is_not_zero amount some))
 
-  -- where the key tells the number
+  -- rows of amounts have different keys, if the key determines the number
   pub amounts_apart : (key : ℕ) → ((m a n b : ℕ) → take key (row m a) ≡ take key (row n b) → m ≡ n) → (es : List (ℕ × ℕ)) → is_sorted nat_cmp es ≡ true → DifferInKey key (amount_rows row es)
   amounts_apart key tells [] sorted = tt
   amounts_apart key tells (e ∷ es) sorted =
@@ -63,31 +70,38 @@ module _ (row : ℕ → ℕ → Row) where
 
 -- ---- the things of one sort
 
+-- equal keys of three numbers have equal numbers
 pub three_same : (a b c d e f : ℕ) → ◌≡◌ {A = Row} (has_key a b c) (has_key d e f) → (a ≡ d) × (b ≡ e) × (c ≡ f)
 three_same a b c d e f same = (cc, cc, cc)
 
 module _ (unit : ℕ) (sort : ThingKind) where
+  -- each row of one kind of thing is of an entry that is not 0
   sort_has : (es : List (ℕ × ℕ)) (r : Row) → Has (kind_lines unit sort es) r → (e : ℕ × ℕ) × Has es e × (e.1 ≢ 0) × (r ≡ has_row unit (sort_number sort) e.0 e.1)
   sort_has = amounts_have (has_row unit (sort_number sort))
 
+  -- each entry of one kind of thing that is not 0 has its row
   has_sort : (es : List (ℕ × ℕ)) (thing amount : ℕ) → Has es (thing, amount) → amount ≢ 0 → Has (kind_lines unit sort es) (has_row unit (sort_number sort) thing amount)
   has_sort = have_amount (has_row unit (sort_number sort))
 
+  -- the rows of one kind of thing have different keys
   sort_apart : (es : List (ℕ × ℕ)) → is_sorted nat_cmp es ≡ true → DifferInKey 3 (kind_lines unit sort es)
   sort_apart = amounts_apart (has_row unit (sort_number sort)) 3 (λ m a n b same. (three_same unit (sort_number sort) m unit (sort_number sort) n same).2)
 
 -- ---- all that one unit has
 
+-- each row of a unit is of one of its items or skills
 pub goods_has : (unit : ℕ) (held : HoldingValue) (r : Row) → Has (goods_lines unit held) r → (sort : ThingKind) × (e : ℕ × ℕ) × Has (entries (things_of sort held)) e × (e.1 ≢ 0) × (r ≡ has_row unit (sort_number sort) e.0 e.1)
 goods_has unit held r there = elim (has_either (kind_lines unit Item (entries held.items)) (kind_lines unit Skill (entries held.days)) r there) [
   | inl item ↦ let e = sort_has unit Item (entries held.items) r item in (Item, e.0, e.1, e.2, e.3)
   | inr skill ↦ let e = sort_has unit Skill (entries held.days) r skill in (Skill, e.0, e.1, e.2, e.3)
 ]
 
+-- each item or skill of a unit that is not 0 has its row
 pub has_goods : (unit : ℕ) (held : HoldingValue) (sort : ThingKind) (thing amount : ℕ) → Has (entries (things_of sort held)) (thing, amount) → amount ≢ 0 → Has (goods_lines unit held) (has_row unit (sort_number sort) thing amount)
 has_goods unit held Item thing amount there some = has_left (kind_lines unit Item (entries held.items)) (kind_lines unit Skill (entries held.days)) _ (has_sort unit Item (entries held.items) thing amount there some)
 has_goods unit held Skill thing amount there some = has_right (kind_lines unit Item (entries held.items)) (kind_lines unit Skill (entries held.days)) _ (has_sort unit Skill (entries held.days) thing amount there some)
 
+-- the rows of a unit have different keys
 pub goods_apart : (unit : ℕ) (held : HoldingValue) → DifferInKey 3 (goods_lines unit held)
 goods_apart unit held =
     apart_append 3 (kind_lines unit Item (entries held.items)) (kind_lines unit Skill (entries held.days)) (sort_apart unit Item (entries held.items) (in_order held.items)) (sort_apart unit Skill (entries held.days) (in_order held.days))
@@ -97,17 +111,19 @@ goods_apart unit held =
     let keys = three_same unit 0 one.0.0 unit 1 two.0.0 (ap (take 3) (sym one.3) ∙ same ∙ ap (take 3) two.3) in
     absurd (omega (arith, keys.1)))
 
+-- each row of a unit begins with its number
 goods_begin : (n : ℕ) (held : HoldingValue) (r : Row) → Has (goods_lines n held) r → take 1 r ≡ int n ∷ []
 goods_begin n held r there = ap (take 1) (goods_has n held r there).4
 
 -- ---- all that all units have
 
+-- each row of a unit of the map is a row of `has`
 goods_rows : (units : FinMap nat_cmp Unit) (n : ℕ) (u : Unit) → get units n ≡ Some u → (r : Row) → Has (goods_lines n u.holding) r → HasRowsOf units r
 goods_rows units n u got r there =
     let row = goods_has n u.holding r there in
     (n, u, got, row.0, row.1.0, row.1.1, entry_got (things_of row.0 u.holding) row.1.0 row.1.1 row.2, row.3, row.4)
 
--- they belong to the units
+-- the rows of `has` belong to the units by the first column
 pub goods_grouped : (units : FinMap nat_cmp Unit) → AreGroups unit_lines 3 units (HasRowsOf units)
 goods_grouped units = record {
   numbered = λ n u. goods_begin n u.holding;
@@ -132,19 +148,21 @@ under_none Item thing = ap (λ (o : Option ℕ). unwrap_or o 0) (get-empty {X = 
 under_none Skill thing = ap (λ (o : Option ℕ). unwrap_or o 0) (get-empty {X = ℕ} nat_cmp thing)
 
 module _ (units : FinMap nat_cmp Unit) where
+  -- a unit that isn't there has 0 of each thing
   pub amount_none : (n : ℕ) (sort : ThingKind) (thing : ℕ) → get units n ≡ None → amount_under units n sort thing ≡ 0
   amount_none n sort thing none = ap (λ o. amount_of (things_under sort o) thing) none ∙ under_none sort thing
 
+  -- the amount of a thing of a unit that is there
   pub amount_some : (n : ℕ) (sort : ThingKind) (thing : ℕ) (u : Unit) → get units n ≡ Some u → amount_under units n sort thing ≡ amount_of (things_of sort u.holding) thing
   amount_some n sort thing u there = ap (λ o. amount_of (things_under sort o) thing) there ∙ ap (λ things. amount_of things thing) (under_unit sort u)
 
-  -- each row tells how much there is of a thing
+  -- each row of `has` gives the amount of its unit's item or skill
   pub had_of : (r : Row) → HasRowsOf units r → (n : ℕ) × (sort : ThingKind) × (thing : ℕ) × (amount_under units n sort thing ≢ 0) × (r ≡ has_row n (sort_number sort) thing (amount_under units n sort thing))
   had_of r of =
       let amount : amount_under units of.0 of.3 of.4 ≡ of.5 = amount_some of.0 of.3 of.4 of.1 of.2 ∙ ap (λ (o : Option ℕ). unwrap_or o 0) of.6 in
       (of.0, of.3, of.4, λ none. of.7 (sym amount ∙ none), of.8 ∙ ap (has_row of.0 (sort_number of.3) of.4) (sym amount))
 
-  -- and what there is has its row
+  -- each amount that is not 0 has its row of `has`
   pub of_had : (n : ℕ) (sort : ThingKind) (thing amount : ℕ) → amount ≡ amount_under units n sort thing → amount ≢ 0 → HasRowsOf units (has_row n (sort_number sort) thing amount)
   of_had n sort thing amount is some = there (get units n) refl
     where

@@ -1,4 +1,4 @@
--- Rows of a table that belong to what has a number.
+-- Laws on tables whose rows belong to a numbered unit or region: filling them, and rewriting the rows of one number.
 use Rattle.std.proofs.Common.{◌≡◌, ◌≢◌, ◌⊎◌, ◌↔◌, ℕ, suc, true, List, [], ◌∷◌, take, Some, None, refl, sym, ap, ◌∙◌, subst, inl, inr}
 use Rattle.std.specs.Ordering.{nat_cmp}
 use Rattle.std.specs.FinMap.{FinMap, entries, get, is_sorted}
@@ -24,7 +24,7 @@ use Rattle.atl_store.proofs.EntryLaws.{apart_append, filled, puts_has, below_has
 use Rattle.atl_store.proofs.RewriteLaws.{begins_key, key_begins, kept_only, rewrites_key}
 use Rattle.atl_store.proofs.WholeLaws.{inside_then, inside_weaker}
 
--- rows that are the same in more columns begin with the same one
+-- rows that are equal in more columns are equal in the first
 first_of : (more : ℕ) (a b : Row) → take (suc more) a ≡ take (suc more) b → take 1 a ≡ take 1 b
 first_of more a b same = sym (first a) ∙ ap (take 1) same ∙ first b
   where
@@ -35,7 +35,7 @@ first_of more a b same = sym (first a) ∙ ap (take 1) same ∙ first b
 module _ {V : Type 0} (lines : ℕ → V → List Row) (more : ℕ) (values : FinMap nat_cmp V) (Wanted : Set) (are : AreGroups lines (suc more) values Wanted) where
   -- ---- put into an empty table
 
-  -- rows of different numbers differ
+  -- rows of different numbers have different keys
   all_apart : (es : List (ℕ × V)) → is_sorted nat_cmp es ≡ true → DifferInKey (suc more) (groups_of lines es)
   all_apart [] sorted = tt
   all_apart (e ∷ es) sorted =
@@ -45,11 +45,13 @@ module _ {V : Type 0} (lines : ℕ → V → List Row) (more : ℕ) (values : Fi
       let number = same_number e.0 found.0.0 (sym (are.numbered e.0 e.1 x early) ∙ first_of more x y same ∙ are.numbered found.0.0 found.0.1 y found.2) in
       less_apart e.0 found.0.0 (below_has e.0 es found.0 (and_parts _ _ sorted).0 found.1) number)
 
+  -- each row made of the entries is a wanted row
   pub groups_rows : (es : List (ℕ × V)) → es ≡ entries values → (r : Row) → Has (groups_of lines es) r → Wanted r
   groups_rows es same r there =
       let found = flat_has (λ (v : ℕ × V). lines v.0 v.1) es r there in
       are.wanted found.0.0 found.0.1 (entry_got values found.0.0 found.0.1 (subst (λ (l : List (ℕ × V)). Has l found.0) same found.1)) r found.2
 
+  -- an empty table filled with them has exactly the wanted rows
   pub groups_filled : (rows old : List Row) → old ≡ [] → Is rows (puts (suc more) (groups_of lines (entries values)) (Has old)) → Is rows Wanted
   groups_filled rows old none made r =
       let is = filled (suc more) rows (groups_of lines (entries values)) old none (all_apart (entries values) (in_order values)) made r in (
@@ -60,7 +62,7 @@ module _ {V : Type 0} (lines : ℕ → V → List Row) (more : ℕ) (values : Fi
   -- ---- taken out and put anew
 
   module _ (table : Table) (n : ℕ) where
-    -- a wanted row with this number is of what stands under it
+    -- a wanted row with this number is one of the rows of the number's value
     lined_at : (r : Row) → begins (is_number n) r ≡ true → Wanted r → (v : V) × (get values n ≡ Some v) × Has (lines n v) r
     lined_at r is of =
         let line = are.lined r of in
@@ -86,6 +88,7 @@ module _ {V : Type 0} (lines : ℕ → V → List Row) (more : ℕ) (values : Fi
         (λ r is of. let line = lined_at r is of in none-some line.0 (sym none ∙ line.1))
         table old new (λ r. let so = dropped.rows r in (λ h. inr (so.0 h), λ h. so.1 (kept_only h))) dropped.others
 
+    -- deleting the rows of a number and putting its rows anew rewrites them
     pub lines_done : (v : V) → get values n ≡ Some v → (old mid new : State) → Inside HasTables (Drops table 1 (int n ∷ [])) old mid
         → Inside HasTables (PutsRows table (suc more) (lines n v)) mid new → Inside HasTables (RewritesGroup table Wanted n) old new
     lines_done v there old mid new one two =
@@ -93,11 +96,12 @@ module _ {V : Type 0} (lines : ℕ → V → List Row) (more : ℕ) (values : Fi
         let puts = PutsRows table (suc more) (lines n v) in
         inside_weaker HasTables (Both drops puts) (RewritesGroup table Wanted n) old new (λ has did. lines_rewrite old.now did.0 new.now did.1 v there did.2) (inside_then HasTables drops puts old mid new one two)
 
+    -- deleting the rows of a number that is no more rewrites them
     pub bare_done : get values n ≡ None → (old new : State) → Inside HasTables (Drops table 1 (int n ∷ [])) old new
         → Inside HasTables (RewritesGroup table Wanted n) old new
     bare_done none old new did = inside_weaker HasTables (Drops table 1 (int n ∷ [])) (RewritesGroup table Wanted n) old new (λ has drops. bare_rewrite old.now new.now drops none) did
 
--- a wanted row is put as one of its part
+-- the upsert of a wanted row is one of the part's statements
 pub puts_wanted : (part : Part) (more : ℕ) → key_of part ≡ suc more → (Wanted : CampaignValue → Row → Type 0) → ((own : Row) (c : CampaignValue) (r : Row) → Wanted c r → rows_for own c part r) → (c : CampaignValue) (r : Row) → Wanted c r
     → OfRow c (upsert (table_of part) (suc more)) r
 puts_wanted part more key Wanted are c r is = subst (λ k. OfRow c (upsert (table_of part) k) r) key (puts_row part (λ own. are own c r is))

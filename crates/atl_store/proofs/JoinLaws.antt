@@ -1,4 +1,4 @@
--- A joining is written, and a mail: what the tables hold then.
+-- Laws on `write_join` and `write_mail`: tables that held the campaign before hold the one after.
 use Rattle.std.proofs.Common.{◌≡◌, ◌≢◌, ◌⊎◌, ◌+◌, ℕ, ℤ, pos, List, [], ◌∷◌, map, Some, None, false, refl, sym, ap, ◌∙◌, subst, inl, inr, take, arith}
 use Rattle.std.specs.Prelude.{◌+ℤ◌}
 use Rattle.std.specs.Ordering.{nat_cmp}
@@ -36,27 +36,30 @@ use Rattle.atl_store.proofs.WholeLaws.{inside_then, inside_weaker}
 
 -- ---- one booking changes one amount
 
+-- booking one amount leaves the amounts of other entries and things
 beside_booked : (books : BooksValue) (e : Entry) (t : Thing) (n : ℤ) (f : Entry) (u : Thing) → (entry_index f ≢ entry_index e) ⊎ (thing_index u ≢ thing_index t) → amount_in (after_booking books e t n) f u ≡ amount_in books f u
 beside_booked books e t n f u far = other_amount books e t (amount_in books e t +ℤ n) f u (elim far [ inl entries ↦ apart_entries (f, u) (e, t) entries | inr things ↦ apart_things (f, u) (e, t) things ])
 
 -- ---- how the campaign after a joining differs
 
+-- The campaign after a join is the one before with these faction, unit and report, and the money booked.
 record IsArrival (n : ℕ) (f : Faction) (m : ℕ) (u : Unit) (report : List ℕ) (before after : CampaignValue) : Type 0 where
   factions : after.factions ≡ insert before.factions n f
   units : after.units ≡ insert before.units m u
   reports : after.reports ≡ insert before.reports n report
   fresh : get before.units m ≡ None
   bare : (sort : ThingKind) → things_of sort u.holding ≡ empty
-  -- the books once the money is booked
+  -- the books after the first of the two amounts is booked
   half : BooksValue
   money : amount_in half Joining Money ≡ amount_in after.books Joining Money
   first : (e : Entry) (t : Thing) → (entry_index e ≢ 1) ⊎ (thing_index t ≢ 0) → amount_in half e t ≡ amount_in before.books e t
   second : (e : Entry) (t : Thing) → (entry_index e ≢ 1) ⊎ (thing_index t ≢ 1) → amount_in after.books e t ≡ amount_in half e t
 
--- what is found under the number that was inserted is what was inserted
+-- what a map has under the inserted number is what was inserted
 found_is : {V : Type 0} (m after : FinMap nat_cmp V) (n k : ℕ) (v w : V) → after ≡ insert m n v → k ≡ n → get after k ≡ Some w → v ≡ w
 found_is {V} m after n k v w is same got = same_Some v w (sym (get_inserted m n v) ∙ ap (λ (x : FinMap nat_cmp V). get x n) (sym is) ∙ ap (get after) (sym same) ∙ got)
 
+-- a join with its first report is such an arrival (`IsArrival`)
 arrives : (n : ℕ) (f : Faction) (m : ℕ) (u : Unit) (report : List ℕ) (before after : CampaignValue) → IsFound after n f m u report → IsJoining before n after → IsArrival n f m u report before after
 unfolding joined
 arrives n f m u report before after found joining =
@@ -95,22 +98,26 @@ arrives n f m u report before after found joining =
 
 -- ---- the statements of a joining
 
+-- a table with one campaign row has the new one alone after it is put
 put_campaign_row : (rows news : List Row) (text : List ℕ) (before after : CampaignRowValue) → Is rows (λ r. r ≡ campaign_row before text) → Is news (put 1 (campaign_row after text) (Has rows)) → Is news (λ r. r ≡ campaign_row after text)
 put_campaign_row rows news text before after was made r = (
   λ there. elim ((made r).0 there) [ inl same ↦ same | inr kept ↦ absurd (kept.1 (ap (take 1) ((was r).0 kept.0))) ],
   λ same. (made r).1 (inl same),
 )
 
+-- The campaign row, the faction's row and the unit's row are put.
 abbrev Enrolls : ℕ → Faction → ℕ → Unit → CampaignValue → List ℕ → Database → Database → Type 0
 Enrolls n f m u after world = Both (PutsCampaignRow (campaign_row_of after) world) (Both (Puts faction_table 1 (faction_line n f)) (Puts unit_table 1 (unit_line m u)))
 
+-- The report's row is put, and the two amounts of the books are written.
 abbrev Welcomes : ℕ → List ℕ → CampaignValue → Database → Database → Type 0
 Welcomes n report after = Both (Puts report_table 1 (report_row n report)) (Both (Settles after Joining Money) (Settles after Joining People))
 
--- what came of the rows of a table that the steps before and after left alone
+-- a table that other steps left alone changes by its own step
 rows_moved : (t : Table) (F : List Row → Set) (a b c d : Database) → b.trees t.tree ≡ a.trees t.tree → d.trees t.tree ≡ c.trees t.tree → Is (rows_in t c.trees) (F (rows_in t b.trees)) → Is (rows_in t d.trees) (F (rows_in t a.trees))
 rows_moved t F a b c d first last is = subst (λ rows. Is rows (F (rows_in t a.trees))) (sym (ap (map (visible t)) last)) (subst (λ rows. Is (rows_in t c.trees) (F rows)) (ap (map (visible t)) first) is)
 
+-- writing an amount to equal sets of rows gives equal sets
 settled_on : (c : CampaignValue) (e : Entry) (t : Thing) (rows news : List Row) (S : Set) → Is rows S → Is news (settled c e t (Has rows)) → Is news (settled c e t S)
 settled_on c e t rows news S was is r = (
   λ there. elim ((is r).0 there) [ inl new ↦ inl new | inr kept ↦ inr ((was r).0 kept.0, kept.1) ],
@@ -118,6 +125,7 @@ settled_on c e t rows news S was is r = (
 )
 
 module _ (n : ℕ) (f : Faction) (m : ℕ) (u : Unit) (report : List ℕ) (after : CampaignValue) (found : IsFound after n f m u report) where
+  -- both steps together are the writes of a join
   joins : (world : List ℕ) (a b d : Database) → Enrolls n f m u after world a b → Welcomes n report after b d → WritesJoin n after a d
   joins world a b d enrolls reports before text was =
       let x = enrolls.0 in
@@ -159,7 +167,7 @@ module _ (n : ℕ) (f : Faction) (m : ℕ) (u : Unit) (report : List ℕ) (after
             (λ e. free (inr (inr (inr (inl (same_part part Reports e)))))) (λ e. free (inr (inr (inr (inr (inl (same_part part Books e)))))));
       }
 
-  -- tables that held the campaign before the joining hold the one after it
+  -- tables that held the campaign before the join hold the one after it
   pub join_held : (a d : Database) → WritesJoin n after a d → (text : List ℕ) (before : CampaignValue) → IsJoining before n after → Holds a.trees text before → Holds d.trees text after
   unfolding joined
   join_held a d did text before joining holds = record { rows = rows }
@@ -185,6 +193,7 @@ module _ (n : ℕ) (f : Faction) (m : ℕ) (u : Unit) (report : List ℕ) (after
           (λ there. people.0 ((enters.books r).0 there), λ of. (enters.books r).1 (people.1 of))
       rows part = subst (λ (c : CampaignValue). Is (rows_in (table_of part) d.trees) (rows_for (campaign_line text c) c part)) (sym joining.7) (stays part refl)
 
+-- the three steps write faction, unit and campaign row
 pub enrolling_done : (n : ℕ) (f : Faction) (m : ℕ) (u : Unit) (after : CampaignValue) (world : List ℕ) (start one two three : State) → Inside HasTables (PutsCampaignRow (campaign_row_of after) world) start one → Inside HasTables (Puts faction_table 1 (faction_line n f)) one two
     → Inside HasTables (Puts unit_table 1 (unit_line m u)) two three → Inside HasTables (Both (PutsCampaignRow (campaign_row_of after) world) (Both (Puts faction_table 1 (faction_line n f)) (Puts unit_table 1 (unit_line m u)))) start three
 enrolling_done n f m u after world start one two three first second third =
@@ -192,6 +201,7 @@ enrolling_done n f m u after world start one two three first second third =
     let units = Puts unit_table 1 (unit_line m u) in
     inside_then HasTables (PutsCampaignRow (campaign_row_of after) world) (Both factions units) start one three first (inside_then HasTables factions units one two three second third)
 
+-- the three steps write the report and the books
 pub reporting_done : (n : ℕ) (report : List ℕ) (after : CampaignValue) (start one two three : State) → Inside HasTables (Puts report_table 1 (report_row n report)) start one → Inside HasTables (Settles after Joining Money) one two
     → Inside HasTables (Settles after Joining People) two three → Inside HasTables (Both (Puts report_table 1 (report_row n report)) (Both (Settles after Joining Money) (Settles after Joining People))) start three
 reporting_done n report after start one two three first second third =
@@ -199,6 +209,7 @@ reporting_done n report after start one two three first second third =
     let people = Settles after Joining People in
     inside_then HasTables (Puts report_table 1 (report_row n report)) (Both money people) start one three first (inside_then HasTables money people one two three second third)
 
+-- both together write the join
 pub joining_done : (n : ℕ) (f : Faction) (m : ℕ) (u : Unit) (report : List ℕ) (after : CampaignValue) (world : List ℕ) (start one two : State) → IsFound after n f m u report
     → Inside HasTables (Both (PutsCampaignRow (campaign_row_of after) world) (Both (Puts faction_table 1 (faction_line n f)) (Puts unit_table 1 (unit_line m u)))) start one
     → Inside HasTables (Both (Puts report_table 1 (report_row n report)) (Both (Settles after Joining Money) (Settles after Joining People))) one two → Inside HasTables (WritesJoin n after) start two
@@ -208,7 +219,7 @@ joining_done n f m u report after world start one two found first second =
 
 -- ---- a mail
 
--- tables that held a campaign hold it with this mail
+-- tables that held a campaign hold it with this mailing
 pub mail_held : (faction : ℕ) (mail : List ℕ) (a b : Database) → WritesMail faction mail a b → (text : List ℕ) (before : CampaignValue) → Holds a.trees text before → Holds b.trees text (with_mail before faction mail)
 mail_held faction mail a b did text before holds = record { rows = rows }
   where

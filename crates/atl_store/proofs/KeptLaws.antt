@@ -1,4 +1,4 @@
--- Parts whose rows stand under numbers of their own: which statements are theirs, and what becomes of their tables.
+-- Laws on parts with one row for each number: which statements are theirs, and how their tables are filled and rewritten.
 use Rattle.std.proofs.Common.{◌≡◌, ℕ, Bool, true, false, List, [], ◌∷◌, None, take, refl, sym, ap, ◌∙◌, subst}
 use Rattle.std.specs.Prelude.{◌↔◌}
 use Rattle.std.specs.Ordering.{nat_cmp}
@@ -23,6 +23,7 @@ use Rattle.atl_store.proofs.EntryLaws.{same_number}
 use Rattle.atl_store.proofs.FillLaws.{numbered_filled}
 use Rattle.atl_store.proofs.PartLaws.{one_changed}
 
+-- the key of such a part is its first column
 pub key_one : (part : Part) → IsNumberedPart part → key_of part ≡ 1
 key_one Own is = absurd is
 key_one Goods is = absurd is
@@ -44,10 +45,12 @@ rewritten_as one other P Q same are after before is r =
 -- ---- a part whose rows are these
 
 module _ {V : Type 0} (part : Part) (line : ℕ → V → Row) (values : CampaignValue → FinMap nat_cmp V) (are : (own : Row) (c : CampaignValue) (r : Row) → rows_for own c part r ↔ RowsOf line (values c) r) where
+  -- the upsert of a row of the part is one of its statements
   pub puts_line : key_of part ≡ 1 → (c : CampaignValue) (r : Row) → RowsOf line (values c) r → OfRow c (upsert (table_of part) 1) r
   puts_line key c r is = subst (λ k. OfRow c (upsert (table_of part) k) r) key (puts_row part (λ own. (are own c r).1 is))
 
   module _ (numbered : (n : ℕ) (v : V) → take 1 (line n v) ≡ int n ∷ []) where
+    -- the deletion of a number that the map lacks is one of the change's statements
     pub drops_none : key_of part ≡ 1 → (c : CampaignValue) (n : ℕ) → get (values c) n ≡ None → OfChange c (deletion (table_of part) 1) (int n ∷ [])
     drops_none key c n none = subst (λ k. OfChange c (deletion (table_of part) k) (int n ∷ [])) key (drops_row part (
       sym key,
@@ -57,9 +60,11 @@ module _ {V : Type 0} (part : Part) (line : ℕ → V → Row) (values : Campaig
           absurd (let there = sym of.2 ∙ ap (get (values c)) number ∙ none in cc),
     ))
 
+    -- putting the rows of all entries fills the part
     pub kept_filled : (c : CampaignValue) (es : List (ℕ × V)) → es ≡ entries (values c) → (old new : Database) → PutsRows (table_of part) 1 (lines_of line es) old new → FillsPart c part old new
     kept_filled c = numbered_filled c part line numbered (values c) (λ own rows is r. (λ there. (are own c r).1 ((is r).0 there), λ of. (is r).1 ((are own c r).0 of)))
 
+  -- rewriting the dirty rows rewrites the part
   pub kept_rewritten : (marks : Marks → FinSet nat_cmp) → ((m : Marks) (r : Row) → is_marked m part r ≡ begins_marked (marks m) r) → (c : MarkedCampaign) (old new : Database)
       → RewritesMarked (table_of part) line (values c.value) (marks c.marks) old new → RewritesPart c part old new
   kept_rewritten marks marked c old new did own = one_changed (Becomes c own) part _ old new did (rewritten_as (begins_marked (marks c.marks)) (is_marked c.marks part) (RowsOf line (values c.value)) (rows_for own c.value part)

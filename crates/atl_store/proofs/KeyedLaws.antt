@@ -1,4 +1,4 @@
--- Rows that have different numbers in a column, and the places that rows are shown with.
+-- Laws on rows with different numbers in one column: keys of rows, and rowids that rows are read with.
 use Rattle.std.proofs.Common.{◌≡◌, ◌≢◌, ◌++◌, ℕ, ℤ, pos, true, false, List, [], ◌∷◌, ◌⊎◌, take, map, Result, Ok, Err, IfErr, IsErrAnd, inl, inr, refl, sym, ap, ◌∙◌, subst, true≢false, arith}
 use Rattle.std.specs.Prelude.{if◌then◌else◌}
 use Rattle.std.specs.List.{AllByRecursion, IsDistinct}
@@ -35,29 +35,36 @@ use Rattle.atl_store.proofs.LoadLaws.{keyed_by, keyed_shown}
 -- ---- rows by a number that each of them has in a column
 
 module _ {A : Type 0} (shown : A → Row) (number : A → ℤ) (at : ℕ) (is : (a : A) → column (shown a) at ≡ Int (number a)) where
+  -- equality of the columns that show the numbers is equality of the numbers
   same_test : (a b : A) → is_eq (value_cmp (column (shown a) at) (column (shown b) at)) ≡ int_eq (number a) (number b)
   same_test a b = ap (λ v. is_eq (value_cmp v (column (shown b) at))) (is a) ∙ ap (λ v. is_eq (value_cmp (Int (number a)) v)) (is b) ∙ ap is_eq (value_cmp-Int (number a) (number b))
 
+  -- a number that differs from others is shown differently from each
   each_apart : (a : A) (xs : List A) → AllByRecursion (λ n. int_eq (number a) n ≡ false) (map number xs) → AllByRecursion (λ r. is_eq (value_cmp (column (shown a) at) (column r at)) ≡ false) (map shown xs)
   each_apart a [] all = tt
   each_apart a (x ∷ xs) all = (same_test a x ∙ all.0, each_apart a xs all.1)
 
+  -- different numbers are shown in different columns' values
   columns_apart : (xs : List A) → IsDistinct int_eq (map number xs) → IsDistinct (λ a b. is_eq (value_cmp (column a at) (column b at))) (map shown xs)
   unfolding IsDistinct
   columns_apart [] apart = tt
   columns_apart (x ∷ xs) apart = (each_apart x xs apart.0, columns_apart xs apart.1)
 
+  -- the numbers are shown as integers
   are_ints : (xs : List A) → AllByRecursion (λ r. is_int (column r at) ≡ true) (map shown xs)
   are_ints [] = tt
   are_ints (x ∷ xs) = (ap is_int (is x), are_ints xs)
 
+  -- different numbers are shown as different integers (`HaveKeys`)
   numbers_keys : (xs : List A) → IsDistinct int_eq (map number xs) → HaveKeys at (map shown xs)
   numbers_keys xs apart = record { apart = columns_apart xs apart; ints = are_ints xs }
 
+  -- a number shown differently from others differs from each
   each_number_apart : (a : A) (xs : List A) → AllByRecursion (λ r. is_eq (value_cmp (column (shown a) at) (column r at)) ≡ false) (map shown xs) → AllByRecursion (λ n. int_eq (number a) n ≡ false) (map number xs)
   each_number_apart a [] all = tt
   each_number_apart a (x ∷ xs) all = (sym (same_test a x) ∙ all.0, each_number_apart a xs all.1)
 
+  -- numbers that are shown differently differ
   numbers_apart : (xs : List A) → IsDistinct (λ a b. is_eq (value_cmp (column a at) (column b at))) (map shown xs) → IsDistinct int_eq (map number xs)
   unfolding IsDistinct
   numbers_apart [] apart = tt
@@ -68,6 +75,7 @@ module _ {A : Type 0} (shown : A → Row) (number : A → ℤ) (at : ℕ) (is : 
 differ : (m n : ℕ) → m ≢ n → int_eq (pos m) (pos n) ≡ false
 differ m n apart = elim (cases_Bool (int_eq (pos m) (pos n))) [ inl same ↦ absurd (apart (grind (ints, arith))) | inr differs ↦ differs ]
 
+-- the numbers of sorted entries differ
 entries_apart : {V : Type 0} (es : List (ℕ × V)) → is_sorted nat_cmp es ≡ true → IsDistinct int_eq (map (λ (e : ℕ × V). pos e.0) es)
 unfolding IsDistinct
 entries_apart [] sorted = tt
@@ -78,32 +86,37 @@ entries_apart {V} (e ∷ es) sorted = (
   entries_apart es (and_parts _ _ sorted).1,
 )
 
+-- the rows made of a map's entries have different numbers in the first column
 pub lines_keys : {V : Type 0} (line : ℕ → V → Row) → ((n : ℕ) (v : V) → column (line n v) 0 ≡ Int (pos n)) → (m : FinMap nat_cmp V) → HaveKeys 0 (lines_of line (entries m))
 lines_keys {V} line numbered m = numbers_keys (λ (e : ℕ × V). line e.0 e.1) (λ (e : ℕ × V). pos e.0) 0 (λ e. numbered e.0 e.1) (entries m) (entries_apart (entries m) (in_order m))
 
+-- one row with a number has no second one
 pub one_keys : (row : Row) (n : ℤ) → column row 0 ≡ Int n → HaveKeys 0 (row ∷ [])
 unfolding IsDistinct
 one_keys row n is = record { apart = (tt, tt); ints = (ap is_int is, tt) }
 
 -- ---- the rows of a part, as its listing shows them
 
+-- mapping by two functions is mapping by their composition
 pub mapped_twice : {X Y Z : Type 0} (f : X → Y) (g : Y → Z) (h : X → Z) → ((x : X) → g (f x) ≡ h x) → (xs : List X) → map g (map f xs) ≡ map h xs
 mapped_twice f g h same [] = refl
 mapped_twice f g h same (x ∷ xs) = ap (λ y. y ∷ map g (map f xs)) (same x) ∙ ap (λ ys. h x ∷ ys) (mapped_twice f g h same xs)
 
--- a row with its place
+-- a row as the listing of a part shows it with its rowid as the last column
 abbrev placed_row : Part → Row → Row
 placed_row part r = visible (table_of part) r ++ rowid r ∷ []
 
+-- a row without its rowid is the visible row
 cut_row : (part : Part) (r : Row) → take (width part) (placed_row part r) ≡ visible (table_of part) r
 cut_row Own r = refl
 cut_row part r = refl
 
+-- the last column of such a row is its rowid
 row_place : (part : Part) (r : Row) → column (placed_row part r) (width part) ≡ rowid r
 row_place Own r = refl
 row_place part r = refl
 
--- A part's listing shows all rows with their places, or all rows, whose numbers are in the first column.
+-- A part's listing shows all rows with their rowids, or, if the key is the first column, without.
 shown_by : (part : Part) → ((shows_rowids part ≡ true) × ((db : Trees) → (listing_of part).in_table db ≡ map (placed_row part) (db (table_of part).tree)))
     ⊎ ((shows_rowids part ≡ false) × ((db : Trees) → (listing_of part).in_table db ≡ rows_in (table_of part) db) × ((r : Row) → column (visible (table_of part) r) 0 ≡ rowid r))
 shown_by Goods = inl (refl, λ db. refl)
@@ -111,39 +124,47 @@ shown_by Books = inl (refl, λ db. refl)
 shown_by Markets = inl (refl, λ db. refl)
 shown_by part = inr (refl, λ db. refl, λ r. refl)
 
+-- the listing of such a part shows each row with its rowid
 in_places : (part : Part) → shows_rowids part ≡ true → (db : Trees) → (listing_of part).in_table db ≡ map (placed_row part) (db (table_of part).tree)
 in_places part is = elim (shown_by part) [ inl places ↦ places.1 | inr whole ↦ absurd (true≢false (sym is ∙ whole.0)) ]
 
+-- if the key is the row's number, the first column is the rowid
 row_number : (part : Part) → shows_rowids part ≡ false → (r : Row) → column (visible (table_of part) r) 0 ≡ rowid r
 row_number part is = elim (shown_by part) [ inl places ↦ absurd (true≢false (sym places.0 ∙ is)) | inr whole ↦ whole.2 ]
 
+-- without their rowids, rows of such a part have their first columns alone
 pub cut_places : (part : Part) (rows : List Row) → shows_rowids part ≡ true → without_ids part rows ≡ map (take (width part)) rows
 cut_places part rows is = ap (λ b. if b then map (take (width part)) rows else rows) is
 
+-- rows of a part that is read without rowids stay as they are
 pub cut_nothing : (part : Part) (rows : List Row) → shows_rowids part ≡ false → without_ids part rows ≡ rows
 cut_nothing part rows is = ap (λ b. if b then map (take (width part)) rows else rows) is
 
 module _ (part : Part) (db : Trees) (rows : List Row) where
+  -- all rows with rowids, cut, are all rows of the table
   without_places : IsPermutation (map (placed_row part) (db (table_of part).tree)) rows → IsPermutation (rows_in (table_of part) db) (map (take (width part)) rows)
   without_places same =
       subst (λ l. IsPermutation l (map (take (width part)) rows)) (mapped_twice (placed_row part) (take (width part)) (visible (table_of part)) (cut_row part) (db (table_of part).tree))
       (IsPermutation-map (take (width part)) (map (placed_row part) (db (table_of part).tree)) rows same)
 
   module _ (is : shows_rowids part ≡ true) (same : IsPermutation ((listing_of part).in_table db) rows) where
+    -- the rows shown are a permutation of all rows with their rowids
     same_placed : IsPermutation (map (placed_row part) (db (table_of part).tree)) rows
     same_placed = subst (λ l. IsPermutation l rows) (in_places part is db) same
 
-    -- where the places differ, the tree is keyed, and the other way round
+    -- if the rowids that are shown differ, the tree's rowids do
     pub places_keyed : HaveKeys (width part) rows → IsKeyed (db (table_of part).tree)
     places_keyed keys = keyed_by (placed_row part) (width part) (db (table_of part).tree) rows (row_place part) same_placed keys
 
+    -- if the tree's rowids differ, those that are shown do
     pub keyed_places : IsKeyed (db (table_of part).tree) → HaveKeys (width part) rows
     keyed_places keyed = keyed_shown (placed_row part) (width part) (db (table_of part).tree) rows (row_place part) same_placed keyed
 
-  -- and so where the numbers differ
+  -- if the numbers in the first column differ, the tree's rowids do
   pub numbers_keyed : shows_rowids part ≡ false → IsPermutation (rows_in (table_of part) db) rows → HaveKeys 0 rows → IsKeyed (db (table_of part).tree)
   numbers_keyed is same keys = keyed_by (visible (table_of part)) 0 (db (table_of part).tree) rows (row_number part is) same keys
 
+  -- all rows that the listing shows, without their rowids, are all rows of the table
   pub unplaced_all : IsPermutation ((listing_of part).in_table db) rows → IsPermutation (rows_in (table_of part) db) (without_ids part rows)
   unplaced_all same = elim (shown_by part) [
     | inl places ↦ subst (IsPermutation (rows_in (table_of part) db)) (sym (cut_places part rows places.0)) (without_places (same_placed places.0 same))
@@ -152,44 +173,52 @@ module _ (part : Part) (db : Trees) (rows : List Row) where
 
 -- ---- rows that were read with their places
 
--- A row that was read is shown as its values and behind them its place.
+-- A row that was read with its rowid is shown as its values and after them the rowid.
 pub record IsPlacedAs {A : Type 0} (part : Part) (stored : RowWithId A → Row) (values : A → Row) : Type 0 where
   pub values_are : (s : RowWithId A) → take (width part) (stored s) ≡ values s.row
   pub place_is : (s : RowWithId A) → column (stored s) (width part) ≡ Int s.rowid
 
 module _ {A : Type 0} {part : Part} {stored : RowWithId A → Row} {values : A → Row} (is : IsPlacedAs part stored values) (placed : List (RowWithId A)) where
+  -- the values of rows read with rowids are the first columns of what was shown
   pub placed_values : map values (map (λ s. s.row) placed) ≡ map (take (width part)) (map stored placed)
   placed_values =
       mapped_twice (λ (s : RowWithId A). s.row) values (λ (s : RowWithId A). values s.row) (λ s. refl) placed ∙ sym (mapped_twice stored (take (width part)) (λ (s : RowWithId A). values s.row) is.values_are placed)
 
+  -- rows read with different rowids are shown with different ones
   pub placed_keys : AreApart placed → HaveKeys (width part) (map stored placed)
   placed_keys apart = numbers_keys stored (λ s. s.rowid) (width part) is.place_is placed apart
 
+  -- rows shown with different rowids are read with different ones
   pub placed_apart : HaveKeys (width part) (map stored placed) → AreApart placed
   placed_apart keys = numbers_apart stored (λ s. s.rowid) (width part) is.place_is placed keys.apart
 
+-- the rows of `has` are read with their rowids
 pub has_placed : IsPlacedAs Goods has_stored has_values
 has_placed = record { values_are = λ s. refl; place_is = λ s. refl }
 
+-- the rows of `books` are read with their rowids
 pub books_placed : IsPlacedAs Books books_stored books_values
 books_placed = record { values_are = λ s. refl; place_is = λ s. refl }
 
+-- the rows of `market` are read with their rowids
 pub market_placed : IsPlacedAs Markets market_stored market_values
 market_placed = record { values_are = λ s. refl; place_is = λ s. refl }
 
 -- ---- the rows that are to be judged
 
--- those of a part are what was read of it without the places, which differ
+-- The rows of a part that are to be checked are those that were read, without their rowids, which differ.
 pub record IsMadeAs (p : Parts) (read : Part × List Row) : Type 0 where
   pub rows : (text : List ℕ) → rows_read text p read.0 ≡ without_ids read.0 read.1
   pub apart : shows_rowids read.0 ≡ true → HaveKeys (width read.0) read.1
 
+-- a part that is read without rowids is made as it was read
 pub made_whole : {p : Parts} {rows : List Row} (part : Part) → shows_rowids part ≡ false → ((text : List ℕ) → rows_read text p part ≡ rows) → IsMadeAs p (part, rows)
 made_whole {p} {rows} part free are = record {
   rows = λ text. are text ∙ sym (cut_nothing part rows free);
   apart = λ placed. absurd (true≢false (sym placed ∙ free));
 }
 
+-- a part that is read with rowids is made of its rows, if these differ in them
 pub made_placed : {p : Parts} {A : Type 0} {part : Part} {stored : RowWithId A → Row} {values : A → Row} → IsPlacedAs part stored values → shows_rowids part ≡ true → (placed : List (RowWithId A))
     → ((text : List ℕ) → rows_read text p part ≡ map values (map (λ s. s.row) placed)) → AreApart placed → IsMadeAs p (part, map stored placed)
 made_placed {p} {A} {part} {stored} {values} is has placed are apart = record {
@@ -197,6 +226,7 @@ made_placed {p} {A} {part} {stored} {values} is has placed are apart = record {
   apart = λ _. placed_keys is placed apart;
 }
 
+-- the rows of all parts are made of what was read
 pub made_of : {head : StoredCampaignRow} {reads : ReadRows} {p : Parts} → map (λ read. read.0) reads ≡ other_parts Second → p.campaign ≡ head ∷ [] → AllByRecursion (IsMadeAs p) reads → IsMadeOf head reads p
 made_of {head} {reads} {p} parts campaign all = record {
   parts = parts;
@@ -205,7 +235,7 @@ made_of {head} {reads} {p} parts campaign all = record {
   apart = record { each = λ read there. (all_has (IsMadeAs p) reads read all there).apart };
 }
 
--- where two rows of a part are kept at one place, not all are apart
+-- if two rows of a part have one rowid, the rowids don't all differ
 pub lacks_all : {A B : Type 0} {part : Part} {stored : RowWithId A → Row} {values : A → Row} → IsPlacedAs part stored values → shows_rowids part ≡ true → (placed : List (RowWithId A)) (reads : ReadRows) → Has reads (part, map stored placed)
     → (fault : LoadFault) → Lacks (AreApart placed) fault → (r : Result B LoadFault) → IsErrAnd r (λ told. told ≡ fault) → IfErr r (Lacks (AreAllApart reads))
 lacks_all is has placed reads there fault lacks (Ok b) told = tt

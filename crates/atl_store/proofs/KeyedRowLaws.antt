@@ -1,4 +1,4 @@
--- What the statements do on a table under a key of several whole numbers, whose rowid is hidden.
+-- Laws on upsert and DELETE in a table whose key is several whole numbers and whose rowid is hidden.
 use Rattle.std.proofs.Common.{IsTrue, ◌≡◌, ◌&&◌, ◌||◌, ◌++◌, ◌/◌, ℕ, ℤ, Bool, true, false, not, List, [], ◌∷◌, map, take, length, slice_get, Some, None, Ok, refl, sym, ap, ◌∙◌, subst, inl, inr, true≢false}
 use Rattle.std.specs.List.{AllByRecursion, list_any, list_all}
 use Rattle.std.specs.Ordering.{is_eq}
@@ -43,23 +43,27 @@ use Rattle.atl_store.proofs.UpsertLaws.{Upserted, update_query, clause_on, equal
 
 -- ---- two rows at some places
 
+-- the values of a row in these columns, given by index
 abbrev pub at_places : List ℕ → Row → Row
 at_places places x = map (column x) places
 
+-- The row has integers in these columns.
 abbrev pub AreInts : List ℕ → Row → Type 0
 AreInts places x = AllByRecursion (λ p. is_int (column x p) ≡ true) places
 
--- SQL's = at each of them
+-- whether two rows are equal by SQL's = in each of these columns
 abbrev pub agree_at : List ℕ → Row → Row → Bool
 agree_at [] x y = true
 agree_at (p ∷ places) x y = equal Binary (column x p) (column y p) && agree_at places x y
 
+-- integers that are equal by SQL's = are equal columns
 same_at : (places : List ℕ) (x y : Row) → AreInts places x → AreInts places y → agree_at places x y ≡ true → at_places places x ≡ at_places places y
 same_at [] x y one two agree = refl
 same_at (p ∷ places) x y one two agree =
     let (here, later) = and_parts _ _ agree in
     rw (equal_is (column x p) (column y p) one.0 two.0 here, same_at places x y one.1 two.1 later) refl
 
+-- equal integer columns are equal by SQL's =
 agree_same : (places : List ℕ) (x y : Row) → AreInts places y → at_places places x ≡ at_places places y → agree_at places x y ≡ true
 agree_same [] x y ints same = refl
 agree_same (p ∷ places) x y ints same =
@@ -68,7 +72,7 @@ agree_same (p ∷ places) x y ints same =
 
 -- ---- the table and its statements
 
--- These places of its rows, a table's at this place, are the key: whole numbers, shown first, and the only unique ones.
+-- The columns `places` of table `t` are its key: whole numbers, shown first, and the only unique columns. `at` is the table's index among all.
 pub record HasKey (t : Table) (at : ℕ) (places : List ℕ) : Type 0 where
   pub ours : Has all_tables t
   pub place : (more : List Table) → slice_get (all_tables ++ more) at ≡ Some t
@@ -81,16 +85,17 @@ pub record HasKey (t : Table) (at : ℕ) (places : List ℕ) : Type 0 where
   pub hits : (indexes : List Index) (new x : Row)
       → conflicts (Some places) (all_indexes ++ indexes) t new x ≡ (agree_at places x new || list_any (shares (Some places) t new x) indexes)
 
--- a DELETE from the tree at this place of what this filter finds,
+-- The text is a DELETE, from the tree of the table of this index, of what the filter finds.
 abbrev pub IsTakeOut : ℕ → ℕ → List ℕ → List Term → Type 0
 IsTakeOut tree at sql filter = (more : List Table) (indexes : List Index) → command_of (understood (all_and more indexes) sql) ≡ Delete at (record { lets = []; body = delete_query tree filter })
 
--- or an INSERT of these terms, so many, with an update of what has the key, which comes behind so many parameters
+-- The text is an INSERT of one row of these terms, with an UPDATE of the row that has the key.
+-- The index `hole` is that of the rowid of that row, which comes after the parameters.
 abbrev pub IsPutUnder : ℕ → ℕ → List ℕ → List ℕ → ℕ → List Term → ℕ → List Term → Type 0
 IsPutUnder tree at places sql width terms hole project = (more : List Table) (indexes : List Index)
     → command_of (understood (all_and more indexes) sql) ≡ InsertOr at Abort (Values terms width) (clause_on places (record { lets = []; body = update_query tree hole project }) ∷ [])
 
--- these values are what the terms make of them, whether they are put or changed, and under whatever rowid
+-- The terms make these values, whether the row is put or changed, and under whatever rowid.
 pub record MakesValues (t : Table) (places : List ℕ) (width : ℕ) (terms : List Term) (hole : ℕ) (project : List Term) (values : Row) : Type 0 where
   pub source : value_rows (values ++ []) width (length terms / width) terms ≡ (Null ∷ values) ∷ []
   pub casted : cast_row t (Null ∷ values) ≡ Null ∷ values
@@ -103,6 +108,7 @@ pub record MakesValues (t : Table) (places : List ℕ) (width : ℕ) (terms : Li
 
 -- one of the tables, at this place among them
 module _ (tree : ℕ) (name : List ℕ) (columns : List Column) (places : List ℕ) (at : ℕ) where
+  -- the table of index `at`
   abbrev t : Table
   t = table tree name columns None places (places ∷ []) []
 
@@ -165,6 +171,7 @@ module _ (tree : ℕ) (name : List ℕ) (columns : List Column) (places : List �
           done_with t old.now new.now has key.ours _ _ (λ did. did) makes,
     )
 
+    -- the upsert puts its row in place of the one with its key
     pub puts_keyed : (sql : List ℕ) (width hole : ℕ) (terms project : List Term) → IsPutUnder tree at places sql width terms hole project
         → AlwaysPlain sql → (values : Row) → MakesValues t places width terms hole project values → DoneBy sql values (Puts t (length places) values)
     puts_keyed sql width hole terms project means asks values writes = done_by sql values (Puts t (length places) values) (puts sql width hole terms project means asks values writes)
@@ -200,6 +207,7 @@ module _ (tree : ℕ) (name : List ℕ) (columns : List Column) (places : List �
           done_with t old.now new.now has key.ours _ _ (λ did. did) makes,
     )
 
+    -- the DELETE removes the rows whose first key columns are these
     pub drops_keyed : (sql : List ℕ) (filter : List Term) → IsTakeOut tree at sql filter → AlwaysPlain sql → (front : List ℕ)
         → ((x : Row) → AreInts places x → AreInts front x) → ((x : Row) → take (length front) (visible t x) ≡ at_places front x)
         → (k : Row) → AreInts front (Null ∷ k) → at_places front (Null ∷ k) ≡ k

@@ -1,4 +1,4 @@
--- What the statements on the tables whose key is of several numbers mean, and what they do.
+-- Laws on the statements of `has`, `books` and `market`, whose key is several numbers: what they mean and do.
 use Rattle.std.proofs.Common.{◌≡◌, ◌+◌, ◌-◌, ◌++◌, ℕ, ℤ, pos, true, List, [], ◌∷◌, codes, length, map, refl, sym, true≢false}
 use Rattle.std.specs.List.{range_with_len}
 use Rattle.std.proofs.lemmas.Bool.{and_parts, not-true}
@@ -25,18 +25,19 @@ use Rattle.atl_store.proofs.PartLaws.{listed}
 use Rattle.atl_store.proofs.StatementLaws.{AlwaysPlain, PutsRow, DropsKey}
 use Rattle.atl_store.proofs.Terms.{cast_null, cast_int}
 
--- the parts whose rows stand under a key of several numbers
+-- The parts whose key is several numbers.
 data Keyed : Type 0 where
   InHas : Keyed
   InBooks : Keyed
   InMarket : Keyed
 
+-- the part of each
 abbrev part_of : Keyed → Part
 part_of InHas = Goods
 part_of InBooks = Books
 part_of InMarket = Markets
 
--- how many columns there are
+-- the number of columns of a part's table
 abbrev width_of : Part → ℕ
 width_of part = length (table_of part).columns
 
@@ -63,6 +64,7 @@ ints_of InHas = goods_ints
 ints_of InBooks = pair_ints 10 (codes "books") (codes "entry") (codes "thing") (codes "amount")
 ints_of InMarket = pair_ints 12 (codes "market") (codes "region") (codes "item") (codes "stock")
 
+-- the primary key of each of these tables is its key (`HasKey`)
 key_is : (k : Keyed) → HasKey (table_of (part_of k)) (place_in (part_of k)) (table_of (part_of k)).primary
 unfolding first_key
 key_is InHas = record { ours = listed Goods; place = λ more. refl; plain = λ db. refl; ints = ints_of InHas; first = λ x. refl; unique = λ indexes rows r passed. not-true _ (and_parts _ _ passed).0; hits = λ indexes new x. refl }
@@ -70,18 +72,19 @@ key_is k = record { ours = listed (part_of k); place = λ more. refl; plain = λ
 
 -- ---- what the statements mean
 
--- a row as it is put, so many values behind a rowid that is chosen, of which a row that is there takes over what is not its key
+-- the terms of the INSERT: a rowid that SQL chooses, and then the values
 abbrev given : ℕ → List Term
 given width = lit Null ∷ map (col 0) (range_with_len 0 width)
 
+-- the terms of the UPDATE: the row that is there keeps its key and takes over the other values
 abbrev taken_over : ℕ → ℕ → List Term
 taken_over key width = map (col 1) (range_with_len 0 (key + 1)) ++ map (col 0) (range_with_len key (width - key))
 
--- so many columns of the key are the parameters
+-- the filter: the first columns of the key equal the parameters
 abbrev of_key : ℕ → List Term
 of_key count = map (λ at. op2 (Compare Eq Binary) (col 1 (at + 1)) (col 0 at)) (range_with_len 0 count)
 
--- an INSERT with an update of what has the key, and the DELETEs of what has the key, and of what has its first number
+-- The three statements of a part: the upsert, the DELETE by the whole key, and the DELETE by its first number.
 record Statements (part : Part) : Type 0 where
   puts : IsPutUnder (table_of part).tree (place_in part) (table_of part).primary (upsert (table_of part) (key_of part)) (width_of part + 1) (given (width_of part)) (width_of part) (taken_over (key_of part) (width_of part))
   puts_plain : AlwaysPlain (upsert (table_of part) (key_of part))
@@ -90,6 +93,7 @@ record Statements (part : Part) : Type 0 where
   clears : IsTakeOut (table_of part).tree (place_in part) (deletion (table_of part) 1) (of_key 1)
   clears_plain : AlwaysPlain (deletion (table_of part) 1)
 
+-- the statements of each of these tables mean what they should
 means : (k : Keyed) → Statements (part_of k)
 unfolding understood everything
 means InHas = record { puts = λ more indexes. refl; puts_plain = λ more indexes. (refl, refl); drops = λ more indexes. refl; drops_plain = λ more indexes. (refl, refl); clears = λ more indexes. refl; clears_plain = λ more indexes. (refl, refl) }
@@ -112,16 +116,19 @@ makes_has unit sort thing amount = record {
       rw (one.0, two.0, three.0, cast_int (pos unit), cast_int (pos sort), cast_int (pos thing), cast_int (pos amount)) refl;
 }
 
+-- the upsert of `has` puts its row
 pub puts_has : (unit sort thing amount : ℕ) → PutsRow has_table 3 (has_row unit sort thing amount)
 puts_has unit sort thing amount =
     let is = means InHas in
     puts_keyed has_table.tree _ _ has_unique 4 (key_is InHas) (upsert has_table 3) 5 4 (given 4) (taken_over 3 4) is.puts is.puts_plain (has_row unit sort thing amount) (makes_has unit sort thing amount)
 
+-- the upsert of `books` puts its row
 pub puts_books : (entry thing : ℕ) (amount : ℤ) → PutsRow books_table 2 (books_row entry thing amount)
 puts_books entry thing amount =
     let is = means InBooks in
     puts_keyed books_table.tree _ _ books_unique 8 (key_is InBooks) (upsert books_table 2) 4 3 (given 3) (taken_over 2 3) is.puts is.puts_plain (books_row entry thing amount) (makes_pair 10 (codes "books") (codes "entry") (codes "thing") (codes "amount") entry thing amount)
 
+-- the upsert of `market` puts its row
 pub puts_market : (region item stock : ℕ) → PutsRow market_table 2 (market_row region item stock)
 puts_market region item stock =
     let is = means InMarket in
@@ -129,22 +136,25 @@ puts_market region item stock =
 
 -- ---- rows are taken out
 
+-- the DELETE of `has` by the key removes its row
 pub drops_has : (unit sort thing : ℕ) → DropsKey has_table 3 (has_key unit sort thing)
 drops_has unit sort thing =
     let is = means InHas in
     drops_keyed has_table.tree _ _ has_unique 4 (key_is InHas) (deletion has_table 3) (of_key 3) is.drops is.drops_plain has_unique (λ x ints. ints) (λ x. refl) (has_key unit sort thing) (refl, (refl, (refl, tt))) refl (λ x. refl)
 
+-- the DELETE of `books` by the key removes its row
 pub drops_books : (entry thing : ℕ) → DropsKey books_table 2 (books_key entry thing)
 drops_books entry thing =
     let is = means InBooks in
     drops_keyed books_table.tree _ _ books_unique 8 (key_is InBooks) (deletion books_table 2) (of_key 2) is.drops is.drops_plain books_unique (λ x ints. ints) (λ x. refl) (books_key entry thing) (refl, (refl, tt)) refl (λ x. refl)
 
--- all of a unit, or of a region
+-- the DELETE of `has` by the unit removes all its rows
 pub drops_goods : (unit : ℕ) → DropsKey has_table 1 (int unit ∷ [])
 drops_goods unit =
     let is = means InHas in
     drops_keyed has_table.tree _ _ has_unique 4 (key_is InHas) (deletion has_table 1) (of_key 1) is.clears is.clears_plain (1 ∷ []) (λ x ints. (ints.0, tt)) (λ x. refl) (int unit ∷ []) (refl, tt) refl (λ x. refl)
 
+-- the DELETE of `market` by the region removes all its rows
 pub drops_stocks : (region : ℕ) → DropsKey market_table 1 (int region ∷ [])
 drops_stocks region =
     let is = means InMarket in

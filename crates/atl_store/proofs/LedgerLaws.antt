@@ -1,4 +1,4 @@
--- The rows of the books.
+-- Laws on the table `books`: one row for each entry and thing, if its amount is not 0.
 use Rattle.std.proofs.Common.{◌≡◌, ◌≢◌, ◌+◌, ◌<◌, ◌≤◌, ◌&&◌, ℕ, zero, suc, ℤ, pos, Bool, true, false, if◌then◌else◌, nat_lt, List, [], ◌∷◌, take, Some, refl, sym, ap, ◌∙◌, subst, inl, inr, arith}
 use Rattle.std.specs.List.{list_all, range_with_len, slice_get}
 use Rattle.std.specs.Ordering.{int_eq}
@@ -25,24 +25,28 @@ use Rattle.atl_store.proofs.GoodsLaws.{optional_has, has_optional, optional_apar
 
 -- ---- entries by their places
 
+-- the element of an index is in the list
 has_at : {X : Type 0} (xs : List X) (k : ℕ) (x : X) → slice_get xs k ≡ Some x → Has xs x
 has_at [] k x is = absurd (none-some x is)
 has_at (y ∷ ys) zero x is = inl (sym (same_Some y x is))
 has_at (y ∷ ys) (suc k) x is = inr (has_at ys k x is)
 
+-- each entry is in the list of all entries
 pub every_entry : (e : Entry) → Has all_entries e
 every_entry e = has_at all_entries (entry_index e) e (entry_there e)
 
--- the places of the entries rise
+-- whether the indexes of these entries rise
 abbrev are_sorted : List Entry → Bool
 are_sorted [] = true
 are_sorted (e ∷ es) = list_all (λ f. nat_lt (entry_index e) (entry_index f)) es && are_sorted es
 
 -- ---- the amounts of one thing
 
+-- a number that fails the test for 0 is not 0
 pub differs_zero : (z : ℤ) → int_eq z (pos 0) ≡ false → z ≢ pos 0
 differs_zero z differs same = grind (ints, arith)
 
+-- a number that is not 0 fails the test for 0
 pub is_differing : (z : ℤ) → z ≢ pos 0 → int_eq z (pos 0) ≡ false
 is_differing z apart = elim (cases_Bool (int_eq z (pos 0))) [ inl same ↦ absurd (apart (grind (ints, arith))) | inr differs ↦ differs ]
 
@@ -54,16 +58,19 @@ amount_is c entry thing e t z entry_is thing_is amount some =
     ap (λ (zero : Bool). if zero then [] else books_row place (thing_index thing) value ∷ []) (is_differing value (λ zero. some (amount ∙ zero)))
     ∙ ap (λ n. books_row n (thing_index thing) value ∷ []) (sym entry_is) ∙ ap (λ n. books_row e n value ∷ []) (sym thing_is) ∙ ap (λ n. books_row e t n ∷ []) (sym amount)
 
+-- equal keys of two numbers have equal numbers
 pub two_same : (a b c d : ℕ) → ◌≡◌ {A = Row} (books_key a b) (books_key c d) → (a ≡ c) × (b ≡ d)
 two_same a b c d same = (cc, cc)
 
 -- ---- places that are there
 
+-- an index in a range is within its bounds
 pub range_has : (from count i : ℕ) → Has (range_with_len from count) i → (from ≤ i) × (i < from + count)
 range_has from zero i there = absurd there
 range_has from (suc count) i (inl same) = (omega (arith, same), omega (arith, same))
 range_has from (suc count) i (inr later) = let h = range_has (from + 1) count i later in (omega (arith, h.0), omega (arith, h.1))
 
+-- an index within the bounds is in the range
 pub has_range : (from count i : ℕ) → from ≤ i → i < from + count → Has (range_with_len from count) i
 has_range from zero i least most = absurd (omega (arith, least, most))
 has_range from (suc count) i least most = elim (cases_lt from i) [
@@ -71,7 +78,7 @@ has_range from (suc count) i least most = elim (cases_lt from i) [
   | inr here ↦ inl (omega (arith, least, here))
 ]
 
--- an amount that is not 0 is of a thing that is there
+-- an amount that is not 0 is of a thing that the books have
 within : (books : BooksValue) → AreBooks books.things books → (e : Entry) (t : Thing) → amount_in books e t ≢ pos 0 → thing_index t < books.things
 within books are e t some = elim (cases_lt (thing_index t) books.things) [
   | inl inside ↦ inside
@@ -81,18 +88,22 @@ within books are e t some = elim (cases_lt (thing_index t) books.things) [
 -- ---- the rows of all amounts
 
 module _ (c : CampaignValue) where
+  -- the row of an entry and a thing
   abbrev row_at : Entry → Thing → Row
   row_at e t = books_row (entry_index e + 1) (thing_index t) (amount_in c.books e t)
 
+  -- each row of a thing is of one of its entries with an amount that is not 0
   entries_has : (t : Thing) (es : List Entry) (r : Row) → Has (entries_lines c t es) r → (e : Entry) × Has es e × (amount_in c.books e t ≢ pos 0) × (r ≡ row_at e t)
   entries_has t es r there =
       let found = flat_has (λ e. amount_lines c e t) es r there in
       let row = optional_has (int_eq (amount_in c.books found.0 t) (pos 0)) (row_at found.0 t) r found.2 in
       (found.0, found.1, differs_zero (amount_in c.books found.0 t) row.0, row.1)
 
+  -- each amount of a thing that is not 0 has its row
   has_entries : (t : Thing) (es : List Entry) (e : Entry) → Has es e → amount_in c.books e t ≢ pos 0 → Has (entries_lines c t es) (row_at e t)
   has_entries t es e there some = has_flat (λ e. amount_lines c e t) es e (row_at e t) there (has_optional (int_eq (amount_in c.books e t) (pos 0)) (row_at e t) (is_differing (amount_in c.books e t) some))
 
+  -- the rows of a thing have different keys
   entries_apart : (t : Thing) (es : List Entry) → are_sorted es ≡ true → DifferInKey 2 (entries_lines c t es)
   entries_apart t [] rising = tt
   entries_apart t (e ∷ es) rising =
@@ -106,6 +117,7 @@ module _ (c : CampaignValue) where
 
   -- ---- all things
 
+  -- the rows of all things have different keys
   things_apart : (from count : ℕ) → DifferInKey 2 (things_lines c (range_with_len from count))
   things_apart from zero = tt
   things_apart from (suc count) =
@@ -118,12 +130,14 @@ module _ (c : CampaignValue) where
       let places : from ≡ found.0 = sym (place_at from) ∙ keys.1 ∙ place_at found.0 in
       absurd (omega (arith, places, (range_has (from + 1) count found.0 found.1).0)))
 
+  -- each row of some things is one of the rows of the books
   pub things_rows : (places : List ℕ) (r : Row) → Has (things_lines c places) r → BooksRowsOf c.books r
   things_rows places r there =
       let found = flat_has (λ place. entries_lines c (thing_at place) all_entries) places r there in
       let row = entries_has (thing_at found.0) all_entries r found.2 in
       (row.0, thing_at found.0, row.2, row.3)
 
+  -- an empty table filled with the rows of all things has exactly the books' rows
   pub books_filled : AreBooks c.books.things c.books → (rows old : List Row) → old ≡ [] → Is rows (puts 2 (things_lines c (range_with_len 0 c.books.things)) (Has old)) → Is rows (BooksRowsOf c.books)
   books_filled are rows old none made r =
       let places = range_with_len 0 c.books.things in

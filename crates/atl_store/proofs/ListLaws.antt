@@ -1,4 +1,4 @@
--- Rows of a table by their rowids.
+-- Laws on a tree's rows by their rowids: finding, removing and putting rows keeps the rowids different.
 use Rattle.std.proofs.Common.{◌≡◌, ℤ, Bool, true, false, not, List, [], ◌∷◌, map, Ordering, Less, Equal, Greater, refl, sym, ap, ◌∙◌, subst, inl, inr, true≢false}
 use Rattle.std.specs.List.{AllByRecursion}
 use Rattle.std.specs.Ordering.{is_eq, ordering_reverse}
@@ -25,11 +25,13 @@ use Rattle.atl_store.specs.Sets.{IsKeyed}
 
 -- ---- membership in a map
 
+-- the image of an element is in the mapped list
 pub has_map : {X Y : Type 0} (f : X → Y) (xs : List X) (x : X) → Has xs x → Has (map f xs) (f x)
 has_map f [] x h = absurd h
 has_map f (y ∷ xs) x (inl same) = inl (ap f same)
 has_map f (y ∷ xs) x (inr later) = inr (has_map f xs x later)
 
+-- an element of the mapped list is the image of one
 pub map_has : {X Y : Type 0} (f : X → Y) (xs : List X) (y : Y) → Has (map f xs) y → (x : X) × Has xs x × (y ≡ f x)
 map_has f [] y h = absurd h
 map_has f (x ∷ xs) y (inl same) = (x, inl refl, same)
@@ -37,6 +39,7 @@ map_has f (x ∷ xs) y (inr later) = let r = map_has f xs y later in (r.0, inr r
 
 -- ---- rowids
 
+-- equality by the order of values is symmetric
 pub eq_sym : (a b : Value) → is_eq (value_cmp a b) ≡ true → is_eq (value_cmp b a) ≡ true
 eq_sym a b h = sym (ap is_eq (value_cmp_total.antisymm a b) ∙ reversed (value_cmp b a)) ∙ h
   where
@@ -45,7 +48,7 @@ eq_sym a b h = sym (ap is_eq (value_cmp_total.antisymm a b) ∙ reversed (value_
     reversed Equal = refl
     reversed Greater = refl
 
--- no two rows of a table have one rowid
+-- two rows of a table with one rowid are one row
 pub one_rowid : (rows : List Row) → IsAscending (λ a b. is_eq (value_cmp (rowid a) (rowid b)) ≡ false) rows → (a b : Row) → Has rows a → Has rows b → is_eq (value_cmp (rowid a) (rowid b)) ≡ true → a ≡ b
 one_rowid [] up a b h k same = absurd h
 one_rowid (r ∷ rows) up a b (inl e) (inl f) same = e ∙ sym f
@@ -53,11 +56,13 @@ one_rowid (r ∷ rows) up a b (inl e) (inr k) same = absurd (true≢false (sym s
 one_rowid (r ∷ rows) up a b (inr h) (inl f) same = absurd (true≢false (sym (eq_sym _ _ same) ∙ rw f (all_has _ rows a up.0 h)))
 one_rowid (r ∷ rows) up a b (inr h) (inr k) same = one_rowid rows up.1 a b h k same
 
+-- removing rowids keeps a row with another rowid
 pub without_keeps : (ids : List ℤ) (rows : List Row) (r : Row) → Has rows r → ((id : ℤ) → Has ids id → has_rowid id r ≡ false) → Has (without_all rows ids) r
 without_keeps [] rows r h apart = h
 without_keeps (id ∷ ids) rows r h apart =
     without_keeps ids (without_rowid id rows) r (has_kept _ rows r h (ap not (apart id (inl refl)))) (λ i there. apart i (inr there))
 
+-- what is left after removing rowids has none of them
 pub without_drops : (ids : List ℤ) (rows : List Row) (r : Row) → Has (without_all rows ids) r → (id : ℤ) → Has ids id → has_rowid id r ≡ false
 without_drops [] rows r h id there = absurd there
 without_drops (i ∷ ids) rows r h id (inl same) =
@@ -67,14 +72,17 @@ without_drops (i ∷ ids) rows r h id (inr later) = without_drops ids (without_r
 
 -- ---- the rows that are found by a test, as their rowids
 
+-- These rowids are exactly those of the rows that pass the test.
 pub record AreFound (p : Row → Bool) (rows found : List Row) : Type 0 where
   pub sound : (x : Row) → Has found x → (r : Row) × Has rows r × (p r ≡ true) × (x ≡ rowid r ∷ [])
   pub complete : (r : Row) → Has rows r → p r ≡ true → Has found (rowid r ∷ [])
 
+-- the rowid of a row is an integer
 pub is_int_at : (rows : List Row) (r : Row) → AllByRecursion (λ r. is_int (rowid r) ≡ true) rows → Has rows r → rowid r ≡ Int (id_in (rowid r))
 is_int_at rows r ints h = int_is (rowid r) (all_has _ rows r ints h)
 
 module _ (p : Row → Bool) (rows found : List Row) (keyed : IsKeyed rows) (are : AreFound p rows found) where
+  -- a row that fails the test stays when the found rowids are removed
   pub stays : (r : Row) → Has rows r → p r ≡ false → Has (without_all rows (ids_of found)) r
   stays r h fails = without_keeps (ids_of found) rows r h (λ id there.
       let it = map_has (λ r. id_in (rowid r)) found id there in
@@ -86,6 +94,7 @@ module _ (p : Row → Bool) (rows found : List Row) (keyed : IsKeyed rows) (are 
         | inr apart ↦ apart
       ])
 
+  -- a row that is left was there and fails the test
   pub was_there : (r : Row) → Has (without_all rows (ids_of found)) r → Has rows r × (p r ≡ false)
   was_there r h =
       let was = without_all_has (ids_of found) rows r h in (
@@ -101,6 +110,7 @@ module _ (p : Row → Bool) (rows found : List Row) (keyed : IsKeyed rows) (are 
 
 -- ---- an edit keeps the rowids apart
 
+-- removing rows keeps the rowids different
 pub keyed_without : (ids : List ℤ) (rows : List Row) → IsKeyed rows → IsKeyed (without_all rows ids)
 keyed_without [] rows keyed = keyed
 keyed_without (id ∷ ids) rows keyed = keyed_without ids (without_rowid id rows) (record {
@@ -125,5 +135,6 @@ apart_put new (r ∷ rows) apart free = go (value_cmp (rowid r) (rowid new)) ref
     go Equal is more = absurd (true≢false (sym (ap is_eq is) ∙ (or_parts _ _ free).0))
     go Greater is more = (all_from _ (r ∷ rows) untaken, apart)
 
+-- putting a row with a new rowid keeps the rowids different
 pub keyed_put : (new : Row) (rows : List Row) → IsKeyed rows → is_taken rows new ≡ false → is_int (rowid new) ≡ true → IsKeyed (put_row new rows)
 keyed_put new rows keyed free int = record { apart = apart_put new rows keyed.apart free; ints = all-put_row _ new rows int keyed.ints }

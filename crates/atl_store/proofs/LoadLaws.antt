@@ -1,4 +1,4 @@
--- From the rows that a SELECT gave to the trees: the rowids differ and are integers.
+-- Laws on rowids that a SELECT shows: they are different integers exactly if those of the tree are.
 use Rattle.std.proofs.Common.{◌≡◌, ℕ, false, List, [], ◌∷◌, map, Ordering, Less, Equal, Greater, refl, sym, ap, ◌∙◌}
 use Rattle.std.specs.List.{AllByRecursion, IsDistinct}
 use Rattle.std.specs.List.Sorted.{IsPermutation}
@@ -26,7 +26,7 @@ distinct_mapped f at (r ∷ rows) is apart = (
   distinct_mapped f at rows is apart.1,
 )
 
--- the same by the word that IsKeyed has
+-- pairwise different rowids, in the form that `IsKeyed` asks for
 ascending_from : (rows : List Row) → IsDistinct (λ a b. is_eq (value_cmp (rowid a) (rowid b))) rows → IsAscending (λ a b. is_eq (value_cmp (rowid a) (rowid b)) ≡ false) rows
 unfolding IsDistinct
 ascending_from [] apart = tt
@@ -53,14 +53,14 @@ mapped_distinct f at (r ∷ rows) is apart = (
   mapped_distinct f at rows is apart.1,
 )
 
--- f shows a row, with its rowid in this column, and these are all rows that it shows: where the rowids are different integers, so are those that are shown
+-- if the tree's rowids are different integers, so are those in the column where all its rows show them
 pub keyed_shown : (f : Row → Row) (at : ℕ) (tree shown : List Row) → ((r : Row) → column (f r) at ≡ rowid r) → IsPermutation (map f tree) shown → IsKeyed tree → HaveKeys at shown
 keyed_shown f at tree shown is same keyed = record {
   apart = IsDistinct-IsPermutation _ (flips at) (map f tree) shown same (mapped_distinct f at tree is keyed.apart);
   ints = all-permutation _ (map f tree) shown same (mapped_all f _ _ tree (λ r h. ap is_int (is r) ∙ h) keyed.ints);
 }
 
--- and the other way round
+-- if the shown rowids are different integers, so are those of the tree
 pub keyed_by : (f : Row → Row) (at : ℕ) (tree shown : List Row) → ((r : Row) → column (f r) at ≡ rowid r) → IsPermutation (map f tree) shown → HaveKeys at shown → IsKeyed tree
 keyed_by f at tree shown is same have =
     let back = IsPermutation-sym (map f tree) shown same in

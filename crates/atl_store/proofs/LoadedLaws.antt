@@ -1,4 +1,4 @@
--- From the rows that were read to the campaign that is loaded.
+-- Laws on `load`: from the rows that were read to the campaign that is loaded, or to the fault that refuses it.
 use Rattle.std.proofs.Common.{◌≡◌, ℕ, List, [], ◌∷◌, Bool, true, false, not, filter, map, IsTrue, IsPermutation, true≢false, Option, Result, Ok, Err, IfErr, IsErrAnd, ◌⊎◌, Some, None, inl, arith, refl, sym, ap, ◌∙◌, subst, inr, string_bytes}
 use Rattle.std.specs.List.{IsDistinct}
 use Rattle.std.proofs.lemmas.Bool.{cases_Bool}
@@ -46,6 +46,7 @@ use Rattle.atl_store.proofs.SelectLaws.{has_first}
 use Rattle.atl_store.proofs.WorldTextLaws.{standing_text_is}
 
 module _ (f : Format) {S : Type 0} (g : Ghosts S) where
+  -- a campaign row that was read fulfils the first rule
   pub own_kept : (old : Held S) (own : StoredCampaign) (w : WorldValue) → OwnRead g old f own w → KeepsOneRow f g old
   own_kept old own w read = record {
     rows = read.rows;
@@ -65,10 +66,11 @@ has_own : (f : Format) → Has (parts_in f) Own
 has_own First = inl refl
 has_own Second = inl refl
 
--- what was read of a part
+-- each other part is among those that were read
 read_of : (reads : ReadRows) → map (λ read. read.0) reads ≡ other_parts Second → (part : Part) → Has (other_parts Second) part → (read : Part × List Row) × Has reads read × (part ≡ read.0)
 read_of reads parts part there = map_has (λ (read : Part × List Row). read.0) reads part (subst (λ l. Has l part) (sym parts) there)
 
+-- no rows without their rowids are no rows
 nothing_unplaced : (part : Part) → without_ids part [] ≡ []
 nothing_unplaced part = elim (cases_Bool (shows_rowids part)) [
   | inl is ↦ cut_places part [] is
@@ -77,11 +79,11 @@ nothing_unplaced part = elim (cases_Bool (shows_rowids part)) [
 
 -- ---- the rows, as they were read
 
--- the parts of the first format are read under its tables
+-- each part of the first format is read under that format's tables
 since_first : (part : Part) → Has (parts_in First) part → (listing_of part).since ≡ First
 since_first part there = all_has (λ p. (listing_of p).since ≡ First) (parts_in First) part (refl, (refl, (refl, (refl, (refl, (refl, (refl, (refl, (refl, tt))))))))) there
 
--- under the tables of a format there are those that each of its parts is read under
+-- the tables of a format include those under which each of its parts is read
 has_since : (f : Format) (schema : Schema) → HasTablesOf f schema → (part : Part) → Has (parts_in f) part → HasTablesOf (listing_of part).since schema
 has_since First schema has part there = subst (λ since. HasTablesOf since schema) (sym (since_first part there)) has
 has_since Second schema has part there = under (listing_of part).since
@@ -94,11 +96,11 @@ module _ (f : Format) {S : Type 0} (g : Ghosts S) (old : Held S) (reads : ReadRo
   abbrev db : Trees
   db = (state g old).now.trees
 
-  -- all rows of a part that the format has
+  -- of a part that the format has, all rows were read
   all_of : (read : Part × List Row) → Has reads read → Has (parts_in f) read.0 → HasTablesOf f old.schema → IsPermutation ((listing_of read.0).in_table db) read.1
   all_of read there has begins = elim (are.each read there) [ inl all ↦ all.1 (has_since f old.schema begins read.0 has) | inr none ↦ absurd (none.0 has) ]
 
-  -- where the places differ, the tables are keyed, and the other way round
+  -- if the rowids that were read differ, the rowids of the tables do
   all_keyed : map (λ read. read.0) reads ≡ other_parts Second → AreAllApart reads → HasTablesOf f old.schema → (table : Table) → Has (tables_with_rowids f) table → IsKeyed (db table.tree)
   all_keyed parts apart begins table there =
       let part = map_has table_of (filter shows_rowids (parts_in f)) table there in
@@ -107,6 +109,7 @@ module _ (f : Format) {S : Type 0} (g : Ghosts S) (old : Held S) (reads : ReadRo
       subst (λ (t : Table). IsKeyed (db t.tree)) (sym (part.2 ∙ ap table_of read.2))
       (places_keyed read.0.0 db read.0.1 (subst (λ p. shows_rowids p ≡ true) read.2 kept.1) (all_of read.0 read.1 (subst (Has (parts_in f)) read.2 kept.0) begins) (apart.each read.0 read.1 (subst (λ p. shows_rowids p ≡ true) read.2 kept.1)))
 
+  -- if the tables are made as those of the format, the rowids that were read differ
   all_apart : AreMade f g old → AreAllApart reads
   unfolding IsDistinct
   all_apart made = record {
@@ -118,6 +121,7 @@ module _ (f : Format) {S : Type 0} (g : Ghosts S) (old : Held S) (reads : ReadRo
 
   -- the rows that are to be judged are all rows
   module _ (head : StoredCampaignRow) (p : Parts) (made : IsMadeOf head reads p) where
+    -- no row was read of a part that the format lacks
     none_read : (text : List ℕ) (part : Part) → ¬ Has (parts_in f) part → rows_read text p part ≡ []
     none_read text part lacks = elim (every_part part) [
       | inl own ↦ absurd (lacks (subst (Has (parts_in f)) (sym own) (has_own f)))
@@ -172,17 +176,18 @@ module _ (f : Format) {S : Type 0} (g : Ghosts S) where
   damaged old w p all begins Books first = breaks old w p all begins Books first
   damaged old w p all begins Mail first = breaks old w p all begins Mail first
 
-  -- behind the first rule a growth may be refused anywhere
+  -- once the first rule holds, memory may run out at any point
   wants_memory : (old : Held S) → old.in_transaction ≡ false → KeepsOneRow f g old → MayReturnMemory g old
   wants_memory old idle kept = (idle, inr (kept.rows, kept.selects))
 
+  -- a fault of the check of the rows refuses the load: Damaged with the first broken rule, or Memory
   pub judged_damaged : (old : Held S) → old.in_transaction ≡ false → (w : WorldValue) (p : Parts) → Gathered f g old w p → HasTablesOf f old.schema → (fault : CheckFault) → Checks f w p (Err fault) → RefusesToLoadIn f g old (fault_of_check fault)
   judged_damaged old idle w p all begins (check.Damaged rule) first = damaged old w p all begins rule first
   judged_damaged old idle w p all begins check.Memory none = wants_memory old idle all.one
 
   -- ---- what else is refused behind the first rule
 
-  -- another table isn't read
+  -- a fault of reading another table refuses the load
   pub unread_refuses : (old mid : Held S) → old.in_transaction ≡ false → KeepsOneRow f g old → AfterReads g old mid → (fault : LoadFault) → FailsToRead g mid (other_selects f) fault → RefusesToLoadIn f g old fault
   unread_refuses old mid idle kept first fault fails = refused fault (fails_then g old mid first (other_selects f) fault fails)
     where
@@ -195,9 +200,11 @@ module _ (f : Format) {S : Type 0} (g : Ghosts S) where
 
   -- the tables are not confirmed
   module _ (old mid : Held S) (kept : KeepsOneRow f g old) (first : AfterReads g old mid) (clean : HasCleanDisk (state g mid)) where
+    -- the connection was open when the campaign row was read
     was_open : IsTrue (state g old).is_open
     was_open = kept.selects.2.was_open (shown_open (selection campaign_table 1) _ _ kept.rows kept.selects.3)
 
+    -- a connection that is shut by then had a failure of the disk
     shut_failed : (state g mid).is_open ≡ false → FailedMeanwhile g old
     shut_failed shut = record {
       after = mid;
@@ -205,13 +212,14 @@ module _ (f : Format) {S : Type 0} (g : Ghosts S) where
       failed = elim (first.survives.closes clean was_open) [ inl up ↦ absurd (let k = sym up ∙ shut in cc) | inr more ↦ more ];
     }
 
-    -- the schema is another one, or the connection is shut
+    -- if the schema is another one, the tables are not those of a campaign or the connection was shut
     other_schema : ¬ HasTablesOf f mid.schema → (¬ AreMade f g old) ⊎ (FailedMeanwhile g old ⊎ RefusesAgain g old false)
     other_schema other = elim (cases_Bool (state g mid).is_open) [
       | inl up ↦ inl (λ made. other (subst (λ (d : Database). HasTablesOf f d.schema) (sym ((first.stays clean).same up).0) made.begins))
       | inr shut ↦ inr (inl (shut_failed shut))
     ]
 
+    -- a fault of confirming the tables refuses the load
     pub unconfirmed_refuses : old.in_transaction ≡ false → AreToldTyped g old (other_selects f) → (fault : LoadFault) → FailsToConfirm g mid f fault → RefusesToLoadIn f g old fault
     unconfirmed_refuses idle typed Store (inl other) = inr (inr (kept, inr (typed, other_schema other)))
     unconfirmed_refuses idle typed Store (inr again) =
@@ -227,14 +235,15 @@ module _ (f : Format) {S : Type 0} (g : Ghosts S) {A : Type 0} (rows : A → Rea
   found : (told : Option A) → o ≡ told → Found g old (other_selects f) (λ a. AreOfFormat f (state g old).now (rows a)) told
   found told is = subst (Found g old (other_selects f) (λ a. AreOfFormat f (state g old).now (rows a))) is (format_behind g f rows old mid new before (other_selects f) r reads o was clean)
 
+  -- the rows put together of what was read are gathered (`Gathered`)
   pub gathered_with : (a : A) → o ≡ Some a → (p : Parts) (head : StoredCampaignRow) → head ≡ own.head → IsMadeOf head (rows a) p → Gathered f g old w p
   gathered_with a is p head same made = let all = found (Some a) is in gathered_of f g old own w (rows a) p row all.0 all.1 head same made
 
-  -- a value is of another type
+  -- a value of another type than its column refuses the load with Damaged, rule Ranges
   pub mistyped_refuses : o ≡ None → RefusesToLoadIn f g old (Damaged Ranges)
   mistyped_refuses is = inl (own_kept f g old own w row, found None is)
 
-  -- the rows are not put together
+  -- a fault of putting the rows together refuses the load
   pub unmade_refuses : old.in_transaction ≡ false → (a : A) → o ≡ Some a → (fault : LoadFault) → Lacks (AreAllApart (rows a)) fault → RefusesToLoadIn f g old fault
   unmade_refuses idle a is fault = refused fault
     where
@@ -246,17 +255,19 @@ module _ (f : Format) {S : Type 0} (g : Ghosts S) {A : Type 0} (rows : A → Rea
       refused Memory lacks = wants_memory f g old idle (own_kept f g old own w row)
 
 module _ {S : Type 0} (g : Ghosts S) where
-  -- a fault that was handed on
+  -- what is true of a fault is true of the equal error of a result
   pub told_as : {A : Type 0} (P : LoadFault → Type 0) (fault : LoadFault) (r : Result A LoadFault) → IsErrAnd r (λ told. told ≡ fault) → P fault → IfErr r P
   told_as P fault (Ok a) told p = tt
   told_as P fault (Err f) told p = subst P (sym told) p
 
   -- ---- the whole
 
+  -- if the test for autocommit is true, the connection is in no transaction
   pub is_idle : (auto inside : Bool) → auto ≡ not inside → IsTrue auto → inside ≡ false
   is_idle auto true is said = absurd (let k = sym is ∙ said in cc)
   is_idle auto false is said = refl
 
+  -- tables confirmed at the end of a second call were those before the first, if both calls leave them
   pub confirmed_behind : (f : Format) (old mid new : Held S) → AfterReads g old mid → AfterReads g mid new → HasCleanDisk (state g mid) → HasCleanDisk (state g new) → IsConfirmed f (state g mid) (state g new) → IsConfirmed f (state g old) (state g new)
   confirmed_behind f old mid new one two clean_mid clean confirmed =
       let up = (two.stays clean).was_open confirmed.is_open in
@@ -267,6 +278,7 @@ module _ {S : Type 0} (g : Ghosts S) where
         sound = subst (λ (d : Database). IsSound d.schema d.trees) same confirmed.sound;
       }
 
+  -- calls outside a transaction that leave the tables leave the connection alone
   pub leaves_alone : (old new : Held S) → old.in_transaction ≡ false → AfterReads g old new → LeavesAlone g old new
   leaves_alone old new idle leaves = record {
     spares = λ clean. record {
@@ -280,6 +292,7 @@ module _ {S : Type 0} (g : Ghosts S) where
 -- ---- the campaign that the tables hold
 
 module _ (f : Format) {S : Type 0} (g : Ghosts S) (old new : Held S) (w : WorldValue) (c : MarkedCampaign) (loaded : IsLoaded f g old new w c) (leaves : AfterReads g old new) (settled : IsSettled (state g old)) where
+  -- the tables hold the loaded campaign in this format
   new_stands : (clean : HasCleanDisk (state g new)) → StandsIn f (state g new) (loaded.gathered clean).text c.value
   new_stands clean =
       let all = loaded.gathered clean in
@@ -300,6 +313,7 @@ module _ (f : Format) {S : Type 0} (g : Ghosts S) (old new : Held S) (w : WorldV
         rows = subst (λ (d : Database). HoldsIn f d.trees all.text c.value) (sym same.0) (rows_hold f db all.text loaded.parts c.value rows loaded.checked.rows _ loaded.checked.good.sound.steady.numbers.books);
       }
 
+  -- a loaded campaign fulfils `LoadsIn`
   pub loads_in : LoadsIn f g old new w c
   loads_in = record {
     world = λ clean. subst (λ t. world_by f t ≡ Ok w) (sym (standing_text_is f (state g new) (loaded.gathered clean).text c.value (new_stands clean))) (loaded.gathered clean).world;
@@ -310,7 +324,7 @@ module _ (f : Format) {S : Type 0} (g : Ghosts S) (old new : Held S) (w : WorldV
   }
 
 module _ {S : Type 0} (g : Ghosts S) (old new : Held S) where
-  -- a connection that holds a campaign in the second format keeps it, where a crash leaves what was committed
+  -- a connection whose tables hold a campaign in the second format keeps it, if a crash leaves what was committed
   keeps_second : (text : List ℕ) (c : CampaignValue) → ((db : Trees) → IsTrue (state g new).is_open → (state g new).may_leave db → db ≡ (state g new).committed.trees) → StandsIn Second (state g new) text c → Keeps (state g new) text c
   keeps_second text c store stands =
       let sound : IsSoundDatabase (state g new).now.schema (state g new).now.trees = record { keyed = stands.keyed; listed = stands.listed } in
@@ -324,6 +338,7 @@ module _ {S : Type 0} (g : Ghosts S) (old new : Held S) where
         crash = λ db may. subst (λ t. Stores t text c) (sym (store db stands.is_open may ∙ ap (λ (d : Database). d.trees) stands.settled)) (record { schema = (state g new).now.schema; begins = stands.begins; sound = sound; rows = rows });
       }
 
+  -- a loaded campaign of the second format fulfils `Loads`
   pub loads : ((db : Trees) → IsTrue (state g new).is_open → (state g new).may_leave db → db ≡ (state g new).committed.trees) → (w : WorldValue) (c : MarkedCampaign) → LoadsIn Second g old new w c → Loads g old new w c
   loads store w c loaded = record {
     world = loaded.world;

@@ -1,4 +1,4 @@
--- What one statement makes of a database.
+-- For proofs alone: what one statement makes of a database, a write of rows or a CREATE TABLE.
 use Rattle.std.specs.Prelude.{◌≡◌, ◌≢◌, ℕ, []}
 use Rattle.sqlite.specs.Effect.{Database, IsDatabase}
 use Rattle.sqlite.specs.State.{State}
@@ -8,25 +8,25 @@ use Rattle.sqlite_schema.specs.declared.schema.Table.{Table}
 use Rattle.atl_store.specs.Sets.{Set, Is, rows_in}
 use Rattle.atl_store.specs.Tables.{IsSoundDatabase}
 
--- a write of one table: its rows are this set, and every other table is as it was
+-- A statement wrote one table: its rows are the set `S`, every other table is unchanged, and the database is sound under its schema.
 pub record Makes (schema : Schema) (table : Table) (old new : Database) (S : Set) : Type 0 where
   pub schema_is : new.schema ≡ schema
   pub rows : Is (rows_in table new.trees) S
   pub others : (t : Table) → Has schema.tables t → t.tree ≢ table.tree → new.trees t.tree ≡ old.trees t.tree
   pub sound : IsSoundDatabase schema new.trees
 
--- CREATE TABLE inside a transaction: one more table, with no rows
+-- A CREATE TABLE inside a transaction added one table without rows.
 pub record Creates (before after : Schema) (tree : ℕ) (old new : Database) : Type 0 where
   pub schema_is : new.schema ≡ after
   pub empty : new.trees tree ≡ []
   pub others : (t : Table) → Has before.tables t → new.trees t.tree ≡ old.trees t.tree
   pub sound : IsDatabase new
 
--- the database has these tables, and none of them has a row
+-- The database has this schema, and each of its tables is empty.
 pub record AreBare (schema : Schema) (db : Database) : Type 0 where
   pub schema_is : db.schema ≡ schema
   pub empty : (t : Table) → Has schema.tables t → db.trees t.tree ≡ []
 
--- inside a transaction, which goes on: where the tables were the first of these and without a row, they are the second now and without a row
+-- Inside a transaction, which goes on: empty tables of the first schema have become empty tables of the second.
 abbrev pub Extends : Schema → Schema → State → State → Type 0
 Extends before after old new = (new.in_transaction ≡ old.in_transaction) × (AreBare before old.now → AreBare after new.now × IsDatabase new.now)

@@ -1,4 +1,4 @@
--- From the stored rows of a table to the set that SQL shows of it.
+-- Laws from the rows of a tree to the set of rows that SQL shows of its table, after a DELETE, an INSERT OR REPLACE and an upsert.
 use Rattle.std.proofs.Common.{arith, ◌≡◌, ◌≢◌, ℕ, Bool, true, List, [], ◌∷◌, map, take, eqb, Option, None, Ok, sym, ap, ◌∙◌, subst, inl, inr, true≢false}
 use Rattle.std.specs.Ordering.{is_eq}
 use Rattle.std.proofs.lemmas.Bool.{cases_Bool}
@@ -26,6 +26,7 @@ use Rattle.atl_store.proofs.EditLaws.{Swaps, Loses}
 use Rattle.atl_store.proofs.UpsertLaws.{hits, given, Upserted}
 use Rattle.atl_store.proofs.StatementLaws.{mode}
 
+-- a statement that ran has done what its command means
 pub did : (schema : Schema) (old new : State) (command : Command) (text : List ℕ) (params : Row) (count : ℕ) → old.now.schema ≡ schema → (w : Writes old new None command text params count)
     → Does old.step_limit mode params (record { schema = schema; trees = old.now.trees }) text None command (Ok (w.tally, new.now))
 did schema old new command text params count has w =
@@ -35,10 +36,11 @@ module _ (schema : Schema) (among : (u : Table) → Has all_tables u → Has sch
   shown_again : (rows : List Row) (r : Row) → Has (map (visible t) rows) r → (x : Row) × Has rows x × (r ≡ visible t x)
   shown_again rows r h = map_has (visible t) rows r h
 
-  -- the test finds exactly the rows that have this key
+  -- The test finds exactly the rows that have this key.
   abbrev pub Tests : (Row → Bool) → Row → List Row → Type 0
   Tests p k rows = (x : Row) → Has rows x → (p x ≡ true → take key (visible t x) ≡ k) × (take key (visible t x) ≡ k → p x ≡ true)
 
+  -- swapping the rows of a key for a new row puts the row into the set
   pub swaps_set : (p : Row → Bool) (n v : Row) (db next : Trees) → Swaps schema t p n db next → visible t n ≡ v → Tests p (take key v) (db t.tree)
       → Is (rows_in t next) (put key v (Has (rows_in t db)))
   swaps_set p n v db next swap is tests r = (
@@ -62,6 +64,7 @@ module _ (schema : Schema) (among : (u : Table) → Has all_tables u → Has sch
     ],
   )
 
+  -- losing the rows of a key drops them from the set
   pub loses_set : (p : Row → Bool) (k : Row) (db next : Trees) → Loses schema t p db next → Tests p k (db t.tree) → Is (rows_in t next) (drop_key key k (Has (rows_in t db)))
   loses_set p k db next lose tests r = (
     λ there.
@@ -76,7 +79,7 @@ module _ (schema : Schema) (among : (u : Table) → Has all_tables u → Has sch
         ]))),
   )
 
-  -- the trees stay sound
+  -- the trees stay sound under the same schema
   pub stays_sound : (old new : Database) → IsSoundDatabase schema old.trees → IsDatabase new → new.schema ≡ schema → IsKeyed (new.trees t.tree)
       → ((u : Table) → Has schema.tables u → u.tree ≢ t.tree → new.trees u.tree ≡ old.trees u.tree) → IsSoundDatabase schema new.trees
   stays_sound old new sound base is keyed others = record {
@@ -87,6 +90,7 @@ module _ (schema : Schema) (among : (u : Table) → Has all_tables u → Has sch
     listed = subst (λ s. IsSound s new.trees) is base;
   }
 
+  -- such a swap is a write of the table that puts the row
   pub swaps_make : (p : Row → Bool) (n v : Row) (old new : Database) → Swaps schema t p n old.trees new.trees → visible t n ≡ v → Tests p (take key v) (old.trees t.tree)
       → IsSoundDatabase schema old.trees → IsDatabase new → new.schema ≡ schema → Makes schema t old new (put key v (Has (rows_in t old.trees)))
   swaps_make p n v old new swap shows tests sound base is = record {
@@ -96,6 +100,7 @@ module _ (schema : Schema) (among : (u : Table) → Has all_tables u → Has sch
     sound = stays_sound old new sound base is swap.keyed swap.others;
   }
 
+  -- such a loss is a write of the table that drops the key
   pub loses_make : (p : Row → Bool) (k : Row) (old new : Database) → Loses schema t p old.trees new.trees → Tests p k (old.trees t.tree)
       → IsSoundDatabase schema old.trees → IsDatabase new → new.schema ≡ schema → Makes schema t old new (drop_key key k (Has (rows_in t old.trees)))
   loses_make p k old new lose tests sound base is = record {
@@ -107,10 +112,11 @@ module _ (schema : Schema) (among : (u : Table) → Has all_tables u → Has sch
 
   module _ (unlinked : (olds news : List Row) → works schema Enforced 0 t.tree olds news ≡ []) (limit : Option ℕ) (params : Row) (target : List ℕ) (place : ℕ) (project : List Term)
       (plain : (db : Trees) → overlay db [] t.tree ≡ db t.tree) (new v : Row) (old next : Database) where
-    -- what the row that is there is changed to
+    -- What the row with the key is changed to shows the new values.
     abbrev pub Changes : Type 0
     Changes = (r : Row) → Has (old.trees t.tree) r → take key (visible t r) ≡ take key v → visible t (cast_row t (eval_all project (given schema t unlinked limit params target place project plain new r ∷ r ∷ []))) ≡ v
 
+    -- Two rows of the table with one key have one rowid.
     abbrev pub OneRow : Type 0
     OneRow = (x r : Row) → Has (old.trees t.tree) x → Has (old.trees t.tree) r → take key (visible t x) ≡ take key (visible t r) → is_eq (value_cmp (rowid x) (rowid r)) ≡ true
 
@@ -125,26 +131,26 @@ module _ (schema : Schema) (among : (u : Table) → Has all_tables u → Has sch
           λ e. alone x r k there (e ∙ sym same),
         )) sound base is
 
-    -- whether the row was put or the one that was there was changed
+    -- an upsert puts the row, whether it inserted or updated
     pub upserts_make : Upserted schema t unlinked limit params target place project plain new old.trees next.trees → visible t (cast_row t new) ≡ v → Changes
         → Tests (hits schema t unlinked limit params target place project plain new) (take key v) (old.trees t.tree) → OneRow
         → Has all_tables t → IsSoundDatabase schema old.trees → IsDatabase next → next.schema ≡ schema → Makes schema t old next (put key v (Has (rows_in t old.trees)))
     upserts_make (inl put_in) shows changed tests alone listed sound base is = swaps_make _ _ v old next put_in.1 shows tests sound base is
     upserts_make (inr over) shows changed tests alone listed sound base is = over_make over.0 over.1 over.2 over.3 changed tests alone listed sound base is
 
-    -- where a row with the key is there, only what the update writes counts
+    -- if a row with the key is there, only what the update writes counts
     pub updates_make : Upserted schema t unlinked limit params target place project plain new old.trees next.trees → (r : Row) → Has (old.trees t.tree) r → take key (visible t r) ≡ take key v → Changes
         → Tests (hits schema t unlinked limit params target place project plain new) (take key v) (old.trees t.tree) → OneRow
         → Has all_tables t → IsSoundDatabase schema old.trees → IsDatabase next → next.schema ≡ schema → Makes schema t old next (put key v (Has (rows_in t old.trees)))
     updates_make (inl put_in) r there same changed tests alone listed sound base is = absurd (true≢false (sym ((tests r there).1 same) ∙ put_in.0 r there))
     updates_make (inr over) r there same changed tests alone listed sound base is = over_make over.0 over.1 over.2 over.3 changed tests alone listed sound base is
 
-    -- the trees are sound, whichever it was
+    -- the trees are sound after an upsert
     pub upserts_sound : Upserted schema t unlinked limit params target place project plain new old.trees next.trees → IsSoundDatabase schema old.trees → IsDatabase next → next.schema ≡ schema → IsSoundDatabase schema next.trees
     upserts_sound (inl put_in) sound base is = stays_sound old next sound base is put_in.1.keyed put_in.1.others
     upserts_sound (inr over) sound base is = stays_sound old next sound base is over.3.keyed over.3.others
 
-    -- and each other table is as it was
+    -- an upsert leaves each other table
     pub upserts_others : Upserted schema t unlinked limit params target place project plain new old.trees next.trees → (u : Table) → Has schema.tables u → u.tree ≢ t.tree → next.trees u.tree ≡ old.trees u.tree
     upserts_others (inl put_in) = put_in.1.others
     upserts_others (inr over) = over.3.others

@@ -1,4 +1,4 @@
--- One table after another is made, up to all.
+-- Laws on making the tables one after another, until all ten are there and empty.
 use Rattle.std.proofs.Common.{◌≡◌, ◌++◌, ◌∷◌, ◌+◌, ◌<◌, ◌≤◌, ℕ, List, [], IsTrue, true, length, map, take, refl, sym, ap, ◌∙◌, subst, inl, inr, lit<, arith}
 use Rattle.std.specs.List.{sum_by}
 use Rattle.std.proofs.lemmas.List.{take_all}
@@ -14,7 +14,7 @@ use Rattle.atl_store.specs.Tables.{all_indexes, all_tables, no_tables, table_cou
 use Rattle.atl_store.specs.Inside.{Inside, IsBlank}
 use Rattle.atl_store.specs.Making.{AreEmpty}
 
--- one more table, where those before had no row
+-- a CREATE TABLE after empty tables leaves empty tables, one more
 pub extends : (before after : Schema) (table : Table) (old new : State) → IsTrue old.in_transaction → new.in_transaction ≡ true → after.tables ≡ before.tables ++ table ∷ []
     → (old.now.schema ≡ before → Creates before after table.tree old.now new.now) → Extends before after old new
 extends before after table old new inside mode more makes = (
@@ -35,20 +35,23 @@ extends before after table old new inside mode more makes = (
 
 -- ---- so many
 
--- these tables are the first, and there are the indexes of their keys
+-- the schema of these first tables and the indexes of their keys
 abbrev pub with_tables : List Table → Schema
 with_tables tables = record { tables = tables; indexes = take (sum_by (λ t. length t.uniques) tables) all_indexes; views = [] }
 
+-- the schema of the first `count` tables
 abbrev pub so_many : ℕ → Schema
 so_many count = with_tables (take count all_tables)
 
--- inside a transaction, which goes on: where there was no table there are so many now, without a row
+-- Inside a transaction, which goes on: from no table to the first `count` tables, all empty.
 abbrev pub MakesSome : ℕ → State → State → Type 0
 MakesSome count old new = (new.in_transaction ≡ old.in_transaction) × (AreBare no_tables old.now → AreBare (so_many count) new.now × (0 < count → IsDatabase new.now))
 
+-- nothing done makes no table
 pub makes_none : (s : State) → MakesSome 0 s s
 makes_none s = (refl, λ bare. (bare, λ some. absurd (omega (arith, some))))
 
+-- one table more is made
 pub makes_more : (count : ℕ) (a b c : State) → MakesSome count a b → Extends (so_many count) (so_many (count + 1)) b c → MakesSome (count + 1) a c
 makes_more count a b c first next = (next.0 ∙ first.0, λ bare. let made = next.1 (first.1 bare).0 in (made.0, λ some. made.1))
 
@@ -57,6 +60,7 @@ makes_more count a b c first next = (next.0 ∙ first.0, λ bare. let made = nex
 no_rows : IsKeyed []
 no_rows = record { apart = tt; ints = tt }
 
+-- once the count is reached, all tables are made, and empty
 pub makes_all : (count : ℕ) → table_count ≤ count → (a b : State) → MakesSome count a b → Inside IsBlank AreEmpty a b
 makes_all count enough a b all = (
   all.0,

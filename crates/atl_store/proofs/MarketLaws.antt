@@ -1,4 +1,4 @@
--- The rows of the stocks of all markets.
+-- Laws on the table `market`: one row for each region and item, if the stock is not 0.
 use Rattle.std.proofs.Common.{◌≡◌, ◌≢◌, ℕ, Option, Some, None, take, unwrap_or, refl, sym, ap, ◌∙◌, subst}
 use Rattle.std.specs.Ordering.{nat_cmp}
 use Rattle.std.specs.FinMap.{FinMap, entries, get}
@@ -17,7 +17,7 @@ use Rattle.sqlite.specs.Order.{Row}
 one_item : (region m a n b : ℕ) → ◌≡◌ {A = Row} (take 2 (market_row region m a)) (take 2 (market_row region n b)) → m ≡ n
 one_item region m a n b same = cc
 
--- they belong to the regions
+-- the rows of `market` belong to the regions by the first column
 pub stocks_grouped : (regions : FinMap nat_cmp Region) → AreGroups region_lines 2 regions (MarketRowsOf regions)
 stocks_grouped regions = record {
   numbered = λ n region r there. ap (take 1) (amounts_have (market_row n) (entries region.stocks) r there).3;
@@ -36,16 +36,17 @@ stocks_grouped regions = record {
 -- ---- how much of an item a region has in stock
 
 module _ (regions : FinMap nat_cmp Region) where
+  -- the stock of an item in a region; 0 if there is no region
   abbrev in_stock : ℕ → Option Region → ℕ
   in_stock item o = option_map_or (λ r. amount_of r.stocks item) o 0
 
-  -- each row tells how much there is of an item
+  -- each row of `market` gives the stock of its region's item
   pub stock_had : (r : Row) → MarketRowsOf regions r → (n : ℕ) × (item : ℕ) × (stock_in regions n item ≢ 0) × (r ≡ market_row n item (stock_in regions n item))
   stock_had r of =
       let amount : stock_in regions of.0 of.3 ≡ of.4 = ap (in_stock of.3) of.2 ∙ ap (λ (o : Option ℕ). unwrap_or o 0) of.5 in
       (of.0, of.3, λ none. of.6 (sym amount ∙ none), of.7 ∙ ap (market_row of.0 of.3) (sym amount))
 
-  -- and what there is has its row
+  -- each stock that is not 0 has its row of `market`
   pub had_stock : (n item amount : ℕ) → amount ≡ stock_in regions n item → amount ≢ 0 → MarketRowsOf regions (market_row n item amount)
   had_stock n item amount is some = there (get regions n) refl
     where

@@ -1,4 +1,4 @@
--- What the statements do on a table under the numbers of its rows.
+-- Laws on upsert and DELETE in a table whose key is the row's number.
 use Rattle.std.proofs.Common.{IsTrue, ◌≡◌, ◌++◌, ◌+◌, ℕ, false, List, [], ◌∷◌, length, slice_get, Some, Ok, sym, ap, ◌∙◌, subst}
 use Rattle.std.specs.List.{list_any, list_all}
 use Rattle.std.proofs.lemmas.List.Folds.{list_any-append}
@@ -39,12 +39,12 @@ use Rattle.atl_store.proofs.FitLaws.{Fits, given_row, changed_row, makes_row}
 use Rattle.atl_store.proofs.EditLaws.{delete_query, found_by}
 use Rattle.atl_store.proofs.Terms.{head_is, by_number, one_number, at_number}
 
--- of a row: the number is the parameter
+-- the filter: the row's number equals the parameter
 abbrev has_number : List Term
 has_number = op2 (Compare Eq Binary) (col 1 0) (col 0 0) ∷ []
 
--- A table at this place, whose rows have so many values behind their number, and what its two statements mean, whatever came behind the tables of a campaign:
--- an INSERT of the given row with an update of the one that has its number, and a DELETE of the one that has the number.
+-- Table `t`, of index `at` among all, has rows of a number and `width` values, and its two statements mean what they should, whatever other tables follow:
+-- an INSERT of the given row with an UPDATE of the one that has its number, and a DELETE of the one that has the number.
 pub record IsNumbered (t : Table) (at width : ℕ) : Type 0 where
   pub ours : Has all_tables t
   pub place : (more : List Table) → slice_get (all_tables ++ more) at ≡ Some t
@@ -93,6 +93,7 @@ module _ (tree : ℕ) (name key_name : List ℕ) (columns : List Column) (unique
           done_with t old.now new.now has is.ours _ _ (λ did. did) makes,
     )
 
+    -- the DELETE removes the row of the number
     pub drops_numbered : (n : ℕ) → DropsKey t 1 (int n ∷ [])
     drops_numbered n = done_by drop (int n ∷ []) (Drops t 1 (int n ∷ [])) (drops n)
 
@@ -130,5 +131,6 @@ module _ (tree : ℕ) (name key_name : List ℕ) (columns : List Column) (unique
           done_with t old.now new.now has is.ours _ _ (λ did. did) makes,
     )
 
+    -- the upsert puts its row in place of the one with its number
     pub puts_numbered : (n : ℕ) (values : Row) → Fits columns values → PutsRow t 1 (int n ∷ values)
     puts_numbered n values fits = done_by put (int n ∷ values) (Puts t 1 (int n ∷ values)) (puts n values fits)

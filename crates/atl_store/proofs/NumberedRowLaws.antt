@@ -1,4 +1,4 @@
--- What the statements on the tables under a number mean, and what they do.
+-- Laws on the statements of each table whose key is the row's number: what they mean and do.
 use Rattle.std.proofs.Common.{ℕ, [], ◌∷◌, length, drop, nat_eq, unwrap_or, position, refl}
 use Rattle.sqlite_tied.specs.Compute.{everything}
 use Rattle.sqlite.specs.Listing.{understood}
@@ -10,10 +10,11 @@ use Rattle.atl_store.proofs.NumberedLaws.{IsNumbered, puts_numbered, drops_numbe
 use Rattle.atl_store.proofs.PartLaws.{listed, tree_of}
 use Rattle.atl_store.proofs.StatementLaws.{PutsRow, DropsKey}
 
--- the place of a part's table among all, and how many values its rows have behind their number
+-- the index of a part's table among all tables
 abbrev pub place_in : Part → ℕ
 place_in part = unwrap_or (position (λ p. nat_eq (tree_of p) (tree_of part)) all_parts) 0
 
+-- the number of values of its rows after their number
 abbrev width_of : Part → ℕ
 width_of part = length (drop 1 (table_of part).columns)
 
@@ -34,6 +35,7 @@ numbered part is = record {
   spared = λ new x. refl;
 }
 
+-- the upsert of such a part puts its row
 pub puts_part : (part : Part) → IsNumberedPart part → (n : ℕ) (values : Row) → Fits (drop 1 (table_of part).columns) values → PutsRow (table_of part) 1 (int n ∷ values)
 puts_part Own is = absurd is
 puts_part Goods is = absurd is
@@ -41,6 +43,7 @@ puts_part Books is = absurd is
 puts_part Markets is = absurd is
 puts_part part is = puts_numbered (table_of part).tree _ _ _ _ (place_in part) (numbered part is)
 
+-- the DELETE of such a part removes the row of the number
 pub drops_part : (part : Part) → IsNumberedPart part → (n : ℕ) → DropsKey (table_of part) 1 (int n ∷ [])
 drops_part Own is = absurd is
 drops_part Goods is = absurd is

@@ -1,4 +1,4 @@
--- Two texts whose rows one database holds read as one world.
+-- Law: two world texts whose rows one database holds are read as one world.
 use Rattle.std.proofs.Common.{◌≡◌, ◌∙◌, Result, Ok, sym, ap}
 use Rattle.atl_tables.specs.Worlds.{WorldValue}
 use Rattle.atl_tables.specs.World.{world_of}
@@ -6,6 +6,7 @@ use Rattle.atl_tables.specs.declared.fault.WorldFault.{WorldFault}
 use Rattle.atl_store.specs.OneWorld.{HoldsOneWorld}
 use Rattle.atl_store.proofs.AlikeLaws.{one_text}
 
+-- equal results have equal worlds
 pub same_world : (v w : WorldValue) → ◌≡◌ {A = Result WorldValue WorldFault} (Ok v) (Ok w) → v ≡ w
 same_world v w is = cc
 

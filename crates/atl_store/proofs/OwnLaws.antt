@@ -1,4 +1,4 @@
--- Why the campaign's own row is refused.
+-- Laws on reading the table `campaign`: its row is the campaign's own, or the load is refused, and by which fault.
 use Rattle.std.proofs.Common.{◌≡◌, ℕ, false, List, [], ◌∷◌, map, length, Result, Ok, Err, IfOk, IfErr, IsPermutation, refl, sym, ap, ◌∙◌, subst, inl, inr, string_bytes}
 use Rattle.std.proofs.lemmas.Str.{IsUtf8-string_bytes}
 use Rattle.sqlite.specs.Held.{Held, state}
@@ -28,7 +28,7 @@ use Rattle.atl_store.proofs.RowsLaws.{asked_rows}
 use Rattle.atl_store.proofs.SelectLaws.{reads_part}
 use Rattle.atl_store.proofs.SelectingLaws.{never_other}
 
--- a list whose image is one element has one
+-- a list whose image is one element has one element
 pub one_mapped : {A B : Type 0} (f : A → B) (xs : List A) (y : B) → map f xs ≡ y ∷ [] → (x : A) × (xs ≡ x ∷ []) × (f x ≡ y)
 one_mapped f [] y is = absurd (let k = is in cc)
 one_mapped f (x ∷ []) y is = (x, refl, let k = is in cc)
@@ -48,7 +48,7 @@ module _ (own : StoredCampaign) (h : StoredCampaignRow) (text : List ℕ) (is : 
   pub same_text : string_bytes own.world ≡ text
   same_text = let e = at 7 in cc
 
--- a row that is as it should be is one that was read so
+-- a row that is as it should be was read as the campaign's own
 pub own_read : (f : Format) (items : List StoredCampaign) (rows : List Row) (h : StoredCampaignRow) (text : List ℕ) (w : WorldValue)
     → map campaign_stored items ≡ map (first_columns (length campaign_forms)) rows → AreOwnRow f rows h text w
     → (own : StoredCampaign) × IsOwn f items own w
@@ -63,7 +63,7 @@ own_read f items rows h text w shown own =
       },
     )
 
--- every value of it is of its column's type
+-- the values of such a row are of their columns' types
 pub own_typed : (f : Format) (rows : List Row) (h : StoredCampaignRow) (text : List ℕ) (w : WorldValue) → AreOwnRow f rows h text w → AreTyped campaign_forms rows
 own_typed f rows h text w own row there =
     let one = one_mapped (first_columns (length campaign_forms)) rows (own_stored text h) own.is in
@@ -83,7 +83,7 @@ own_typed f rows h text w own row there =
 
 -- ---- the rows that are shown
 
--- what is so of each of the three answers is so of all
+-- what is true of each of three results is true of any
 judged_as : (Is : StoredCampaign × WorldValue → Type 0) (Nothing : Type 0) (P : Result (StoredCampaign × WorldValue) LoadFault → Type 0) → ((both : StoredCampaign × WorldValue) → Is both → P (Ok both)) → P (Err Memory) → (Nothing → P (Err (Damaged OneRow)))
     → (r : Result (StoredCampaign × WorldValue) LoadFault) → Judges Is Nothing r → P r
 judged_as Is Nothing P read lacks broken (Ok both) judged = read both judged
@@ -105,14 +105,14 @@ judged_as Is Nothing P read lacks broken (Err (Damaged Books)) judged = absurd j
 judged_as Is Nothing P read lacks broken (Err (Damaged Mail)) judged = absurd judged
 
 module _ (f : Format) where
-  -- they were read, and what was read is judged
+  -- the rows were read, and then checked
   pub judged_rows : (items : List StoredCampaign) (rows : List Row) (r : Result (StoredCampaign × WorldValue) LoadFault)
       → map campaign_stored items ≡ map (first_columns (length campaign_forms)) rows → JudgesOwn f items r → JudgesRows f rows r
   judged_rows items rows r shown =
       judged_as (λ both. IsOwn f items both.0 both.1) ((own : StoredCampaign) (w : WorldValue) → ¬ IsOwn f items own w) (JudgesRows f rows) (λ both own. record { is = sym shown ∙ ap (map campaign_stored) own.only; id = own.id; format = own.format; utf8 = IsUtf8-string_bytes both.0.world; world = own.world }) tt
       (λ none h text w own. let was = own_read f items rows h text w shown own in none was.0 w was.1) r
 
-  -- they were not, as a value is of another type or for lack of memory
+  -- the rows were not read, for a value of another type or out of memory
   pub unread_rows : (rows : List Row) (fault : ReadFault) → (fault ≡ read.OtherType → ¬ AreTyped campaign_forms rows)
       → ((fault ≡ read.OtherType → ⊥) → fault ≡ read.Memory) → JudgesRows f rows (Err (own_fault fault))
   unread_rows rows read.OtherType other which = λ h text w own. other refl (own_typed f rows h text w own)
@@ -121,7 +121,7 @@ module _ (f : Format) where
   unread_rows rows read.Refused other which = absurd (let e = which (λ e. cc) in cc)
 
 module _ (f : Format) {S : Type 0} (g : Ghosts S) (old : Held S) where
-  -- the rows are not as they should be
+  -- rows that are not as they should be refuse the load
   pub refuses_own : old.in_transaction ≡ false → (rows : List Row) (r : Result (StoredCampaign × WorldValue) LoadFault) → JudgesFormat f rows r → Selects g (selection campaign_table 1) old rows
       → IfErr r (RefusesToLoadIn f g old)
   refuses_own idle rows r (inl other) told = subst (λ answer. IfErr answer (RefusesToLoadIn f g old)) (sym other.1) (rows, told, other.0)
@@ -132,13 +132,13 @@ module _ (f : Format) {S : Type 0} (g : Ghosts S) (old : Held S) where
   rows_own rows (Err fault) judged told = tt
   rows_own rows (Ok both) judged told = record { rows = rows; selects = told; row = judged; table = λ begins. subst (IsPermutation (rows_in campaign_table (state g old).now.trees)) judged.is (asked_rows First (selection campaign_table 1) (rows_in campaign_table) 8 (reads_part Own 8 refl) (state g old) (state g told.0) (state g told.1) rows told.2 told.3 begins) }
 
-  -- they are the campaign's own row and its world
+  -- else they are the campaign's own row and its world
   pub own_is : (rows : List Row) (r : Result (StoredCampaign × WorldValue) LoadFault) → JudgesFormat f rows r → Selects g (selection campaign_table 1) old rows
       → IfOk r (λ both. OwnRead g old f both.0 both.1)
   own_is rows r (inl other) told = subst (λ answer. IfOk answer (λ both. OwnRead g old f both.0 both.1)) (sym other.1) tt
   own_is rows r (inr judged) told = rows_own rows r judged.1 told
 
-  -- they could not be asked for
+  -- a SELECT of the row that fails refuses the load
   pub unasked_own : old.in_transaction ≡ false → (fault : ReadFault) → RefusesToSelect g (selection campaign_table 1) old fault → RefusesToLoadIn f g old (own_fault fault)
   unasked_own idle read.Store refused = inr (inl refused)
   unasked_own idle read.Memory refused = (idle, inl refused)

@@ -1,4 +1,4 @@
--- Tables whose key is two numbers, with one number more in a row.
+-- Laws on tables whose rows are a key of two numbers and one number more (`books`, `market`).
 use Rattle.std.proofs.Common.{◌≡◌, ℕ, ℤ, pos, true, List, [], ◌∷◌, None, refl, sym, true≢false}
 use Rattle.std.proofs.lemmas.Bool.{and_parts, not-true}
 use Rattle.sqlite.specs.declared.types.Value.TheVariants.{Int, Null}
@@ -15,20 +15,24 @@ use Rattle.atl_store.proofs.KeyLaws.{int_by, cons_is}
 use Rattle.atl_store.proofs.KeyedRowLaws.{AreInts, MakesValues}
 use Rattle.atl_store.proofs.Terms.{cast_null, cast_int}
 
+-- the indexes of the key's columns
 abbrev pub pair_unique : List ℕ
 pair_unique = 1 ∷ 2 ∷ []
 
--- a row as it is put: its key, and its number, which a row that is there takes over
+-- the terms of the INSERT: a rowid that SQL chooses, the key, and the number
 abbrev pub pair_terms : List Term
 pair_terms = lit Null ∷ col 0 0 ∷ col 0 1 ∷ col 0 2 ∷ []
 
+-- the terms of the UPDATE: the row that is there takes over the number
 abbrev pub pair_project : List Term
 pair_project = col 1 0 ∷ col 1 1 ∷ col 1 2 ∷ col 0 2 ∷ []
 
 module _ (tree : ℕ) (name first second amount : List ℕ) where
+  -- such a table
   abbrev pub pair_table : Table
   pair_table = table tree name (number first ∷ number second ∷ number amount ∷ []) None pair_unique (pair_unique ∷ []) []
 
+  -- a row that passes the table's checks has integers in its key
   pub pair_ints : (schema : Schema) (x : Row) → passes Datatype schema (λ t. []) pair_table x ≡ true → passes NotNull schema (λ t. []) pair_table x ≡ true
       → AreInts pair_unique x
   pair_ints schema [] typed present = absurd (true≢false (sym present))
@@ -41,6 +45,7 @@ module _ (tree : ℕ) (name first second amount : List ℕ) where
       let p2 = and_parts _ _ p1.1 in
       (int_by a t1.0 (not-true _ p1.0), (int_by b t2.0 (not-true _ p2.0), tt))
 
+  -- the terms make the row of these three numbers
   pub makes_pair : (a b : ℕ) (n : ℤ) → MakesValues pair_table pair_unique 4 pair_terms 3 pair_project (int a ∷ int b ∷ Int n ∷ [])
   makes_pair a b n = record {
     source = refl;

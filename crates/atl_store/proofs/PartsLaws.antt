@@ -1,4 +1,4 @@
--- From the rows that the tables have to the campaign that they hold, table by table.
+-- Laws from the rows of the tables to the campaign: if the rows that were read are made of a campaign, the tables hold it, table by table.
 use Rattle.std.proofs.Common.{◌≡◌, ◌≢◌, ◌==◌, ℕ, ℤ, pos, Bool, true, false, cond, not, unwrap_or, Some, None, List, [], ◌∷◌, filter, map, refl, sym, ap, ◌∙◌, subst, inl, inr, true≢false, IsTrue}
 use Rattle.std.specs.List.{AllByRecursion}
 use Rattle.std.specs.List.Sorted.{IsPermutation}
@@ -53,10 +53,11 @@ use Rattle.atl_store.proofs.PartLaws.{all_among, is_among, not_among}
 -- ---- rows of a table, rows that were read of it, and rows that are made of a campaign
 
 module _ {A : Type 0} (shown : A → Row) (rows : List Row) (read made : List A) (in_table : IsPermutation rows (map shown read)) (of_them : IsPermutation made read) where
-  -- the table has exactly the rows that are made
+  -- the table has exactly the rows that are made of the campaign
   rows_made : IsPermutation rows (map shown made)
   rows_made = IsPermutation-trans rows (map shown read) (map shown made) in_table (IsPermutation-sym (map shown made) (map shown read) (IsPermutation-map shown made read of_them))
 
+  -- a row is in the table exactly if it shows a row that is made of the campaign
   are_made : Is rows (λ r. (a : A) × Has made a × (r ≡ shown a))
   are_made r = (
     λ there. map_has shown made r (has_permuted rows (map shown made) r rows_made there),
@@ -65,11 +66,11 @@ module _ {A : Type 0} (shown : A → Row) (rows : List Row) (read made : List A)
 
 -- ---- the tables by number
 
--- all rows, as they are shown, and they have different integers in the first column
+-- The rows, in some order, have different integers in the first column.
 abbrev HasKeys : List Row → Type 0
 HasKeys rows = (shown : List Row) × IsPermutation rows shown × HaveKeys 0 shown
 
--- one row for each entry of a map
+-- a table with one row for each entry of a map has exactly the map's rows, with different numbers
 by_number : {A V : Type 0} {Q : Type 0} (shown : A → Row) (row : ℕ → V → A) (line : ℕ → V → Row) → ((n : ℕ) (v : V) → shown (row n v) ≡ line n v) → ((n : ℕ) (v : V) → column (line n v) 0 ≡ Int (pos n))
     → (rows : List Row) (read : List A) (m : FinMap nat_cmp V) → IsPermutation rows (map shown read) → IsPermutation (rows_by row (entries m)) read → Is rows (RowsOf line m) × (Q → HasKeys rows)
 by_number {A} {V} shown row line same numbered rows read m in_table of_them = (held, λ _. (lines, is, lines_keys line numbered m))
@@ -86,19 +87,23 @@ by_number {A} {V} shown row line same numbered rows read m in_table of_them = (h
       λ of. has_permuted lines rows r (IsPermutation-sym rows lines is) (subst (Has lines) (sym of.3) (has_map (λ (e : ℕ × V). line e.0 e.1) (entries m) (of.0, of.1) (got_entry m of.0 of.1 of.2))),
     )
 
+-- a flag as a row stores it is the flag as a row of the campaign shows it
 same_flag : (b : Bool) → Int (made.flag b) ≡ flag b
 same_flag true = refl
 same_flag false = refl
 
-faction_same : (n : ℕ) (f : Faction) → faction_stored (made.faction_row n f) ≡ faction_line n f
-faction_same n f = ap (λ v. Int (pos n) ∷ Text f.joined_as ∷ Text f.name ∷ Text f.pass ∷ v ∷ []) (same_flag f.gone)
+-- the row made of a faction shows as the row that stands for it
+faction_row_is_line : (n : ℕ) (f : Faction) → faction_stored (made.faction_row n f) ≡ faction_line n f
+faction_row_is_line n f = ap (λ v. Int (pos n) ∷ Text f.joined_as ∷ Text f.name ∷ Text f.pass ∷ v ∷ []) (same_flag f.gone)
 
-unit_same : (n : ℕ) (u : Unit) → unit_stored (made.unit_row n u) ≡ unit_line n u
-unit_same n u =
+-- the row made of a unit shows as the row that stands for it
+unit_row_is_line : (n : ℕ) (u : Unit) → unit_stored (made.unit_row n u) ≡ unit_line n u
+unit_row_is_line n u =
     ap (λ v. Int (pos n) ∷ Int (pos u.faction) ∷ Text u.holding.name ∷ Int (pos u.region) ∷ Int (pos u.structure) ∷ Int (pos u.holding.men) ∷ Int (pos u.holding.money) ∷ v ∷ []) (same_flag u.holding.guard)
 
 -- ---- the campaign's own row
 
+-- the table `campaign` has exactly the row of the campaign
 own_held : {Q : Type 0} (f : Format) (text : List ℕ) (c : CampaignValue) (rows : List Row) (read : List StoredCampaignRow) → IsPermutation rows (map (own_stored text) read) → IsPermutation (made.campaign_row f c ∷ []) read → Is rows (λ r. r ≡ campaign_row_in f (campaign_row_of c) text) × (Q → HasKeys rows)
 own_held f text c rows read in_table of_them = (
   λ r.
@@ -112,61 +117,70 @@ own_held f text c rows read in_table of_them = (
 -- ---- amounts that are not 0
 
 module _ {R : Type 0} (amount : R → ℤ) (row : ℕ → ℕ → R) (is : (thing count : ℕ) → amount (row thing count) ≡ pos count) where
-  amount_made : (es : List (ℕ × ℕ)) (s : R) → Has (amount_rows amount row es) s → (e : ℕ × ℕ) × Has es e × (e.1 ≢ 0) × (s ≡ row e.0 e.1)
-  amount_made es s there =
+  -- each row of an amount is of an entry that is not 0
+  amount_row_is_of_entry : (es : List (ℕ × ℕ)) (s : R) → Has (amount_rows amount row es) s → (e : ℕ × ℕ) × Has es e × (e.1 ≢ 0) × (s ≡ row e.0 e.1)
+  amount_row_is_of_entry es s there =
       let kept = has_filtered (λ r. not (is_zero (amount r))) (rows_by row es) s there in
       let e = map_has (λ (e : ℕ × ℕ). row e.0 e.1) es s kept.0 in
       (e.0, e.1, λ zero. true≢false (sym kept.1 ∙ ap (λ r. not (is_zero (amount r))) e.2 ∙ ap (λ z. not (is_zero z)) (is e.0.0 e.0.1) ∙ ap (λ a. not (a == 0)) zero), e.2)
 
-  made_amount : (es : List (ℕ × ℕ)) (thing count : ℕ) → Has es (thing, count) → count ≢ 0 → Has (amount_rows amount row es) (row thing count)
-  made_amount es thing count there some =
+  -- each entry that is not 0 has its row
+  entry_has_amount_row : (es : List (ℕ × ℕ)) (thing count : ℕ) → Has es (thing, count) → count ≢ 0 → Has (amount_rows amount row es) (row thing count)
+  entry_has_amount_row es thing count there some =
       has_kept (λ r. not (is_zero (amount r))) (rows_by row es) (row thing count) (has_map (λ (e : ℕ × ℕ). row e.0 e.1) es (thing, count) there) (ap (λ z. not (is_zero z)) (is thing count) ∙ ap not (is_not_zero count some))
 
 -- ---- what units have
 
-sort_made : (n sort : ℕ) (es : List (ℕ × ℕ)) (s : StoredHas) → Has (made.rows_of_sort n sort es) s → (e : ℕ × ℕ) × Has es e × (e.1 ≢ 0) × (s ≡ made.has_row n sort e.0 e.1)
-sort_made n sort = amount_made (λ (r : StoredHas). r.amount) (made.has_row n sort) (λ thing count. refl)
+-- each row of one kind of thing of a unit is of an entry that is not 0
+kind_row_is_of_entry : (n sort : ℕ) (es : List (ℕ × ℕ)) (s : StoredHas) → Has (made.rows_of_sort n sort es) s → (e : ℕ × ℕ) × Has es e × (e.1 ≢ 0) × (s ≡ made.has_row n sort e.0 e.1)
+kind_row_is_of_entry n sort = amount_row_is_of_entry (λ (r : StoredHas). r.amount) (made.has_row n sort) (λ thing count. refl)
 
-made_sort : (n sort : ℕ) (es : List (ℕ × ℕ)) (thing amount : ℕ) → Has es (thing, amount) → amount ≢ 0 → Has (made.rows_of_sort n sort es) (made.has_row n sort thing amount)
-made_sort n sort = made_amount (λ (r : StoredHas). r.amount) (made.has_row n sort) (λ thing count. refl)
+-- each entry of one kind of thing that is not 0 has its row
+entry_has_kind_row : (n sort : ℕ) (es : List (ℕ × ℕ)) (thing amount : ℕ) → Has es (thing, amount) → amount ≢ 0 → Has (made.rows_of_sort n sort es) (made.has_row n sort thing amount)
+entry_has_kind_row n sort = entry_has_amount_row (λ (r : StoredHas). r.amount) (made.has_row n sort) (λ thing count. refl)
 
-goods_made : (n : ℕ) (held : HoldingValue) (s : StoredHas) → Has (made.held_rows n held) s → (sort : ThingKind) × (e : ℕ × ℕ) × Has (entries (things_of sort held)) e × (e.1 ≢ 0) × (s ≡ made.has_row n (sort_number sort) e.0 e.1)
-goods_made n held s there = elim (has_either (made.rows_of_sort n 0 (entries held.items)) (made.rows_of_sort n 1 (entries held.days)) s there) [
-  | inl item ↦ let e = sort_made n 0 (entries held.items) s item in (Item, e.0, e.1, e.2, e.3)
-  | inr skill ↦ let e = sort_made n 1 (entries held.days) s skill in (Skill, e.0, e.1, e.2, e.3)
+-- each row of what a unit has is of an entry of items or skills that is not 0
+goods_row_is_of_entry : (n : ℕ) (held : HoldingValue) (s : StoredHas) → Has (made.held_rows n held) s → (sort : ThingKind) × (e : ℕ × ℕ) × Has (entries (things_of sort held)) e × (e.1 ≢ 0) × (s ≡ made.has_row n (sort_number sort) e.0 e.1)
+goods_row_is_of_entry n held s there = elim (has_either (made.rows_of_sort n 0 (entries held.items)) (made.rows_of_sort n 1 (entries held.days)) s there) [
+  | inl item ↦ let e = kind_row_is_of_entry n 0 (entries held.items) s item in (Item, e.0, e.1, e.2, e.3)
+  | inr skill ↦ let e = kind_row_is_of_entry n 1 (entries held.days) s skill in (Skill, e.0, e.1, e.2, e.3)
 ]
 
-made_goods : (n : ℕ) (held : HoldingValue) (sort : ThingKind) (thing amount : ℕ) → Has (entries (things_of sort held)) (thing, amount) → amount ≢ 0 → Has (made.held_rows n held) (made.has_row n (sort_number sort) thing amount)
-made_goods n held Item thing amount there some = has_left (made.rows_of_sort n 0 (entries held.items)) (made.rows_of_sort n 1 (entries held.days)) _ (made_sort n 0 (entries held.items) thing amount there some)
-made_goods n held Skill thing amount there some = has_right (made.rows_of_sort n 0 (entries held.items)) (made.rows_of_sort n 1 (entries held.days)) _ (made_sort n 1 (entries held.days) thing amount there some)
+-- each entry of items or skills of a unit that is not 0 has its row
+entry_has_goods_row : (n : ℕ) (held : HoldingValue) (sort : ThingKind) (thing amount : ℕ) → Has (entries (things_of sort held)) (thing, amount) → amount ≢ 0 → Has (made.held_rows n held) (made.has_row n (sort_number sort) thing amount)
+entry_has_goods_row n held Item thing amount there some = has_left (made.rows_of_sort n 0 (entries held.items)) (made.rows_of_sort n 1 (entries held.days)) _ (entry_has_kind_row n 0 (entries held.items) thing amount there some)
+entry_has_goods_row n held Skill thing amount there some = has_right (made.rows_of_sort n 0 (entries held.items)) (made.rows_of_sort n 1 (entries held.days)) _ (entry_has_kind_row n 1 (entries held.days) thing amount there some)
 
+-- the row of an entry of a unit is one of those that the units' table must have
 row_of_goods : (units : FinMap nat_cmp Unit) (r : Row) (n : ℕ) (unit : Unit) → Has (entries units) (n, unit) → (a : StoredHas) → r ≡ has_values a → (sort : ThingKind) (e : ℕ × ℕ) → Has (entries (things_of sort unit.holding)) e → e.1 ≢ 0 → a ≡ made.has_row n (sort_number sort) e.0 e.1 → HasRowsOf units r
 row_of_goods units r n unit there a is sort e has some made_is = (n, unit, entry_got units n unit there, sort, e.0, e.1, entry_got (things_of sort unit.holding) e.0 e.1 has, some, is ∙ ap has_values made_is)
 
+-- the table `has` has exactly the rows of what the units have
 goods_held : (rows : List Row) (read : List StoredHas) (units : FinMap nat_cmp Unit) → IsPermutation rows (map has_values read) → IsPermutation (made.has_rows (entries units)) read → Is rows (HasRowsOf units)
 goods_held rows read units in_table of_them r =
     let is = are_made has_values rows read (made.has_rows (entries units)) in_table of_them r in (
       λ there.
           let a = is.0 there in
           let found = flat_has (λ (e : ℕ × Unit). made.held_rows e.0 e.1.holding) (entries units) a.0 a.1 in
-          let e = goods_made found.0.0 found.0.1.holding a.0 found.2 in
+          let e = goods_row_is_of_entry found.0.0 found.0.1.holding a.0 found.2 in
           row_of_goods units r found.0.0 found.0.1 found.1 a.0 a.2 e.0 e.1 e.2 e.3 e.4,
       λ of. is.1 (
         made.has_row of.0 (sort_number of.3) of.4 of.5,
-        has_flat (λ (e : ℕ × Unit). made.held_rows e.0 e.1.holding) (entries units) (of.0, of.1) _ (got_entry units of.0 of.1 of.2) (made_goods of.0 of.1.holding of.3 of.4 of.5 (got_entry (things_of of.3 of.1.holding) of.4 of.5 of.6) of.7),
+        has_flat (λ (e : ℕ × Unit). made.held_rows e.0 e.1.holding) (entries units) (of.0, of.1) _ (got_entry units of.0 of.1 of.2) (entry_has_goods_row of.0 of.1.holding of.3 of.4 of.5 (got_entry (things_of of.3 of.1.holding) of.4 of.5 of.6) of.7),
         of.8,
       ),
     )
 
 -- ---- the stocks
 
+-- the table `market` has exactly the rows of the regions' stocks
 stocks_held : (rows : List Row) (read : List StoredMarket) (regions : FinMap nat_cmp Region) → IsPermutation rows (map market_values read) → IsPermutation (made.market_rows Second (entries regions)) read → Is rows (MarketRowsOf regions)
 stocks_held rows read regions in_table of_them r =
     let is = are_made market_values rows read (made.market_rows Second (entries regions)) in_table of_them r in (
       λ there.
           let a = is.0 there in
           let found = flat_has (λ (e : ℕ × Region). made.stock_rows e.0 (entries e.1.stocks)) (entries regions) a.0 a.1 in
-          let e = amount_made (λ (r : StoredMarket). r.stock) (made.market_row found.0.0) (λ item stock. refl) (entries found.0.1.stocks) a.0 found.2 in (
+          let e = amount_row_is_of_entry (λ (r : StoredMarket). r.stock) (made.market_row found.0.0) (λ item stock. refl) (entries found.0.1.stocks) a.0 found.2 in (
             found.0.0,
             found.0.1,
             entry_got regions found.0.0 found.0.1 found.1,
@@ -179,26 +193,29 @@ stocks_held rows read regions in_table of_them r =
       λ of. is.1 (
         made.market_row of.0 of.3 of.4,
         has_flat (λ (e : ℕ × Region). made.stock_rows e.0 (entries e.1.stocks)) (entries regions) (of.0, of.1) _ (got_entry regions of.0 of.1 of.2)
-            (made_amount (λ (r : StoredMarket). r.stock) (made.market_row of.0) (λ item stock. refl) (entries of.1.stocks) of.3 of.4 (got_entry of.1.stocks of.3 of.4 of.5) of.6),
+            (entry_has_amount_row (λ (r : StoredMarket). r.stock) (made.market_row of.0) (λ item stock. refl) (entries of.1.stocks) of.3 of.4 (got_entry of.1.stocks of.3 of.4 of.5) of.6),
         of.7,
       ),
     )
 
 -- ---- the books
 
+-- what is true of each element of a list is true of one that it has
 each_of : {A : Type 0} (P : A → Type 0) (xs : List A) (x : A) → AllByRecursion P xs → Has xs x → P x
 each_of P [] x all there = absurd there
 each_of P (y ∷ xs) x all (inl same) = subst P (sym same) all.0
 each_of P (y ∷ xs) x all (inr later) = each_of P xs x all.1 later
 
+-- if each element of `ys` is in `xs`, then so by recursion over `ys`
 all_has : {A : Type 0} (xs ys : List A) → ((x : A) → Has ys x → Has xs x) → AllByRecursion (Has xs) ys
 all_has xs [] within = tt
 all_has xs (y ∷ ys) within = (within y (inl refl), all_has xs ys (λ x there. within x (inr there)))
 
+-- the row of the books for one account and its amount
 abbrev made_line : Account × ℤ → StoredBooks
 made_line x = made.books_row x.0.0 x.0.1 x.1
 
--- the table has the rows of books of so many things
+-- the table `books` has exactly the rows of the amounts, if the books are of this number of things
 books_held : (things : ℕ) (books : BooksValue) → AreBooks things books → (rows : List Row) (read : List StoredBooks) → IsPermutation rows (map books_values read) → IsPermutation (made.books_rows books) read → Is rows (BooksRowsOf books)
 books_held things books are rows read in_table of_them r =
     let m = books.amounts in
@@ -219,23 +236,24 @@ books_held things books are rows read in_table of_them r =
 
 -- ---- all tables
 
+-- each part is in the list of all parts
 pub every_part : (part : Part) → Has all_parts part
 every_part = all_among all_parts refl
 
--- a part that the first format doesn't have is of the second
+-- a part that the first format lacks is of the second format
 only_second : (f : Format) (part : Part) → is_among (parts_in First) part ≡ false → Has (parts_in f) part → f ≡ Second
 only_second First part late there = absurd (not_among (parts_in First) part late there)
 only_second Second part late there = refl
 
 -- tables that have the rows of a campaign
 module _ (f : Format) (db : Trees) (text : List ℕ) (p : Parts) (c : CampaignValue) (have : HaveRows f db text p) (are : AreRowsOf f c p) (things : ℕ) (books : AreBooks things c.books) where
-  -- Each part's table has exactly the rows that stand for the part, and they differ in the first column where that is the row's number.
+  -- Each part's table has exactly the rows that stand for the part, and these differ in the first column if it is the key.
   by_part : (part : Part) → Has (parts_in f) part → Is (rows_in (table_of part) db) (rows_for (campaign_row_in f (campaign_row_of c) text) c part) × (shows_rowids part ≡ false → HasKeys (rows_in (table_of part) db))
   unfolding rows_of
   by_part Own there = own_held f text c _ p.campaign (have.rows Own there) are.campaign
-  by_part Factions there = by_number faction_stored made.faction_row faction_line faction_same (λ n v. refl) _ p.factions c.factions (have.rows Factions there) are.factions
+  by_part Factions there = by_number faction_stored made.faction_row faction_line faction_row_is_line (λ n v. refl) _ p.factions c.factions (have.rows Factions there) are.factions
   by_part Regions there = by_number region_stored made.region_row region_line (λ n v. refl) (λ n v. refl) _ p.regions c.regions (have.rows Regions there) are.regions
-  by_part Units there = by_number unit_stored made.unit_row unit_line unit_same (λ n v. refl) _ p.units c.units (have.rows Units there) are.units
+  by_part Units there = by_number unit_stored made.unit_row unit_line unit_row_is_line (λ n v. refl) _ p.units c.units (have.rows Units there) are.units
   by_part Goods there = (goods_held _ p.has c.units (have.rows Goods there) are.has, λ number. absurd (true≢false number))
   by_part Structures there = by_number structure_stored made.structure_row structure_line (λ n v. refl) (λ n v. refl) _ p.structures c.structures (have.rows Structures there) are.structures
   by_part Mail there = by_number mail_stored made.mail_row mail_row (λ n v. refl) (λ n v. refl) _ p.mail c.mail (have.rows Mail there) are.mail
@@ -243,11 +261,11 @@ module _ (f : Format) (db : Trees) (text : List ℕ) (p : Parts) (c : CampaignVa
   by_part Books there = (books_held things c.books books _ p.books (have.rows Books there) are.books, λ number. absurd (true≢false number))
   by_part Markets there = (stocks_held _ p.markets c.regions (have.rows Markets there) (subst (λ f. IsPermutation (made.market_rows f (entries c.regions)) p.markets) (only_second f Markets refl there) are.markets), λ number. absurd (true≢false number))
 
-  -- so they hold it
+  -- the tables hold the campaign
   pub rows_hold : HoldsIn f db text c
   rows_hold = record { rows = λ part there. (by_part part there).0 }
 
-  -- and are keyed, where those are that have places
+  -- the rowids of each table differ, if those of the tables without an integer key do
   pub rows_keyed : ((table : Table) → Has (tables_with_rowids f) table → IsKeyed (db table.tree)) → (table : Table) → Has (map table_of (parts_in f)) table → IsKeyed (db table.tree)
   rows_keyed placed table there =
       let part = map_has table_of (parts_in f) table there in
@@ -256,16 +274,18 @@ module _ (f : Format) (db : Trees) (text : List ℕ) (p : Parts) (c : CampaignVa
         | inr is ↦ let keys = (by_part part.0 part.1).1 is in numbers_keyed part.0 db keys.0 is keys.1 keys.2
       ])
 
--- in the second format they hold it whole
+-- in the second format, holding a campaign's rows in each part is holding the campaign
 pub holds_all : (db : Trees) (text : List ℕ) (c : CampaignValue) → HoldsIn Second db text c → Holds db text c
 holds_all db text c holds = record { rows = λ part. holds.rows part (every_part part) }
 
 -- ---- the first rule
 
+-- one campaign row with id 1 and this format fulfils the first rule
 one_head : (f : Format) (h : StoredCampaignRow) (rows : List StoredCampaignRow) → h.id ≡ pos 1 → h.format ≡ pos (format_number f) → rows ≡ h ∷ [] → IsTrue (is_one_campaign_row f rows)
 one_head First h rows id format is = rw (is, id, format) refl
 one_head Second h rows id format is = rw (is, id, format) refl
 
+-- if no row was read of parts that the format lacks, there are no stocks in the first format
 no_markets : (f : Format) (p : Parts) → ((text : List ℕ) (part : Part) → ¬ Has (parts_in f) part → rows_read text p part ≡ []) → IsTrue (are_of_format f p.markets)
 no_markets First p none = nothing p.markets (none [] Markets (not_among (parts_in First) Markets refl))
   where
@@ -274,6 +294,6 @@ no_markets First p none = nothing p.markets (none [] Markets (not_among (parts_i
     nothing (row ∷ rows) is = absurd (let k = is in cc)
 no_markets Second p none = refl
 
--- a row whose id is 1 and whose format is this one keeps it, where no row was read of a part that the format doesn't have
+-- the first rule holds of a row with id 1 and this format, if no row was read of a part that the format lacks
 pub keeps_one_row : (f : Format) (w : WorldValue) (p : Parts) (h : StoredCampaignRow) → h.id ≡ pos 1 → h.format ≡ pos (format_number f) → p.campaign ≡ h ∷ [] → ((text : List ℕ) (part : Part) → ¬ Has (parts_in f) part → rows_read text p part ≡ []) → Keeps f w p OneRow
 keeps_one_row f w p h id format is none = (one_head f h p.campaign id format is, no_markets f p none)

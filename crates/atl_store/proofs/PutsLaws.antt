@@ -1,4 +1,4 @@
--- Rows that are put one after another.
+-- Laws on putting the rows of a list one after another: what is put so far, and with the rest.
 use Rattle.std.proofs.Common.{◌≡◌, ◌≢◌, ◌↔◌, ◌++◌, ℕ, List, [], ◌∷◌, refl, sym, ◌∙◌, subst, inl, inr}
 use Rattle.sqlite.specs.Order.{Row}
 use Rattle.sqlite.specs.Table.{Table}
@@ -10,11 +10,12 @@ use Rattle.atl_store.specs.Tables.{all_tables}
 use Rattle.atl_store.specs.Inside.{Inside, HasTables, Puts, PutsRows}
 use Rattle.atl_store.proofs.CarryLaws.{carries_then, carries_none}
 
--- with the rest put too, all is put
+-- The rows put so far: with the rest put too, all rows of the list are put. Other tables are unchanged.
 pub record Towards (table : Table) (key : ℕ) (rest all : List Row) (old now : Database) : Type 0 where
   pub rows : (r : Row) → puts key rest (Has (rows_in table now.trees)) r ↔ puts key all (Has (rows_in table old.trees)) r
   pub others : (t : Table) → Has all_tables t → t.tree ≢ table.tree → now.trees t.tree ≡ old.trees t.tree
 
+-- putting rows into equal sets gives equal sets
 puts_same : (key : ℕ) (news : List Row) (S T : Set) → ((r : Row) → S r ↔ T r) → (r : Row) → puts key news S r ↔ puts key news T r
 puts_same key [] S T same r = same r
 puts_same key (new ∷ news) S T same r = puts_same key news (put key new S) (put key new T) (λ x. (
@@ -22,15 +23,18 @@ puts_same key (new ∷ news) S T same r = puts_same key news (put key new S) (pu
   λ h. elim h [ inl is ↦ inl is | inr was ↦ inr ((same x).1 was.0, was.1) ],
 )) r
 
+-- putting two lists joined is putting one and then the other
 puts_append : (key : ℕ) (xs ys : List Row) (S : Set) (r : Row) → puts key (xs ++ ys) S r → puts key ys (puts key xs S) r
 puts_append key [] ys S r h = h
 puts_append key (x ∷ xs) ys S r h = puts_append key xs ys (put key x S) r h
 
+-- putting one list and then the other is putting both joined
 append_puts : (key : ℕ) (xs ys : List Row) (S : Set) (r : Row) → puts key ys (puts key xs S) r → puts key (xs ++ ys) S r
 append_puts key [] ys S r h = h
 append_puts key (x ∷ xs) ys S r h = append_puts key xs ys (put key x S) r h
 
 module _ (table : Table) (key : ℕ) where
+  -- putting a part of the rest comes nearer to all
   towards_rows : (xs rest all : List Row) (old mid new : Database) → Towards table key (xs ++ rest) all old mid → PutsRows table key xs mid new → Towards table key rest all old new
   towards_rows xs rest all old mid new so_far more = record {
     rows = λ r.
@@ -41,9 +45,11 @@ module _ (table : Table) (key : ℕ) where
     others = λ t listed other. more.others t listed other ∙ so_far.others t listed other;
   }
 
+  -- putting one row puts a list of one
   puts_one : (x : Row) (old new : Database) → Puts table key x old new → PutsRows table key (x ∷ []) old new
   puts_one x old new one = record { rows = one.rows; others = one.others }
 
+  -- a part of the rest is put inside the transaction
   pub inside_rows : (xs rest all : List Row) (old mid new : State) → Inside HasTables (Towards table key (xs ++ rest) all) old mid → Inside HasTables (PutsRows table key xs) mid new → Inside HasTables (Towards table key rest all) old new
   inside_rows xs rest all old mid new so_far more = (
     more.0 ∙ so_far.0,
@@ -77,15 +83,15 @@ module _ (table : Table) (key : ℕ) where
         },
   )
 
-  -- no row at all
+  -- a list without rows is put by doing nothing
   pub none_put : (rows : List Row) → rows ≡ [] → (s : State) → Inside HasTables (PutsRows table key rows) s s
   none_put rows none s = all_put rows rows none s s (none_yet rows rows refl s)
 
-  -- one row
+  -- one row is put
   pub one_put : (row : Row) (rows : List Row) → rows ≡ row ∷ [] → (old new : State) → Inside HasTables (Puts table key row) old new → Inside HasTables (PutsRows table key rows) old new
   one_put row rows is old new did = (did.0, λ has. let made = did.1 has in record { does = subst (λ list. PutsRows table key list old.now new.now) (sym is) (puts_one row old.now new.now made.does); tables = made.tables; carries = made.carries })
 
-  -- one list after another
+  -- one list of rows and then another are put
   pub inside_both : (xs ys : List Row) (a b c : State) → Inside HasTables (PutsRows table key xs) a b → Inside HasTables (PutsRows table key ys) b c → Inside HasTables (PutsRows table key (xs ++ ys)) a c
   inside_both xs ys a b c one two = (
     two.0 ∙ one.0,

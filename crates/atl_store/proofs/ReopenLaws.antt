@@ -1,4 +1,4 @@
--- What a crash left is a campaign again, once it is opened.
+-- Laws on opening a file again: what a crash left is a campaign once more.
 use Rattle.std.proofs.Common.{◌≡◌, ◌⊎◌, ℕ, List, sym, ap, ◌∙◌, subst, inl, inr}
 use Rattle.sqlite.specs.Effect.{Database}
 use Rattle.sqlite.specs.Held.{Held, state}
@@ -12,7 +12,7 @@ use Rattle.atl_store.specs.Tables.{HasAll}
 use Rattle.atl_store.proofs.ListedLaws.{one_schema}
 
 module _ {S : Type 0} (g : Ghosts S) where
-  -- an open connection keeps the campaign that its tables store
+  -- an open connection to a file that stores a campaign keeps it
   pub keeps_stored : (new : Held S) → Opens (state g new) → IsLive (state g new) → ((db : Trees) → (state g new).may_leave db → db ≡ (state g new).committed.trees) → (text : List ℕ) (c : CampaignValue) → Stores (state g new).now.trees text c → Keeps (state g new) text c
   keeps_stored new opens live settled text c stores =
       let listed = (live opens.is_open).0 in
@@ -27,9 +27,11 @@ module _ {S : Type 0} (g : Ghosts S) where
       }
 
   module _ (old new : Held S) (reopens : Reopens g old new) where
+    -- a campaign held before the file was shut is held when it is opened again
     pub kept_again : (text : List ℕ) (c : CampaignValue) → HoldsCampaign g old text c → HoldsCampaign g new text c
     kept_again text c holds clean = reopens.keeps clean text c ((holds (reopens.clean clean)).crash (state g new).now.trees (reopens.found clean))
 
+    -- after a command that failed, the opened file has the campaign before it or after it
     pub stopped_again : HasCleanDisk (state g new) → (faults : ℕ) (text : List ℕ) (before after : CampaignValue) → LeavesAfterFault faults (state g old) text before after → Keeps (state g new) text before ⊎ Keeps (state g new) text after
     stopped_again clean faults text before after stops = elim (stops.crash (state g new).now.trees (reopens.found clean)) [
       | inl is ↦ inl (reopens.keeps clean text before is)

@@ -1,4 +1,4 @@
--- What is marked is written: one table after another, and the whole.
+-- Laws on `write_changes`: the dirty rows of each table are written, one table after another.
 use Rattle.std.proofs.Common.{◌≡◌, ◌≢◌, ◌++◌, ◌⊎◌, Bool, true, false, List, [], ◌∷◌, take, refl, sym, ap, ◌∙◌, subst, inl, inr}
 use Rattle.std.specs.List.{list_all}
 use Rattle.sqlite.specs.Effect.{Database}
@@ -34,9 +34,11 @@ module _ (c : MarkedCampaign) where
       only r (inl same) = same
       only r (inr kept) = absurd (kept.1 (ap (take 1) ((was r).0 kept.0)))
 
+  -- a dirty campaign row is written
   pub head_done : c.marks.row ≡ true → (old new : State) → Inside HasTables (PutsCampaignRow (campaign_row_of c.value) []) old new → Inside HasTables (RewritesCampaignRow c) old new
   head_done is old new did = inside_weaker HasTables (PutsCampaignRow (campaign_row_of c.value) []) (RewritesCampaignRow c) old new (λ has puts. head_put true is refl old.now new.now puts) did
 
+  -- a campaign row that is not dirty is left
   pub head_left : c.marks.row ≡ false → (s : State) → Inside HasTables (RewritesCampaignRow c) s s
   head_left is s = (
     refl,
@@ -50,18 +52,21 @@ module _ (c : MarkedCampaign) where
 -- ---- one table after another
 
 module _ (c : MarkedCampaign) where
+  -- the part of the campaign row is rewritten
   pub own_rewritten : (old new : Database) → RewritesCampaignRow c old new → RewritesWithOwn c (Own ∷ []) old new
   own_rewritten old new did before text was = one_changed (Becomes c (own_after c before text)) Own _ old new (did before text was) (λ rows. rows)
 
-  -- of another part, whose rows don't tell the campaign's own
+  -- another part is rewritten, whatever the campaign row
   pub part_rewritten : (part : Part) → ((own : Row) (before after : List Row) → Becomes c [] part before after → Becomes c own part before after) → (old new : Database)
       → Rewrites (table_of part) (is_marked c.marks part) (rows_for [] c.value part) old new → RewritesParts c (part ∷ []) old new
   part_rewritten part any old new did own = one_changed (Becomes c own) part _ old new did (any own _ _)
 
+  -- some parts and then others are rewritten
   pub own_then_rewritten : (ps qs : List Part) → are_apart ps qs ≡ true → (old mid new : Database) → RewritesWithOwn c ps old mid → RewritesParts c qs mid new → RewritesWithOwn c (ps ++ qs) old new
   own_then_rewritten ps qs apart old mid new first second before text was = let own = own_after c before text in both_changed (Becomes c own) ps qs apart old mid new (first before text was) (second own)
 
   -- ---- the whole
 
+  -- with all parts rewritten, all changes are written
   pub all_rewritten : (parts : List Part) → list_all (is_among parts) all_parts ≡ true → (old new : Database) → RewritesWithOwn c parts old new → WritesChanges c old new
   all_rewritten parts all old new did before text was = record { rows = λ part. (did before text was).done part (all_among parts all part) }

@@ -1,4 +1,4 @@
--- Rows of a table that are rewritten where a test holds, one step after another.
+-- Laws on rewriting the rows of a table that pass a test, one step after another.
 use Rattle.std.proofs.Common.{◌≡◌, ◌≢◌, ◌⊎◌, ◌↔◌, ◌||◌, ℕ, pos, Bool, true, false, List, [], ◌∷◌, take, Some, None, Less, Equal, Greater, refl, sym, ap, ◌∙◌, subst, inl, inr, true≢false}
 use Rattle.std.specs.Ordering.{nat_cmp, is_eq, eq_by_cmp}
 use Rattle.std.specs.Cmp.{nat_cmp_total}
@@ -26,13 +26,14 @@ use Rattle.atl_store.proofs.WholeLaws.{inside_weaker}
 
 -- ---- one step after another
 
+-- rewriting the rows of one test and then of another rewrites those of both
 chosen_step : (p q : Bool) (W M N : Type 0) → N ↔ Chosen p W M → Chosen q W N ↔ Chosen (p || q) W M
 chosen_step true true W M N same = (λ h. h, λ h. h)
 chosen_step false true W M N same = (λ h. h, λ h. h)
 chosen_step true false W M N same = same
 chosen_step false false W M N same = same
 
--- with the rest rewritten too, all is
+-- Some rows are rewritten so far: with the rest rewritten too, all are. Other tables are unchanged.
 pub record Nearing (table : Table) (Wanted : Set) (rest all : Row → Bool) (old now : Database) : Type 0 where
   pub rows : (r : Row) → Chosen (rest r) (Wanted r) (Has (rows_in table now.trees) r) ↔ Chosen (all r) (Wanted r) (Has (rows_in table old.trees) r)
   pub others : (t : Table) → Has all_tables t → t.tree ≢ table.tree → now.trees t.tree ≡ old.trees t.tree
@@ -52,6 +53,7 @@ module _ (table : Table) (Wanted : Set) where
     },
   )
 
+  -- one step rewrites its rows
   pub one_nearer : (step rest next all : Row → Bool) → ((r : Row) → rest r ≡ (step r || next r)) → (old mid new : State)
       → Inside HasTables (Nearing table Wanted rest all) old mid → Inside HasTables (Rewrites table step Wanted) mid new
       → Inside HasTables (Nearing table Wanted next all) old new
@@ -95,7 +97,7 @@ module _ (table : Table) (Wanted : Set) where
         },
   )
 
-  -- the rows that one test finds, and then those of another
+  -- the rows of one test and then those of another are rewritten
   pub both_rewritten : (p q : Row → Bool) (old mid new : Database) → Rewrites table p Wanted old mid → Rewrites table q Wanted mid new → Rewrites table (λ r. p r || q r) Wanted old new
   both_rewritten p q old mid new one two = record {
     rows = λ r.
@@ -104,12 +106,13 @@ module _ (table : Table) (Wanted : Set) where
     others = λ t listed other. two.others t listed other ∙ one.others t listed other;
   }
 
-  -- a step that chooses no row is none
+  -- a step that chooses no row does nothing
   pub none_chosen : (step : Row → Bool) → ((r : Row) → step r ≡ false) → (s : State) → Inside HasTables (Rewrites table step Wanted) s s
   none_chosen step none s = all_rewritten step step step none (λ r. refl) s s (none_nearer step step (λ r. refl) s)
 
 -- ---- numbers
 
+-- equal by the order of numbers is equal
 pub tied : (k n : ℕ) → eq_by_cmp nat_cmp k n ≡ true → k ≡ n
 tied k n is = elim (nat_cmp k n) as (λ o. nat_cmp k n ≡ o → is_eq o ≡ true → k ≡ n) [
   | Less ↦ λ _ never. absurd (true≢false (sym never))
@@ -117,51 +120,59 @@ tied k n is = elim (nat_cmp k n) as (λ o. nat_cmp k n ≡ o → is_eq o ≡ tru
   | Greater ↦ λ _ never. absurd (true≢false (sym never))
 ] refl is
 
+-- each number is equal to itself by their order
 pub is_itself : (n : ℕ) → eq_by_cmp nat_cmp n n ≡ true
 is_itself n = ap is_eq (tied_itself nat_cmp_total n)
 
 -- ---- a row that begins with a number
 
+-- a row passes one of two tests of its number exactly if it passes their disjunction
 begins_either : (f g : ℕ → Bool) (r : Row) → begins (λ n. f n || g n) r ≡ (begins f r || begins g r)
 begins_either f g (Int (pos n) ∷ row) = refl
 begins_either f g row = refl
 
+-- a test that is always false chooses no row
 begins_none : (r : Row) → begins (λ n. false) r ≡ false
 begins_none (Int (pos n) ∷ row) = refl
 begins_none row = refl
 
+-- a row that passes the test for a number has that key
 pub begins_key : (n : ℕ) (r : Row) → begins (is_number n) r ≡ true → take 1 r ≡ int n ∷ []
 begins_key n (Int (pos k) ∷ row) is = ap (λ k. int k ∷ []) (tied k n is)
 begins_key n row is = absurd (true≢false (sym is))
 
+-- a row with that key passes the test for the number
 pub key_begins : (n : ℕ) (r : Row) → take 1 r ≡ int n ∷ [] → begins (is_number n) r ≡ true
 key_begins n [] key = absurd cc
 key_begins n (v ∷ row) key =
     let value : v ≡ int n = cc in
     ap (λ x. begins (is_number n) (x ∷ row)) value ∙ is_itself n
 
--- the numbers that are left, and the next one of them
+-- a row of the numbers left is of the next one or of the rest
 next_number : (n : ℕ) (ns : List ℕ) (r : Row) → begins (is_among (n ∷ ns)) r ≡ (begins (is_number n) r || begins (is_among ns) r)
 next_number n ns r = begins_either (is_number n) (is_among ns) r
 
+-- with no number left no row is chosen
 no_number : (ns : List ℕ) → ns ≡ [] → (r : Row) → begins (is_among ns) r ≡ false
 no_number ns none r = ap (λ l. begins (is_among l) r) none ∙ begins_none r
 
--- all numbers of a set
+-- the rows of all numbers of a set
 of_set : (marks : FinSet nat_cmp) (ns : List ℕ) → from_list ns ≡ marks → (r : Row) → begins (is_among ns) r ≡ begins_marked marks r
 of_set marks ns all r = ap (λ (f : ℕ → Bool). begins f r) (λ i n. (sym (contains-from_list nat_cmp_total ns n) ∙ ap (λ s. contains s n) all) i)
 
 -- ---- the rows of all numbers of a set, one after another
 
 module _ (table : Table) (Wanted : Set) where
-  -- with those of the rest of these numbers rewritten too, those of all are
+  -- Once the rows of the rest of these numbers are rewritten too, those of all are.
   abbrev pub NearingNumbers : List ℕ → List ℕ → Database → Database → Type 0
   NearingNumbers rest all = Nearing table Wanted (λ r. begins (is_among rest) r) (λ r. begins (is_among all) r)
 
+  -- the rows of one number more are rewritten
   pub number_nearer : (n : ℕ) (now rest all : List ℕ) → now ≡ n ∷ rest → (old mid new : State) → Inside HasTables (NearingNumbers now all) old mid
       → Inside HasTables (Rewrites table (begins (is_number n)) Wanted) mid new → Inside HasTables (NearingNumbers rest all) old new
   number_nearer n now rest all is = one_nearer table Wanted (λ r. begins (is_number n) r) (λ r. begins (is_among now) r) (λ r. begins (is_among rest) r) (λ r. begins (is_among all) r) (λ r. ap (λ ns. begins (is_among ns) r) is ∙ next_number n rest r)
 
+  -- with no number left, the rows of all numbers of the set are rewritten
   pub numbers_rewritten : (marks : FinSet nat_cmp) (rest all : List ℕ) → rest ≡ [] → from_list all ≡ marks → (old new : State)
       → Inside HasTables (NearingNumbers rest all) old new → Inside HasTables (Rewrites table (begins_marked marks) Wanted) old new
   numbers_rewritten marks rest all none is = all_rewritten table Wanted (λ r. begins (is_among rest) r) (λ r. begins (is_among all) r) (λ r. begins_marked marks r) (no_number rest none) (of_set marks all is)
@@ -181,11 +192,13 @@ module _ (p : Row → Bool) (Key New Wanted : Set) (found : (r : Row) → p r �
       back true is wanted = inl (olds r is wanted)
       back false is was = inr (was, λ key. true≢false (sym (finds r key) ∙ is))
 
+  -- that rewrites the rows of the key and no others
   pub rewrites_key : (table : Table) (old new : Database)
       → ((r : Row) → Has (rows_in table new.trees) r ↔ (New r ⊎ (Has (rows_in table old.trees) r × ¬ Key r)))
       → ((t : Table) → Has all_tables t → t.tree ≢ table.tree → new.trees t.tree ≡ old.trees t.tree) → Rewrites table p Wanted old new
   rewrites_key table old new rows others = record { rows = λ r. let so = in_place (Has (rows_in table old.trees) r) r in (λ h. so.0 ((rows r).0 h), λ h. (rows r).1 (so.1 h)); others = others }
 
+-- of a choice with an impossible first case, the second
 pub kept_only : {P : Type 0} → ⊥ ⊎ P → P
 kept_only (inl never) = absurd never
 kept_only (inr kept) = kept
@@ -193,12 +206,13 @@ kept_only (inr kept) = kept
 -- ---- a row that is put, or taken out
 
 module _ {V : Type 0} (table : Table) (line : ℕ → V → Row) (numbered : (n : ℕ) (v : V) → take 1 (line n v) ≡ int n ∷ []) (values : FinMap nat_cmp V) (n : ℕ) where
-  -- a wanted row with this number
+  -- a wanted row with this number is that of the number's value
   wanted_at : (r : Row) → begins (is_number n) r ≡ true → RowsOf line values r → (v : V) × (get values n ≡ Some v) × (r ≡ line n v)
   wanted_at r is of =
       let number : of.0 ≡ n = same_number of.0 n (sym (numbered of.0 of.1) ∙ ap (take 1) (sym of.3) ∙ begins_key n r is) in
       (of.1, ap (get values) (sym number) ∙ of.2, of.3 ∙ ap (λ k. line k of.1) number)
 
+  -- putting the row of a number that the map has rewrites its row in the database
   put_rewrites : (old new : Database) (v : V) → get values n ≡ Some v → Puts table 1 (line n v) old new → RewritesNumber table line values n old new
   put_rewrites old new v there did = rewrites_key (begins (is_number n)) (λ r. take 1 r ≡ take 1 (line n v)) (λ r. r ≡ line n v) (RowsOf line values)
       (λ r is. begins_key n r is ∙ sym (numbered n v))
@@ -207,15 +221,18 @@ module _ {V : Type 0} (table : Table) (line : ℕ → V → Row) (numbered : (n 
       (λ r is of. let w = wanted_at r is of in w.2 ∙ ap (line n) (same_Some w.0 v (sym w.1 ∙ there)))
       table old new did.rows did.others
 
+  -- deleting the row of a number that the map lacks rewrites its row in the database
   drop_rewrites : (old new : Database) → get values n ≡ None → Drops table 1 (int n ∷ []) old new → RewritesNumber table line values n old new
   drop_rewrites old new none did = rewrites_key (begins (is_number n)) (λ r. take 1 r ≡ int n ∷ []) (λ r. ⊥) (RowsOf line values) (begins_key n) (key_begins n) (λ r never. absurd never)
       (λ r is of. let w = wanted_at r is of in none-some w.0 (sym none ∙ w.1))
       table old new (λ r. let so = did.rows r in (λ h. inr (so.0 h), λ h. so.1 (kept_only h))) did.others
 
+  -- putting the row of a number that the map has rewrites it
   pub put_done : (v : V) → get values n ≡ Some v → (old new : State) → Inside HasTables (Puts table 1 (line n v)) old new
       → Inside HasTables (RewritesNumber table line values n) old new
   put_done v there old new did = inside_weaker HasTables (Puts table 1 (line n v)) (RewritesNumber table line values n) old new (λ has puts. put_rewrites old.now new.now v there puts) did
 
+  -- deleting the row of a number that the map lacks rewrites it
   pub drop_done : get values n ≡ None → (old new : State) → Inside HasTables (Drops table 1 (int n ∷ [])) old new
       → Inside HasTables (RewritesNumber table line values n) old new
   drop_done none old new did = inside_weaker HasTables (Drops table 1 (int n ∷ [])) (RewritesNumber table line values n) old new (λ has drops. drop_rewrites old.now new.now none drops) did

@@ -1,4 +1,4 @@
--- From the tests of a schema to the schema that begins with the tables of a campaign.
+-- Laws on the tests of a schema: if they pass, the schema begins with the tables of a campaign.
 use Rattle.std.proofs.Common.{◌≡◌, ◌==◌, ◌||◌, inl, inr, ℕ, ◌≤◌, ◌<◌, ◌++◌, Bool, true, false, codes, List, [], ◌∷◌, length, get_or, take, map, append_assoc, refl, sym, ap, ◌∙◌, subst, arith}
 use Rattle.std.proofs.lemmas.Bool.{and_right, or_parts}
 use Rattle.std.proofs.lemmas.List.{take-map}
@@ -16,7 +16,7 @@ use Rattle.sqlite_rules.proofs.ListLemmas.{all_has, all_from, has_left, has_eith
 use Rattle.sqlite_trees.proofs.ListLemmas.{all-append}
 use Rattle.atl_store.specs.Tables.{all_tables, all_indexes, all_trees, IsHarmless, AreTables, AreIndexes, Begins}
 
--- a list of one element, which is this one
+-- a list of one element has just this one
 pub only_one : {A : Type 0} (xs : List A) (x d : A) → 1 ≤ length xs → length xs < 2 → d ≡ get_or xs 0 d → d ≡ x → xs ≡ x ∷ []
 only_one [] x d least most is same = absurd (omega (arith, least))
 only_one (y ∷ []) x d least most is same = ap (λ z. z ∷ []) (sym is ∙ same)
@@ -38,7 +38,7 @@ spares i (t ∷ tables) unique spared =
     let rest = spares i tables unique (λ u there. spared u (inr there)) in
     rw (first, rest) refl
 
--- an index of another table guards nothing of these
+-- an index of another table makes nothing of these unique
 pub guards_not : (i : Index) (tables : List Table) → list_any (λ t. i.table == t.tree) tables ≡ false → (t : Table) → Has tables t
     → guards i t ≡ false
 guards_not i [] none t there = absurd there
@@ -51,7 +51,7 @@ any_mapped : {A B : Type 0} (f : A → B) (p : B → Bool) (xs : List A) → lis
 any_mapped f p [] = refl
 any_mapped f p (x ∷ xs) = ap (λ b. p (f x) || b) (any_mapped f p xs)
 
--- where such elements have the trees of all tables, the first so many have those of the first so many
+-- if the elements have the trees of all tables, the first `count` have those of the first `count` tables
 pub our_trees : {X : Type 0} (tree_of : X → ℕ) (xs : List X) → map tree_of xs ≡ all_trees → (tree count : ℕ)
     → list_any (λ x. tree == tree_of x) (take count xs) ≡ list_any (λ t. tree == t.tree) (take count all_tables)
 our_trees tree_of xs same tree count =
@@ -62,6 +62,7 @@ our_trees tree_of xs same tree count =
 -- ---- the whole schema
 
 module _ (count keys : ℕ) (schema : Schema) where
+  -- tested tables, indexes and views make the schema begin with them
   pub begins_made : AreTables count schema.tables → AreIndexes count keys schema.indexes → schema.views ≡ [] → Begins count keys schema
   begins_made tables indexes none = record {
     tables = tables.others;
@@ -74,16 +75,19 @@ module _ (count keys : ℕ) (schema : Schema) where
     plain = λ i there. all_has (IsHarmless count) indexes.others i indexes.plain there;
   }
 
+  -- a schema that begins so has these tables
   pub its_tables : Begins count keys schema → AreTables count schema.tables
   its_tables begins = record { others = begins.tables; is = ap (λ (s : Schema). s.tables) begins.is; free = begins.free }
 
+  -- a schema that begins so has these indexes
   pub its_indexes : Begins count keys schema → AreIndexes count keys schema.indexes
   its_indexes begins = record { others = begins.indexes; is = ap (λ (s : Schema). s.indexes) begins.is; plain = all_from (IsHarmless count) begins.indexes begins.plain }
 
+  -- a schema that begins so has no views
   pub no_views : Begins count keys schema → schema.views ≡ []
   no_views begins = ap (λ (s : Schema). s.views) begins.is
 
-  -- It begins with fewer of them too, where of the tables between none has a foreign key and the indexes between make nothing of the fewer unique.
+  -- It begins with fewer of them too, if the tables between have no foreign key and the indexes between make nothing of the fewer unique.
   pub begins_with_fewer : (fewer fewer_keys : ℕ) (tables : List Table) (indexes : List Index)
       → take count all_tables ≡ take fewer all_tables ++ tables → take keys all_indexes ≡ take fewer_keys all_indexes ++ indexes
       → AllByRecursion (λ t. t.references ≡ []) tables → AllByRecursion (IsHarmless fewer) indexes → Begins count keys schema → Begins fewer fewer_keys schema

@@ -1,4 +1,4 @@
--- What the SELECTs mean where the schema begins with the tables of a campaign: each shows all rows of its table, each once.
+-- Laws on the SELECTs of the ten tables: each shows all rows of its table, each once, if the schema begins with these tables.
 use Rattle.std.proofs.Common.{◌≡◌, ◌++◌, ℕ, false, List, [], ◌∷◌, IsPermutation, length, map, take, refl, sym, subst}
 use Rattle.std.specs.List.{range_with_len}
 use Rattle.sqlite_tied.specs.Compute.{everything}
@@ -32,30 +32,33 @@ use Rattle.atl_store.proofs.ShownLaws.{whole_shown}
 
 -- ---- the formats
 
+-- the automatic index of `market` is harmless to the nine tables of the first format
 market_harmless : IsHarmless 9 (automatic market_table 0 market_unique 13)
 market_harmless t there = all_has (λ t. guards (automatic market_table 0 market_unique 13) t ≡ false) (take 9 all_tables) t (refl, (refl, (refl, (refl, (refl, (refl, (refl, (refl, (refl, tt))))))))) there
 
--- a schema with the tables of a format has those of the first
+-- a schema with the tables of a format has those of the first format
 pub has_first : (f : Format) (schema : Schema) → HasTablesOf f schema → HasTablesOf First schema
 has_first First schema has = has
 has_first Second schema has = begins_with_fewer 10 4 schema 9 3 (market_table ∷ []) (automatic market_table 0 market_unique 13 ∷ []) refl refl (refl, tt) (market_harmless, tt) has
 
 -- ---- columns
 
--- the first columns of a table, by their places in the row that is kept, and the place that the database keeps it at
+-- the first `count` columns of a stored row, by their index in it, without the rowid
 abbrev first : Table → ℕ → List Term
 first t count = map (λ at. col 1 (place_of t at)) (range_with_len 0 count)
 
+-- the rowid of a stored row
 abbrev kept_at : Term
 kept_at = col 1 0
 
--- all columns of a table, and behind them, where its key is not the row's number, the place that the database keeps the row at
+-- all columns of a table, and after them the rowid, if the key isn't the row's number
 abbrev columns_of : Part → List Term
 columns_of Goods = first has_table 4 ++ kept_at ∷ []
 columns_of Books = first books_table 3 ++ kept_at ∷ []
 columns_of Markets = first market_table 3 ++ kept_at ∷ []
 columns_of part = first (table_of part) (length (table_of part).columns)
 
+-- the number of columns of the key
 abbrev key_of : Part → ℕ
 key_of Goods = 3
 key_of Books = 2
@@ -64,7 +67,7 @@ key_of part = 1
 
 -- ---- a SELECT of all rows
 
--- It means, whatever came behind the tables of a format: these columns of all rows, in the order of the key; and that is what the listing shows.
+-- The SELECT of a part means, whatever other tables follow: these columns of all rows, in the order of the key; and the listing shows that.
 record IsMeant (part : Part) : Type 0 where
   command : (more : List Table) (indexes : List Index)
       → command_of (understood (first_and (table_count_in (listing_of part).since) (index_count_in (listing_of part).since) more indexes) (listing_of part).select)
@@ -75,11 +78,13 @@ record IsMeant (part : Part) : Type 0 where
   rows : (db : Trees) → map (λ r. eval_all (columns_of part) ([] ∷ r ∷ [])) (db (table_of part).tree) ≡ (listing_of part).in_table db
   whole : (r : Row) → first_columns (length (listing_of part).names) (eval_all (columns_of part) ([] ∷ r ∷ [])) ≡ eval_all (columns_of part) ([] ∷ r ∷ [])
 
+-- the SELECT of each part means this
 meant : (part : Part) → IsMeant part
 unfolding understood everything
 meant Own = record { command = λ more indexes. refl; plain = λ more indexes. (refl, refl); unlisted = λ more indexes. refl; same = λ db. refl; rows = λ db. refl; whole = λ r. refl }
 meant part = record { command = λ more indexes. refl; plain = λ more indexes. (refl, refl); unlisted = λ more indexes. refl; same = λ db. refl; rows = λ db. refl; whole = λ r. refl }
 
+-- the SELECT of each part shows all rows of its table
 pub reads_part : (part : Part) (count : ℕ) → count ≡ length (listing_of part).names → Reads (listing_of part).since (listing_of part).select (listing_of part).in_table count
 reads_part part count same old new rows h has =
     let listing = listing_of part in
@@ -91,6 +96,6 @@ reads_part part count same old new rows h has =
     let told : IsPermutation (listing.in_table old.now.trees) (map cut rows) = subst (λ was. IsPermutation was (map cut rows)) (is.rows old.now.trees) (whole_shown shown cut is.whole (old.now.trees (table_of part).tree) rows all) in
     subst (λ n. IsPermutation (listing.in_table old.now.trees) (map (first_columns n) rows)) (sym same) told
 
--- it is a query, which can commit nothing, under the tables of a format
+-- it is a query, which can commit nothing
 pub part_plain : (part : Part) (schema : Schema) → HasTablesOf (listing_of part).since schema → IsPlain (understood schema (listing_of part).select)
 part_plain part schema has = subst (λ s. IsPlain (understood s (listing_of part).select)) (sym has.is) ((meant part).plain has.tables has.indexes)

@@ -1,4 +1,4 @@
--- What a SELECT inside a transaction leaves, whatever it means, and what is left once the transaction is rolled back.
+-- Laws on a SELECT inside a transaction: what it leaves, and what is left once the transaction is rolled back.
 use Rattle.std.proofs.Common.{◌≡◌, ◌≢◌, ◌≤◌, ◌⊎◌, ℕ, Bool, List, [], true, false, cond, IsTrue, Option, Some, None, Result, Ok, Err, IsErrAnd, IfOk, IfErr, map, length, refl, sym, ap, ◌∙◌, subst, inl, inr, arith}
 use Rattle.std.specs.declared.vec.Vec.{Vec}
 use Rattle.sqlite_trees.specs.declared.store.Store.{Ghosts}
@@ -24,7 +24,7 @@ module _ (old new : State) (inside : IsTrue old.in_transaction) (sql : List ℕ)
   shows_keep c row rows None h = unchanged_keeps old new (inl h.3)
   shows_keep c row rows (Some what) h = writes_keep (Some what) _ _ row h.0 h.1
 
-  -- where it shows rows, nothing is committed
+  -- a SELECT that shows rows commits nothing
   pub shown_keeps : (rows : List Row) → Shown sql params old new rows → KeepsCommit old new
   unfolding Shown
   shown_keeps rows h = shows_keep h.0 _ rows h.0.returning h.2
@@ -34,7 +34,7 @@ module _ (old new : State) (inside : IsTrue old.in_transaction) (sql : List ℕ)
   fails_keep c row e (Some what) (inl h) = unchanged_keeps old new (inl h.1)
   fails_keep c row e (Some what) (inr h) = unchanged_keeps old new (inr h.3)
 
-  -- nor where it is refused
+  -- a SELECT that is refused commits nothing
   pub refused_keeps : (e : Error) → FailsToQuery sql params old new e ⊎ IsTooLate sql params old new e → KeepsCommit old new
   unfolding FailsToQuery IsNotRun
   refused_keeps e (inl (inl (inl h))) = unchanged_keeps old new (inl h.1)
@@ -44,6 +44,7 @@ module _ (old new : State) (inside : IsTrue old.in_transaction) (sql : List ℕ)
 
 -- ---- once the transaction is rolled back
 
+-- a count of failures is at least itself
 pub no_fewer : (faults : ℕ) → faults ≤ faults
 no_fewer faults = omega arith
 
@@ -55,7 +56,7 @@ module _ {S : Type 0} (g : Ghosts S) (sql : List ℕ) (old begun mid end : Held 
   survived : Survives (state g old) (state g end) (λ _. ⊥)
   survived = survives_begin g old (state g end) _ (subst (λ h. Survives (state g h) (state g end) (λ _. ⊥)) begins (survives_more (state g begun) (state g mid) (state g end) one two))
 
-  -- the tables are those of the last commit
+  -- after the rollback the tables are those of the last commit
   rests : (HasCleanDisk (state g mid) → KeepsCommit (state g begun) (state g mid)) → HasCleanDisk (state g end) → Rests (state g old) (state g end)
   rests keeps clean =
       let kept = subst (λ h. KeepsCommit (state g h) (state g mid)) begins (keeps (omega (arith, two.clean))) in
@@ -65,11 +66,11 @@ module _ {S : Type 0} (g : Ghosts S) (sql : List ℕ) (old begun mid end : Held 
         same = λ up. let was = rolled.undone up in let same = kept.committed (rolled.was_open up) in (inl (was.0 ∙ same), was.1 ∙ same);
       }
 
-  -- it is asked of the tables as they were
+  -- the SELECT is asked of the tables as they were before BEGIN
   select_of : IsAsked (state g old) (state g begun)
   select_of = subst (λ h. IsAsked (state g old) (state g h)) (sym begins) (record { was_open = λ up. up; is_open = λ up. up; same = refl; limit = refl; faults = no_fewer (state g old).faults })
 
-  -- it showed rows
+  -- the SELECT showed rows
   pub showed : {Z : Type 0} (rows : Vec Row Z) → (HasCleanDisk (state g mid) → Shown sql [] (state g begun) (state g mid) rows.items) → Asks g sql old {Z = Z} (Ok rows) end
   showed rows ok = record {
     rows = λ clean. (begun, mid, select_of, ok (omega (arith, two.clean)));
@@ -83,7 +84,7 @@ module _ {S : Type 0} (g : Ghosts S) (sql : List ℕ) (old begun mid end : Held 
   not_late e (inl failed) = failed
   not_late e (inr late) = absurd (let no = sym begun_inside ∙ late.3 in cc)
 
-  -- it was refused
+  -- the SELECT was refused
   was_refused : {Z : Type 0} (e : Error) (fault : ReadFault) → fault ≡ read_fault e → (HasCleanDisk (state g mid) → FailsToQuery sql [] (state g begun) (state g mid) e ⊎ IsTooLate sql [] (state g begun) (state g mid) e) → Asks g sql old {Z = Z} (Err fault) end
   was_refused e fault is err = record {
     rows = λ _. tt;
@@ -93,13 +94,14 @@ module _ {S : Type 0} (g : Ghosts S) (sql : List ℕ) (old begun mid end : Held 
     idle = ended;
   }
 
+  -- the error of a refused SELECT is the fault that is returned
   pub told : {Z : Type 0} (e : Error) (r : Result (Vec Row Z) ReadFault) → IsErrAnd r (λ fault. fault ≡ read_fault e) → (HasCleanDisk (state g mid) → FailsToQuery sql [] (state g begun) (state g mid) e ⊎ IsTooLate sql [] (state g begun) (state g mid) e) → Asks g sql old {Z = Z} r end
   told e (Ok rows) is err = absurd is
   told e (Err fault) is err = was_refused e fault is err
 
 -- ---- each row read
 
--- a SELECT that is refused is never told as OtherType
+-- a SELECT that is refused never gives OtherType
 not_other : (e : Error) → read_fault e ≡ OtherType → ⊥
 not_other e same = by_memory (is_memory e) (is_failure e) same
   where
@@ -108,6 +110,7 @@ not_other e same = by_memory (is_memory e) (is_failure e) same
     by_memory false true is = cc
     by_memory false false is = cc
 
+-- the same for the fault of a read
 pub never_other : {S : Type 0} (g : Ghosts S) (sql : List ℕ) (old : Held S) (fault : ReadFault) → RefusesToSelect g sql old fault → fault ≡ OtherType → ⊥
 never_other g sql old fault told same = not_other told.2 (sym told.5 ∙ same)
 
@@ -116,7 +119,7 @@ if_both P Q (Ok a) p q = (p, q)
 if_both P Q (Err e) p q = tt
 
 module _ {S A Z : Type 0} (g : Ghosts S) (sql : List ℕ) (old new : Held S) (forms : List Form) (shown : A → Row) where
-  -- the SELECT was refused
+  -- if the SELECT was refused, the read returns its fault
   pub unasked : {Y : Type 0} (fault : ReadFault) (r : Result (Vec A Z) ReadFault) → Asks g sql old {Z = Y} (Err fault) new → IsErrAnd r (λ told. told ≡ fault) → ReadsRows g sql old forms shown r new
   unasked fault (Ok all) asks is = absurd is
   unasked fault (Err told) asks is = record {
@@ -129,7 +132,7 @@ module _ {S A Z : Type 0} (g : Ghosts S) (sql : List ℕ) (old new : Held S) (fo
     idle = asks.idle;
   }
 
-  -- it was answered, and its rows were read
+  -- if it was answered, the read returns its rows or the fault of one of them
   pub parsed : {Y : Type 0} (rows : Vec Row Y) (lent : List Row) (r : Result (Vec A Z) ReadFault) → Asks g sql old (Ok rows) new → lent ≡ rows.items
       → IfOk r (λ all. map shown all.items ≡ map (first_columns (length forms)) lent) → IfOk r (λ _. AreTyped forms lent) → IfErr r (λ fault. fault ≡ OtherType → ¬ AreTyped forms lent) → IfErr r (λ fault. fault ≢ OtherType → fault ≡ Memory) → ReadsRows g sql old forms shown r new
   parsed rows lent r asks same ok typed other which = record {

@@ -1,4 +1,4 @@
--- What the statements on one table make of a database.
+-- Laws on the statements on one table: which rows it has after an upsert or a DELETE, by their texts.
 use Rattle.std.proofs.Common.{IsTrue, ◌≡◌, ◌/◌, ℕ, ℤ, Bool, false, List, [], ◌∷◌, ◌++◌, length, slice_get, Option, Some, None, Result, Ok, sym, ap, ◌∙◌, subst}
 use Rattle.sqlite_value.specs.Order.{Row, column}
 use Rattle.sqlite_trees.specs.Tree.{Trees, rowid}
@@ -50,7 +50,7 @@ module _ (schema : Schema) (tree : ℕ) (name : List ℕ) (columns : List Column
   abbrev t : Table
   t = table tree name columns key primary uniques checks
 
-  -- the row as INSERT OR REPLACE makes it of what it is given
+  -- the row as INSERT OR REPLACE makes it of the values it is given
   abbrev pub made : Trees → Row → Row
   made db src = with_rowid Chosen (db tree) (cast_row t (mended Replace t src))
 
@@ -68,6 +68,7 @@ module _ (schema : Schema) (tree : ℕ) (name : List ℕ) (columns : List Column
       let shown = went tested.2 in
       (ap (λ (x : Tally × Database). x.1.trees) (same_value shown.2), ap (λ (x : Tally × Database). x.1.schema) (same_value shown.2))
 
+  -- a DELETE that ran removed the rows that pass its filter
   pub removes : (limit : Option ℕ) (params : Row) (text : List ℕ) (q : Program) (p : Row → Bool) (db : Trees) (out : Tally × Database)
       → IsKeyed (db tree)
       → ((rows : List Row) → Answers (record { schema = schema; trees = db }) q params rows → AreFound p (db tree) rows)
@@ -81,6 +82,7 @@ module _ (schema : Schema) (tree : ℕ) (name : List ℕ) (columns : List Column
 
   -- ---- INSERT .. ON CONFLICT DO UPDATE
 
+  -- the row as the upsert makes it of the values it is given
   abbrev pub made_up : Trees → Row → Row
   made_up db src = with_rowid Chosen (db tree) (cast_row t src)
 
@@ -88,6 +90,7 @@ module _ (schema : Schema) (tree : ℕ) (name : List ℕ) (columns : List Column
     abbrev q : Program
     q = record { lets = []; body = update_query tree hole project }
 
+    -- The upsert put this row or changed the one with its key.
     abbrev Changed : Row → Trees → Trees → Type 0
     Changed new db next = Upserted schema t unlinked limit params target hole project plain new db next
 
@@ -112,6 +115,7 @@ module _ (schema : Schema) (tree : ℕ) (name : List ℕ) (columns : List Column
         subst (Changed (made_up db src) db) (sym (counted limit params db each.0 counter.0 w each.2))
         (each_upserts src (count_of counter.0) db each.0 keyed aimed (subst (λ l. TriesEach (task limit params t) Abort (clause_on target q ∷ []) l (count_of counter.0) (nothing db) (Ok each.0)) given each.1))
 
+    -- an upsert that ran did so
     pub upserting : (text : List ℕ) (terms : List Term) (width : ℕ) (src : Row) (db : Trees) (out : Tally × Database) → IsKeyed (db tree)
         → ((r : Row) → Has (db tree) r → column (params ++ rowid r ∷ shown t (made_up db src)) hole ≡ rowid r)
         → value_rows (params ++ []) width (length terms / width) terms ≡ src ∷ []
@@ -125,27 +129,29 @@ module _ (schema : Schema) (tree : ℕ) (name : List ℕ) (columns : List Column
 
 -- ---- statements by their text
 
--- whatever came behind the tables of a campaign, the statement of this text commits nothing by itself
+-- The statement of this text commits nothing by itself, whatever other tables follow.
 abbrev pub AlwaysPlain : List ℕ → Type 0
 AlwaysPlain sql = (more : List Table) (indexes : List Index) → IsPlain (understood (all_and more indexes) sql)
 
--- inside a transaction this is done by the statement of this text with these parameters
+-- Inside a transaction the statement of this text with these parameters does this.
 abbrev pub DoneBy : List ℕ → Row → (Database → Database → Type 0) → Type 1
 DoneBy sql values What = (old new : State) (count : ℕ) (params : Row) → IsTrue old.in_transaction → ExecutesInside 0 sql params old new (Ok count) → params ≡ values → Inside HasTables What old new
 
--- the upsert of a table, whose key is so many columns, puts a row, and the deletion takes out what has the key
+-- The upsert of a table with a key of this many columns puts this row.
 abbrev pub PutsRow : Table → ℕ → Row → Type 1
 PutsRow t key row = DoneBy (upsert t key) row (Puts t key row)
 
+-- The deletion of a table removes the rows whose first columns are these.
 abbrev pub DropsKey : Table → ℕ → Row → Type 1
 DropsKey t key k = DoneBy (deletion t key) k (Drops t key k)
 
+-- a text whose meaning does this is so
 pub done_by : (sql : List ℕ) (values : Row) (What : Database → Database → Type 0)
     → ((old new : State) (count : ℕ) → IsTrue old.in_transaction → ExecutesInside 0 sql values old new (Ok count) → Inside HasTables What old new)
     → DoneBy sql values What
 done_by sql values What does old new count params inside h same = does old new count inside (subst (λ p. ExecutesInside 0 sql p old new (Ok count)) same h)
 
--- a statement that ran is the one of these values, which its parameters are
+-- a statement that ran is the one of these values, which are its parameters
 pub runs_with : {S A : Type 0} (g : Ghosts S) {r : Result A Error} {a b : MutBor (Held S)} (sql : List ℕ) (values params : Row) (What : Database → Database → Type 0)
     → DoneBy sql values What → params ≡ values → Writes g (Only sql params) (RunsStatement sql params) r a b → Writes g (Only sql values) (Inside HasTables What) r a b
 runs_with g sql values params What done same ran = among g (λ s p only. (only.0, only.1 ∙ same)) (weaker g (λ old new did. done old new did.1 params did.0 did.2 same) ran)

@@ -1,4 +1,4 @@
--- From what a transaction did to what the store keeps.
+-- Laws from what a transaction did to what the store promises: committed, left off, refused; and what it left alone.
 use Rattle.std.proofs.Common.{◌≡◌, ◌≢◌, ℕ, Bool, true, false, cond, List, IsTrue, Result, Ok, Err, OnErr, IfErr, IsErrAnd, refl, sym, ap, ◌∙◌, subst, inl, inr, arith}
 use Rattle.sqlite_trees.specs.Tree.{Trees}
 use Rattle.sqlite_trees.specs.declared.store.Store.{Ghosts}
@@ -19,12 +19,12 @@ use Rattle.atl_store.specs.declared.fault.CreateFault.{CreateFault}
 use Rattle.atl_store.specs.declared.fault.CreateFault.TheVariants as create
 use Rattle.atl_store.proofs.CarryLaws.{carries_none}
 
--- a database that holds the campaign is what a file may hold
+-- a database whose tables hold the campaign is one that a file may store
 stored : (db : Database) (text : List ℕ) (c : CampaignValue) → HasTables db → Holds db.trees text c → Stores db.trees text c
 stored db text c has rows = record { schema = db.schema; begins = has.begins; sound = has.sound; rows = rows }
 
 module _ (old new : State) (text : List ℕ) (settled : (db : Trees) → IsTrue new.is_open → new.may_leave db → db ≡ new.committed.trees) where
-  -- committed, with these rows in the tables
+  -- after a commit the connection keeps the campaign after it
   pub commits_keeps : (Before : Database → Type 0) (Does : Database → Database → Type 0) (after : CampaignValue) → Commits Before Does old new → Before old.now → (Does old.now new.now → Holds new.now.trees text after) → Keeps new text after
   commits_keeps Before Does after done was holds =
       let did = done.does was in
@@ -38,7 +38,7 @@ module _ (old new : State) (text : List ℕ) (settled : (db : Trees) → IsTrue 
         crash = λ db may. subst (λ t. Stores t text after) (sym (settled db done.is_open may ∙ ap (λ (d : Database). d.trees) done.committed)) (stored new.now text after did.tables rows);
       }
 
-  -- left off: as before, or after a crash before or after
+  -- a transaction that was left off leaves the campaign before; a crash leaves that or the one after
   pub leaves_stops : (Does : Database → Database → Type 0) (before after : CampaignValue) → HasCleanDisk new → LeavesOff old new → Survives old new (MayLeave HasTables Does old) → Keeps old text before
       → ((db : Database) → Does old.now db → Holds db.trees text after) → LeavesAfterFault old.faults new text before after
   leaves_stops Does before after clean off survives keeps holds = record {
@@ -60,7 +60,7 @@ module _ (old new : State) (text : List ℕ) (settled : (db : Trees) → IsTrue 
     ];
   }
 
--- what a crash leaves after a transaction that puts the campaign into tables of this sort
+-- a crash after a transaction that writes a campaign leaves what it left before, or that campaign
 pub may_found : (old new : State) (text : List ℕ) (c : CampaignValue) (Before : Database → Type 0) (Does : Database → Database → Type 0) → Before old.now → ((db : Database) → Does old.now db → Holds db.trees text c) → HasCleanDisk new
     → Survives old new (MayLeave Before Does old) → MayFound old text c new
 may_found old new text c Before Does before holds clean survives db may = elim (survives.crash clean db may) [
@@ -68,7 +68,7 @@ may_found old new text c Before Does before holds clean survives db may = elim (
   | inr made ↦ let did = made.1 before in inr (subst (λ t. Stores t text c) (sym made.2) (stored made.0 text c did.tables (holds made.0 did.does)))
 ]
 
--- what a founding that left off has spared, where the connection was in no transaction
+-- a founding that was left off leaves the tables as they were, if the connection was in no transaction
 pub leaves_spares : (old new : State) (Commits : Trees → Type 0) → HasCleanDisk new → LeavesOff old new → Survives old new Commits → old.in_transaction ≡ false → (IsTrue old.is_open → old.now ≡ old.committed) → ChangesNothing old new
 leaves_spares old new Commits clean off survives idle settled = record {
   same = λ up.
@@ -92,35 +92,39 @@ module _ {S : Type 0} (g : Ghosts S) (text : List ℕ) (c : CampaignValue) (old 
       go true same = absurd cc
       go false same = absurd cc
 
+  -- a creation that an error ended is refused by that error's fault (`RefusesToCreate`)
   pub refused_with : (e : Error) (r : Result (Unit {0}) CreateFault) → IsErrAnd r (λ f. f ≡ create_fault e) → (HasCleanDisk (state g new) → Gives g (OfFounding text c) e old new) → IfErr r (RefusesToCreate g text c old new)
   refused_with e (Ok a) told gave = tt
   refused_with e (Err f) told gave = refused_as f (λ none. tells_more e (sym told ∙ none)) (record { ready = ready; told = λ clean. (e, told, gave clean) })
 
--- the fault of a writing that an error of the database ended
+-- the fault of a write is that of the database's error that ended it
 pub told_by : {S F A : Type 0} (g : Ghosts S) (own : Statements) (fault_of : Error → F) (old new : Held S) (e : Error) (r : Result A F) → IsErrAnd r (λ f. f ≡ fault_of e) → Gives g own e old new → IfErr r (IsTold g own fault_of old new)
 told_by g own fault_of old new e (Ok a) told gave = tt
 told_by g own fault_of old new e (Err f) told gave = (e, told, gave)
 
--- no table campaign is there, as the connection's schema shows
+-- if the connection's schema shows none, no table `campaign` is there
 pub not_there : {S : Type 0} (g : Ghosts S) (conn : Held S) (schema : Schema) (found : Bool) → schema ≡ (state g conn).now.schema → found ≡ has_campaign schema → found ≡ false → has_campaign conn.schema ≡ false
 not_there g conn schema found shown is none = ap has_campaign (sym shown) ∙ sym is ∙ none
 
--- where nothing is done, nothing is changed
+-- doing nothing changes nothing
 pub spares_itself : (s : State) → ChangesNothing s s
 spares_itself s = record { same = λ up. (refl, refl, refl); shuts = λ up. inl up }
 
+-- a connection that survives a call is a later state of it
 pub later : (old new : State) (Commits : Trees → Type 0) → Survives old new Commits → IsLater old new
 later old new Commits survives = record { clean = λ clean. omega (arith, survives.clean); counts = survives.counts; shield = survives.shield }
 
 -- ---- other tables
 
+-- a commit leaves the other tables as they are
 pub commits_spares : (old new : State) (Before : Database → Type 0) (Does : Database → Database → Type 0) → Commits Before Does old new → (HasTables old.now → Before old.now) → LeavesOthersAlone old new
 commits_spares old new Before Does done before up has settled = (done.does (before has)).carries
 
+-- a transaction that was left off leaves the other tables as they are
 pub leaves_others : (old new : State) → LeavesOff old new → LeavesOthersAlone old new
 leaves_others old new off up has settled = subst (Carries old.now) (sym ((off.undone up).0 ∙ settled)) (carries_none old.now)
 
--- what holds in any case holds where there is an error
+-- what is true is true in the case of an error
 pub on_err : {A E : Type 0} (r : Result A E) (P : Type 0) → P → OnErr r P
 on_err (Ok a) P p = tt
 on_err (Err e) P p = p

@@ -1,4 +1,4 @@
--- Rows of a query that are read as they come.
+-- Laws on reading the rows of a query one by one as they come (`stream`).
 use Rattle.std.proofs.Common.{◌≡◌, ℕ, false, List, [], ◌∷◌, ◌++◌, map, length, Option, Some, None, Result, Ok, Err, IsErrAnd, refl, sym, ap, ◌∙◌, subst, inl, inr, arith}
 use Rattle.std.specs.declared.vec.Vec.{Vec}
 use Rattle.sqlite_trees.specs.declared.store.Store.{Ghosts}
@@ -21,16 +21,18 @@ use Rattle.atl_store.proofs.ConfirmLaws.{refused_rests, rests_unchanged}
 use Rattle.atl_store.proofs.KeepLaws.{survives_more, if_ok, if_err}
 use Rattle.atl_store.proofs.SelectingLaws.{never_other, no_fewer}
 
+-- a query on an unchanged connection is asked of the same tables
 asked_unchanged : (old now : State) → IsUnchanged old now → Survives old now (λ _. ⊥) → IsAsked old now
 asked_unchanged old now h survives = record { was_open = λ _. h.0.was_open; is_open = λ _. h.0.is_open; same = h.0.now_is; limit = survives.limit; faults = survives.counts }
 
--- what came before changed nothing
+-- a call after one that changed nothing
 pub rests_then : (old mid new : State) → IsUnchanged old mid → Rests mid new → Rests old new
 rests_then old mid new first rests = record {
   was_open = λ up. first.0.was_open;
   same = λ up. let same = rests.same up in (elim same.0 [ inl last ↦ inl (last ∙ first.0.committed_is) | inr as_it_was ↦ inr (as_it_was ∙ first.0.now_is) ], same.1 ∙ first.0.committed_is);
 }
 
+-- two calls that leave the connection at rest do so together
 rests_both : (old mid new : State) → Rests old mid → Rests mid new → Rests old new
 rests_both old mid new one two = record {
   was_open = λ up. one.was_open (two.was_open up);
@@ -45,6 +47,7 @@ rests_both old mid new one two = record {
       );
 }
 
+-- `IsAsked` is transitive
 asked_then : (old mid new : State) → IsAsked old mid → IsAsked mid new → IsAsked old new
 asked_then old mid new one two = record {
   was_open = λ up. one.was_open (two.was_open up);
@@ -54,9 +57,11 @@ asked_then old mid new one two = record {
   faults = omega (arith, one.faults, two.faults);
 }
 
+-- a plain query commits nothing
 pub commits_nothing : (sql : List ℕ) (old new : State) → IsPlain (understood old.now.schema sql) → Survives old new (CommitsShowing sql [] old) → Survives old new (λ _. ⊥)
 commits_nothing sql old new plain = survives_weaker old new _ _ (λ _ db. never_commits sql [] old db plain)
 
+-- `IsUnchanged` is transitive
 unchanged_then : (old mid new : State) → IsUnchanged old mid → IsUnchanged mid new → IsUnchanged old new
 unchanged_then old mid new a b = (
   record { was_open = a.0.was_open; is_open = b.0.is_open; now_is = b.0.now_is ∙ a.0.now_is; committed_is = b.0.committed_is ∙ a.0.committed_is; mode = b.0.mode ∙ a.0.mode },
@@ -64,11 +69,12 @@ unchanged_then old mid new a b = (
   b.2 ∙ a.2,
 )
 
+-- mapping a list with one element more at its end
 map_behind : {A B : Type 0} (f : A → B) (xs : List A) (x : A) → map f (xs ++ x ∷ []) ≡ map f xs ++ f x ∷ []
 map_behind f [] x = refl
 map_behind f (y ∷ xs) x = ap (λ ys. f y ∷ ys) (map_behind f xs x)
 
--- the query is under way, has given these rows, and changed nothing
+-- The query is running, has given these rows, and changed nothing.
 pub record IsGiving {S : Type 0} (g : Ghosts S) (sql : List ℕ) (old : Held S) (given : List Row) (now : Held S) : Type 0 where
   pub idle : now.in_transaction ≡ false
   pub survives : Survives (state g old) (state g now) (λ _. ⊥)
@@ -76,7 +82,7 @@ pub record IsGiving {S : Type 0} (g : Ghosts S) (sql : List ℕ) (old : Held S) 
 
 module _ {S : Type 0} (g : Ghosts S) (sql : List ℕ) (old : Held S) where
   module _ {A : Type 0} (forms : List Form) (shown : A → Row) where
-    -- it did not begin
+    -- the query did not begin
     pub not_begun : {Z : Type 0} (now : Held S) (e : Error) (r : Result (Option (Vec A Z)) ReadFault) → IsPlain (understood old.schema sql) → IsErrAnd r (λ fault. fault ≡ read_fault e) → (HasCleanDisk (state g now) → FailsToQuery sql [] (state g old) (state g now) e)
         → now.in_transaction ≡ false → Survives (state g old) (state g now) (CommitsShowing sql [] (state g old)) → Streams g sql old forms shown r now
     not_begun now e (Ok read) plain told err idle survives = absurd told
@@ -89,7 +95,7 @@ module _ {S : Type 0} (g : Ghosts S) (sql : List ℕ) (old : Held S) where
       idle = idle;
     }
 
-    -- it is given up
+    -- a query that is ended early streams nothing (`Ok None`)
     pub given_up : {Z : Type 0} (given : List Row) (now : Held S) → IsGiving g sql old given now → Streams g sql old {Z = Z} forms shown (Ok None) now
     given_up given now giving = record {
       rows = λ _. tt;
@@ -111,7 +117,7 @@ module _ {S : Type 0} (g : Ghosts S) (sql : List ℕ) (old : Held S) where
     same_before clean = (giving.given_so (clean_before clean)).1
 
     module _ {A : Type 0} (forms : List Form) (shown : A → Row) where
-      -- it goes on no further
+      -- the next row could not be fetched
       pub not_advanced : {Z : Type 0} (e : Error) (r : Result (Option (Vec A Z)) ReadFault) → IsPlain (understood old.schema sql) → IsErrAnd r (λ fault. fault ≡ read_fault e) → (HasCleanDisk (state g now) → FailsToAdvance g mid now e) → Streams g sql old forms shown r now
       not_advanced e (Ok read) plain told err = absurd told
       not_advanced e (Err fault) plain told err = record {
@@ -126,7 +132,7 @@ module _ {S : Type 0} (g : Ghosts S) (sql : List ℕ) (old : Held S) where
         idle = idle giving.idle;
       }
 
-      -- no more is to come
+      -- no row is left
       pub ended : {Z : Type 0} (all : Vec A Z) → map shown all.items ≡ map (first_columns (length forms)) given → AreTyped forms given → (HasCleanDisk (state g now) → Advances g mid now None) → (HasCleanDisk (state g now) → IsUnchanged (state g mid) (state g now))
           → Streams g sql old forms shown (Ok (Some all)) now
       ended all read typed done same = record {
@@ -138,10 +144,12 @@ module _ {S : Type 0} (g : Ghosts S) (sql : List ℕ) (old : Held S) where
         idle = idle giving.idle;
       }
 
+      -- one row more is read
       pub read_more : (old_items new_items : List A) (row : Row) → map shown old_items ≡ map (first_columns (length forms)) given → AddsRow forms shown old_items row new_items → map shown new_items ≡ map (first_columns (length forms)) (given ++ row ∷ [])
       read_more old_items new_items row read adds =
           ap (map shown) adds.1 ∙ map_behind shown old_items adds.0 ∙ ap (λ rs. rs ++ shown adds.0 ∷ []) read ∙ ap (λ r. map (first_columns (length forms)) given ++ r ∷ []) adds.2 ∙ sym (map_behind (first_columns (length forms)) given row)
 
+      -- the rows read so far are typed, and the next one is
       pub typed_more : (old_items new_items : List A) (row : Row) → AreTyped forms given → AddsRow forms shown old_items row new_items → AreTyped forms (given ++ row ∷ [])
       typed_more old_items new_items row typed adds one there = elim (has_either given (row ∷ []) one there) [
         | inl before ↦ typed one before
@@ -149,7 +157,7 @@ module _ {S : Type 0} (g : Ghosts S) (sql : List ℕ) (old : Held S) where
         | inr (inr none) ↦ absurd none
       ]
 
-    -- one more has come
+    -- one row more was given
     pub giving_more : (row : Row) → (HasCleanDisk (state g now) → Advances g mid now (Some row)) → (HasCleanDisk (state g now) → IsUnchanged (state g mid) (state g now)) → IsGiving g sql old (given ++ row ∷ []) now
     giving_more row more same = record {
       idle = idle giving.idle;
@@ -160,6 +168,7 @@ module _ {S : Type 0} (g : Ghosts S) (sql : List ℕ) (old : Held S) where
 -- ---- what was streamed, as rows that are read
 
 module _ {S A Z : Type 0} (g : Ghosts S) (sql : List ℕ) (old : Held S) (forms : List Form) (shown : A → Row) where
+  -- rows that were streamed are rows that are read
   pub streamed : (all : Vec A Z) (new : Held S) → Streams g sql old {Z = Z} forms shown (Ok (Some all)) new → ReadsRows g sql old {Z = Z} forms shown (Ok all) new
   streamed all new streams = record {
     rows = streams.rows;
@@ -171,6 +180,7 @@ module _ {S A Z : Type 0} (g : Ghosts S) (sql : List ℕ) (old : Held S) (forms 
     idle = streams.idle;
   }
 
+  -- a fault of the stream is a fault of the read
   pub unstreamed : (fault : ReadFault) (r : Result (Vec A Z) ReadFault) (new : Held S) → Streams g sql old {Z = Z} forms shown (Err fault) new → IsErrAnd r (λ told. told ≡ fault) → ReadsRows g sql old forms shown r new
   unstreamed fault (Ok all) new streams is = absurd is
   unstreamed fault (Err told) new streams is = record {
@@ -183,7 +193,7 @@ module _ {S A Z : Type 0} (g : Ghosts S) (sql : List ℕ) (old : Held S) (forms 
     idle = streams.idle;
   }
 
-  -- where nothing is kept of what was streamed, all is read once more
+  -- if nothing is kept of what was streamed, all is read once more
   pub read_again : (mid new : Held S) (r : Result (Vec A Z) ReadFault) → Streams g sql old {Z = Z} forms shown (Ok None) mid → ReadsRows g sql mid forms shown r new → ReadsRows g sql old forms shown r new
   read_again mid new r streams reads = record {
     rows = λ clean. if_ok r (λ all told. (told.0, selects clean told.0 told.1, told.2, told.3)) (reads.rows clean);

@@ -1,4 +1,4 @@
--- Small steps that each table's laws need.
+-- Small laws on SQL's casts and tests that each table's laws need.
 use Rattle.std.proofs.Common.{◌≡◌, ◌&&◌, ◌||◌, ℕ, Bool, true, false, cond, [], ◌∷◌, sym, ap, ◌∙◌, refl}
 use Rattle.std.specs.Ordering.{is_eq}
 use Rattle.std.proofs.lemmas.Cmp.{tied_itself}
@@ -19,30 +19,33 @@ either : (b : Bool) (x : Value) → cond b x x ≡ x
 either true x = refl
 either false x = refl
 
+-- a NULL stays NULL in an INTEGER column
 pub cast_null : cast Integer Null ≡ Null
 unfolding unary
 cast_null = either _ Null
 
+-- an integer stays itself in an INTEGER column
 pub cast_int : (n : _) → cast Integer (Int n) ≡ Int n
 unfolding unary
 cast_int n = either _ (Int n)
 
--- a test, where no other index tests anything
+-- the test of the key alone, if no other index tests anything
 pub bare : (b rest : Bool) → rest ≡ false → ((b && true) || rest) ≡ b
 bare true rest none = refl
 bare false rest none = none
 
+-- equal rows have equal first values
 pub head_is : (a b : Value) (xs ys : Row) → ◌≡◌ {A = Row} (a ∷ xs) (b ∷ ys) → a ≡ b
 head_is a b xs ys e = cc
 
--- the test of a key that is the row's number finds the rows with this number
+-- the upsert's test of a key that is the row's number finds the rows with this number
 pub by_number : (a : Value) (n : ℕ) (rest : Bool) → rest ≡ false → is_int a ≡ true → (((equal Binary a (int n) && true) || rest) ≡ true → ◌≡◌ {A = Row} (a ∷ []) (int n ∷ [])) × (◌≡◌ {A = Row} (a ∷ []) (int n ∷ []) → ((equal Binary a (int n) && true) || rest) ≡ true)
 by_number a n rest none integer = (
   λ hit. ap (λ v. v ∷ []) (equal_is a (int n) integer refl (sym (bare _ rest none) ∙ hit)),
   λ same. bare _ rest none ∙ ap (λ v. equal Binary v (int n)) (head_is _ _ _ _ same) ∙ is_equal (int n) refl,
 )
 
--- the same in a DELETE
+-- the same for the test of a DELETE
 pub at_number : (a : Value) (n : ℕ) → is_int a ≡ true → ((equal Binary a (int n) && true) ≡ true → ◌≡◌ {A = Row} (a ∷ []) (int n ∷ [])) × (◌≡◌ {A = Row} (a ∷ []) (int n ∷ []) → (equal Binary a (int n) && true) ≡ true)
 at_number a n integer = (
   λ hit. ap (λ v. v ∷ []) (equal_is a (int n) integer refl (sym (whole _) ∙ hit)),

@@ -1,4 +1,4 @@
--- The rows of single items and skills of units, one after another.
+-- Laws on writing the dirty items and skills of units: one thing after another, until all are written.
 use Rattle.std.proofs.Common.{◌≡◌, ◌≢◌, ◌==◌, ◌&&◌, ◌||◌, ℕ, pos, Bool, true, false, cond, List, [], ◌∷◌, map, take, is_some, unwrap_or, Some, Less, Equal, Greater, refl, sym, ap, ◌∙◌, subst, inl, inr, true≢false, arith}
 use Rattle.std.specs.List.{list_any}
 use Rattle.std.specs.Ordering.{nat_cmp, is_eq, is_lt, eq_by_cmp}
@@ -43,6 +43,7 @@ module _ (sort : ThingKind) where
 
 -- ---- one thing
 
+-- kinds of things with one number are one kind
 pub same_sort : (a b : ThingKind) → sort_number a ≡ sort_number b → a ≡ b
 same_sort Item Item same = refl
 same_sort Item Skill same = absurd (omega (arith, same))
@@ -50,6 +51,7 @@ same_sort Skill Item same = absurd (omega (arith, same))
 same_sort Skill Skill same = refl
 
 module _ (unit : ℕ) (sort : ThingKind) (thing : ℕ) where
+  -- whether a row is that of this unit, kind and thing
   abbrev is_here : Row → Bool
   is_here r = of_kind sort (is_thing unit thing) r
 
@@ -78,10 +80,11 @@ module _ (unit : ℕ) (sort : ThingKind) (thing : ℕ) where
       itself a = grind (arith, nat_tests)
 
   module _ (c : CampaignValue) (amount : ℕ) (is : amount ≡ amount_under c.units unit sort thing) where
+    -- the row of the thing
     abbrev row : Row
     row = has_row unit (sort_number sort) thing amount
 
-    -- a wanted row of the thing tells how much there is
+    -- a wanted row of the thing has its amount
     wanted_here : (r : Row) → is_here r ≡ true → HasRowsOf c.units r → (amount ≢ 0) × (r ≡ row)
     wanted_here r here of =
         let had = had_of c.units r of in
@@ -90,10 +93,11 @@ module _ (unit : ℕ) (sort : ThingKind) (thing : ℕ) where
         let told : Tells unit sort thing = subst (λ n. Tells n sort thing) keys.0 (subst (λ s. Tells had.0 s thing) (same_sort had.1 sort keys.1) (subst (Tells had.0 had.1) keys.2 (had.3, had.4))) in
         (λ none. told.0 (sym is ∙ none), told.1 ∙ ap (has_row unit (sort_number sort) thing) (sym is))
 
-    -- where there is none of it, no row has its key
+    -- if its amount is 0, no wanted row has its key
     pub no_thing : amount ≡ 0 → (r : Row) → HasRowsOf c.units r → take 3 r ≢ has_key unit (sort_number sort) thing
     no_thing none r of key = (wanted_here r (of_key r key) of).0 none
 
+    -- putting the row of an amount that is not 0 rewrites the thing
     pub thing_put : amount ≢ 0 → (old new : State) → Inside HasTables (Puts has_table 3 row) old new → Inside HasTables (RewritesThings c sort (is_thing unit thing)) old new
     thing_put some old new did = inside_weaker HasTables (Puts has_table 3 row) (RewritesThings c sort (is_thing unit thing)) old new
         (λ has puts. rewrites_key is_here (λ r. take 3 r ≡ has_key unit (sort_number sort) thing) (λ r. r ≡ row) (HasRowsOf c.units) key_of of_key
@@ -102,6 +106,7 @@ module _ (unit : ℕ) (sort : ThingKind) (thing : ℕ) where
         has_table old.now new.now puts.rows puts.others)
         did
 
+    -- deleting the row of an amount that is 0 rewrites the thing
     pub thing_dropped : amount ≡ 0 → (old new : State) → Inside HasTables (Drops has_table 3 (has_key unit (sort_number sort) thing)) old new
         → Inside HasTables (RewritesThings c sort (is_thing unit thing)) old new
     thing_dropped none old new did = inside_weaker HasTables (Drops has_table 3 (has_key unit (sort_number sort) thing)) (RewritesThings c sort (is_thing unit thing)) old new
@@ -112,7 +117,7 @@ module _ (unit : ℕ) (sort : ThingKind) (thing : ℕ) where
 
 -- ---- the entries of a map
 
--- a key is among those of the entries where one is found
+-- a key is among those of the entries exactly if one is found
 listed_key : {V : Type 0} (es : List (ℕ × V)) (t : ℕ) → is_among (map (λ e. e.0) es) t ≡ is_some (find nat_cmp t es)
 listed_key [] t = refl
 listed_key (e ∷ es) t = elim (eq_by_cmp nat_cmp t e.0) as (λ b. (b || is_among (map (λ x. x.0) es) t) ≡ is_some (cond b (Some e.1) (find nat_cmp t es))) [ true ↦ refl | false ↦ listed_key es t ]
@@ -125,11 +130,11 @@ differs k n less = elim (nat_cmp k n) as (λ o. is_lt o ≡ true → is_eq o ≡
 ] less
 
 module _ {V : Type 0} where
-  -- whether a thing is of this unit and among the keys of the entries
+  -- whether a thing is of this unit and its number among those of the entries
   abbrev pub is_key : ℕ → List (ℕ × V) → ℕ → ℕ → Bool
   is_key unit es n t = is_number unit n && is_among (map (λ e. e.0) es) t
 
-  -- whether a thing is in the group of its unit
+  -- whether a thing is in the map of its unit
   abbrev pub is_listed : List (ℕ × FinMap nat_cmp V) → ℕ → ℕ → Bool
   is_listed es n t = list_any (λ e. is_of e.0 e.1 n t) es
 
@@ -149,42 +154,47 @@ module _ {V : Type 0} where
 -- ---- one thing after another, and one unit after another
 
 module _ (c : CampaignValue) (sort : ThingKind) where
+  -- A row of the table `has` that the tables have to hold.
   abbrev wanted : Row → Type 0
   wanted r = HasRowsOf c.units r
 
-  -- with the rest of these things rewritten too, all are
+  -- Once the rest of these things is rewritten too, all are.
   abbrev pub NearingThings : (ℕ → ℕ → Bool) → (ℕ → ℕ → Bool) → Database → Database → Type 0
   NearingThings rest all = Nearing has_table wanted (λ r. of_kind sort rest r) (λ r. of_kind sort all r)
 
-  -- of which one is rewritten
+  -- one step more is rewritten
   nearer : (step rest next all : ℕ → ℕ → Bool) → ((n t : ℕ) → rest n t ≡ (step n t || next n t)) → (old mid new : State)
       → Inside HasTables (NearingThings rest all) old mid → Inside HasTables (RewritesThings c sort step) mid new → Inside HasTables (NearingThings next all) old new
   nearer step rest next all parts = one_nearer has_table wanted (λ r. of_kind sort step r) (λ r. of_kind sort rest r) (λ r. of_kind sort next r) (λ r. of_kind sort all r)
       (λ r. of_sort_same sort rest (λ n t. step n t || next n t) parts r ∙ of_sort_either sort step next r)
 
-  -- of which none is left
+  -- with no thing left, all are rewritten
   nearest : (rest all goal : ℕ → ℕ → Bool) → ((n t : ℕ) → rest n t ≡ false) → ((n t : ℕ) → all n t ≡ goal n t) → (old new : State)
       → Inside HasTables (NearingThings rest all) old new → Inside HasTables (RewritesThings c sort goal) old new
   nearest rest all goal none same = all_rewritten has_table wanted (λ r. of_kind sort rest r) (λ r. of_kind sort all r) (λ r. of_kind sort goal r) (of_sort_none sort rest none) (of_sort_same sort all goal same)
 
   module _ {V : Type 0} where
+    -- one thing more of a unit is rewritten
     pub thing_nearer : (unit : ℕ) (x : ℕ × V) (now rest all : List (ℕ × V)) → now ≡ x ∷ rest → (old mid new : State)
         → Inside HasTables (NearingThings (is_key unit now) (is_key unit all)) old mid → Inside HasTables (RewritesThings c sort (is_thing unit x.0)) mid new
         → Inside HasTables (NearingThings (is_key unit rest) (is_key unit all)) old new
     thing_nearer unit x now rest all is = nearer (is_thing unit x.0) (is_key unit now) (is_key unit rest) (is_key unit all)
         (λ n t. ap (λ es. is_key unit es n t) is ∙ and-or_distrib_left (is_number unit n) (is_number x.0 t) (is_among (map (λ e. e.0) rest) t))
 
+    -- with none left, all things of the unit are rewritten
     pub things_rewritten : (unit : ℕ) (things : FinMap nat_cmp V) (rest all : List (ℕ × V)) → rest ≡ [] → all ≡ entries things → (old new : State)
         → Inside HasTables (NearingThings (is_key unit rest) (is_key unit all)) old new → Inside HasTables (RewritesThings c sort (is_of unit things)) old new
     things_rewritten unit things rest all none is = nearest (is_key unit rest) (is_key unit all) (is_of unit things)
         (λ n t. ap (λ es. is_key unit es n t) none ∙ and-false (is_number unit n))
         (λ n t. ap (λ es. is_key unit es n t) is ∙ ap (λ b. is_number unit n && b) (listed_key (entries things) t ∙ ap is_some (sym (get-entries things t))))
 
+    -- the things of one unit more are rewritten
     pub unit_nearer : (x : ℕ × FinMap nat_cmp V) (now rest all : List (ℕ × FinMap nat_cmp V)) → now ≡ x ∷ rest → (old mid new : State)
         → Inside HasTables (NearingThings (is_listed now) (is_listed all)) old mid → Inside HasTables (RewritesThings c sort (is_of x.0 x.1)) mid new
         → Inside HasTables (NearingThings (is_listed rest) (is_listed all)) old new
     unit_nearer x now rest all is = nearer (is_of x.0 x.1) (is_listed now) (is_listed rest) (is_listed all) (λ n t. ap (λ es. is_listed es n t) is)
 
+  -- with no unit left, all dirty things are rewritten
   pub units_rewritten : (things : Things) (rest all : List (ℕ × FinMap nat_cmp (Unit {0}))) → rest ≡ [] → all ≡ entries things → (old new : State)
       → Inside HasTables (NearingThings (is_listed rest) (is_listed all)) old new → Inside HasTables (RewritesThings c sort (has_thing things)) old new
   units_rewritten things rest all none is = nearest (is_listed rest) (is_listed all) (has_thing things)

@@ -1,4 +1,4 @@
--- The steps of an upgrade, and both together.
+-- Laws on the two steps of an upgrade, and on both: the table `market` is added, and the campaign row is changed.
 use Rattle.std.proofs.Common.{◌≡◌, ◌≢◌, ℕ, List, [], ◌∷◌, drop, map, take, refl, sym, ap, ◌∙◌, subst, inl, inr}
 use Rattle.std.specs.Ordering.{nat_cmp}
 use Rattle.std.specs.FinMap.{FinMap, get, get-empty}
@@ -25,9 +25,11 @@ use Rattle.atl_store.proofs.Made.{Creates}
 use Rattle.atl_store.proofs.PartLaws.{all_among, listed, same_part}
 use Rattle.atl_store.proofs.WholeLaws.{inside_then, inside_weaker}
 
+-- the schema of the nine tables of the first format
 abbrev old_schema : Schema
 old_schema = first_tables 9 3
 
+-- the schema of the ten tables of the second format
 abbrev new_schema : Schema
 new_schema = first_tables 10 4
 
@@ -60,6 +62,7 @@ module _ (old new : Database) (is : IsFirstFormat old) (made : Creates old_schem
         absurd (free (has_map (λ (u : Table). u.tree) all_tables t (has_left old_schema.tables (market_table ∷ []) t was)));
   }
 
+-- the CREATE TABLE adds the empty table `market`
 pub adds_markets : (old new : State) → RunsStatement (creation_of Markets) [] old new → Inside IsFirstFormat AddsMarkets old new
 adds_markets old new ran = (
   ran.2.1.mode ∙ sym ran.0,
@@ -74,11 +77,11 @@ adds_markets old new ran = (
 
 -- ---- the whole
 
--- each other part has a table in the first format
+-- each part but the markets has a table in the first format
 in_first : (part : Part) → part ≢ Markets → Has (parts_in First) part
 in_first part other = elim (all_among (Markets ∷ parts_in First) refl part) [ inl same ↦ absurd (other same) | inr there ↦ there ]
 
--- where nothing is in stock there are no rows of stocks
+-- if nothing is in stock, `market` has no rows
 no_stocks : (c : CampaignValue) → HasNoStocks c → (r : Row) → ¬ MarketRowsOf c.regions r
 no_stocks c bare r of =
     let e = sym (get-empty {X = ℕ} nat_cmp of.3) ∙ ap (λ (m : FinMap nat_cmp ℕ). get m of.3) (sym (bare of.0 of.1 of.2)) ∙ of.5 in
@@ -92,20 +95,21 @@ own_row rows old was row key one made r = (
 )
 
 module _ (text : List ℕ) (c : CampaignValue) (old mid new : Database) (first : AddsMarkets old mid) (second : UpgradesCampaignRow (campaign_row_of c) text mid new) (before : List ℕ) (held : HoldsIn First old.trees before c) (bare : HasNoStocks c) where
-  -- the rows of a table that was there, behind the first step
+  -- the rows of a table that was there are those of the campaign after the first step
   was : (part : Part) → Has (parts_in First) part → Is (rows_in (table_of part) mid.trees) (rows_for (campaign_row_in First (campaign_row_of c) before) c part)
   was part there = subst (λ rows. Is rows (rows_for (campaign_row_in First (campaign_row_of c) before) c part)) (sym (ap (map (visible (table_of part))) (first.others (table_of part) (has_map table_of (parts_in First) part there)))) (held.rows part there)
 
   did : Puts campaign_table 1 (campaign_row (campaign_row_of c) text) mid new
   did = second before (was Own (inl refl))
 
-  -- each other table is as the first step left it
+  -- each table but `campaign` is as the first step left it
   rest : (part : Part) → part ≢ Own → rows_in (table_of part) new.trees ≡ rows_in (table_of part) mid.trees
   rest part other = ap (map (visible (table_of part))) (did.others (table_of part) (listed part) (λ same. other (same_part part Own same)))
 
   kept : (part : Part) → part ≢ Own → Has (parts_in First) part → Is (rows_in (table_of part) new.trees) (rows_for (campaign_row_in First (campaign_row_of c) before) c part)
   kept part other there = subst (λ rows. Is rows (rows_for (campaign_row_in First (campaign_row_of c) before) c part)) (sym (rest part other)) (was part there)
 
+  -- the tables of the second format hold the campaign
   pub upgrade_held : Holds new.trees text c
   upgrade_held = record { rows = rows }
     where
@@ -114,7 +118,7 @@ module _ (text : List ℕ) (c : CampaignValue) (old mid new : Database) (first :
       rows Markets = λ r. (λ there. absurd (subst (λ l. Has l r) (rest Markets (λ e. absurd cc) ∙ ap (map (visible market_table)) first.empty) there), λ of. absurd (no_stocks c bare r of))
       rows part = kept part (λ e. absurd cc) (in_first part (λ e. absurd cc))
 
--- the head is upgraded behind the new table
+-- changing the campaign row after adding the table completes the upgrade
 pub upgrade_done : (text : List ℕ) (c : CampaignValue) (start mid end : State) → Inside IsFirstFormat AddsMarkets start mid → Inside HasTables (UpgradesCampaignRow (campaign_row_of c) text) mid end → Inside IsFirstFormat (WritesUpgrade text c) start end
 upgrade_done text c start mid end first second =
     inside_weaker IsFirstFormat (Both AddsMarkets (UpgradesCampaignRow (campaign_row_of c) text)) (WritesUpgrade text c) start end

@@ -1,4 +1,4 @@
--- From the readings and the transaction of an upgrade to what it answers and leaves.
+-- Laws on `upgrade`: from its reads and its transaction to what it returns and leaves.
 use Rattle.std.proofs.Common.{◌≡◌, ◌≤◌, ℕ, Bool, true, false, cond, List, IsTrue, Result, Ok, Err, IsErrAnd, IfErr, refl, sym, ap, ◌∙◌, subst, inl, inr, arith}
 use Rattle.sqlite_trees.specs.Tree.{Trees}
 use Rattle.sqlite_trees.specs.declared.store.Store.{Ghosts}
@@ -33,12 +33,12 @@ use Rattle.atl_store.specs.declared.fault.UpgradeFault.TheVariants as upgrade
 use Rattle.atl_store.proofs.BareWorldLaws.{good_either}
 use Rattle.atl_store.proofs.StayLaws.{commits_keeps, leaves_spares, may_found}
 
--- the fault that was handed on
+-- what is true of a fault is true of the equal error of a result
 pub told_as : {A F : Type 0} (P : F → Type 0) (r : Result A F) (fault : F) → IsErrAnd r (λ f. f ≡ fault) → P fault → IfErr r P
 told_as P (Ok a) fault told p = tt
 told_as P (Err f) fault told p = subst P (sym told) p
 
--- what keeps the old campaign from being loaded is the first check that fails
+-- a fault of loading the old campaign is the first check that fails
 pub unloaded : {S : Type 0} (g : Ghosts S) (text : List ℕ) (old mid : Held S) (fault : LoadFault) → RefusesToLoadIn First g old fault → FailsCheck g text old mid (first_fault fault)
 unloaded g text old mid load.Store refused = inl refused
 unloaded g text old mid (load.Damaged rule) refused = refused
@@ -49,6 +49,7 @@ unloaded g text old mid load.Memory refused = inl refused
 -- ---- what was loaded is what the tables held
 
 module _ {S : Type 0} (g : Ghosts S) (text : List ℕ) (old mid : Held S) (alone : LeavesAlone g old mid) (clean : HasCleanDisk (state g mid)) where
+  -- the loaded campaign is what the tables of the first format held
   pub loaded_old : (w : WorldValue) (c : MarkedCampaign) → LoadsIn First g old mid w c → HoldsOld (state g old) w c.value
   loaded_old w c loads =
       let stands = loads.stands clean in
@@ -60,16 +61,18 @@ module _ {S : Type 0} (g : Ghosts S) (text : List ℕ) (old mid : Held S) (alone
         good = loads.good;
       }
 
-  -- its world had no markets
+  -- the old world had no markets
   bare_before : (w : WorldValue) (c : MarkedCampaign) → LoadsIn First g old mid w c → without_markets w ≡ w
   bare_before w c loads = old_has_no_markets (world_text (state g mid)) w (loads.world clean)
 
+  -- the new world differs from the old one in markets alone
   pub matched : (w : WorldValue) (c : MarkedCampaign) → IsReadyToUpgrade g text old mid w c → Matches (state g old) text w c.value
   matched w c ready = record {
     world = ready.world;
     was = subst (λ v. HoldsOld (state g old) v c.value) (sym (bare_before ready.before c ready.loads) ∙ sym ready.same) (loaded_old ready.before c ready.loads);
   }
 
+  -- a new world that differs in more is refused with Differs
   pub other_world : (before w : WorldValue) (c : MarkedCampaign) → LoadsIn First g old mid before c → world_of text ≡ Ok w → ¬ (without_markets w ≡ without_markets before) → HasOtherWorld g text old mid
   other_world before w c loads is differs = record {
     world = w;
@@ -80,6 +83,7 @@ module _ {S : Type 0} (g : Ghosts S) (text : List ℕ) (old mid : Held S) (alone
     differs = λ same. differs (same ∙ sym (bare_before before c loads));
   }
 
+  -- other tables than those of the first format refuse the upgrade
   pub has_more : (w : WorldValue) (c : MarkedCampaign) → IsReadyToUpgrade g text old mid w c → ¬ IsJustOld mid.schema → HasMore g text old mid
   has_more w c ready more =
       let stands = ready.loads.stands clean in
@@ -92,12 +96,14 @@ module _ {S : Type 0} (g : Ghosts S) (text : List ℕ) (old mid : Held S) (alone
         more = λ just. more (ap (λ (d : Database). d.schema) same.0 ∙ just);
       }
 
+-- a state after two calls is later than the one before them
 pub later_both : (old mid new : State) (FirstFormatRows SecondFormatRows : Trees → Type 0) → Survives old mid FirstFormatRows → Survives mid new SecondFormatRows → IsLater old new
 later_both old mid new FirstFormatRows SecondFormatRows one two = record { clean = λ clean. omega (arith, one.clean, two.clean, clean); counts = omega (arith, one.counts, two.counts); shield = λ shielded. two.shield (one.shield shielded) }
 
 -- ---- before the transaction
 
 module _ {S : Type 0} (g : Ghosts S) (text : List ℕ) (old new : Held S) where
+  -- a fault of loading is a failed check
   pub fails_to_load : (fault : LoadFault) → RefusesToLoadIn First g old fault → FailsCheck g text old new (first_fault fault)
   fails_to_load load.Store refused = inl refused
   fails_to_load (load.Damaged rule) refused = refused
@@ -105,6 +111,7 @@ module _ {S : Type 0} (g : Ghosts S) (text : List ℕ) (old new : Held S) where
   fails_to_load load.OtherFormat refused = refused
   fails_to_load load.Memory refused = inl refused
 
+  -- a fault of the new world text is a failed check
   pub fails_to_read : (fault : WorldFault) → Reads (λ (w : WorldValue). w) (Err fault) (world_of text) → HasOld g text old new → FailsCheck g text old new (new_world_fault fault)
   fails_to_read world.NotToml reads was = (was, reads, λ e. absurd cc)
   fails_to_read (world.Missing path) reads was = (was, reads, λ e. absurd cc)
@@ -116,7 +123,7 @@ module _ {S : Type 0} (g : Ghosts S) (text : List ℕ) (old new : Held S) where
   fails_to_read world.NoLand reads was = (was, reads, λ e. absurd cc)
   fails_to_read world.Memory reads was = inr was
 
-  -- nothing is changed
+  -- a check that fails before the transaction refuses the upgrade, and nothing is changed
   pub refused_before : (fault : UpgradeFault) → (HasCleanDisk (state g new) → FailsCheck g text old new fault) → LeavesAlone g old new → RefusesToUpgrade g text old new fault
   refused_before fault fails alone = record {
     cause = λ clean. inl (fails clean, alone);
@@ -127,19 +134,22 @@ module _ {S : Type 0} (g : Ghosts S) (text : List ℕ) (old new : Held S) where
 -- ---- the transaction
 
 module _ {S : Type 0} (g : Ghosts S) (text : List ℕ) (old mid new : Held S) (w : WorldValue) (c : MarkedCampaign) (alone : LeavesAlone g old mid) (ready : IsReadyToUpgrade g text old mid w c) where
+  -- The transaction of the upgrade had this result.
   abbrev Wrote : {A : Type 0} → Result A Error → Type 0
   Wrote r = Transacts g (OfUpgrade text c.value) IsFirstFormat (WritesUpgrade text c.value) r mid new
 
-  -- the tables are just the old ones
+  -- the tables are just those of the first format
   is_old : IsJustOld mid.schema → HasCleanDisk (state g mid) → IsFirstFormat (state g mid).now
   is_old just clean = let stands = ready.loads.stands clean in record { just = just; keyed = stands.keyed; listed = stands.listed }
 
+  -- a database that the upgrade wrote holds the campaign
   did : (db : Database) → HasCleanDisk (state g mid) → WritesUpgrade text c.value (state g mid).now db → Holds db.trees text c.value
   did db clean wrote = wrote (world_text (state g mid)) (ready.loads.stands clean).rows ready.loads.fits.stocks
 
   before : Survives (state g mid) (state g new) (MayLeave IsFirstFormat (WritesUpgrade text c.value) (state g mid)) → HasCleanDisk (state g new) → HasCleanDisk (state g mid)
   before survives clean = omega (arith, survives.clean, clean)
 
+  -- a transaction that committed fulfils `Upgrades`
   pub upgrades : (settled : (db : Trees) → IsTrue (state g new).is_open → (state g new).may_leave db → db ≡ (state g new).committed.trees) → IsJustOld mid.schema → (HasCleanDisk (state g new) → Commits IsFirstFormat (WritesUpgrade text c.value) (state g mid) (state g new)) → Survives (state g mid) (state g new) (MayLeave IsFirstFormat (WritesUpgrade text c.value) (state g mid)) → new.in_transaction ≡ false
       → Upgrades g text old new w c
   upgrades settled just done survives over = record {
@@ -157,7 +167,7 @@ module _ {S : Type 0} (g : Ghosts S) (text : List ℕ) (old mid new : Held S) (w
       new_now : Database
       new_now = (state g new).now
 
-  -- the connection after both
+  -- two calls that leave the tables as they were leave them so together
   spares_both : (was_open : IsTrue (state g new).is_open → IsTrue (state g mid).is_open) → (state g old).faults ≤ (state g mid).faults → (state g mid).faults ≤ (state g new).faults → ChangesNothing (state g old) (state g mid) → ChangesNothing (state g mid) (state g new) → ChangesNothing (state g old) (state g new)
   spares_both was_open early late first second = record {
     same = λ up.
@@ -171,12 +181,14 @@ module _ {S : Type 0} (g : Ghosts S) (text : List ℕ) (old mid new : Held S) (w
   }
 
   module _ (just : IsJustOld mid.schema) (idle : mid.in_transaction ≡ false) (off : HasCleanDisk (state g new) → LeavesOff (state g mid) (state g new)) (survives : Survives (state g mid) (state g new) (MayLeave IsFirstFormat (WritesUpgrade text c.value) (state g mid))) where
+    -- the tables are as they were, if the upgrade failed
     spared : HasCleanDisk (state g new) → ChangesNothing (state g old) (state g new)
     spared clean =
         let clean_mid = before survives clean in
         let stands = ready.loads.stands clean_mid in
         spares_both (off clean).was_open alone.survives.counts survives.counts (alone.spares clean_mid) (leaves_spares (state g mid) (state g new) _ clean (off clean) survives idle (λ up. sym stands.settled))
 
+    -- a crash leaves what it left before, or the upgraded campaign
     may_upgrade : HasCleanDisk (state g new) → MayUpgrade (state g old) text (state g new)
     may_upgrade clean db may =
         let clean_mid = before survives clean in
@@ -185,13 +197,16 @@ module _ {S : Type 0} (g : Ghosts S) (text : List ℕ) (old mid new : Held S) (w
           | inr stored ↦ inr (w, c.value, matched g text old mid alone clean_mid w c ready, stored)
         ]
 
+    -- an error of the transaction breaks the upgrade off
     broken_off : (e : Error) (memory : Bool) → is_memory e ≡ memory → Gives g (OfUpgrade text c.value) e mid new → HasCleanDisk (state g mid) → BreaksOffUpgrade g text old new memory
     broken_off e memory is gave clean_mid = record { world = w; campaign = c.value; matches = matched g text old mid alone clean_mid w c ready; before = mid; alone = alone; error = e; memory_is = is; given = gave }
 
+    -- the fault of the upgrade is that of this error
     fails_to_write : (e : Error) (memory : Bool) → is_memory e ≡ memory → Gives g (OfUpgrade text c.value) e mid new → HasCleanDisk (state g mid) → FailsInTransaction g text old new (cond memory upgrade.Memory upgrade.Store)
     fails_to_write e true is gave clean_mid = broken_off e true is gave clean_mid
     fails_to_write e false is gave clean_mid = broken_off e false is gave clean_mid
 
+    -- an error of the transaction refuses the upgrade
     pub refused_after : (e : Error) → (HasCleanDisk (state g new) → Gives g (OfUpgrade text c.value) e mid new) → RefusesToUpgrade g text old new (upgrade_fault e)
     refused_after e gave = record {
       cause = λ clean. inr (fails_to_write e (is_memory e) refl (gave clean) (before survives clean));

@@ -1,4 +1,4 @@
--- What INSERT .. ON CONFLICT (key) DO UPDATE of one row makes of a table.
+-- Laws on INSERT .. ON CONFLICT (key) DO UPDATE of one row: which rows the table has afterwards.
 use Rattle.std.proofs.Common.{◌≡◌, ◌⊎◌, ◌&&◌, ℕ, ℤ, Bool, true, false, List, [], ◌∷◌, ◌++◌, map, flat_map, Option, Some, None, Ok, Ordering, Less, Equal, Greater, refl, sym, ap, ◌∙◌, subst, inl, inr, true≢false, arith}
 use Rattle.std.specs.Prelude.{cond}
 use Rattle.std.specs.List.{list_all}
@@ -50,7 +50,7 @@ truth_again : (b : Bool) → is_true (from_truth (Some b)) ≡ b
 truth_again true = refl
 truth_again false = refl
 
--- SQL's = on integers is that of the order
+-- SQL's = on integers is equality by their order
 pub equal_ints : (a b : Value) → is_int a ≡ true → is_int b ≡ true → equal Binary a b ≡ is_eq (value_cmp a b)
 unfolding binary
 equal_ints (Int m) (Int n) p q = truth_again _
@@ -66,6 +66,7 @@ equal_ints (Blob x) b p q = absurd (true≢false (sym p))
 same_int : (m n : ℤ) → is_eq (value_cmp (Int m) (Int n)) ≡ true → m ≡ n
 same_int m n h = let k = rw (value_cmp-Int m n) at h in grind (arith, ints, nat_tests)
 
+-- integers equal by their order are equal
 pub same_ints : (a b : Value) → is_int a ≡ true → is_int b ≡ true → is_eq (value_cmp a b) ≡ true → a ≡ b
 same_ints (Int m) (Int n) p q h = ap Int (same_int m n h)
 same_ints (Int m) Null p q h = absurd (true≢false (sym q))
@@ -77,9 +78,11 @@ same_ints (Real x) b p q h = absurd (true≢false (sym p))
 same_ints (Text x) b p q h = absurd (true≢false (sym p))
 same_ints (Blob x) b p q h = absurd (true≢false (sym p))
 
+-- integers equal by SQL's = are equal
 pub equal_is : (a b : Value) → is_int a ≡ true → is_int b ≡ true → equal Binary a b ≡ true → a ≡ b
 equal_is a b p q h = same_ints a b p q (sym (equal_ints a b p q) ∙ h)
 
+-- an integer is equal to itself by SQL's =
 pub is_equal : (a : Value) → is_int a ≡ true → equal Binary a a ≡ true
 is_equal a p = equal_ints a a p p ∙ ap is_eq (tied_itself value_cmp_total a)
 
@@ -88,6 +91,7 @@ ne_or_eq Less h = absurd (true≢false h)
 ne_or_eq Equal h = refl
 ne_or_eq Greater h = absurd (true≢false h)
 
+-- integers that don't differ are equal by their order
 pub differ_not : (a b : Value) → is_int a ≡ true → is_int b ≡ true → differ a b ≡ false → is_eq (value_cmp a b) ≡ true
 unfolding binary
 differ_not (Int m) (Int n) p q h = ne_or_eq _ (sym (truth_again _) ∙ h)
@@ -102,6 +106,7 @@ differ_not (Blob x) b p q h = absurd (true≢false (sym p))
 
 -- ---- the query of the update: the one row that has the rowid
 
+-- the query of the update: the one row with the rowid of this parameter, and the values to set
 abbrev pub update_query : ℕ → ℕ → List Term → Query
 update_query tree place project = record (delete_query tree (op2 (Compare Eq Binary) (col 1 0) (col 0 place) ∷ [])) { project = col 1 0 ∷ project }
 
@@ -129,6 +134,7 @@ module _ (p : Row → Bool) (f : Row → Env) where
   one_chosen (x ∷ rows) apart r (inr h) is =
       rw (is x (inl refl) ∙ all_has _ rows r apart.0 h, one_chosen rows apart.1 r h (λ y k. is y (inr k)))
 
+-- it answers that row alone
 pub row_by : (tree place : ℕ) (project : List Term) (db db' : Trees) (given : Row) (rows : List Row) (r : Row) → IsKeyed (db tree) → Has (db tree) r → column given place ≡ rowid r → db' tree ≡ db tree
     → IsAnswer (update_query tree place project) db' given rows → rows ≡ (rowid r ∷ eval_all project (given ∷ r ∷ [])) ∷ []
 row_by tree place project db db' given rows r keyed there aimed same a =
@@ -148,19 +154,20 @@ row_by tree place project db db' given rows r keyed there aimed same a =
 
 -- ---- the statement
 
--- its target is the key at these places
+-- the ON CONFLICT clause of a key in these columns
 abbrev pub clause_on : List ℕ → Program → Upsert
 clause_on target q = record { target = Some target; update = Some q }
 
 module _ (schema : Schema) (t : Table) (unlinked : (olds news : List Row) → works schema Enforced 0 t.tree olds news ≡ []) (limit : Option ℕ) (params : Row)
     (target : List ℕ) (place : ℕ) (project : List Term) (plain : (db : Trees) → overlay db [] t.tree ≡ db t.tree) where
+  -- the task of the upsert
   abbrev upsert_task : Task
   upsert_task = record { limit = limit; keys = Enforced; schema = schema; table = t; params = params }
 
   abbrev q : Program
   q = record { lets = []; body = update_query t.tree place project }
 
-  -- the rows that have the key of the new row
+  -- whether a row has the key of the new row
   abbrev pub hits : Row → Row → Bool
   hits new r = conflicts (Some target) schema.indexes t new r
 
@@ -168,7 +175,7 @@ module _ (schema : Schema) (t : Table) (unlinked : (olds news : List Row) → wo
   abbrev pub given : Row → Row → Row
   given new r = params ++ rowid r ∷ shown t new
 
-  -- the row is put, or the row that is there is changed
+  -- The row was put, or the row with its key was changed.
   abbrev pub Upserted : Row → Trees → Trees → Type 0
   Upserted new db next =
       (((r : Row) → Has (db t.tree) r → hits new r ≡ false) × Swaps schema t (hits new) (cast_row t new) db next)
@@ -230,6 +237,7 @@ module _ (schema : Schema) (t : Table) (unlinked : (olds news : List Row) → wo
       let hit = are.sound x (inl refl) in
       inr (hit.0, hit.1, hit.2, updates new db hit.0 x w keyed hit.1 hit.3 (aimed hit.0 hit.1) h)
 
+  -- an upsert that ran did so
   pub upserts : (new : Row) (db : Trees) (w : Written) → IsKeyed (db t.tree) → ((r : Row) → Has (db t.tree) r → column (given new r) place ≡ rowid r)
       → Tries upsert_task Abort (clause_on target q ∷ []) new db (Ok w) → Upserted new db w.trees
   upserts new db w keyed aimed (inl refused) = absurd (let e = refused.1 in cc)

@@ -1,4 +1,4 @@
--- One after the other inside a transaction, and a transaction as a whole.
+-- Laws on a transaction as a whole: steps one after the other inside it, its commit, and how it is left off.
 use Rattle.std.proofs.Common.{◌≡◌, [], false, true, true≢false, IsTrue, Result, Ok, Err, OnOk, OnErr, IfErr, sym, ap, subst, ◌∙◌, inl, inr, arith}
 use Rattle.std.specs.Borrow.{MutBor}
 use Rattle.sqlite.specs.declared.error.Error.{Error}
@@ -17,6 +17,7 @@ use Rattle.atl_store.proofs.CauseLaws.{gives, gives_after, gives_until, gives_be
 use Rattle.atl_store.proofs.CarryLaws.{carries_then}
 use Rattle.atl_store.proofs.WriteLaws.{not_ok, HandsOn, weaker, two_steps}
 
+-- one step inside a transaction and then another
 pub inside_then : (Before : Database → Type 0) (First Second : Database → Database → Type 0) (a b c : State) → Inside Before First a b → Inside HasTables Second b c → Inside Before (Both First Second) a c
 inside_then Before First Second a b c one two = (
   two.0 ∙ one.0,
@@ -26,20 +27,24 @@ inside_then Before First Second a b c one two = (
       record { does = (b.now, was.does, now.does); tables = now.tables; carries = carries_then a.now b.now c.now was.carries now.carries },
 )
 
+-- a step that does something does whatever follows from it
 pub inside_weaker : (Before : Database → Type 0) (Does Less : Database → Database → Type 0) (a b : State) → (Before a.now → Does a.now b.now → Less a.now b.now) → Inside Before Does a b → Inside Before Less a b
 inside_weaker Before Does Less a b weaker h = (h.0, λ has. let did = h.1 has in record { does = weaker has did.does; tables = did.tables; carries = did.carries })
 
 -- what is done to the tables, said otherwise, and one after the other
 module _ {S : Type 0} (g : Ghosts S) {own : Statements} {A : Type 0} {r : Result A Error} where
+  -- what is done to the tables, in other words
   pub done_as : {First Does : Database → Database → Type 0} {a b : MutBor (Held S)} → ((old new : Database) → First old new → Does old new) → Writes g own (Inside HasTables First) r a b → Writes g own (Inside HasTables Does) r a b
   done_as {First = First} {Does = Does} said one = weaker g (λ old new did. inside_weaker HasTables First Does old new (λ has. said old.now new.now) did) one
 
+  -- one thing done to the tables and then another
   pub then_done : {First Second Does : Database → Database → Type 0} {X : Type 0} {x : X} {a b d : MutBor (Held S)}
       → ((old mid new : Database) → First old mid → Second mid new → Does old new) → Writes g own (Inside HasTables First) (Ok x) a b → Writes g own (Inside HasTables Second) r b d → Writes g own (Inside HasTables Does) r a d
   then_done {First = First} {Second = Second} {Does = Does} both one two =
       two_steps g (λ old mid new first second. inside_weaker HasTables (Both First Second) Does old new (λ has did. both old.now did.0 new.now did.1 did.2) (inside_then HasTables First Second old mid new first second)) one two
 
 module _ {S : Type 0} (g : Ghosts S) (old begun mid end : Held S) (begins : begun ≡ record old { in_transaction = true }) (Before : Database → Type 0) (Does : Database → Database → Type 0) where
+  -- after BEGIN, the step and the end, a crash leaves what it may (`MayLeave`): the tables before, or those that the step made
   pub crash_after : Survives (state g begun) (state g mid) (λ _. ⊥) → (HasCleanDisk (state g mid) → Inside Before Does (state g begun) (state g mid)) → Survives (state g mid) (state g end) (λ db. db ≡ (state g mid).now.trees)
       → Survives (state g old) (state g end) (MayLeave Before Does (state g old))
   crash_after one inside two =
@@ -52,6 +57,7 @@ module _ {S : Type 0} (g : Ghosts S) (old begun mid end : Held S) (begins : begu
       ))
       (survives_begin g old (state g mid) _ (rw begins at one)) two
 
+  -- after the commit the tables are those that the step made
   pub committed_after : (HasCleanDisk (state g mid) → Inside Before Does (state g begun) (state g mid)) → Survives (state g mid) (state g end) (λ db. db ≡ (state g mid).now.trees)
       → (HasCleanDisk (state g end) → IsTrue (state g mid).in_transaction × Shows (state g mid) (state g end) (state g mid).now (state g mid).now false × KeepsCounts (state g mid) (state g end) × ((state g end).marks ≡ []))
       → HasCleanDisk (state g end) → Commits Before Does (state g old) (state g end)
@@ -72,6 +78,7 @@ given_err (Ok a) p = tt
 given_err (Err e) p = p
 
 module _ {S : Type 0} (g : Ghosts S) (old : Held S) (begun mid : MutBor (Held S)) (begins : begun.now ≡ record old { in_transaction = true }) (Before : Database → Type 0) (Does : Database → Database → Type 0) (end : Held S) (over : end.in_transaction ≡ false) where
+  -- a rollback leaves the connection as before the transaction
   rolled_back : KeepsCommit (state g begun.now) (state g mid.now) → IsRolledBack (state g mid.now) (state g end) → LeavesOff (state g old) (state g end)
   rolled_back kept back = record {
     was_open = λ up. subst IsTrue (ap (λ (h : Held S). (state g h).is_open) begins) (kept.was_open (back.was_open up));
@@ -82,10 +89,11 @@ module _ {S : Type 0} (g : Ghosts S) (old : Held S) (begun mid : MutBor (Held S)
     idle = over;
   }
 
+  -- after BEGIN the connection is in a transaction
   inside_begun : IsTrue (state g begun.now).in_transaction
   inside_begun = ap (λ (h : Held S). h.in_transaction) begins
 
-  -- the step inside failed, and the transaction is let go
+  -- if the step fails, the transaction is rolled back or ends with the connection
   pub left_off : {own : Statements} {Inner : State → State → Type 0} {A B : Type 0} (r : Result A Error) {e : Error} → HandsOn e r → Writes g own Inner {A = B} (Err e) begun mid
       → (HasCleanDisk (state g end) → IsRolledBack (state g mid.now) (state g end)) → Survives (state g mid.now) (state g end) (λ _. ⊥) → Transacts g own Before Does r old end
   left_off {own = own} r {e = e} failed did back survives = record {
@@ -96,7 +104,7 @@ module _ {S : Type 0} (g : Ghosts S) (old : Held S) (begun mid : MutBor (Held S)
     idle = over;
   }
 
-  -- the step inside was done, and its end is that of the commit
+  -- if the step is done, the end is that of the commit
   pub committed : {own : Statements} {A B : Type 0} {b : B} (r : Result A Error) → Writes g own (Inside Before Does) (Ok b) begun mid
       → (HasCleanDisk (state g end) → OnOk r (IsTrue (state g mid.now).in_transaction × Shows (state g mid.now) (state g end) (state g mid.now).now (state g mid.now).now false × KeepsCounts (state g mid.now) (state g end) × ((state g end).marks ≡ [])))
       → (HasCleanDisk (state g end) → IfErr r (FailsToCommit (state g mid.now) (state g end))) → Survives (state g mid.now) (state g end) (λ db. db ≡ (state g mid.now).now.trees) → Transacts g own Before Does r old end

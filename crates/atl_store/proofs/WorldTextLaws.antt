@@ -1,4 +1,4 @@
--- The text that the tables hold is the text of what they keep.
+-- Laws on the world text: what the tables hold as world text is the text of the campaign that they keep.
 use Rattle.std.proofs.Common.{◌≡◌, ℕ, List, [], ◌∷◌, refl, ap, inl}
 use Rattle.sqlite.specs.Order.{Row}
 use Rattle.sqlite.specs.State.{State}
@@ -14,7 +14,7 @@ use Rattle.atl_store.specs.Keeps.{Keeps}
 use Rattle.atl_store.specs.Loading.{StandsIn}
 use Rattle.atl_store.specs.WorldText.{world_in, world_text}
 
--- each format has the campaign's own row
+-- each format has the campaign row
 has_own : (f : Format) → Has (parts_in f) Own
 has_own First = inl refl
 has_own Second = inl refl
@@ -26,8 +26,10 @@ text_held f s text c holds = of (rows_in campaign_table s.now.trees) holds
     of [] is = absurd ((is (campaign_row_in f (campaign_row_of c) text)).1 refl)
     of (r ∷ rows) is = ap (λ (x : Row). world_in (x ∷ [])) ((is r).0 (inl refl))
 
+-- if a connection keeps a campaign with this text, its tables' world text is this one
 pub world_text_is : (s : State) (text : List ℕ) (c : CampaignValue) → Keeps s text c → world_text s ≡ text
 world_text_is s text c keeps = text_held Second s text c (keeps.rows.rows Own)
 
+-- the same for tables that hold a campaign in a format
 pub standing_text_is : (f : Format) (s : State) (text : List ℕ) (c : CampaignValue) → StandsIn f s text c → world_text s ≡ text
 standing_text_is f s text c stands = text_held f s text c (stands.rows.rows Own (has_own f))

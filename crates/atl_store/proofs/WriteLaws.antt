@@ -1,4 +1,4 @@
--- One statement inside a transaction, and one step after another.
+-- Laws on writes inside a transaction: one statement, and one step after another, with the result and what it did.
 use Rattle.std.proofs.Common.{◌≡◌, ℕ, List, false, IsTrue, Result, Ok, Err, IsErr, IsErrAnd, OnOk, refl, sym, ◌∙◌, subst, inl, inr, arith}
 use Rattle.std.specs.Borrow.{MutBor}
 use Rattle.std.proofs.lemmas.Bool.{cases_Bool}
@@ -16,23 +16,24 @@ use Rattle.atl_store.specs.OwnStatements.{Statements, Only, Each}
 use Rattle.atl_store.proofs.CauseLaws.{gives, gives_after, gives_among, reached_then, reached_among, errs_as}
 use Rattle.atl_store.proofs.KeepLaws.{survives_more, keeps_more, on_ok, if_err}
 
--- with an error nothing has to be done
+-- with an error nothing is said of the Ok case
 pub not_ok : {A E : Type 0} (r : Result A E) (P : Type 0) → IsErr r → OnOk r P
 not_ok (Ok a) P failed = absurd cc
 not_ok (Err e) P failed = tt
 
--- the error of a step is handed on as it is
+-- The result is this error, handed on.
 abbrev pub HandsOn : {A : Type 0} → Error → Result A Error → Type 0
 HandsOn e r = IsErr r × IsErrAnd r (λ f. f ≡ e)
 
--- this is done so far
+-- These statements have done this so far, without an error.
 abbrev pub SoFar : {S : Type 0} → Ghosts S → Statements → (State → State → Type 0) → MutBor (Held S) → MutBor (Held S) → Type 0
 SoFar g own Does old new = Writes g own Does {A = Unit {0}} (Ok (tt {0})) old new
 
+-- before any call nothing is committed
 survives_start : (s : State) → Survives s s (λ _. ⊥)
 survives_start s = record { clean = omega arith; shield = λ h. h; counts = omega arith; limit = refl; closes = λ clean up. inl up; crash = λ clean db may. inl may }
 
--- of a step that says nothing of what it does
+-- Nothing is said of what a step does.
 abbrev Any : State → State → Type 0
 Any old new = Unit {0}
 
@@ -40,18 +41,22 @@ module _ {S : Type 0} (g : Ghosts S) where
   -- ---- one statement
 
   module _ (old new : MutBor (Held S)) (sql : List ℕ) (params : Row) (same : new.ghost_name ≡ old.ghost_name) (survives : Survives (state g old.now) (state g new.now) (λ _. ⊥)) where
+    -- Outside a transaction the statement is refused with TransactionState, and nothing changes.
     abbrev Ended : Result ℕ Error → Type 0
     Ended r = (state g old.now).in_transaction ≡ false → (r ≡ Err (SqliteFailure TransactionState)) × (new.now ≡ old.now)
 
+    -- If the disk is clean, the statement ran with this result inside a transaction.
     abbrev Ran : Result ℕ Error → Type 0
     Ran r = HasCleanDisk (state g new.now) → IsTrue (state g old.now).in_transaction → ExecutesInside 0 sql params (state g old.now) (state g new.now) r
 
+    -- a statement inside a transaction keeps the last commit
     keeps : (r : Result ℕ Error) → Ended r → Ran r → HasCleanDisk (state g new.now) → KeepsCommit (state g old.now) (state g new.now)
     keeps r ended ran clean = elim (cases_Bool (state g old.now).in_transaction) [
       | inl inside ↦ inside_keeps (state g old.now) (state g new.now) 0 false sql params r (ran clean inside)
       | inr outside ↦ subst (λ (h : Held S). KeepsCommit (state g old.now) (state g h)) (sym (ended outside).1) (record { was_open = λ up. up; committed = λ _. refl })
     ]
 
+    -- a statement that fails is a write with its error
     pub fails : {A : Type 0} (Does : State → State → Type 0) (e : Error) (result : Result A Error) → Ended (Err e) → Ran (Err e) → HandsOn e result → Writes g (Only sql params) Does result old new
     fails Does e result ended ran failed = record {
       same_reference = same;
@@ -63,6 +68,7 @@ module _ {S : Type 0} (g : Ghosts S) where
       survives = survives;
     }
 
+    -- a statement that ran is a write that did what it means
     pub runs : {A : Type 0} (count : ℕ) (a : A) → Ended (Ok count) → Ran (Ok count) → Writes g (Only sql params) (RunsStatement sql params) (Ok a) old new
     runs count a ended ran = record {
       same_reference = same;
@@ -82,11 +88,11 @@ module _ {S : Type 0} (g : Ghosts S) where
 
   -- ---- one step after another
 
-  -- what is done, said otherwise
+  -- a write that does something does whatever follows from it
   pub weaker : {own : Statements} {First Does : State → State → Type 0} {A : Type 0} {r : Result A Error} {a b : MutBor (Held S)} → ((old new : State) → First old new → Does old new) → Writes g own First r a b → Writes g own Does r a b
   weaker {r = r} less one = record { same_reference = one.same_reference; does = λ clean. on_ok r (less _ _) (one.does clean); goes_on = one.goes_on; reaches = one.reaches; told = one.told; kept = one.kept; survives = one.survives }
 
-  -- of statements that are among others
+  -- a write by some statements is one by more
   pub among : {own more : Statements} {Does : State → State → Type 0} {A : Type 0} {r : Result A Error} {a b : MutBor (Held S)} → ((sql : List ℕ) (params : Row) → own sql params → more sql params) → Writes g own Does r a b → Writes g more Does r a b
   among {own = own} {more = more} {r = r} {a = a} {b = b} within one = record {
     same_reference = one.same_reference;
@@ -98,14 +104,15 @@ module _ {S : Type 0} (g : Ghosts S) where
     survives = one.survives;
   }
 
-  -- the one statement, and those of one text, as some of a writing's
+  -- a write by one statement is one by those that it is among
   pub among_only : {own : Statements} {Does : State → State → Type 0} {A : Type 0} {r : Result A Error} {a b : MutBor (Held S)} (text : List ℕ) (values : Row) → own text values → Writes g (Only text values) Does r a b → Writes g own Does r a b
   among_only {own = own} text values is one = among (λ sql params only. subst (λ s. own s params) (sym only.0) (subst (own text) (sym only.1) is)) one
 
+  -- a write by the statements of one text is one by those that they are among
   pub among_each : {own : Statements} {Does : State → State → Type 0} {A : Type 0} {r : Result A Error} {a b : MutBor (Held S)} (text : List ℕ) (rows : Set) → ((row : Row) → rows row → own text row) → Writes g (Each text rows) Does r a b → Writes g own Does r a b
   among_each {own = own} text rows are one = among (λ sql params each. subst (λ s. own s params) (sym each.0) (are params each.1)) one
 
-  -- it gives what its second step gives
+  -- a write of two steps has the result of the second
   pub two_steps : {own : Statements} {First Second Does : State → State → Type 0} {A X : Type 0} {x : X} {r : Result A Error} {a b c : MutBor (Held S)}
       → ((old mid new : State) → First old mid → Second mid new → Does old new) → Writes g own First (Ok x) a b → Writes g own Second r b c → Writes g own Does r a c
   two_steps {own = own} {r = r} {a = a} {b = b} {c = c} both one two =
@@ -124,7 +131,7 @@ module _ {S : Type 0} (g : Ghosts S) where
         survives = survives_more _ _ _ one.survives two.survives;
       }
 
-  -- it stops at its first step
+  -- a write whose first step fails has that step's error
   pub stops : {own : Statements} {First Does : State → State → Type 0} {A X : Type 0} {e : Error} {r : Result A Error} {a b : MutBor (Held S)} → Writes g own First {A = X} (Err e) a b → HandsOn e r → Writes g own Does r a b
   stops {e = e} {r = r} one failed = record {
     same_reference = one.same_reference;
@@ -136,12 +143,12 @@ module _ {S : Type 0} (g : Ghosts S) where
     survives = one.survives;
   }
 
-  -- it stops at its second step
+  -- a write whose second step fails has that step's error
   pub stops_second : {own : Statements} {First Second Does : State → State → Type 0} {A X Z : Type 0} {x : X} {e : Error} {r : Result A Error} {a b c : MutBor (Held S)}
       → Writes g own First (Ok x) a b → Writes g own Second {A = Z} (Err e) b c → HandsOn e r → Writes g own Does r a c
   stops_second {e = e} one two failed = stops (two_steps {Does = Any} {r = Err e} (λ old mid new first second. tt) one two) failed
 
-  -- it gives what its third step gives
+  -- a write of three steps has the result of the third
   pub three_steps : {own : Statements} {First Second Third Does : State → State → Type 0} {A X Y : Type 0} {x : X} {y : Y} {r : Result A Error} {a b c d : MutBor (Held S)}
       → ((old one two new : State) → First old one → Second one two → Third two new → Does old new) → Writes g own First (Ok x) a b → Writes g own Second (Ok y) b c → Writes g own Third r c d → Writes g own Does r a d
   three_steps {y = y} {r = r} {c = c} all one two three =
@@ -158,7 +165,7 @@ module _ {S : Type 0} (g : Ghosts S) where
         survives = whole.survives;
       }
 
-  -- one step more
+  -- one step more is done
   pub goes_on : {own : Statements} {First Second Does : State → State → Type 0} {u : Unit {0}} {a b c : MutBor (Held S)} → ((old mid new : State) → First old mid → Second mid new → Does old new) → SoFar g own First a b → Writes g own Second (Ok u) b c → SoFar g own Does a c
   goes_on both so_far more = two_steps both so_far more
 

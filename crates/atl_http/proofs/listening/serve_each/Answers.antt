@@ -9,5 +9,5 @@ pub loop-preserved : goal.loop-preserved
 loop-preserved g c =
     elim c.match-accept.branch [
       | in-Ok+in-Ok-serve_stream w ↦ laws.one_more g.S.Store c.args.dice c.loop.counter c.args.service.now c.loop.service w.serve_stream.new.service c.match-accept.service w.service-is c.loop.invariant w.in-Ok-serve_stream.ensures
-      | in-Err w ↦ laws.as_many g.S.Store c.args.dice c.loop.counter c.args.service.now c.loop.service c.match-accept.service w.service-is c.loop.invariant
+      | in-Err w ↦ laws.connection_aborted g.S.Store c.args.dice c.loop.counter c.args.service.now c.loop.service c.match-accept.service w.service-is c.loop.invariant
     ]

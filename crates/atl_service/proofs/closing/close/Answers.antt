@@ -11,21 +11,21 @@ use Rattle.atl_service.specs.declared.command.Command.TheVariants.{Close}
 use Rattle.atl_service.specs.Answering.{GivesUp}
 use Rattle.atl_service.specs.Causes.{OfCommand}
 use Rattle.atl_service.proofs.CauseLaws.{ended_by}
-use Rattle.atl_service.proofs.CloseLaws.{few_things, told_is}
+use Rattle.atl_service.proofs.CloseLaws.{closed_after_reports, few_things}
 use Rattle.atl_service.proofs.closing.close.Goals as goal
 
 pub write_changes-requires-clause-things : goal.write_changes-requires-clause-things
 write_changes-requires-clause-things g c =
     let w = c.args.world.now in
     let after = c.report_to_all.new.campaign.value in
-    let done = told_is w c.args.campaign.now.value c.turn_month.new.campaign.value after c.as_slice.result.now c.in_ok-outcome.outcome c.in_ok-outcome.ensures.outcome c.in_ok-report_to_all.ensures.what c.in_ok-outcome.ensures.there c.in_ok-outcome.ensures.good in
+    let done = closed_after_reports w c.args.campaign.now.value c.turn_month.new.campaign.value after c.as_slice.result.now c.in_ok-outcome.outcome c.in_ok-outcome.ensures.outcome c.in_ok-report_to_all.ensures.what c.in_ok-outcome.ensures.there c.in_ok-outcome.ensures.good in
     few_things w after c.in_default.ensures.ok.world done.1
 
 pub returns-in_err-write_changes-clause-err : goal.returns-in_err-write_changes-clause-err
 returns-in_err-write_changes-clause-err g c = on_err _ (GivesUp g.S.Store c.args.world.now c.args.campaign.now.value c.args.conn.now (Close c.args.month c.args.pass.now c.args.words.now) c.write_changes.new.conn) (λ clean text keeps.
     let old = c.args.campaign.now.value in
     let after = c.report_to_all.new.campaign.value in
-    let done = rw c.as_slice.ensures at (told_is c.args.world.now old c.turn_month.new.campaign.value after c.as_slice.result.now c.in_ok-outcome.outcome c.in_ok-outcome.ensures.outcome c.in_ok-report_to_all.ensures.what c.in_ok-outcome.ensures.there c.in_ok-outcome.ensures.good) in
+    let done = rw c.as_slice.ensures at (closed_after_reports c.args.world.now old c.turn_month.new.campaign.value after c.as_slice.result.now c.in_ok-outcome.outcome c.in_ok-outcome.ensures.outcome c.in_ok-report_to_all.ensures.what c.in_ok-outcome.ensures.there c.in_ok-outcome.ensures.good) in
     let marks = marks-trans c.args.campaign.now c.turn_month.new.campaign c.report_to_all.new.campaign c.in_ok-outcome.ensures.marks c.in_ok-report_to_all.ensures.marks in
     let stops = c.in_err-write_changes.ensures.err clean text old keeps marks.covers in
     subst (λ (a : CampaignValue). LeavesAfterFault (state g.S.Store c.args.conn.now).faults (state g.S.Store c.write_changes.new.conn) text old a) (done.0 ∙ sym (ap (λ p. p.0) c.in_default.ensures.ok.step_is)) stops)
@@ -35,7 +35,7 @@ returns-clause-ok g c =
     let w = c.args.world.now in
     let old = c.args.campaign.now.value in
     let after = c.report_to_all.new.campaign.value in
-    let done = rw c.as_slice.ensures at (told_is w old c.turn_month.new.campaign.value after c.as_slice.result.now c.in_ok-outcome.outcome c.in_ok-outcome.ensures.outcome c.in_ok-report_to_all.ensures.what c.in_ok-outcome.ensures.there c.in_ok-outcome.ensures.good) in
+    let done = rw c.as_slice.ensures at (closed_after_reports w old c.turn_month.new.campaign.value after c.as_slice.result.now c.in_ok-outcome.outcome c.in_ok-outcome.ensures.outcome c.in_ok-report_to_all.ensures.what c.in_ok-outcome.ensures.there c.in_ok-outcome.ensures.good) in
     let marks = marks-trans c.args.campaign.now c.turn_month.new.campaign c.report_to_all.new.campaign c.in_ok-outcome.ensures.marks c.in_ok-report_to_all.ensures.marks in
     let written : c.write_changes.new.campaign.value ≡ after = ap (λ (m : MarkedCampaign). m.value) c.in_ok-write_changes.ensures.done in
     record {
@@ -51,6 +51,6 @@ returns-in_err-write_changes-clause-cause g c =
     let w = c.args.world.now in
     let old = c.args.campaign.now.value in
     let after = c.report_to_all.new.campaign.value in
-    let done = rw c.as_slice.ensures at (told_is w old c.turn_month.new.campaign.value after c.as_slice.result.now c.in_ok-outcome.outcome c.in_ok-outcome.ensures.outcome c.in_ok-report_to_all.ensures.what c.in_ok-outcome.ensures.there c.in_ok-outcome.ensures.good) in
+    let done = rw c.as_slice.ensures at (closed_after_reports w old c.turn_month.new.campaign.value after c.as_slice.result.now c.in_ok-outcome.outcome c.in_ok-outcome.ensures.outcome c.in_ok-report_to_all.ensures.what c.in_ok-outcome.ensures.there c.in_ok-outcome.ensures.good) in
     ended_by g.S.Store (OfCommand w old (Close c.args.month c.args.pass.now c.args.words.now)) c.args.conn.now c.write_changes.new.conn _ c.from_residual-in_err-write_changes.result c.from_residual-in_err-write_changes.ensures.1
     (λ clean. subst (λ (a : CampaignValue). IsTold g.S.Store (OfChange a) write_fault c.args.conn.now c.write_changes.new.conn c.in_err-write_changes.field-0.0) (done.0 ∙ sym (ap (λ p. p.0) c.in_default.ensures.ok.step_is)) (c.in_err-write_changes.ensures.told clean))

@@ -1,8 +1,8 @@
 use Rattle.std.proofs.Common.{Some, true, sym, ap, subst}
 use Rattle.atl_state.specs.Campaign.{CampaignValue, MarkedCampaign}
-use Rattle.atl_service.specs.Service.{Stands}
+use Rattle.atl_service.specs.Service.{IsConsistent}
 use Rattle.atl_service.specs.Found.{Founds}
-use Rattle.atl_service.proofs.FoundServiceLaws.{spared, founded_stands, founds_on, refused_by_store}
+use Rattle.atl_service.proofs.FoundServiceLaws.{spared, founded_consistent, founds_on, refused_by_store}
 use Rattle.atl_service.proofs.service.found.Goals as goal
 
 pub returns-in-Err-clause-err : goal.returns-in-Err-clause-err
@@ -10,7 +10,7 @@ returns-in-Err-clause-err g c = spared g.S.Store c.args.conn c.args.world_text.n
 
 pub opened-requires : goal.opened-requires
 opened-requires g c = record {
-  stands = subst (λ (s : CampaignValue). Stands g.S.Store c.create.new.conn c.in-Ok.both.0 s true) (sym (ap (λ (m : MarkedCampaign). m.value) c.in-Ok-create.ensures.unmarked)) (founded_stands g.S.Store c.create.new.conn c.in-Ok.both.0 c.in-Ok.both.1.value c.args.world_text.now c.in-Ok-create.ensures.ok.idle c.in-Ok.ensures.good c.in-Ok.ensures.ok.world c.in-Ok-create.ensures.ok.tables);
+  consistent = subst (λ (s : CampaignValue). IsConsistent g.S.Store c.create.new.conn c.in-Ok.both.0 s true) (sym (ap (λ (m : MarkedCampaign). m.value) c.in-Ok-create.ensures.unmarked)) (founded_consistent g.S.Store c.create.new.conn c.in-Ok.both.0 c.in-Ok.both.1.value c.args.world_text.now c.in-Ok-create.ensures.ok.idle c.in-Ok.ensures.good c.in-Ok.ensures.ok.world c.in-Ok-create.ensures.ok.tables);
   unmarked = λ up. ap (λ (m : MarkedCampaign). m.marks) c.in-Ok-create.ensures.unmarked;
 }
 
