@@ -1,4 +1,4 @@
-//! Calls each law of the crates under test once. A law does nothing and its clause is proved, so nothing is asserted.
+//! Calls each law of the crates under test once and asserts nothing: a law does nothing, and its clause is proved.
 use atl_orders::{readings_keep_bounds, rules_are_the_reading};
 use atl_tables::old_worlds_have_no_markets;
 
