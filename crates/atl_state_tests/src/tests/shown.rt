@@ -1,5 +1,5 @@
-//! Prints a campaign and its marks, for tables of steps with both.
-use super::compare::row_is_text;
+//! //! Prints parts of a campaign and its marks as text, and runs tables of steps with both.
+use super::compare::assert_row_text;
 use super::steps::{Step, does};
 use atl_state::{Campaign, Entry, MOST_UNITS, Thing};
 use atl_tables::limits::MOST_REGIONS;
@@ -9,11 +9,12 @@ use std::process::Abort;
 use std::str;
 use std::test::Fail;
 
-/// What is asked of a campaign.
+/// /// A question to a campaign, answered as text by `text_of`.
 #[derive(Drop, Clone, Copy)]
 pub(crate) enum Ask {
     Month,
-    /// How many factions, regions, units and structures there are, and the next numbers of the latter two.
+    /// /// How many factions, regions, units and structures there are, and the next numbers of a
+    /// unit and a structure.
     Counts,
     Faction(u32),
     /// The mail of a faction, and how many mails there are.
@@ -33,7 +34,7 @@ pub(crate) enum Ask {
     Total(Thing),
 }
 
-/// Where nothing has the number.
+/// /// The answer where nothing has the number.
 fn none(alloc: Global) -> Result<String, Fail> {
     Ok(String::from_str(alloc, "none")?)
 }
@@ -159,7 +160,7 @@ fn month_text(alloc: Global, campaign: &Campaign) -> Result<String, Fail> {
     Ok(format!(in alloc; "{month}")?)
 }
 
-/// What is asked.
+/// /// The answer to a question.
 fn text_of(alloc: Global, campaign: &Campaign, ask: Ask) -> Result<String, Fail> {
     match ask {
         Ask::Month => month_text(alloc, campaign),
@@ -177,7 +178,7 @@ fn text_of(alloc: Global, campaign: &Campaign, ask: Ask) -> Result<String, Fail>
     }
 }
 
-/// The lists of marked numbers, each at its place in `marked`.
+/// /// The names of the lists of marked numbers, in the order of the index of `marked`.
 static LISTS: [&str; 9] = [
     "factions",
     "regions",
@@ -190,7 +191,7 @@ static LISTS: [&str; 9] = [
     "reports",
 ];
 
-/// What is marked, by its place.
+/// /// The list of marked numbers with an index in `LISTS`.
 fn marked(campaign: &Campaign, place: usize) -> MarkedNumbers<'_> {
     match place {
         0 => campaign.marked_factions(),
@@ -205,7 +206,7 @@ fn marked(campaign: &Campaign, place: usize) -> MarkedNumbers<'_> {
     }
 }
 
-/// Adds each list that has a number.
+/// /// Appends each list of marked numbers that isn't empty.
 fn add_lists(alloc: Global, text: &mut String, campaign: &Campaign) -> Result<(), Fail> {
     for (place, name) in LISTS.iter().enumerate() {
         let numbers: Vec<u32> = marked(campaign, place).collect(alloc)?;
@@ -217,7 +218,7 @@ fn add_lists(alloc: Global, text: &mut String, campaign: &Campaign) -> Result<()
     Ok(())
 }
 
-/// Adds the marked items, or skills, of a unit.
+/// /// Appends the marked items, or skills, of a unit.
 fn add_goods(
     alloc: Global,
     text: &mut String,
@@ -231,6 +232,7 @@ fn add_goods(
     Ok(())
 }
 
+/// /// Appends the marked items, or skills, of all units.
 fn add_all_goods(
     alloc: Global,
     text: &mut String,
@@ -243,7 +245,7 @@ fn add_all_goods(
     Ok(())
 }
 
-/// Adds the campaign's own row, and what is booked of a joining.
+/// /// Appends whether the campaign's own row, and the books' amounts of a joining, are marked.
 fn add_own(text: &mut String, campaign: &Campaign) -> Result<(), Fail> {
     if campaign.is_row_marked() {
         text.push_str(", the campaign")?;
@@ -260,7 +262,7 @@ fn add_own(text: &mut String, campaign: &Campaign) -> Result<(), Fail> {
     Ok(())
 }
 
-/// How many things are marked, and which.
+/// /// How many parts are marked, and which.
 fn marks_text(alloc: Global, campaign: &Campaign) -> Result<String, Fail> {
     let count = campaign.marks();
     let mut text = format!(in alloc; "{count}")?;
@@ -271,9 +273,11 @@ fn marks_text(alloc: Global, campaign: &Campaign) -> Result<String, Fail> {
     Ok(text)
 }
 
-/// A step, what is asked after it, the answer, and what is marked then.
+/// /// A step, a question after it, the answer, and what is marked then (`marks_text`).
 pub(crate) type Row = (Step, Ask, &'static str, &'static str);
 
+/// /// Makes the step of a row, and asserts its answer and its marks; `place` is the index of the
+/// row.
 fn is_so_after(
     rt: &impl Abort,
     alloc: Global,
@@ -283,13 +287,13 @@ fn is_so_after(
 ) -> Result<(), Fail> {
     let (step, ask, answer, marks) = *row;
     does(alloc, campaign, step)?;
-    row_is_text(rt, place, text_of(alloc, campaign, ask)?.as_str(), answer);
-    row_is_text(rt, place, marks_text(alloc, campaign)?.as_str(), marks);
+    assert_row_text(rt, place, text_of(alloc, campaign, ask)?.as_str(), answer);
+    assert_row_text(rt, place, marks_text(alloc, campaign)?.as_str(), marks);
     Ok(())
 }
 
-/// Makes the calls of a table one after another.
-pub(crate) fn goes(
+/// /// Makes the steps of a table in turn, and asserts each row.
+pub(crate) fn assert_steps(
     rt: &impl Abort,
     alloc: Global,
     campaign: &mut Campaign,
@@ -301,8 +305,8 @@ pub(crate) fn goes(
     Ok(())
 }
 
-/// The same, where before each call nothing is marked.
-pub(crate) fn goes_unmarked(
+/// /// The same, with all marks cleared before each step.
+pub(crate) fn assert_unmarked_steps(
     rt: &impl Abort,
     alloc: Global,
     campaign: &mut Campaign,
