@@ -4,22 +4,22 @@ use std::fmt::Debug;
 use std::process::Abort;
 use std::test::Fail;
 
-/// /// Asserts that a text is the wanted one; the message names the row of the table.
+/// Asserts that a text is the wanted one; the message names the row of the table.
 pub(crate) fn assert_row(rt: &impl Abort, row: &str, told: &str, wanted: &str) {
     assert_eq!(rt; told, wanted, "at {row}");
 }
 
-/// /// Asserts that a number is the wanted one.
+/// Asserts that a number is the wanted one.
 pub(crate) fn assert_number(rt: &impl Abort, told: usize, wanted: usize) {
     assert_eq!(rt; told, wanted);
 }
 
-/// /// Asserts that a list of numbers is the wanted one.
+/// Asserts that a list of numbers is the wanted one.
 pub(crate) fn assert_numbers(rt: &impl Abort, told: &[u32], wanted: &[u32]) {
     assert_eq!(rt; told, wanted);
 }
 
-/// /// Asserts what `Debug` prints of a list of values; the message names the row.
+/// Asserts what `Debug` prints of a list of values; the message names the row.
 pub(crate) fn assert_shown<T: Debug>(
     rt: &impl Abort,
     alloc: Global,

@@ -1,4 +1,4 @@
-//! //! Tests of `Text`, `Sequence` and `Numbered` (a map by number), call by call, and of the names
+//! Tests of `Text`, `Sequence` and `Numbered` (a map by number), call by call, and of the names
 //! of world faults.
 use super::asserts::{assert_number, assert_numbers, assert_row};
 use atl_tables::{Numbered, Sequence, Text, WorldFault};
@@ -6,7 +6,7 @@ use std::alloc::Global;
 use std::process::Abort;
 use std::test::Fail;
 
-/// /// Asserts that a text and a copy of it have the wanted bytes.
+/// Asserts that a text and a copy of it have the wanted bytes.
 fn assert_text(rt: &impl Abort, alloc: Global, text: &Text, wanted: &str) -> Result<(), Fail> {
     assert!(rt; text.as_bytes() == wanted.as_bytes());
     assert_row(rt, wanted, text.as_str(), wanted);
@@ -14,7 +14,7 @@ fn assert_text(rt: &impl Abort, alloc: Global, text: &Text, wanted: &str) -> Res
     Ok(())
 }
 
-/// /// Asserts that each way of making a `Text` keeps the bytes.
+/// Asserts that each way of making a `Text` keeps the bytes.
 fn made_in_each_way(rt: &impl Abort, alloc: Global, text: &str) -> Result<(), Fail> {
     assert_text(rt, alloc, &Text::from_str(alloc, text)?, text)?;
     let string = String::from_str(alloc, text)?;
@@ -22,7 +22,7 @@ fn made_in_each_way(rt: &impl Abort, alloc: Global, text: &str) -> Result<(), Fa
     assert_text(rt, alloc, &Text::from_utf8(alloc, text.as_bytes())?, text)
 }
 
-/// /// Texts to make: empty, one letter, with a space, and beyond ASCII.
+/// Texts to make: empty, one letter, with a space, and beyond ASCII.
 static TEXTS: [&str; 4] = ["", "a", "Big Bob", "\u{e9}\u{1f600}"];
 
 #[test]
@@ -33,7 +33,7 @@ fn texts(rt: HostRuntime) -> Result<(), Fail> {
     Ok(())
 }
 
-/// /// Asserts the length and the values of a list.
+/// Asserts the length and the values of a list.
 fn assert_list(rt: &impl Abort, list: &Sequence<u32>, wanted: &[u32]) {
     assert_number(rt, list.len(), wanted.len());
     assert_numbers(rt, list.as_slice(), wanted);
@@ -52,7 +52,7 @@ fn sequences(rt: HostRuntime) -> Result<(), Fail> {
     Ok(())
 }
 
-/// /// Asserts the entries of a map: `wanted` is each number followed by its value.
+/// Asserts the entries of a map: `wanted` is each number followed by its value.
 pub(crate) fn assert_map(
     rt: &impl Abort,
     alloc: Global,
@@ -69,7 +69,7 @@ pub(crate) fn assert_map(
     Ok(())
 }
 
-/// /// A map of the numbers 1, 20 and 30, with the values 1, 2 and 3.
+/// A map of the numbers 1, 20 and 30, with the values 1, 2 and 3.
 pub(crate) fn filled(alloc: Global) -> Result<Numbered<u32>, Fail> {
     let mut map = Numbered::new(alloc);
     map.insert(30, 3)?;
@@ -99,7 +99,7 @@ fn numbered(rt: HostRuntime) -> Result<(), Fail> {
     assert_map(&rt, rt.alloc(), &map, &[20, 9, 30, 3])
 }
 
-/// /// Each world fault: its number (0: it has none), its name, and its path (`none`: it has none).
+/// Each world fault: its number (0: it has none), its name, and its path (`none`: it has none).
 static FAULTS: [(u8, &str, &str); 9] = [
     (0, "Memory", "none"),
     (1, "NotToml", "none"),
@@ -127,7 +127,7 @@ fn fault_of(number: u8, path: Text) -> WorldFault {
     }
 }
 
-/// /// The path of a world fault, or `none`.
+/// The path of a world fault, or `none`.
 fn path_of(fault: &WorldFault) -> &str {
     match fault.path() {
         Some(path) => path.as_str(),
@@ -135,7 +135,7 @@ fn path_of(fault: &WorldFault) -> &str {
     }
 }
 
-/// /// Asserts the number, the name and the path of the fault of a row.
+/// Asserts the number, the name and the path of the fault of a row.
 fn assert_fault(rt: &impl Abort, alloc: Global, row: &(u8, &str, &str)) -> Result<(), Fail> {
     let (number, name, path) = *row;
     let fault = fault_of(number, Text::from_str(alloc, "rules.growth")?);

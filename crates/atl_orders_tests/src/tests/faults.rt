@@ -1,4 +1,4 @@
-//! //! Tests that a faulty world text gets the right first fault with its path (docs/FORMATS.md,
+//! Tests that a faulty world text gets the right first fault with its path (docs/FORMATS.md,
 //! "Faults of a world file").
 use super::asserts::assert_row;
 use super::changes::{
@@ -13,7 +13,7 @@ use std::alloc::Global;
 use std::process::Abort;
 use std::test::Fail;
 
-/// /// The text of the small world above the first occurrence of `header`.
+/// The text of the small world above the first occurrence of `header`.
 fn before(header: &str) -> &'static str {
     match SMALL.split_once(header) {
         Some((before, _)) => before,
@@ -21,7 +21,7 @@ fn before(header: &str) -> &'static str {
     }
 }
 
-/// /// The fault that the first format reports where the second reports `fault`: none for a
+/// The fault that the first format reports where the second reports `fault`: none for a
 /// market's, which it ignores.
 fn old_fault(fault: &str) -> &str {
     if fault.contains(".market") {
@@ -31,7 +31,7 @@ fn old_fault(fault: &str) -> &str {
     }
 }
 
-/// /// Asserts the first fault of a text read in the second format, and that in the first.
+/// Asserts the first fault of a text read in the second format, and that in the first.
 fn faults_are(
     rt: &impl Abort,
     alloc: Global,
@@ -47,7 +47,7 @@ fn faults_are(
     Ok(())
 }
 
-/// /// Asserts the fault that one edit of a text makes.
+/// Asserts the fault that one edit of a text makes.
 pub(crate) fn assert_change(
     rt: &impl Abort,
     alloc: Global,
@@ -60,7 +60,7 @@ pub(crate) fn assert_change(
     faults_are(rt, alloc, to, text.as_str(), wanted, old_fault(wanted))
 }
 
-/// /// Asserts the fault that each edit of a text makes.
+/// Asserts the fault that each edit of a text makes.
 fn assert_changes(
     rt: &impl Abort,
     alloc: Global,
@@ -80,7 +80,7 @@ fn faulty_worlds(rt: HostRuntime) -> Result<(), Fail> {
     assert_changes(&rt, rt.alloc(), before("[[terrain]]"), &RULES_CHANGES)
 }
 
-/// /// Asserts the fault of each edit of the small world with an item, a skill and a kind.
+/// Asserts the fault of each edit of the small world with an item, a skill and a kind.
 fn things_are(rt: &impl Abort, alloc: Global, text: &str) -> Result<(), Fail> {
     assert_changes(rt, alloc, text, &KEY_CHANGES)?;
     assert_changes(rt, alloc, text, &NAME_CHANGES)?;
@@ -97,7 +97,7 @@ fn faulty_things(rt: HostRuntime) -> Result<(), Fail> {
     things_are(&rt, rt.alloc(), text.as_str())
 }
 
-/// /// Asserts the fault of each edit of the world with `count` markets.
+/// Asserts the fault of each edit of the world with `count` markets.
 fn markets_are(
     rt: &impl Abort,
     alloc: Global,
@@ -108,7 +108,7 @@ fn markets_are(
     assert_changes(rt, alloc, text.as_str(), changes)
 }
 
-/// /// Asserts both faults of each row of `TWO_FAULTS`.
+/// Asserts both faults of each row of `TWO_FAULTS`.
 fn later_faults_are(rt: &impl Abort, alloc: Global) -> Result<(), Fail> {
     let one = with_markets(alloc, 1)?;
     for (from, to, second, first) in TWO_FAULTS.iter() {
@@ -158,7 +158,7 @@ skill = \"carpentry\"
 level = 1
 ";
 
-/// /// What is appended to the small world: `front`, `open` n times, `inside`, `close` n times,
+/// What is appended to the small world: `front`, `open` n times, `inside`, `close` n times,
 /// `end`.
 #[derive(Clone, Copy)]
 struct Long {
@@ -169,7 +169,7 @@ struct Long {
     end: &'static str,
 }
 
-/// /// Nothing to append; the other values set what differs.
+/// Nothing to append; the other values set what differs.
 const EMPTY: Long = Long {
     front: "",
     open: "",
@@ -203,7 +203,7 @@ const MANY_KINDS: Long = Long {
     ..EMPTY
 };
 
-/// /// What is appended, how often, and the first fault: at the limit of a list the names come
+/// What is appended, how often, and the first fault: at the limit of a list the names come
 /// twice, beyond it there are too many.
 static MANY: [(Long, usize, &str); 11] = [
     (MANY_REGIONS, 1, "5 TwoNames region[1].number"),
@@ -219,7 +219,7 @@ static MANY: [(Long, usize, &str); 11] = [
     (MANY_KINDS, 101, "4 OutOfRange kind"),
 ];
 
-/// /// Tables inside tables, n deep.
+/// Tables inside tables, n deep.
 const TABLES: Long = Long {
     front: "a = ",
     open: "{ a = ",
@@ -228,7 +228,7 @@ const TABLES: Long = Long {
     end: "",
 };
 
-/// /// Arrays inside arrays, n deep.
+/// Arrays inside arrays, n deep.
 const ARRAYS: Long = Long {
     front: "a = ",
     open: "[",
@@ -236,7 +236,7 @@ const ARRAYS: Long = Long {
     ..EMPTY
 };
 
-/// /// A header of a table whose key has n + 1 parts.
+/// A header of a table whose key has n + 1 parts.
 const HEADER: Long = Long {
     front: "[a",
     open: ".a",
@@ -244,7 +244,7 @@ const HEADER: Long = Long {
     ..EMPTY
 };
 
-/// /// A header of an array of tables whose key has n + 1 parts.
+/// A header of an array of tables whose key has n + 1 parts.
 const ARRAY_HEADER: Long = Long {
     front: "[[a",
     open: ".a",
@@ -252,7 +252,7 @@ const ARRAY_HEADER: Long = Long {
     ..EMPTY
 };
 
-/// /// A dotted key with n + 1 parts.
+/// A dotted key with n + 1 parts.
 const DOTTED: Long = Long {
     front: "b",
     open: ".b",
@@ -260,7 +260,7 @@ const DOTTED: Long = Long {
     ..EMPTY
 };
 
-/// /// A dotted key of n + 1 parts below a header of n + 1 parts.
+/// A dotted key of n + 1 parts below a header of n + 1 parts.
 const DOTTED_BELOW: Long = Long {
     front: "[a",
     open: ".a",
@@ -269,8 +269,8 @@ const DOTTED_BELOW: Long = Long {
     end: " = 1\n",
 };
 
-/// /// What is appended, n, and the first fault. Keys that the format doesn't name are ignored.
-/// /// A key of 80 parts below a header of 80 is 160 deep.
+/// What is appended, n, and the first fault. Keys that the format doesn't name are ignored.
+/// A key of 80 parts below a header of 80 is 160 deep.
 static NESTED: [(Long, usize, &str); 16] = [
     (TABLES, 80, "none"),
     (TABLES, 81, "1 NotToml"),
@@ -290,7 +290,7 @@ static NESTED: [(Long, usize, &str); 16] = [
     (DOTTED_BELOW, 79, "none"),
 ];
 
-/// /// The small world with `long` appended, its pieces repeated `times` times.
+/// The small world with `long` appended, its pieces repeated `times` times.
 fn long_text(alloc: Global, long: &Long, times: usize) -> Result<String, Fail> {
     let Long {
         front,
@@ -304,7 +304,7 @@ fn long_text(alloc: Global, long: &Long, times: usize) -> Result<String, Fail> {
     Ok(format!(in alloc; "{SMALL}{front}{open}{inside}{close}{end}")?)
 }
 
-/// /// Asserts the first fault of each row's text.
+/// Asserts the first fault of each row's text.
 fn long_texts_are(
     rt: &impl Abort,
     alloc: Global,
@@ -318,19 +318,19 @@ fn long_texts_are(
     Ok(())
 }
 
-/// /// Each list of a world has a greatest length.
+/// Each list of a world has a greatest length.
 #[test]
 fn many_elements(rt: HostRuntime) -> Result<(), Fail> {
     long_texts_are(&rt, rt.alloc(), &MANY)
 }
 
-/// /// A world text may nest 80 deep.
+/// A world text may nest 80 deep.
 #[test]
 fn nested_texts(rt: HostRuntime) -> Result<(), Fail> {
     long_texts_are(&rt, rt.alloc(), &NESTED)
 }
 
-/// /// The small world with `count` regions, numbered from 1, instead of its own.
+/// The small world with `count` regions, numbered from 1, instead of its own.
 fn with_regions(alloc: Global, count: u32) -> Result<String, Fail> {
     let mut text = String::from_str(alloc, before("[[region]]"))?;
     for number in 1..=count {
@@ -342,7 +342,7 @@ fn with_regions(alloc: Global, count: u32) -> Result<String, Fail> {
     Ok(text)
 }
 
-/// /// Asserts the first fault of the small world with `count` regions.
+/// Asserts the first fault of the small world with `count` regions.
 fn regions_are(rt: &impl Abort, alloc: Global, count: u32, wanted: &str) -> Result<(), Fail> {
     let text = with_regions(alloc, count)?;
     let told = fault(alloc, Format::Second, text.as_str())?;
@@ -350,7 +350,7 @@ fn regions_are(rt: &impl Abort, alloc: Global, count: u32, wanted: &str) -> Resu
     Ok(())
 }
 
-/// /// A world may have 10,000 regions, and not one more.
+/// A world may have 10,000 regions, and not one more.
 #[test]
 fn many_regions(rt: HostRuntime) -> Result<(), Fail> {
     regions_are(&rt, rt.alloc(), 10_000, "none")?;

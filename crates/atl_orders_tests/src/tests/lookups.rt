@@ -1,4 +1,4 @@
-//! //! Tests of the look-ups of items, skills and kinds by a word of a mailing.
+//! Tests of the look-ups of items, skills and kinds by a word of a mailing.
 use super::asserts::assert_shown;
 use super::worlds::world_with;
 use atl_tables::World;
@@ -6,7 +6,7 @@ use std::alloc::Global;
 use std::process::Abort;
 use std::test::Fail;
 
-/// /// Items, skills and kinds whose names have one word, two words, or an underscore.
+/// Items, skills and kinds whose names have one word, two words, or an underscore.
 const NAMED: &str = r#"[[item]]
 name = "wood"
 weight = 0
@@ -82,7 +82,7 @@ static NAMES: [(&str, bool, &str); 26] = [
     ("Vale", true, "[None, None, None]"),
 ];
 
-/// /// Asserts the item, the skill and the kind that the word of a row names.
+/// Asserts the item, the skill and the kind that the word of a row names.
 fn word_names(
     rt: &impl Abort,
     alloc: Global,
@@ -99,7 +99,7 @@ fn word_names(
     assert_shown(rt, alloc, word, &told, wanted)
 }
 
-/// /// Asserts what each word of `NAMES` names.
+/// Asserts what each word of `NAMES` names.
 fn words_name(rt: &impl Abort, alloc: Global, world: &World) -> Result<(), Fail> {
     for row in NAMES.iter() {
         word_names(rt, alloc, world, row)?;

@@ -1,4 +1,4 @@
-//! //! Tests of reading a mailing: each form of order, blocks, line ends, long texts, and the spans
+//! Tests of reading a mailing: each form of order, blocks, line ends, long texts, and the spans
 //! of names.
 use super::asserts::{assert_number, assert_row};
 use super::worlds::{THINGS, world_with};
@@ -8,7 +8,7 @@ use std::alloc::Global;
 use std::process::Abort;
 use std::test::Fail;
 
-/// /// Appends each order of a mailing: its line, its unit, its verb and its operands.
+/// Appends each order of a mailing: its line, its unit, its verb and its operands.
 fn tell_orders(alloc: Global, mailing: &Mailing, told: &mut String) -> Result<(), Fail> {
     for entry in mailing.entries.as_slice().iter() {
         let order = format!(in alloc; "{}: {:?} {:?}", entry.line, entry.target, entry.order.verb)?;
@@ -19,7 +19,7 @@ fn tell_orders(alloc: Global, mailing: &Mailing, told: &mut String) -> Result<()
     Ok(())
 }
 
-/// /// Appends each faulty line of a mailing: its number and its fault.
+/// Appends each faulty line of a mailing: its number and its fault.
 fn tell_faults(alloc: Global, mailing: &Mailing, told: &mut String) -> Result<(), Fail> {
     for faulty in mailing.faults.as_slice().iter() {
         let fault = format!(in alloc; "{}: {};", faulty.line, faulty.fault)?;
@@ -28,7 +28,7 @@ fn tell_faults(alloc: Global, mailing: &Mailing, told: &mut String) -> Result<()
     Ok(())
 }
 
-/// /// The orders of a mailing as text, followed by its faulty lines.
+/// The orders of a mailing as text, followed by its faulty lines.
 fn told_of(alloc: Global, mailing: &Mailing) -> Result<String, Fail> {
     let mut told = String::new(alloc);
     tell_orders(alloc, mailing, &mut told)?;
@@ -36,7 +36,7 @@ fn told_of(alloc: Global, mailing: &Mailing) -> Result<String, Fail> {
     Ok(told)
 }
 
-/// /// What a text is read as: its orders and faults as text, or `refused` with the number of the
+/// What a text is read as: its orders and faults as text, or `refused` with the number of the
 /// refusal.
 fn told(alloc: Global, world: &World, text: &[u8]) -> Result<String, Fail> {
     match read_mailing(alloc, world, text) {
@@ -53,7 +53,7 @@ fn told(alloc: Global, world: &World, text: &[u8]) -> Result<String, Fail> {
     }
 }
 
-/// /// Asserts what a text is read as.
+/// Asserts what a text is read as.
 fn assert_read(
     rt: &impl Abort,
     alloc: Global,
@@ -66,7 +66,7 @@ fn assert_read(
     Ok(())
 }
 
-/// /// Good orders in any case, quoted and bare, with comments, tabs and surplus words, and how
+/// Good orders in any case, quoted and bare, with comments, tabs and surplus words, and how
 /// each is read.
 static GOOD: [(&str, &str); 24] = [
     ("WORK", "Work Nothing"),
@@ -116,7 +116,7 @@ static GOOD: [(&str, &str); 24] = [
     ("FORM 5", "Form Alias(5)"),
 ];
 
-/// /// Good orders that name an item, a skill or a kind, and how each is read.
+/// Good orders that name an item, a skill or a kind, and how each is read.
 static NAMING: [(&str, &str); 7] = [
     (
         "GIVE 2 5 LONG_BOW",
@@ -133,7 +133,7 @@ static NAMING: [(&str, &str); 7] = [
     ("buy 2 LONG_BOW x", "Buy Goods { amount: 2, item: 1 }"),
 ];
 
-/// /// Faulty lines, from unknown orders to PROMOTE, and the number and name of each line's first
+/// Faulty lines, from unknown orders to PROMOTE, and the number and name of each line's first
 /// fault.
 static BAD_NAMES: [(&str, &str); 20] = [
     ("ATTACK 2", "2 UnknownOrder"),
@@ -161,7 +161,7 @@ static BAD_NAMES: [(&str, &str); 20] = [
     ("PROMOTE NEW 10000", "7 BadAlias"),
 ];
 
-/// /// The same for GIVE to QUIT.
+/// The same for GIVE to QUIT.
 static BAD_GOODS: [(&str, &str); 23] = [
     ("GIVE", "5 MissingWord"),
     ("GIVE 2", "5 MissingWord"),
@@ -188,7 +188,7 @@ static BAD_GOODS: [(&str, &str); 23] = [
     ("QUIT 1x", "3 BadNumber"),
 ];
 
-/// /// The same for STUDY to FORM, and for bytes that no line may have.
+/// The same for STUDY to FORM, and for bytes that no line may have.
 static BAD_WORK: [(&str, &str); 20] = [
     ("STUDY", "5 MissingWord"),
     ("STUDY wood", "4 UnknownThing"),
@@ -212,7 +212,7 @@ static BAD_WORK: [(&str, &str); 20] = [
     ("UNIT 2 \"\x7f", "6 BadByte"),
 ];
 
-/// /// Asserts how each line is read as line 3 of a mailing, after `UNIT 7`; `front` stands before
+/// Asserts how each line is read as line 3 of a mailing, after `UNIT 7`; `front` stands before
 /// each wanted text.
 fn lines_tell(
     rt: &impl Abort,
@@ -229,7 +229,7 @@ fn lines_tell(
     Ok(())
 }
 
-/// /// Asserts how each good order and each faulty line is read.
+/// Asserts how each good order and each faulty line is read.
 fn forms_tell(rt: &impl Abort, alloc: Global, world: &World) -> Result<(), Fail> {
     lines_tell(rt, alloc, world, "Number(7) ", &GOOD)?;
     lines_tell(rt, alloc, world, "Number(7) ", &NAMING)?;
@@ -238,7 +238,7 @@ fn forms_tell(rt: &impl Abort, alloc: Global, world: &World) -> Result<(), Fail>
     lines_tell(rt, alloc, world, "", &BAD_WORK)
 }
 
-/// /// Whole texts, and what each is read as.
+/// Whole texts, and what each is read as.
 static TEXTS: [(&str, &str); 10] = [
     // One faulty line.
     (
@@ -270,10 +270,10 @@ static TEXTS: [(&str, &str); 10] = [
     ("#ATLANTIS 10000\n#ATLANTIS 1", "refused 3"),
 ];
 
-/// /// A mailing with a byte that is not UTF-8.
+/// A mailing with a byte that is not UTF-8.
 const NO_TEXT: &[u8] = b"#ATLANTIS 1\nUNIT 1\n\xc8\nTAX ";
 
-/// /// Long texts: a front, a piece and how often it comes, an end; and what each is read as.
+/// Long texts: a front, a piece and how often it comes, an end; and what each is read as.
 static LONG: [(&str, &str, usize, &str, &str); 8] = [
     ("#ATLANTIS 1\n", "\n", 65_524, "", ""),
     ("#ATLANTIS 1\n", "\n", 65_525, "", "refused 1"),
@@ -285,7 +285,7 @@ static LONG: [(&str, &str, usize, &str, &str); 8] = [
     ("", "x\n", 32_768, "", "refused 2"),
 ];
 
-/// /// Asserts what each whole text is read as.
+/// Asserts what each whole text is read as.
 fn texts_tell(
     rt: &impl Abort,
     alloc: Global,
@@ -298,7 +298,7 @@ fn texts_tell(
     Ok(())
 }
 
-/// /// The text of a front, a piece `times` times, and an end.
+/// The text of a front, a piece `times` times, and an end.
 fn repeated(
     alloc: Global,
     front: &str,
@@ -310,7 +310,7 @@ fn repeated(
     Ok(format!(in alloc; "{front}{middle}{end}")?)
 }
 
-/// /// Asserts what each long text is read as.
+/// Asserts what each long text is read as.
 fn long_texts_tell(
     rt: &impl Abort,
     alloc: Global,
@@ -324,7 +324,7 @@ fn long_texts_tell(
     Ok(())
 }
 
-/// /// Asserts what each whole text, each text that is not UTF-8, and each long text is read as.
+/// Asserts what each whole text, each text that is not UTF-8, and each long text is read as.
 fn all_texts_tell(rt: &impl Abort, alloc: Global, world: &World) -> Result<(), Fail> {
     texts_tell(rt, alloc, world, &TEXTS)?;
     assert_read(rt, alloc, world, b"#ATLANTIS 1 \xc8", "")?;
@@ -338,7 +338,7 @@ fn all_texts_tell(rt: &impl Abort, alloc: Global, world: &World) -> Result<(), F
     long_texts_tell(rt, alloc, world, &LONG)
 }
 
-/// /// The keyword of each order of a mailing, followed by the name that it gives, if any.
+/// The keyword of each order of a mailing, followed by the name that it gives, if any.
 fn words_of(alloc: Global, mailing: &Mailing) -> Result<String, Fail> {
     let mut words = String::new(alloc);
     for entry in mailing.entries.as_slice().iter() {
@@ -354,7 +354,7 @@ fn words_of(alloc: Global, mailing: &Mailing) -> Result<String, Fail> {
     Ok(words)
 }
 
-/// /// Mailings, and what `words_of` says of each. A name is the text at its span, with `_` as a
+/// Mailings, and what `words_of` says of each. A name is the text at its span, with `_` as a
 /// space where it is bare.
 static WORDS: [(&str, &str); 3] = [
     (
@@ -371,7 +371,7 @@ static WORDS: [(&str, &str); 3] = [
     ),
 ];
 
-/// /// Asserts what `words_of` says of each mailing.
+/// Asserts what `words_of` says of each mailing.
 fn words_are(rt: &impl Abort, alloc: Global, world: &World) -> Result<(), Fail> {
     for (text, wanted) in WORDS.iter() {
         let mailing = read_mailing(alloc, world, text.as_bytes())?;
@@ -381,7 +381,7 @@ fn words_are(rt: &impl Abort, alloc: Global, world: &World) -> Result<(), Fail> 
     Ok(())
 }
 
-/// /// Spans of `#ATLANTIS 1`, a line feed, `_` and a byte that is not UTF-8: start, end, whether
+/// Spans of `#ATLANTIS 1`, a line feed, `_` and a byte that is not UTF-8: start, end, whether
 /// quoted, and the name's bytes.
 static SPANS: [(usize, usize, bool, &[u8]); 5] = [
     (12, 14, false, b" \xFF"),
@@ -391,7 +391,7 @@ static SPANS: [(usize, usize, bool, &[u8]); 5] = [
     (900, 901, true, b""),
 ];
 
-/// /// Asserts the bytes that a mailing has at a span, read as a name.
+/// Asserts the bytes that a mailing has at a span, read as a name.
 fn span_names(
     rt: &impl Abort,
     alloc: Global,
@@ -405,7 +405,7 @@ fn span_names(
     Ok(())
 }
 
-/// /// Asserts the bytes at each span of `SPANS`.
+/// Asserts the bytes at each span of `SPANS`.
 fn spans_name(rt: &impl Abort, alloc: Global, world: &World) -> Result<(), Fail> {
     let mailing = read_mailing(alloc, world, b"#ATLANTIS 1\n_\xFF")?;
     for row in SPANS.iter() {
@@ -414,13 +414,13 @@ fn spans_name(rt: &impl Abort, alloc: Global, world: &World) -> Result<(), Fail>
     Ok(())
 }
 
-/// /// The number of the faction that sent a mailing.
+/// The number of the faction that sent a mailing.
 fn faction_of(alloc: Global, world: &World, text: &[u8]) -> Result<usize, Fail> {
     let mailing = read_mailing(alloc, world, text)?;
     Ok(mailing.faction as usize)
 }
 
-/// /// Asserts all tables of this module, and the faction of two mailings.
+/// Asserts all tables of this module, and the faction of two mailings.
 fn all_is_read(rt: &impl Abort, alloc: Global, world: &World) -> Result<(), Fail> {
     forms_tell(rt, alloc, world)?;
     all_texts_tell(rt, alloc, world)?;

@@ -1,4 +1,4 @@
-//! //! Tests of a world's markets in both formats, and of whether two worlds differ in their
+//! Tests of a world's markets in both formats, and of whether two worlds differ in their
 //! markets alone.
 use super::asserts::assert_shown;
 use super::worlds::{MARKET, changed, read_in, with_markets};
@@ -7,7 +7,7 @@ use std::alloc::Global;
 use std::process::Abort;
 use std::test::Fail;
 
-/// /// Asserts the markets of region 1 for the items 0 and 1, and of region 2 for item 0.
+/// Asserts the markets of region 1 for the items 0 and 1, and of region 2 for item 0.
 fn markets_are(
     rt: &impl Abort,
     alloc: Global,
@@ -20,7 +20,7 @@ fn markets_are(
     assert_shown(rt, alloc, "markets", &told, wanted)
 }
 
-/// /// The wanted markets if region 1 has one for item 0 alone.
+/// The wanted markets if region 1 has one for item 0 alone.
 const OF_WOOD: &str =
     "[Some(Market { item: 0, price: 7, pays: 5, limit: 30, restock: 20 }), None, None]";
 
@@ -37,7 +37,7 @@ fn markets_in_both_formats(rt: HostRuntime) -> Result<(), Fail> {
     )
 }
 
-/// /// Edits of the world with one market, and whether the two worlds then count as different in
+/// Edits of the world with one market, and whether the two worlds then count as different in
 /// their markets alone.
 static CHANGES: [(&str, &str, bool); 24] = [
     ("price = 7", "price = 8", true),
@@ -78,7 +78,7 @@ static CHANGES: [(&str, &str, bool); 24] = [
     ),
 ];
 
-/// /// Asserts, in both directions, whether a world differs from that of a text in markets alone.
+/// Asserts, in both directions, whether a world differs from that of a text in markets alone.
 fn assert_difference(
     rt: &impl Abort,
     alloc: Global,
@@ -95,7 +95,7 @@ fn assert_difference(
     Ok(())
 }
 
-/// /// Asserts what each edit of `CHANGES` says.
+/// Asserts what each edit of `CHANGES` says.
 fn all_differ(rt: &impl Abort, alloc: Global, text: &str) -> Result<(), Fail> {
     let world = read_world(alloc, text)?;
     for (from, to, alone) in CHANGES.iter() {

@@ -1,4 +1,4 @@
-//! //! Tests of each number of a world file: missing, no whole number, at both ends of its range,
+//! Tests of each number of a world file: missing, no whole number, at both ends of its range,
 //! and one beyond.
 use super::faults::assert_change;
 use super::worlds::with_markets;
@@ -6,11 +6,11 @@ use std::alloc::Global;
 use std::process::Abort;
 use std::test::Fail;
 
-/// /// The path of a key, a line of the world with one market, and the least and greatest value
+/// The path of a key, a line of the world with one market, and the least and greatest value
 /// (docs/FORMATS.md, "The world file").
 type Range = (&'static str, &'static str, u32, u32);
 
-/// /// Keys that must be there; the line is the key's own.
+/// Keys that must be there; the line is the key's own.
 static NEEDED: [Range; 25] = [
     ("rules.maintenance", "maintenance = 10", 1, 1_000),
     ("rules.tax_per_man", "tax_per_man = 10", 0, 1_000),
@@ -54,7 +54,7 @@ static NEEDED: [Range; 25] = [
     ),
 ];
 
-/// /// Keys that may be missing; the line is one that the key can follow.
+/// Keys that may be missing; the line is one that the key can follow.
 static OPTIONAL: [Range; 4] = [
     ("item[0].level", "carry = 0", 1, 5),
     ("item[0].raw_count", "carry = 0", 1, 1_000),
@@ -62,7 +62,7 @@ static OPTIONAL: [Range; 4] = [
     ("kind[0].crew", "level = 1", 0, 999_999),
 ];
 
-/// /// The last part of a path.
+/// The last part of a path.
 fn key_of(path: &str) -> &str {
     match path.rsplit_once(".") {
         Some((_, key)) => key,
@@ -70,7 +70,7 @@ fn key_of(path: &str) -> &str {
     }
 }
 
-/// /// The text up to the number, which replaces the row's line.
+/// The text up to the number, which replaces the row's line.
 fn front_of(alloc: Global, row: &Range, needed: bool) -> Result<String, Fail> {
     let (path, line, _, _) = *row;
     let key = key_of(path);
@@ -81,7 +81,7 @@ fn front_of(alloc: Global, row: &Range, needed: bool) -> Result<String, Fail> {
     }
 }
 
-/// /// Asserts the fault at the row's key after its line was replaced by `to`.
+/// Asserts the fault at the row's key after its line was replaced by `to`.
 fn fault_is(
     rt: &impl Abort,
     alloc: Global,
@@ -95,7 +95,7 @@ fn fault_is(
     assert_change(rt, alloc, text, line, to, wanted.as_str())
 }
 
-/// /// Asserts that a key takes `number` if it is in the row's range, and is OutOfRange otherwise.
+/// Asserts that a key takes `number` if it is in the row's range, and is OutOfRange otherwise.
 fn number_is(
     rt: &impl Abort,
     alloc: Global,
@@ -113,7 +113,7 @@ fn number_is(
     }
 }
 
-/// /// Asserts that a key takes the ends of its range, and neither their neighbours outside nor
+/// Asserts that a key takes the ends of its range, and neither their neighbours outside nor
 /// 1.5.
 fn has_range(
     rt: &impl Abort,
@@ -131,7 +131,7 @@ fn has_range(
     Ok(())
 }
 
-/// /// Asserts the range of each row's key, and of a needed key that it must not be missing.
+/// Asserts the range of each row's key, and of a needed key that it must not be missing.
 fn have_ranges(
     rt: &impl Abort,
     alloc: Global,

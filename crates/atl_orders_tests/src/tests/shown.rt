@@ -1,4 +1,4 @@
-//! //! Tests that the small world and the island are read in full, part by part.
+//! Tests that the small world and the island are read in full, part by part.
 use super::asserts::{assert_number, assert_numbers, assert_row, assert_shown};
 use atl_tables::{RegionPlan, World, read_world};
 use atl_test_worlds::{ISLE, SMALL};
@@ -6,7 +6,7 @@ use std::alloc::Global;
 use std::process::Abort;
 use std::test::Fail;
 
-/// /// All that a world must hold once read; lists as `Debug` prints them, and regions as
+/// All that a world must hold once read; lists as `Debug` prints them, and regions as
 /// `region_text` prints them.
 struct Shown {
     rules: &'static str,
@@ -19,7 +19,7 @@ struct Shown {
     regions: &'static [(u32, &'static str)],
 }
 
-/// /// What the small world holds.
+/// What the small world holds.
 static SMALL_SHOWN: Shown = Shown {
     rules: "[Rules { maintenance: 10, tax_per_man: 10, recruit_price: 50, recruit_fraction: 4, growth: 0, income: 1, \
         start_money: 1000, man_weight: 10, man_carry: 5, observation: None, stealth: None, sailing: None }]",
@@ -39,7 +39,7 @@ static SMALL_SHOWN: Shown = Shown {
     ],
 };
 
-/// /// What the island holds.
+/// What the island holds.
 static ISLE_SHOWN: Shown = Shown {
     rules: "[Rules { maintenance: 10, tax_per_man: 10, recruit_price: 50, recruit_fraction: 4, growth: 0, income: 1, \
         start_money: 1000, man_weight: 10, man_carry: 5, observation: Some(5), stealth: Some(4), sailing: Some(3) }]",
@@ -87,7 +87,7 @@ static ISLE_SHOWN: Shown = Shown {
     ],
 };
 
-/// /// Asserts the rules, terrains, items, skills and kinds of a world.
+/// Asserts the rules, terrains, items, skills and kinds of a world.
 fn lists_are(rt: &impl Abort, alloc: Global, world: &World, wanted: &Shown) -> Result<(), Fail> {
     assert_shown(rt, alloc, "rules", &[*world.rules()], wanted.rules)?;
     assert_shown(rt, alloc, "terrains", world.terrains(), wanted.terrains)?;
@@ -109,7 +109,7 @@ fn plan_text(alloc: Global, plan: &RegionPlan) -> Result<String, Fail> {
     )?)
 }
 
-/// /// The region with a number as `plan_text` prints it, or `none`.
+/// The region with a number as `plan_text` prints it, or `none`.
 fn region_text(alloc: Global, world: &World, number: u32) -> Result<String, Fail> {
     match world.region(number) {
         Some(plan) => plan_text(alloc, plan),
@@ -117,7 +117,7 @@ fn region_text(alloc: Global, world: &World, number: u32) -> Result<String, Fail
     }
 }
 
-/// /// Asserts the numbers of the regions with land, how many regions there are, and some of them.
+/// Asserts the numbers of the regions with land, how many regions there are, and some of them.
 fn regions_are(rt: &impl Abort, alloc: Global, world: &World, wanted: &Shown) -> Result<(), Fail> {
     assert_numbers(rt, world.land(), wanted.land);
     assert_number(rt, world.regions().len(), wanted.region_count);
@@ -132,7 +132,7 @@ fn regions_are(rt: &impl Abort, alloc: Global, world: &World, wanted: &Shown) ->
     Ok(())
 }
 
-/// /// Asserts all that the world of a text holds.
+/// Asserts all that the world of a text holds.
 fn assert_world(rt: &impl Abort, alloc: Global, text: &str, wanted: &Shown) -> Result<(), Fail> {
     let world = read_world(alloc, text)?;
     lists_are(rt, alloc, &world, wanted)?;

@@ -1,4 +1,4 @@
-//! //! Tests of `MarkedMap`, a map with a dirty set: the numbers whose values changed since the
+//! Tests of `MarkedMap`, a map with a dirty set: the numbers whose values changed since the
 //! last `unmark`.
 use super::asserts::{assert_number, assert_numbers};
 use super::containers::{assert_map, filled};
@@ -7,26 +7,26 @@ use std::alloc::Global;
 use std::process::Abort;
 use std::test::Fail;
 
-/// /// A call of a `MarkedMap`.
+/// A call of a `MarkedMap`.
 #[derive(Drop, Clone, Copy)]
 enum Step {
-    /// /// Inserts a value under a number that has none.
+    /// Inserts a value under a number that has none.
     Insert(u32, u32),
     Put(u32, u32),
-    /// /// Overwrites a value through `get_mut`, if there is one.
+    /// Overwrites a value through `get_mut`, if there is one.
     Change(u32, u32),
     Remove(u32),
-    /// /// Takes a value out together with its mark.
+    /// Takes a value out together with its mark.
     TakeOut(u32),
     Mark(u32),
     Unmark,
     Clear,
 }
 
-/// /// A call, how many values the map has after it, and which numbers are marked after it.
+/// A call, how many values the map has after it, and which numbers are marked after it.
 type Row = (Step, usize, &'static [u32]);
 
-/// /// Calls from the map of 1, 20 and 30 on, by which numbers get marked.
+/// Calls from the map of 1, 20 and 30 on, by which numbers get marked.
 static CHANGES: [Row; 12] = [
     (Step::Remove(2), 3, &[]),
     (Step::Change(2, 5), 3, &[]),
@@ -42,7 +42,7 @@ static CHANGES: [Row; 12] = [
     (Step::TakeOut(8), 4, &[1, 4, 5, 20, 30]),
 ];
 
-/// /// Calls from the same map on, by which marks are set and cleared, also those of numbers
+/// Calls from the same map on, by which marks are set and cleared, also those of numbers
 /// without a value.
 static MARKS: [Row; 13] = [
     (Step::Remove(20), 2, &[20]),
@@ -60,7 +60,7 @@ static MARKS: [Row; 13] = [
     (Step::Unmark, 0, &[]),
 ];
 
-/// /// Calls from the same map on that lead back to it: a value is removed and inserted again, and
+/// Calls from the same map on that lead back to it: a value is removed and inserted again, and
 /// a new one comes and goes.
 static ROUND: [Row; 5] = [
     (Step::Remove(20), 2, &[20]),
@@ -70,7 +70,7 @@ static ROUND: [Row; 5] = [
     (Step::Unmark, 3, &[]),
 ];
 
-/// /// Inserts a value, if the number has none.
+/// Inserts a value, if the number has none.
 fn inserts(map: &mut MarkedMap<u32>, number: u32, value: u32) -> Result<(), Fail> {
     if map.get(number).is_none() {
         map.insert(number, value)?;
@@ -78,14 +78,14 @@ fn inserts(map: &mut MarkedMap<u32>, number: u32, value: u32) -> Result<(), Fail
     Ok(())
 }
 
-/// /// Overwrites the value of a number through `get_mut`, if it has one.
+/// Overwrites the value of a number through `get_mut`, if it has one.
 fn changes_value(map: &mut MarkedMap<u32>, number: u32, value: u32) {
     if let Some(place) = map.get_mut(number) {
         *place = value;
     }
 }
 
-/// /// Makes the call of a step.
+/// Makes the call of a step.
 fn does(map: &mut MarkedMap<u32>, step: Step) -> Result<(), Fail> {
     match step {
         Step::Insert(number, value) => inserts(map, number, value)?,
@@ -100,7 +100,7 @@ fn does(map: &mut MarkedMap<u32>, step: Step) -> Result<(), Fail> {
     Ok(())
 }
 
-/// /// Asserts which numbers are marked, and how many.
+/// Asserts which numbers are marked, and how many.
 fn assert_marks(
     rt: &impl Abort,
     alloc: Global,
@@ -113,7 +113,7 @@ fn assert_marks(
     Ok(())
 }
 
-/// /// Makes the call of each row, and asserts the count of values and the marks after it.
+/// Makes the call of each row, and asserts the count of values and the marks after it.
 fn assert_steps(
     rt: &impl Abort,
     alloc: Global,
@@ -138,7 +138,7 @@ fn is_changed(rt: &impl Abort, alloc: Global, map: &MarkedMap<u32>) -> Result<()
     assert_map(rt, alloc, map.values(), &[1, 8, 4, 4, 20, 6, 30, 7])
 }
 
-/// /// Changes of a map mark the numbers changed.
+/// Changes of a map mark the numbers changed.
 #[test]
 fn tracked(rt: HostRuntime) -> Result<(), Fail> {
     let mut map = MarkedMap::of(rt.alloc(), filled(rt.alloc())?)?;
@@ -147,7 +147,7 @@ fn tracked(rt: HostRuntime) -> Result<(), Fail> {
     is_changed(&rt, rt.alloc(), &map)
 }
 
-/// /// Makes the calls of `ROUND` 200 times, and then those of `MARKS`.
+/// Makes the calls of `ROUND` 200 times, and then those of `MARKS`.
 fn goes_round(rt: &impl Abort, alloc: Global, map: &mut MarkedMap<u32>) -> Result<(), Fail> {
     for _ in 0..200 {
         assert_steps(rt, alloc, map, &ROUND)?;
@@ -155,7 +155,7 @@ fn goes_round(rt: &impl Abort, alloc: Global, map: &mut MarkedMap<u32>) -> Resul
     assert_steps(rt, alloc, map, &MARKS)
 }
 
-/// /// A removed number stays marked, and `mark` marks only numbers that have a value or are
+/// A removed number stays marked, and `mark` marks only numbers that have a value or are
 /// marked.
 #[test]
 fn marks_of_what_is_gone(rt: HostRuntime) -> Result<(), Fail> {
@@ -163,10 +163,10 @@ fn marks_of_what_is_gone(rt: HostRuntime) -> Result<(), Fail> {
     goes_round(&rt, rt.alloc(), &mut map)
 }
 
-/// /// How many numbers the map of the last test has: one less than the prime 1009.
+/// How many numbers the map of the last test has: one less than the prime 1009.
 const MANY: u32 = 1008;
 
-/// /// Marks each number from 1 to `MANY` once, in falling order or in a scattered one.
+/// Marks each number from 1 to `MANY` once, in falling order or in a scattered one.
 fn marks_each(map: &mut MarkedMap<u32>, falling: bool) {
     for step in 1..MANY + 1 {
         if falling {
@@ -177,14 +177,14 @@ fn marks_each(map: &mut MarkedMap<u32>, falling: bool) {
     }
 }
 
-/// /// Takes out each third number together with its mark.
+/// Takes out each third number together with its mark.
 fn takes_thirds(map: &mut MarkedMap<u32>) {
     for third in 1..MANY / 3 + 1 {
         map.take_out(third * 3, false);
     }
 }
 
-/// /// Inserts each third number again, the highest first, which marks it.
+/// Inserts each third number again, the highest first, which marks it.
 fn puts_thirds(map: &mut MarkedMap<u32>) -> Result<(), Fail> {
     for step in 0..MANY / 3 {
         inserts(map, MANY - step * 3, step)?;
@@ -192,7 +192,7 @@ fn puts_thirds(map: &mut MarkedMap<u32>) -> Result<(), Fail> {
     Ok(())
 }
 
-/// /// Asserts that the marked numbers come in rising order from 1, with or without each third, and
+/// Asserts that the marked numbers come in rising order from 1, with or without each third, and
 /// how many there are.
 fn count_up(rt: &impl Abort, map: &MarkedMap<u32>, thirds: bool, count: usize) {
     assert_number(rt, map.marked(), count);
@@ -203,7 +203,7 @@ fn count_up(rt: &impl Abort, map: &MarkedMap<u32>, thirds: bool, count: usize) {
     }
 }
 
-/// /// Marks all numbers in one of the two orders, takes out thirds and inserts them again, and
+/// Marks all numbers in one of the two orders, takes out thirds and inserts them again, and
 /// clears all marks.
 fn mixes(rt: &impl Abort, map: &mut MarkedMap<u32>, falling: bool) -> Result<(), Fail> {
     map.unmark();
@@ -218,7 +218,7 @@ fn mixes(rt: &impl Abort, map: &mut MarkedMap<u32>, falling: bool) -> Result<(),
     Ok(())
 }
 
-/// /// The marked numbers come in rising order, in whatever order they were marked.
+/// The marked numbers come in rising order, in whatever order they were marked.
 #[test]
 fn marks_in_any_order(rt: HostRuntime) -> Result<(), Fail> {
     let mut map = MarkedMap::new(rt.alloc());

@@ -1,4 +1,4 @@
-//! //! Tests of `Books` alone, and of the books of a campaign (docs/RULES.md, "Books").
+//! Tests of `Books` alone, and of the books of a campaign (docs/RULES.md, "Books").
 use super::compare::{assert_count, assert_number};
 use super::making::founded_by;
 use atl_state::{Books, Campaign, Entry, Thing};
@@ -6,10 +6,10 @@ use atl_test_worlds::ISLE;
 use std::process::Abort;
 use std::test::Fail;
 
-/// /// How many things the books count: money, people, wood and carts.
+/// How many things the books count: money, people, wood and carts.
 const THINGS: usize = 4;
 
-/// /// Books some money and carts in empty books.
+/// Books some money and carts in empty books.
 fn books_some(books: &mut Books) -> Result<(), Fail> {
     if books.len() != THINGS || books.amount(Entry::Wages, Thing::Money) != 0 {
         return Err(Fail::new("empty books"));
@@ -18,7 +18,7 @@ fn books_some(books: &mut Books) -> Result<(), Fail> {
     Ok(())
 }
 
-/// /// Asserts the amounts that `books_some` booked, and that others are 0.
+/// Asserts the amounts that `books_some` booked, and that others are 0.
 fn has_some(rt: &impl Abort, books: &Books) -> Result<(), Fail> {
     if books.len() != THINGS {
         return Err(Fail::new("four things"));
@@ -37,7 +37,7 @@ fn books_of_four_things(rt: HostRuntime) -> Result<(), Fail> {
     has_some(&rt, &books)
 }
 
-/// /// Entries and the amounts of carts booked under them; Income comes twice and adds up.
+/// Entries and the amounts of carts booked under them; Income comes twice and adds up.
 static BOOKED: [(Entry, i64); 6] = [
     (Entry::Income, 5),
     (Entry::Income, 6),
@@ -47,7 +47,7 @@ static BOOKED: [(Entry, i64); 6] = [
     (Entry::Used, -11),
 ];
 
-/// /// Books an amount of carts in a campaign.
+/// Books an amount of carts in a campaign.
 fn books_carts(campaign: &mut Campaign, entry: Entry, amount: i64) -> Result<(), Fail> {
     if campaign.things() != THINGS {
         return Err(Fail::new("four things"));
@@ -60,7 +60,7 @@ fn books_carts(campaign: &mut Campaign, entry: Entry, amount: i64) -> Result<(),
     Ok(())
 }
 
-/// /// Books every row of `BOOKED` in a campaign.
+/// Books every row of `BOOKED` in a campaign.
 fn books_all(campaign: &mut Campaign) -> Result<(), Fail> {
     for (entry, amount) in BOOKED.iter() {
         books_carts(campaign, *entry, *amount)?;
@@ -68,7 +68,7 @@ fn books_all(campaign: &mut Campaign) -> Result<(), Fail> {
     Ok(())
 }
 
-/// /// Asserts the amounts booked after `books_all`, and that exactly those are marked.
+/// Asserts the amounts booked after `books_all`, and that exactly those are marked.
 fn has_all(rt: &impl Abort, campaign: &Campaign) -> Result<(), Fail> {
     if campaign.things() != THINGS {
         return Err(Fail::new("four things"));

@@ -1,4 +1,4 @@
-//! //! Builds the rows of the tables of a campaign by hand, so that tests of `check` can put one
+//! Builds the rows of the tables of a campaign by hand, so that tests of `check` can put one
 //! wrong value in.
 use atl_state::parts::{
     Parts, StoredBooks, StoredCampaignRow, StoredFaction, StoredHas, StoredMarket, StoredRegion,
@@ -8,9 +8,9 @@ use atl_tables::{Format, Sequence, Text};
 use std::alloc::Global;
 use std::test::Fail;
 
-/// /// The values of the island campaign's rows that tests vary. Avalon and Bree have a unit each
+/// The values of the island campaign's rows that tests vary. Avalon and Bree have a unit each
 /// in region 3.
-/// /// Region 1 has a market with room for 30 wood.
+/// Region 1 has a market with room for 30 wood.
 #[derive(Clone, Copy)]
 pub(crate) struct Rows {
     /// The format that is asked for, and the number that the campaign's own row has of it.
@@ -49,7 +49,7 @@ pub(crate) struct Rows {
     pub(crate) bought: i64,
 }
 
-/// /// Tables without a row.
+/// Tables without a row.
 fn no_rows(alloc: Global) -> Parts {
     Parts {
         campaign: Sequence::new(alloc),
@@ -65,7 +65,7 @@ fn no_rows(alloc: Global) -> Parts {
     }
 }
 
-/// /// Adds the campaign's own row.
+/// Adds the campaign's own row.
 fn add_head(
     alloc: Global,
     heads: &mut Sequence<StoredCampaignRow>,
@@ -83,7 +83,7 @@ fn add_head(
     Ok(())
 }
 
-/// /// Adds a row of a region for each: number, peasants and money.
+/// Adds a row of a region for each: number, peasants and money.
 fn add_regions(regions: &mut Sequence<StoredRegion>, rows: &[[i64; 3]]) -> Result<(), Fail> {
     for [number, peasants, money] in rows.iter() {
         regions.push(StoredRegion {
@@ -95,7 +95,7 @@ fn add_regions(regions: &mut Sequence<StoredRegion>, rows: &[[i64; 3]]) -> Resul
     Ok(())
 }
 
-/// /// Adds a row of the books for each: entry, thing and amount.
+/// Adds a row of the books for each: entry, thing and amount.
 fn add_books(books: &mut Sequence<StoredBooks>, rows: &[[i64; 3]]) -> Result<(), Fail> {
     for [entry, thing, amount] in rows.iter() {
         books.push(StoredBooks {
@@ -107,7 +107,7 @@ fn add_books(books: &mut Sequence<StoredBooks>, rows: &[[i64; 3]]) -> Result<(),
     Ok(())
 }
 
-/// /// The row of a faction with the pass text `pw`.
+/// The row of a faction with the pass text `pw`.
 fn faction(alloc: Global, number: i64, name: &str, gone: i64) -> Result<StoredFaction, Fail> {
     Ok(StoredFaction {
         number,
@@ -118,7 +118,7 @@ fn faction(alloc: Global, number: i64, name: &str, gone: i64) -> Result<StoredFa
     })
 }
 
-/// /// Adds the rows of both factions, the second first: tables may come in any order.
+/// Adds the rows of both factions, the second first: tables may come in any order.
 fn add_factions(
     alloc: Global,
     factions: &mut Sequence<StoredFaction>,
@@ -129,7 +129,7 @@ fn add_factions(
     Ok(())
 }
 
-/// /// Adds the rows of both units.
+/// Adds the rows of both units.
 fn add_units(alloc: Global, units: &mut Sequence<StoredUnit>, rows: &Rows) -> Result<(), Fail> {
     units.push(StoredUnit {
         number: 2,
@@ -154,7 +154,7 @@ fn add_units(alloc: Global, units: &mut Sequence<StoredUnit>, rows: &Rows) -> Re
     Ok(())
 }
 
-/// /// Adds unit 1's days of lumberjack, if any.
+/// Adds unit 1's days of lumberjack, if any.
 fn add_days(has: &mut Sequence<StoredHas>, rows: &Rows) -> Result<(), Fail> {
     if rows.days != 0 {
         has.push(StoredHas {
@@ -167,7 +167,7 @@ fn add_days(has: &mut Sequence<StoredHas>, rows: &Rows) -> Result<(), Fail> {
     Ok(())
 }
 
-/// /// Adds the row of the lodge, if it has an owner.
+/// Adds the row of the lodge, if it has an owner.
 fn add_lodge(
     alloc: Global,
     structures: &mut Sequence<StoredStructure>,
@@ -186,7 +186,7 @@ fn add_lodge(
     Ok(())
 }
 
-/// /// Adds a report for each of the first `rows.reports` factions.
+/// Adds a report for each of the first `rows.reports` factions.
 fn add_reports(
     alloc: Global,
     reports: &mut Sequence<StoredReport>,
@@ -201,7 +201,7 @@ fn add_reports(
     Ok(())
 }
 
-/// /// Adds the market's row `rows.times` times.
+/// Adds the market's row `rows.times` times.
 fn add_markets(markets: &mut Sequence<StoredMarket>, rows: &Rows) -> Result<(), Fail> {
     for _ in 0..rows.times {
         markets.push(StoredMarket {
@@ -213,7 +213,7 @@ fn add_markets(markets: &mut Sequence<StoredMarket>, rows: &Rows) -> Result<(), 
     Ok(())
 }
 
-/// /// Adds the rows of the books for the stock and for what was bought.
+/// Adds the rows of the books for the stock and for what was bought.
 fn add_trade(books: &mut Sequence<StoredBooks>, rows: &Rows) -> Result<(), Fail> {
     if rows.times != 0 {
         add_books(books, &[[rows.stocked, 2, 20]])?;
@@ -224,7 +224,7 @@ fn add_trade(books: &mut Sequence<StoredBooks>, rows: &Rows) -> Result<(), Fail>
     Ok(())
 }
 
-/// /// Adds the rows of the campaign, the factions, their units and their reports.
+/// Adds the rows of the campaign, the factions, their units and their reports.
 fn add_people(alloc: Global, parts: &mut Parts, rows: &Rows) -> Result<(), Fail> {
     add_head(alloc, &mut parts.campaign, rows)?;
     add_factions(alloc, &mut parts.factions, rows)?;
@@ -233,7 +233,7 @@ fn add_people(alloc: Global, parts: &mut Parts, rows: &Rows) -> Result<(), Fail>
     add_reports(alloc, &mut parts.reports, rows)
 }
 
-/// /// Adds the rows of the regions, the lodge, the market and the books.
+/// Adds the rows of the regions, the lodge, the market and the books.
 fn add_places(alloc: Global, parts: &mut Parts, rows: &Rows) -> Result<(), Fail> {
     add_regions(
         &mut parts.regions,
@@ -253,7 +253,7 @@ fn add_places(alloc: Global, parts: &mut Parts, rows: &Rows) -> Result<(), Fail>
     )
 }
 
-/// /// All rows of the campaign that `rows` says, in no particular order.
+/// All rows of the campaign that `rows` says, in no particular order.
 pub(crate) fn parts(alloc: Global, rows: &Rows) -> Result<Parts, Fail> {
     let mut parts = no_rows(alloc);
     add_people(alloc, &mut parts, rows)?;

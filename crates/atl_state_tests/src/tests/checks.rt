@@ -1,4 +1,4 @@
-//! //! Tests of `check`: rows of a good campaign are accepted, and others get the number of the
+//! Tests of `check`: rows of a good campaign are accepted, and others get the number of the
 //! first rule that they break.
 use super::by_hand::{Rows, parts};
 use super::compare::{assert_amount, assert_count, assert_row, assert_rows};
@@ -10,7 +10,7 @@ use std::alloc::Global;
 use std::process::Abort;
 use std::test::Fail;
 
-/// /// The rows of a good campaign in the second format.
+/// The rows of a good campaign in the second format.
 const GOOD: Rows = Rows {
     asked: Format::Second,
     format: 2,
@@ -43,7 +43,7 @@ const OLD: Rows = Rows {
     ..GOOD
 };
 
-/// /// Rows, and the number of the first rule that they break, or 0.
+/// Rows, and the number of the first rule that they break, or 0.
 static CASES: [(Rows, u64); 15] = [
     (GOOD, 0),
     (Rows { days: 450, ..GOOD }, 0),
@@ -86,7 +86,7 @@ static CASES: [(Rows, u64); 15] = [
     (Rows { reports: 1, ..GOOD }, 12),
 ];
 
-/// /// The same for the rows of the market and its books.
+/// The same for the rows of the market and its books.
 static MARKET_CASES: [(Rows, u64); 14] = [
     (GOOD, 0),
     (
@@ -124,7 +124,7 @@ static MARKET_CASES: [(Rows, u64); 14] = [
     ),
 ];
 
-/// /// The number of the broken rule that a check reports, 0 if it accepts, and 99 if memory ran
+/// The number of the broken rule that a check reports, 0 if it accepts, and 99 if memory ran
 /// out.
 fn rule_of(checked: Result<Campaign, CheckFault>) -> u64 {
     match checked {
@@ -134,7 +134,7 @@ fn rule_of(checked: Result<Campaign, CheckFault>) -> u64 {
     }
 }
 
-/// /// Asserts the broken rule that each case reports.
+/// Asserts the broken rule that each case reports.
 fn assert_rules(
     rt: &impl Abort,
     alloc: Global,
@@ -156,7 +156,7 @@ pub(crate) fn checked(alloc: Global, world: &World, rows: Parts) -> Result<Campa
     }
 }
 
-/// /// Asserts the counts and the stock of the campaign that `GOOD` makes, and that nothing of it
+/// Asserts the counts and the stock of the campaign that `GOOD` makes, and that nothing of it
 /// is marked.
 fn assert_island(rt: &impl Abort, campaign: &Campaign) {
     assert_count(rt, campaign.unit_count(), 2);
@@ -167,10 +167,10 @@ fn assert_island(rt: &impl Abort, campaign: &Campaign) {
     assert_count(rt, campaign.marks(), 0);
 }
 
-/// /// The wanted row of the stock, as `Debug` prints it.
+/// The wanted row of the stock, as `Debug` prints it.
 const STOCK: &str = "[StoredMarket { region: 1, item: 0, stock: 20 }]";
 
-/// /// Asserts that a campaign's rows in the second format are accepted again, and that those of
+/// Asserts that a campaign's rows in the second format are accepted again, and that those of
 /// the first leave out the stock.
 fn comes_back(rt: &impl Abort, alloc: Global, world: &World, first: &Campaign) -> Result<(), Fail> {
     let old = first.parts_as(Format::First)?;
@@ -182,14 +182,14 @@ fn comes_back(rt: &impl Abort, alloc: Global, world: &World, first: &Campaign) -
     Ok(())
 }
 
-/// /// Asserts that the rows of `GOOD` give the campaign, whose own rows give it again.
+/// Asserts that the rows of `GOOD` give the campaign, whose own rows give it again.
 fn is_checked(rt: &impl Abort, alloc: Global, world: &World) -> Result<(), Fail> {
     let campaign = checked(alloc, world, parts(alloc, &GOOD)?)?;
     assert_island(rt, &campaign);
     comes_back(rt, alloc, world, &campaign)
 }
 
-/// /// Asserts all of this module on a world.
+/// Asserts all of this module on a world.
 fn rows_tell(rt: &impl Abort, alloc: Global, world: &World) -> Result<(), Fail> {
     assert_rules(rt, alloc, world, &CASES)?;
     assert_rules(rt, alloc, world, &MARKET_CASES)?;

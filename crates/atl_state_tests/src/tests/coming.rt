@@ -1,4 +1,4 @@
-//! //! Tests of which parts are marked when a faction joins, and when units and structures are
+//! Tests of which parts are marked when a faction joins, and when units and structures are
 //! added, lent or removed.
 use super::compare::{assert_amount, assert_count};
 use super::making::{BOAT, avalon_joins, founded_in};
@@ -81,7 +81,7 @@ static CALLS: [Row; 14] = [
     (Step::Unmark, Ask::Unit(1), "none", "0"),
 ];
 
-/// /// Asserts the numbers that Avalon gets on joining, and then every row of `CALLS`.
+/// Asserts the numbers that Avalon gets on joining, and then every row of `CALLS`.
 fn comes_and_goes(rt: &impl Abort, alloc: Global, world: &World) -> Result<(), Fail> {
     let mut campaign = founded_in(alloc, world)?;
     assert_count(rt, campaign.marks(), 0);

@@ -1,46 +1,46 @@
-//! //! Assertions for these tests, one for each type: an `assert_eq!` costs much to prove, so each
+//! Assertions for these tests, one for each type: an `assert_eq!` costs much to prove, so each
 //! is written once.
 use std::alloc::Global;
 use std::fmt::Debug;
 use std::process::Abort;
 use std::test::Fail;
 
-/// /// Asserts that a signed number is the wanted one.
+/// Asserts that a signed number is the wanted one.
 pub(crate) fn assert_number(rt: &impl Abort, told: i64, wanted: i64) {
     assert_eq!(rt; told, wanted);
 }
 
-/// /// Asserts that a number of a thing, an amount or a number of days is the wanted one.
+/// Asserts that a number of a thing, an amount or a number of days is the wanted one.
 pub(crate) fn assert_amount(rt: &impl Abort, told: u32, wanted: u32) {
     assert_eq!(rt; told, wanted);
 }
 
-/// /// Asserts that a number is the wanted one; the message names the index of the row.
+/// Asserts that a number is the wanted one; the message names the index of the row.
 pub(crate) fn assert_row(rt: &impl Abort, row: usize, told: u64, wanted: u64) {
     assert_eq!(rt; told, wanted, "at {row}");
 }
 
-/// /// Asserts that a count is the wanted one.
+/// Asserts that a count is the wanted one.
 pub(crate) fn assert_count(rt: &impl Abort, told: usize, wanted: usize) {
     assert_eq!(rt; told, wanted);
 }
 
-/// /// Asserts that a text is the wanted one.
+/// Asserts that a text is the wanted one.
 pub(crate) fn assert_text(rt: &impl Abort, told: &str, wanted: &str) {
     assert_eq!(rt; told, wanted);
 }
 
-/// /// Asserts that a text is the wanted one; the message names the index of the row.
+/// Asserts that a text is the wanted one; the message names the index of the row.
 pub(crate) fn assert_row_text(rt: &impl Abort, row: usize, told: &str, wanted: &str) {
     assert_eq!(rt; told, wanted, "at {row}");
 }
 
-/// /// Asserts that a list of numbers is the wanted one; the message names the index of the row.
+/// Asserts that a list of numbers is the wanted one; the message names the index of the row.
 pub(crate) fn assert_numbers(rt: &impl Abort, row: usize, told: &[u32], wanted: &[u32]) {
     assert_eq!(rt; told, wanted, "at {row}");
 }
 
-/// /// Asserts what `Debug` prints of a table's rows.
+/// Asserts what `Debug` prints of a table's rows.
 pub(crate) fn assert_rows<T: Debug>(
     rt: &impl Abort,
     alloc: Global,
@@ -52,7 +52,7 @@ pub(crate) fn assert_rows<T: Debug>(
     Ok(())
 }
 
-/// /// Asserts that a truth value is true.
+/// Asserts that a truth value is true.
 pub(crate) fn assert_true(rt: &impl Abort, told: bool) {
     assert!(rt; told);
 }

@@ -1,9 +1,9 @@
-//! //! Tests of the numbers and names of the faults of orders (docs/RULES.md, "Events").
+//! Tests of the numbers and names of the faults of orders (docs/RULES.md, "Events").
 use super::compare::{assert_row, assert_text, assert_true};
 use atl_state::EventFault;
 use std::process::Abort;
 
-/// /// Each fault's number and its name.
+/// Each fault's number and its name.
 static FAULTS: [(u8, &str); 24] = [
     (1, "NotYours"),
     (2, "NotHere"),
@@ -31,7 +31,7 @@ static FAULTS: [(u8, &str); 24] = [
     (24, "NoMarket"),
 ];
 
-/// /// Asserts the name and the number of the fault that has a number.
+/// Asserts the name and the number of the fault that has a number.
 fn assert_name(rt: &impl Abort, row: usize, number: u8, name: &str) {
     match EventFault::of_number(number) {
         Some(fault) => {

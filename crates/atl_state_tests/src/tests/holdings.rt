@@ -1,4 +1,4 @@
-//! //! Tests of `Holding` (what a unit has): each call that sets a part, and the reads after it.
+//! Tests of `Holding` (what a unit has): each call that sets a part, and the reads after it.
 use super::compare::{assert_amount, assert_row_text};
 use super::making::one_man;
 use atl_state::Holding;
@@ -21,7 +21,7 @@ enum Part {
     Days(u32, u32),
 }
 
-/// /// Calls, and the holding after each as `text_of` prints it.
+/// Calls, and the holding after each as `text_of` prints it.
 static CALLS: [(Part, &str); 15] = [
     (
         Part::Nothing,
@@ -86,7 +86,7 @@ static CALLS: [(Part, &str); 15] = [
     ),
 ];
 
-/// /// Makes the call that sets a part of a holding.
+/// Makes the call that sets a part of a holding.
 fn sets(alloc: Global, holding: &mut Holding, part: Part) -> Result<(), Fail> {
     match part {
         Part::Nothing => (),
@@ -103,7 +103,7 @@ fn sets(alloc: Global, holding: &mut Holding, part: Part) -> Result<(), Fail> {
     Ok(())
 }
 
-/// /// A list of items or days, flattened: each number, followed by its amount.
+/// A list of items or days, flattened: each number, followed by its amount.
 fn listed(alloc: Global, goods: Entries<'_, u32>) -> Result<Vec<u32>, Fail> {
     let mut numbers = Vec::new(alloc);
     for (number, amount) in goods {
@@ -113,7 +113,7 @@ fn listed(alloc: Global, goods: Entries<'_, u32>) -> Result<Vec<u32>, Fail> {
     Ok(numbers)
 }
 
-/// /// A holding as text: name, men, money, guard flag, items and days.
+/// A holding as text: name, men, money, guard flag, items and days.
 fn text_of(alloc: Global, holding: &Holding) -> Result<String, Fail> {
     let (name, guard) = (holding.name().as_str(), holding.guard());
     let (men, money) = (holding.men(), holding.money());
@@ -125,7 +125,7 @@ fn text_of(alloc: Global, holding: &Holding) -> Result<String, Fail> {
     )?)
 }
 
-/// /// Makes each call of `CALLS`, and asserts the holding after it.
+/// Makes each call of `CALLS`, and asserts the holding after it.
 fn sets_all(rt: &impl Abort, alloc: Global, holding: &mut Holding) -> Result<(), Fail> {
     for (row, (part, wanted)) in CALLS.iter().enumerate() {
         sets(alloc, holding, *part)?;
@@ -134,7 +134,7 @@ fn sets_all(rt: &impl Abort, alloc: Global, holding: &mut Holding) -> Result<(),
     Ok(())
 }
 
-/// /// Asserts single amounts after `CALLS`, of items and skills that are there and that aren't.
+/// Asserts single amounts after `CALLS`, of items and skills that are there and that aren't.
 fn has_amounts(rt: &impl Abort, holding: &Holding) {
     assert_amount(rt, holding.amount(7), 1);
     assert_amount(rt, holding.amount(2), 0);

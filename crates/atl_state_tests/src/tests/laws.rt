@@ -1,4 +1,4 @@
-//! //! Calls each law of the crates under test once and asserts nothing: a law does nothing, and
+//! Calls each law of the crates under test once and asserts nothing: a law does nothing, and
 //! its clause is proved.
 use atl_state::good_campaigns_are_early;
 

@@ -1,4 +1,4 @@
-//! //! Makes the campaigns, units and structures that the tests start from.
+//! Makes the campaigns, units and structures that the tests start from.
 ghost use Rattle.std.specs.Prelude.{IfOk};
 ghost use Rattle.atl_state.specs.Good.{IsGood};
 
@@ -7,7 +7,7 @@ use atl_tables::{Numbered, Text, World, read_world};
 use std::alloc::Global;
 use std::test::Fail;
 
-/// /// The number of the island's region Far, a forest by the sea.
+/// The number of the island's region Far, a forest by the sea.
 pub(crate) const FAR: u32 = 3;
 
 /// The number of the kind `boat`.
@@ -16,34 +16,34 @@ pub(crate) const BOAT: u16 = 0;
 /// The number of the kind `lodge`.
 pub(crate) const LODGE: u16 = 1;
 
-/// /// The campaign of a world just after its founding.
+/// The campaign of a world just after its founding.
 pub(crate) fn founded_in(alloc: Global, world: &World) -> Result<Campaign, Fail>
     ensures { IfOk result (λ campaign. IsGood world.now campaign.value) }
 {
     Ok(founded(alloc, world, b"gm")?)
 }
 
-/// /// Avalon joins, with 1 as the word of the dice; the answer is its number and its unit's.
+/// Avalon joins, with 1 as the word of the dice; the answer is its number and its unit's.
 pub(crate) fn avalon_joins(world: &World, campaign: &mut Campaign) -> Result<(u32, u32), Fail>
     requires { IsGood world.now campaign.old.value }
 {
     Ok(campaign.join(world, b"Avalon", b"pw", 1)?)
 }
 
-/// /// The campaign of a world just after Avalon has joined.
+/// The campaign of a world just after Avalon has joined.
 pub(crate) fn joined_in(alloc: Global, world: &World) -> Result<Campaign, Fail> {
     let mut campaign = founded_in(alloc, world)?;
     avalon_joins(world, &mut campaign)?;
     Ok(campaign)
 }
 
-/// /// The campaign of a world text just after its founding.
+/// The campaign of a world text just after its founding.
 pub(crate) fn founded_by(alloc: Global, text: &str) -> Result<Campaign, Fail> {
     let world = read_world(alloc, text)?;
     founded_in(alloc, &world)
 }
 
-/// /// The campaign of a world text just after Avalon has joined.
+/// The campaign of a world text just after Avalon has joined.
 pub(crate) fn joined_by(alloc: Global, text: &str) -> Result<Campaign, Fail> {
     let world = read_world(alloc, text)?;
     joined_in(alloc, &world)
@@ -55,7 +55,7 @@ pub(crate) fn one_man(alloc: Global) -> Result<Holding, Fail> {
     Ok(Holding::new(name, 1, 0, Numbered::new(alloc), Numbered::new(alloc)))
 }
 
-/// /// Adds a unit of one man of a faction to region Far, in no structure; the answer is its
+/// Adds a unit of one man of a faction to region Far, in no structure; the answer is its
 /// number.
 pub(crate) fn man_comes(alloc: Global, campaign: &mut Campaign, faction: u32) -> Result<u32, Fail> {
     if campaign.next_unit() > LAST_UNIT || campaign.unit(campaign.next_unit()).is_some() {
@@ -70,7 +70,7 @@ pub(crate) fn man_comes(alloc: Global, campaign: &mut Campaign, faction: u32) ->
     })?)
 }
 
-/// /// Adds a structure of a kind to region Far, of size 2 and without an owner; the answer is its
+/// Adds a structure of a kind to region Far, of size 2 and without an owner; the answer is its
 /// number.
 pub(crate) fn structure_begins(
     alloc: Global,

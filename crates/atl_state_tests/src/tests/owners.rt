@@ -1,4 +1,4 @@
-//! //! Tests of where units are, and of who owns the structures that they enter and leave.
+//! Tests of where units are, and of who owns the structures that they enter and leave.
 use super::compare::{assert_numbers, assert_row};
 use super::making::{BOAT, LODGE, founded_by};
 use super::steps::{OfStructure, OfUnit, Step, does, does_all};
@@ -134,7 +134,7 @@ static CASES: [Case; 13] = [
     },
 ];
 
-/// /// The owner of a structure, or 99 if there is no such structure.
+/// The owner of a structure, or 99 if there is no such structure.
 fn owner(campaign: &Campaign, structure: u32) -> u64 {
     match campaign.structure(structure) {
         Some(found) => u64::from(found.owner),
@@ -142,14 +142,14 @@ fn owner(campaign: &Campaign, structure: u32) -> u64 {
     }
 }
 
-/// /// Asserts the owners of both structures, and how many parts are marked.
+/// Asserts the owners of both structures, and how many parts are marked.
 fn has_owners(rt: &impl Abort, row: usize, campaign: &Campaign, case: &Case) {
     assert_row(rt, row, owner(campaign, 1), u64::from(case.owners.0));
     assert_row(rt, row, owner(campaign, 2), u64::from(case.owners.1));
     assert_row(rt, row, campaign.marks() as u64, case.marks as u64);
 }
 
-/// /// Asserts the units inside each structure, in region 3 and of faction 1.
+/// Asserts the units inside each structure, in region 3 and of faction 1.
 fn has_lists(rt: &impl Abort, row: usize, campaign: &Campaign, case: &Case) {
     assert_numbers(rt, row, campaign.inside(1), case.inside.0);
     assert_numbers(rt, row, campaign.inside(2), case.inside.1);
@@ -157,7 +157,7 @@ fn has_lists(rt: &impl Abort, row: usize, campaign: &Campaign, case: &Case) {
     assert_numbers(rt, row, campaign.of_faction(1), case.faction);
 }
 
-/// /// Clears the marks, makes the step of a case, and asserts all of the case.
+/// Clears the marks, makes the step of a case, and asserts all of the case.
 fn case_holds(
     rt: &impl Abort,
     alloc: Global,
@@ -172,7 +172,7 @@ fn case_holds(
     Ok(())
 }
 
-/// /// Asserts each case, one step after the other.
+/// Asserts each case, one step after the other.
 fn cases_hold(
     rt: &impl Abort,
     alloc: Global,
@@ -185,7 +185,7 @@ fn cases_hold(
     Ok(())
 }
 
-/// /// Steps that add the three units and the two structures.
+/// Steps that add the three units and the two structures.
 static COMING: [Step; 5] = [
     Step::Comes(1, 1),
     Step::Comes(2, 2),
@@ -194,7 +194,7 @@ static COMING: [Step; 5] = [
     Step::Begins(LODGE, 2),
 ];
 
-/// /// The campaign with the three units and the two structures.
+/// The campaign with the three units and the two structures.
 fn peopled(alloc: Global) -> Result<Campaign, Fail> {
     let mut campaign = founded_by(alloc, ISLE)?;
     does_all(alloc, &mut campaign, &COMING)?;
@@ -207,18 +207,18 @@ fn placing_and_removing(rt: HostRuntime) -> Result<(), Fail> {
     cases_hold(&rt, rt.alloc(), &mut campaign, &CASES)
 }
 
-/// /// All three units enter the boat, unit 2 first, which so owns it.
+/// All three units enter the boat, unit 2 first, which so owns it.
 static ENTERING: [Step; 3] = [
     Step::Unit(2, OfUnit::Place(3, 1)),
     Step::Unit(1, OfUnit::Place(3, 1)),
     Step::Unit(3, OfUnit::Place(3, 1)),
 ];
 
-/// /// A structure, a unit that leaves it, and who owns it then. Unit 2 owns the boat, with units 1
+/// A structure, a unit that leaves it, and who owns it then. Unit 2 owns the boat, with units 1
 /// and 3 inside.
 static AFTER: [(u32, u32, u32); 5] = [(1, 2, 1), (1, 1, 2), (1, 3, 2), (2, 1, 0), (9, 1, 0)];
 
-/// /// Asserts for each row of `AFTER` who would own the structure.
+/// Asserts for each row of `AFTER` who would own the structure.
 fn knows_owners(rt: &impl Abort, campaign: &Campaign) {
     for (row, (structure, leaving, wanted)) in AFTER.iter().enumerate() {
         let told = campaign.owner_after(*structure, *leaving);
@@ -226,7 +226,7 @@ fn knows_owners(rt: &impl Abort, campaign: &Campaign) {
     }
 }
 
-/// /// The boat is moved to region 2 with the units inside, and its owner stays.
+/// The boat is moved to region 2 with the units inside, and its owner stays.
 static SAILING: [Case; 4] = [
     Case {
         step: Step::Structure(1, OfStructure::Region(2)),
@@ -262,7 +262,7 @@ static SAILING: [Case; 4] = [
     },
 ];
 
-/// /// Asserts `AFTER` and `SAILING`, after all units entered the boat.
+/// Asserts `AFTER` and `SAILING`, after all units entered the boat.
 fn sails(rt: &impl Abort, alloc: Global, campaign: &mut Campaign) -> Result<(), Fail> {
     does_all(alloc, campaign, &ENTERING)?;
     knows_owners(rt, campaign);

@@ -1,4 +1,4 @@
-//! //! Tests of units removed and added in turn: who is there, what is marked, and the campaign's
+//! Tests of units removed and added in turn: who is there, what is marked, and the campaign's
 //! rows.
 use super::checks::checked;
 use super::compare::assert_count;
@@ -12,7 +12,7 @@ use std::alloc::Global;
 use std::process::Abort;
 use std::test::Fail;
 
-/// /// Avalon gets its report and three men, who leave the peasants; then ten times a unit goes and
+/// Avalon gets its report and three men, who leave the peasants; then ten times a unit goes and
 /// another comes.
 static COMING: [Step; 25] = [
     Step::Faction(1, OfFaction::Report("A report.\n")),
@@ -42,7 +42,7 @@ static COMING: [Step; 25] = [
     Step::Comes(1, 14),
 ];
 
-/// /// Units that came and units that went are marked. After the marks are cleared, only those of
+/// Units that came and units that went are marked. After the marks are cleared, only those of
 /// the next change are.
 static MARKS: [Row; 6] = [
     (
@@ -75,17 +75,17 @@ static MARKS: [Row; 6] = [
     (Step::Unmark, Ask::Units, "[1, 12, 14, 15]", "0"),
 ];
 
-/// /// The campaign made again from its rows has exactly the units of the first.
+/// The campaign made again from its rows has exactly the units of the first.
 static AGAIN: [Row; 1] = [(Step::Nothing, Ask::Units, "[1, 12, 14, 15]", "0")];
 
-/// /// Asserts `AGAIN` on the campaign made from the rows of `first`.
+/// Asserts `AGAIN` on the campaign made from the rows of `first`.
 fn come_back(rt: &impl Abort, alloc: Global, world: &World, first: &Campaign) -> Result<(), Fail> {
     let mut again = checked(alloc, world, first.parts()?)?;
     assert_count(rt, again.in_region(FAR).len(), 4);
     assert_steps(rt, alloc, &mut again, &AGAIN)
 }
 
-/// /// Asserts `MARKS` after `COMING`, and then `AGAIN`.
+/// Asserts `MARKS` after `COMING`, and then `AGAIN`.
 fn go_round(rt: &impl Abort, alloc: Global, world: &World) -> Result<(), Fail> {
     let mut campaign = joined_in(alloc, world)?;
     does_all(alloc, &mut campaign, &COMING)?;

@@ -1,4 +1,4 @@
-//! //! Tests of the calls that set one part of a campaign: what each sets, and that it marks that
+//! Tests of the calls that set one part of a campaign: what each sets, and that it marks that
 //! part alone.
 use super::making::{FAR, LODGE, joined_by};
 use super::shown::{Ask, Row, assert_unmarked_steps};
@@ -107,7 +107,7 @@ static CALLS: [Row; 18] = [
     ),
 ];
 
-/// /// Calls with the number 9, which nothing has: they change nothing and mark nothing.
+/// Calls with the number 9, which nothing has: they change nothing and mark nothing.
 static NOBODY: [Row; 12] = [
     (
         Step::Faction(9, OfFaction::Name("Bree")),
@@ -173,7 +173,7 @@ static NOBODY: [Row; 12] = [
     ),
 ];
 
-/// /// Asserts each row of `CALLS` and `NOBODY`, after a lodge was begun.
+/// Asserts each row of `CALLS` and `NOBODY`, after a lodge was begun.
 fn sets_all(rt: &impl Abort, alloc: Global, campaign: &mut Campaign) -> Result<(), Fail> {
     does(alloc, campaign, Step::Begins(LODGE, 1))?;
     assert_unmarked_steps(rt, alloc, campaign, &CALLS)?;

@@ -1,4 +1,4 @@
-//! //! Prints parts of a campaign and its marks as text, and runs tables of steps with both.
+//! Prints parts of a campaign and its marks as text, and runs tables of steps with both.
 use super::compare::assert_row_text;
 use super::steps::{Step, does};
 use atl_state::{Campaign, Entry, MOST_UNITS, Thing};
@@ -9,11 +9,11 @@ use std::process::Abort;
 use std::str;
 use std::test::Fail;
 
-/// /// A question to a campaign, answered as text by `text_of`.
+/// A question to a campaign, answered as text by `text_of`.
 #[derive(Drop, Clone, Copy)]
 pub(crate) enum Ask {
     Month,
-    /// /// How many factions, regions, units and structures there are, and the next numbers of a
+    /// How many factions, regions, units and structures there are, and the next numbers of a
     /// unit and a structure.
     Counts,
     Faction(u32),
@@ -34,7 +34,7 @@ pub(crate) enum Ask {
     Total(Thing),
 }
 
-/// /// The answer where nothing has the number.
+/// The answer where nothing has the number.
 fn none(alloc: Global) -> Result<String, Fail> {
     Ok(String::from_str(alloc, "none")?)
 }
@@ -160,7 +160,7 @@ fn month_text(alloc: Global, campaign: &Campaign) -> Result<String, Fail> {
     Ok(format!(in alloc; "{month}")?)
 }
 
-/// /// The answer to a question.
+/// The answer to a question.
 fn text_of(alloc: Global, campaign: &Campaign, ask: Ask) -> Result<String, Fail> {
     match ask {
         Ask::Month => month_text(alloc, campaign),
@@ -178,7 +178,7 @@ fn text_of(alloc: Global, campaign: &Campaign, ask: Ask) -> Result<String, Fail>
     }
 }
 
-/// /// The names of the lists of marked numbers, in the order of the index of `marked`.
+/// The names of the lists of marked numbers, in the order of the index of `marked`.
 static LISTS: [&str; 9] = [
     "factions",
     "regions",
@@ -191,7 +191,7 @@ static LISTS: [&str; 9] = [
     "reports",
 ];
 
-/// /// The list of marked numbers with an index in `LISTS`.
+/// The list of marked numbers with an index in `LISTS`.
 fn marked(campaign: &Campaign, place: usize) -> MarkedNumbers<'_> {
     match place {
         0 => campaign.marked_factions(),
@@ -206,7 +206,7 @@ fn marked(campaign: &Campaign, place: usize) -> MarkedNumbers<'_> {
     }
 }
 
-/// /// Appends each list of marked numbers that isn't empty.
+/// Appends each list of marked numbers that isn't empty.
 fn add_lists(alloc: Global, text: &mut String, campaign: &Campaign) -> Result<(), Fail> {
     for (place, name) in LISTS.iter().enumerate() {
         let numbers: Vec<u32> = marked(campaign, place).collect(alloc)?;
@@ -218,7 +218,7 @@ fn add_lists(alloc: Global, text: &mut String, campaign: &Campaign) -> Result<()
     Ok(())
 }
 
-/// /// Appends the marked items, or skills, of a unit.
+/// Appends the marked items, or skills, of a unit.
 fn add_goods(
     alloc: Global,
     text: &mut String,
@@ -232,7 +232,7 @@ fn add_goods(
     Ok(())
 }
 
-/// /// Appends the marked items, or skills, of all units.
+/// Appends the marked items, or skills, of all units.
 fn add_all_goods(
     alloc: Global,
     text: &mut String,
@@ -245,7 +245,7 @@ fn add_all_goods(
     Ok(())
 }
 
-/// /// Appends whether the campaign's own row, and the books' amounts of a joining, are marked.
+/// Appends whether the campaign's own row, and the books' amounts of a joining, are marked.
 fn add_own(text: &mut String, campaign: &Campaign) -> Result<(), Fail> {
     if campaign.is_row_marked() {
         text.push_str(", the campaign")?;
@@ -262,7 +262,7 @@ fn add_own(text: &mut String, campaign: &Campaign) -> Result<(), Fail> {
     Ok(())
 }
 
-/// /// How many parts are marked, and which.
+/// How many parts are marked, and which.
 fn marks_text(alloc: Global, campaign: &Campaign) -> Result<String, Fail> {
     let count = campaign.marks();
     let mut text = format!(in alloc; "{count}")?;
@@ -273,10 +273,10 @@ fn marks_text(alloc: Global, campaign: &Campaign) -> Result<String, Fail> {
     Ok(text)
 }
 
-/// /// A step, a question after it, the answer, and what is marked then (`marks_text`).
+/// A step, a question after it, the answer, and what is marked then (`marks_text`).
 pub(crate) type Row = (Step, Ask, &'static str, &'static str);
 
-/// /// Makes the step of a row, and asserts its answer and its marks; `place` is the index of the
+/// Makes the step of a row, and asserts its answer and its marks; `place` is the index of the
 /// row.
 fn is_so_after(
     rt: &impl Abort,
@@ -292,7 +292,7 @@ fn is_so_after(
     Ok(())
 }
 
-/// /// Makes the steps of a table in turn, and asserts each row.
+/// Makes the steps of a table in turn, and asserts each row.
 pub(crate) fn assert_steps(
     rt: &impl Abort,
     alloc: Global,
@@ -305,7 +305,7 @@ pub(crate) fn assert_steps(
     Ok(())
 }
 
-/// /// The same, with all marks cleared before each step.
+/// The same, with all marks cleared before each step.
 pub(crate) fn assert_unmarked_steps(
     rt: &impl Abort,
     alloc: Global,

@@ -1,4 +1,4 @@
-//! //! Tests of the stocks of a region's market.
+//! Tests of the stocks of a region's market.
 use super::making::joined_by;
 use super::shown::{Ask, Row, assert_steps};
 use super::steps::{OfRegion, OfUnit, Step};
@@ -6,13 +6,13 @@ use atl_state::Thing;
 use atl_test_worlds::MART;
 use std::test::Fail;
 
-/// /// The question how much wood all units and regions hold.
+/// The question how much wood all units and regions hold.
 const ALL_WOOD: Ask = Ask::Total(Thing::Item(0));
 
-/// /// The question how much wood region 1 has in stock.
+/// The question how much wood region 1 has in stock.
 const STOCK: Ask = Ask::Stock(1, 0);
 
-/// /// Steps that set stocks. Setting the same amount marks nothing, an amount of 0 is not listed,
+/// Steps that set stocks. Setting the same amount marks nothing, an amount of 0 is not listed,
 /// and without a region nothing changes.
 static WOOD: [Row; 11] = [
     (Step::Unmark, ALL_WOOD, "0", "0"),

@@ -1,4 +1,4 @@
-//! //! Tests of the walks over all factions, regions, units and structures of a campaign, and of
+//! Tests of the walks over all factions, regions, units and structures of a campaign, and of
 //! its totals.
 use super::compare::{assert_amount, assert_count, assert_text};
 use super::making::{LODGE, joined_by};
@@ -10,7 +10,7 @@ use std::alloc::Global;
 use std::process::Abort;
 use std::test::Fail;
 
-/// /// Asserts the only faction of the campaign.
+/// Asserts the only faction of the campaign.
 fn walks_factions(rt: &impl Abort, campaign: &Campaign) -> Result<(), Fail> {
     assert_count(rt, campaign.factions().count(), 1);
     let (number, faction) = campaign.factions().next().ok_or("a faction")?;
@@ -19,7 +19,7 @@ fn walks_factions(rt: &impl Abort, campaign: &Campaign) -> Result<(), Fail> {
     Ok(())
 }
 
-/// /// Asserts the first of the four regions.
+/// Asserts the first of the four regions.
 fn walks_regions(rt: &impl Abort, campaign: &Campaign) -> Result<(), Fail> {
     assert_count(rt, campaign.regions().count(), 4);
     let (number, region) = campaign.regions().next().ok_or("a region")?;
@@ -28,7 +28,7 @@ fn walks_regions(rt: &impl Abort, campaign: &Campaign) -> Result<(), Fail> {
     Ok(())
 }
 
-/// /// Asserts the only structure.
+/// Asserts the only structure.
 fn walks_structures(rt: &impl Abort, campaign: &Campaign) -> Result<(), Fail> {
     assert_count(rt, campaign.structures().count(), 1);
     let (number, structure) = campaign.structures().next().ok_or("a structure")?;
@@ -37,14 +37,14 @@ fn walks_structures(rt: &impl Abort, campaign: &Campaign) -> Result<(), Fail> {
     Ok(())
 }
 
-/// /// Steps that begin a lodge, give unit 1 12 wood, and clear the marks.
+/// Steps that begin a lodge, give unit 1 12 wood, and clear the marks.
 static MAKING: [Step; 3] = [
     Step::Begins(LODGE, 1),
     Step::Unit(1, OfUnit::LentItem(0, 12)),
     Step::Unmark,
 ];
 
-/// /// The only unit, and the totals of money, people and items over four regions and this unit.
+/// The only unit, and the totals of money, people and items over four regions and this unit.
 static TOTALS: [Row; 6] = [
     (Step::Nothing, Ask::Units, "[1]", "0"),
     (
@@ -61,7 +61,7 @@ static TOTALS: [Row; 6] = [
     (Step::Nothing, Ask::Total(Thing::Item(1)), "0", "0"),
 ];
 
-/// /// Asserts each walk, and `TOTALS`.
+/// Asserts each walk, and `TOTALS`.
 fn walks(rt: &impl Abort, alloc: Global, campaign: &mut Campaign) -> Result<(), Fail> {
     does_all(alloc, campaign, &MAKING)?;
     walks_factions(rt, campaign)?;
