@@ -1,4 +1,5 @@
-//! Calls each law of the crates under test once. A law does nothing and its clause is proved, so nothing is asserted.
+//! Calls each law of the crates under test once and asserts nothing: a law does nothing, and its
+//! clause is proved.
 use atl_service::only_the_last_mail_counts;
 
 #[test]

@@ -1,4 +1,5 @@
-//! The calls on a campaign, once each. Of what is large (a world, a campaign) each function holds one and lends it.
+//! Tests of the calls on a campaign that a service makes: founding, joining, lending a unit, and
+//! storing a report.
 ghost use Rattle.std.specs.Prelude.{IfOk};
 ghost use Rattle.atl_state.specs.Good.{IsGood};
 
@@ -13,16 +14,19 @@ use std::alloc::{AllocError, Global};
 use std::process::Abort;
 use std::test::Fail;
 
+/// The small world.
 fn small_world(alloc: Global) -> Result<World, Fail> {
     Ok(read_world(alloc, SMALL)?)
 }
 
+/// The campaign of the small world just after its founding.
 fn small_campaign(alloc: Global, world: &World) -> Result<Campaign, Fail>
     ensures { IfOk result (λ campaign. IsGood world.now campaign.value) }
 {
     Ok(founded(alloc, world, b"gm")?)
 }
 
+/// Avalon joins, with 5 as the word of the dice.
 fn avalon_joins(rt: &impl Abort, world: &World, campaign: &mut Campaign)
     requires { IsGood world.now campaign.old.value }
 {
@@ -30,6 +34,7 @@ fn avalon_joins(rt: &impl Abort, world: &World, campaign: &mut Campaign)
     assert!(rt; done.is_ok());
 }
 
+/// The total of a thing, or None if there are too many units or regions to sum.
 fn total(campaign: &Campaign, thing: Thing) -> Option<u64> {
     if campaign.unit_count() > MOST_UNITS || campaign.region_count() > MOST_REGIONS {
         return None;
@@ -37,6 +42,7 @@ fn total(campaign: &Campaign, thing: Thing) -> Option<u64> {
     Some(campaign.total(thing))
 }
 
+/// Asserts what a campaign just founded holds.
 fn is_founded(rt: &impl Abort, campaign: &Campaign) {
     is_number(rt, i64::from(campaign.month()), 0);
     is_text(rt, campaign.pass().as_str(), "gm");
@@ -47,6 +53,7 @@ fn is_founded(rt: &impl Abort, campaign: &Campaign) {
     is_total(rt, total(campaign, Thing::People), 1000);
 }
 
+/// Asserts a founding.
 fn founds(rt: &impl Abort, alloc: Global, world: &World) -> Result<(), Fail> {
     let campaign = small_campaign(alloc, world)?;
     is_founded(rt, &campaign);
@@ -59,6 +66,7 @@ fn founding(rt: HostRuntime) -> Result<(), Fail> {
     founds(&rt, rt.alloc(), &world)
 }
 
+/// Asserts the books after a join.
 fn has_entries(rt: &impl Abort, campaign: &Campaign) {
     is_count(rt, campaign.things(), 2);
     if campaign.things() >= 2 {
@@ -69,12 +77,14 @@ fn has_entries(rt: &impl Abort, campaign: &Campaign) {
     }
 }
 
+/// Asserts the totals after a join.
 fn has_totals(rt: &impl Abort, campaign: &Campaign) {
     is_total(rt, total(campaign, Thing::Money), 1500);
     is_total(rt, total(campaign, Thing::People), 1001);
     is_total(rt, total(campaign, Thing::Item(0)), 0);
 }
 
+/// Asserts the faction that joined.
 fn has_faction(rt: &impl Abort, campaign: &Campaign) {
     match campaign.faction(1) {
         Some(faction) => {
@@ -86,6 +96,7 @@ fn has_faction(rt: &impl Abort, campaign: &Campaign) {
     }
 }
 
+/// Asserts the unit of the faction that joined.
 fn has_unit(rt: &impl Abort, campaign: &Campaign) {
     match campaign.unit(1) {
         Some(unit) => {
@@ -102,6 +113,7 @@ fn has_unit(rt: &impl Abort, campaign: &Campaign) {
     is_count(rt, campaign.unit_count(), 1);
 }
 
+/// Asserts a join.
 fn joins(rt: &impl Abort, alloc: Global, world: &World) -> Result<(), Fail> {
     let mut campaign = small_campaign(alloc, world)?;
     avalon_joins(rt, world, &mut campaign);
@@ -118,6 +130,7 @@ fn joining(rt: HostRuntime) -> Result<(), Fail> {
     joins(&rt, rt.alloc(), &world)
 }
 
+/// Sets the money of a unit through the holding that is lent, and asserts the total.
 fn lends(rt: &impl Abort, campaign: &mut Campaign) {
     if let Some(holding) = campaign.unit_mut(1) {
         holding.set_money(7);
@@ -125,12 +138,14 @@ fn lends(rt: &impl Abort, campaign: &mut Campaign) {
     is_total(rt, total(campaign, Thing::Money), 507);
 }
 
+/// The report of what faction 1 sees.
 fn report_of(alloc: Global, world: &World, campaign: &Campaign) -> Result<Text, AllocError> {
     let seen = view(alloc, world, campaign, 1)?;
     let text = report_text(alloc, world, &seen, &[], &[])?;
     Ok(Text::from_string(text))
 }
 
+/// Asserts the stored report of faction 1.
 fn has_report(rt: &impl Abort, campaign: &Campaign) {
     match campaign.report(1) {
         Some(stored) => is_text(rt, stored.as_str(), FIRST_REPORT),
@@ -151,6 +166,7 @@ fn stores(
     Ok(())
 }
 
+/// Asserts a stored report and a lent unit.
 fn lends_and_stores(rt: &impl Abort, alloc: Global, world: &World) -> Result<(), Fail> {
     let mut campaign = small_campaign(alloc, world)?;
     avalon_joins(rt, world, &mut campaign);
