@@ -1,11 +1,12 @@
 //! Tests of `Join` and `Report`, and of lists of commands (`run_all`).
 use super::closing::{AFTER_MONTH_ONE, AFTER_WORK, MONTH_ONE};
-use super::compare::is_count;
+use super::compare::assert_count;
 use super::making::begun_in_memory;
-use super::script::{Asked, Step, commands_of, is_wanted, plays};
+use super::script::{Asked, Step, assert_answer, commands_of, plays};
 use super::serving::Served;
 use super::tables::{
-    AFTER_JOINING, BOOKED, FACTIONS, MAIL_BYTES, MAILINGS, MONEY, NEXT, REPORT_BYTES, UNITS, holds,
+    AFTER_JOINING, BOOKED, FACTIONS, MAIL_BYTES, MAILINGS, MONEY, NEXT, REPORT_BYTES, UNITS,
+    assert_tables,
 };
 use atl_service::{Answer, Command};
 use atl_test_worlds::{ISLE, SMALL};
@@ -52,7 +53,7 @@ static ONE_JOINS: [Step; 2] = [
 
 #[test]
 fn first_report(rt: HostRuntime) -> Result<(), Fail> {
-    is_count(&rt, FIRST_REPORT.len(), 161);
+    assert_count(&rt, FIRST_REPORT.len(), 161);
     plays(&rt, rt.alloc(), SMALL, &ONE_JOINS, &AFTER_JOINING)
 }
 
@@ -122,9 +123,9 @@ const AFTER_CLUB: [(&str, Option<i64>); 8] = [
 
 /// Asserts the answers of a list of commands.
 fn are_told(rt: &impl Abort, answers: &[Answer], steps: &[Step]) {
-    is_count(rt, answers.len(), steps.len());
+    assert_count(rt, answers.len(), steps.len());
     for (answer, step) in answers.iter().zip(steps.iter()) {
-        is_wanted(rt, answer, step);
+        assert_answer(rt, answer, step);
     }
 }
 
@@ -146,7 +147,7 @@ struct AtOnce {
 fn is_run(rt: &impl Abort, alloc: Global, commands: &[Command], list: &AtOnce) -> Result<(), Fail> {
     let mut service = begun_in_memory(alloc, SMALL)?;
     runs_all(rt, &mut service, commands, list.steps);
-    holds(rt, &mut service.end(), list.after);
+    assert_tables(rt, &mut service.end(), list.after);
     Ok(())
 }
 

@@ -1,7 +1,7 @@
 //! Tests that a disk that stops at any of its calls leaves the campaign before a write or after it,
 //! never a part: at a founding,
 //! a join, mailings and closings.
-use super::compare::is_text;
+use super::compare::assert_text;
 use super::courses::COURSES;
 use super::files::connected;
 use super::founding::told as cause_of;
@@ -100,11 +100,11 @@ fn run_each(rt: &impl Abort, service: &mut impl Served, commands: &[Command]) ->
     for command in commands {
         let answer = service.run(command);
         if stopped {
-            is_text(rt, told(&answer), "closed");
+            assert_text(rt, told(&answer), "closed");
         } else if is_done(&answer) {
             done = done.saturating_add(1);
         } else {
-            is_text(rt, told(&answer), "store");
+            assert_text(rt, told(&answer), "store");
             stopped = true;
         }
     }
@@ -121,7 +121,7 @@ fn served<S: Alter>(
     match tried {
         Ok(service) => Ok(service),
         Err(Refused { why, conn }) => {
-            is_text(rt, cause_of(&why), "store");
+            assert_text(rt, cause_of(&why), "store");
             Err(conn)
         }
     }
@@ -205,7 +205,7 @@ fn rows_left<S: Alter + Drop>(
     match open(alloc, conn) {
         Ok(service) => rows_in(alloc, &service),
         Err(Refused { why, conn: _ }) => {
-            is_text(rt, cause_of(&why), "not a campaign");
+            assert_text(rt, cause_of(&why), "not a campaign");
             Ok(String::new(alloc))
         }
     }

@@ -50,7 +50,7 @@ fn asked<S: Alter + Drop>(alloc: Global, conn: Connection<S>) -> Told {
 }
 
 /// Asserts the outcome of opening; the message names the statements that changed the database.
-fn is_told(rt: &impl Abort, told: Told, wanted: Told, sql: &str) {
+fn assert_opening(rt: &impl Abort, told: Told, wanted: Told, sql: &str) {
     assert_eq!(rt; told, wanted, "after {sql}");
 }
 
@@ -277,12 +277,12 @@ fn is_judged<D: Disk + Drop>(
 ) -> Result<(), Fail> {
     let conn = changed(rt, alloc, connected(alloc, files)?, sql)?;
     let conn = connected(alloc, conn.into_store().close())?;
-    is_told(rt, asked(alloc, conn), wanted, sql);
+    assert_opening(rt, asked(alloc, conn), wanted, sql);
     Ok(())
 }
 
 /// Asserts the outcome of each case.
-fn are_judged(rt: &impl Abort, alloc: Global, cases: &[(&str, Told)]) -> Result<(), Fail> {
+fn assert_openings(rt: &impl Abort, alloc: Global, cases: &[(&str, Told)]) -> Result<(), Fail> {
     for (sql, wanted) in cases {
         is_judged(rt, alloc, new_files(alloc), sql, *wanted)?;
     }
@@ -291,28 +291,28 @@ fn are_judged(rt: &impl Abort, alloc: Global, cases: &[(&str, Told)]) -> Result<
 
 #[test]
 fn the_first_rule_that_rows_break_is_told(rt: HostRuntime) -> Result<(), Fail> {
-    are_judged(&rt, rt.alloc(), &ROWS)
+    assert_openings(&rt, rt.alloc(), &ROWS)
 }
 
 #[test]
 fn stocks_that_break_a_rule_are_told(rt: HostRuntime) -> Result<(), Fail> {
-    are_judged(&rt, rt.alloc(), &STOCKS)
+    assert_openings(&rt, rt.alloc(), &STOCKS)
 }
 
 #[test]
 fn tables_made_otherwise_are_refused(rt: HostRuntime) -> Result<(), Fail> {
-    are_judged(&rt, rt.alloc(), &SHAPES)
+    assert_openings(&rt, rt.alloc(), &SHAPES)
 }
 
 #[test]
 fn of_two_faults_the_first_is_told(rt: HostRuntime) -> Result<(), Fail> {
-    are_judged(&rt, rt.alloc(), &MEETINGS)
+    assert_openings(&rt, rt.alloc(), &MEETINGS)
 }
 
 #[test]
 fn an_empty_database_is_no_campaign(rt: HostRuntime) -> Result<(), Fail> {
     let conn = Connection::open_in_memory(rt.alloc())?;
-    is_told(&rt, asked(rt.alloc(), conn), Told::NotACampaign, "nothing");
+    assert_opening(&rt, asked(rt.alloc(), conn), Told::NotACampaign, "nothing");
     Ok(())
 }
 
@@ -328,7 +328,7 @@ static BEGUN: [&str; 5] = [
 /// Asserts that opening is answered Store while a transaction is open.
 fn waits_for_the_end(rt: &impl Abort, alloc: Global, sql: &str) -> Result<(), Fail> {
     let conn = changed(rt, alloc, Connection::open_in_memory(alloc)?, sql)?;
-    is_told(rt, asked(alloc, conn), Told::Store, sql);
+    assert_opening(rt, asked(alloc, conn), Told::Store, sql);
     Ok(())
 }
 

@@ -1,11 +1,11 @@
 //! Tests of `found`: its refusals, and what it books.
 use super::commands::AVALON;
-use super::compare::is_text;
+use super::compare::assert_text;
 use super::damage::changed;
 use super::script::{Step, plays};
 use super::serving::Tables;
 use super::tables::MONEY;
-use super::unchanged::{EVERY_TABLE, all_rows, has_all_rows};
+use super::unchanged::{EVERY_TABLE, all_rows, assert_all_rows};
 use atl_service::{Cause, Refused, Service, found};
 use atl_test_worlds::{POOR, SMALL};
 use sqlite::{Alter, Connection};
@@ -30,7 +30,7 @@ pub(crate) fn told(cause: &Cause) -> &'static str {
 }
 
 /// Asserts that a founding, an opening or an upgrade was refused, and why; returns the connection.
-pub(crate) fn is_refused<S: Alter>(
+pub(crate) fn assert_refused<S: Alter>(
     rt: &impl Abort,
     tried: Result<Service<S>, Refused<S>>,
     words: &str,
@@ -41,7 +41,7 @@ pub(crate) fn is_refused<S: Alter>(
             service.end()
         }
         Err(Refused { why, conn }) => {
-            is_text(rt, told(&why), words);
+            assert_text(rt, told(&why), words);
             conn
         }
     }
@@ -90,8 +90,8 @@ fn founds_nothing<S: Alter + Drop>(
     let (world, pass) = by;
     let mut conn = conn;
     let rows = all_rows(alloc, &mut conn)?;
-    let mut conn = is_refused(rt, found(alloc, conn, world, pass.as_bytes()), words);
-    has_all_rows(rt, alloc, &mut conn, rows.as_str())
+    let mut conn = assert_refused(rt, found(alloc, conn, world, pass.as_bytes()), words);
+    assert_all_rows(rt, alloc, &mut conn, rows.as_str())
 }
 
 /// Asserts one row of `REFUSED`.

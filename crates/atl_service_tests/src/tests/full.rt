@@ -4,7 +4,7 @@ use super::commands::AVALON;
 use super::making::{begun_in_memory, opened};
 use super::script::{Asked, Step, follow};
 use super::serving::Tables;
-use super::tables::{FACTIONS, NEXT, UNITS, holds};
+use super::tables::{FACTIONS, NEXT, UNITS, assert_tables};
 use atl_test_worlds::SMALL;
 use sqlite::{Connection, MemStore, params};
 use std::alloc::Global;
@@ -141,7 +141,7 @@ fn answers(
 ) -> Result<(), Fail> {
     let mut service = opened(alloc, conn)?;
     let done = follow(rt, alloc, &mut service, filled.steps);
-    holds(rt, &mut service.end(), filled.rows);
+    assert_tables(rt, &mut service.end(), filled.rows);
     done
 }
 

@@ -1,13 +1,13 @@
 //! Tests of `open`: a campaign that is opened again, on its connection and from its files, goes on.
 use super::closing::{AFTER_WORK, MONTH_ONE};
 use super::commands::{AVALON, FIRST_REPORT, SECOND_REPORT};
-use super::compare::is_text;
+use super::compare::assert_text;
 use super::files::{connected, new_files};
-use super::founding::is_refused;
+use super::founding::assert_refused;
 use super::making::{begun, opened};
 use super::script::{Asked, Step, follow};
 use super::serving::{Served, Tables};
-use super::tables::holds;
+use super::tables::assert_tables;
 use atl_service::{Service, found};
 use atl_state::{Campaign, check};
 use atl_tables::World;
@@ -83,14 +83,14 @@ fn rows_after(
 }
 
 /// Asserts all rows of a service's campaign.
-pub(crate) fn has_rows(
+pub(crate) fn assert_rows(
     rt: &impl Abort,
     alloc: Global,
     service: &impl Served,
     rows: &str,
 ) -> Result<(), Fail> {
     let told = rows_in(alloc, service)?;
-    is_text(rt, told.as_str(), rows);
+    assert_text(rt, told.as_str(), rows);
     Ok(())
 }
 
@@ -117,13 +117,13 @@ fn played<S: Alter + Drop>(
 ) -> Result<(String, Connection<S>), Fail> {
     let mut service = served(alloc, conn, session.world)?;
     if !rows.is_empty() {
-        has_rows(rt, alloc, &service, rows)?;
+        assert_rows(rt, alloc, &service, rows)?;
     }
     let rows = rows_after(rt, alloc, &mut service, session.steps);
     let mut conn = service.end();
     let rows = rows?;
     conn.change(session.by_hand)?;
-    holds(rt, &mut conn, session.after);
+    assert_tables(rt, &mut conn, session.after);
     Ok((rows, conn))
 }
 
@@ -175,14 +175,14 @@ fn is_made_of(
     campaign: &Campaign,
     rows: &str,
 ) -> Result<(), Fail> {
-    is_text(rt, rows_of(alloc, campaign)?.as_str(), rows);
+    assert_text(rt, rows_of(alloc, campaign)?.as_str(), rows);
     let again = checked(alloc, world, campaign)?;
-    is_text(rt, rows_of(alloc, &again)?.as_str(), rows);
+    assert_text(rt, rows_of(alloc, &again)?.as_str(), rows);
     Ok(())
 }
 
 /// Opens the campaign, and asserts its rows, and that `check` makes the same campaign of them.
-fn stands(
+fn assert_campaign(
     rt: &impl Abort,
     alloc: Global,
     conn: Connection<MemStore>,
@@ -213,8 +213,8 @@ static MONTH_STANDS: [Session; 2] = [
 /// closed.
 fn a_month_stands(rt: &impl Abort, alloc: Global) -> Result<(), Fail> {
     let (rows, conn) = on_connection(rt, alloc, &MONTH_STANDS)?;
-    let conn = is_refused(rt, found(alloc, conn, SMALL, b"gm"), "not empty");
-    stands(rt, alloc, conn, rows.as_str())
+    let conn = assert_refused(rt, found(alloc, conn, SMALL, b"gm"), "not empty");
+    assert_campaign(rt, alloc, conn, rows.as_str())
 }
 
 #[test]
@@ -247,7 +247,7 @@ static COMES_BACK: [Session; 3] = [
 /// Asserts that a campaign is opened twice on its connection, and that no other is founded there.
 fn comes_back(rt: &impl Abort, alloc: Global) -> Result<(), Fail> {
     let (_, conn) = on_connection(rt, alloc, &COMES_BACK)?;
-    is_refused(rt, found(alloc, conn, SMALL, b"gm"), "not empty");
+    assert_refused(rt, found(alloc, conn, SMALL, b"gm"), "not empty");
     Ok(())
 }
 

@@ -1,6 +1,6 @@
 //! Tests of refused joins and reports, which change nothing, and of the numbers of refusals.
 use super::commands::{AVALON, FIRST_REPORT};
-use super::compare::is_number;
+use super::compare::assert_number;
 use super::script::{Asked, Step, plays};
 use super::tables::AFTER_JOINING;
 use super::unchanged::{EVERY_TABLE, refuses};
@@ -62,6 +62,6 @@ static NUMBERS: [(Refusal, u8); 14] = [
 #[test]
 fn refusals_have_their_numbers(rt: HostRuntime) {
     for (refusal, number) in NUMBERS.iter() {
-        is_number(&rt, i64::from(refusal.number()), i64::from(*number));
+        assert_number(&rt, i64::from(refusal.number()), i64::from(*number));
     }
 }

@@ -1,9 +1,9 @@
 //! Tables of steps: commands with their wanted answers, and what the campaign must then be. Plays
 //! them and asserts each.
-use super::compare::{is_count, is_number, is_text};
+use super::compare::{assert_count, assert_number, assert_text};
 use super::making::{begun_in_memory, close, filled, join, long_mail, mail, report, told};
 use super::serving::Served;
-use super::tables::holds;
+use super::tables::assert_tables;
 use atl_service::{Answer, Command};
 use std::alloc::Global;
 use std::process::Abort;
@@ -93,8 +93,8 @@ fn answered(alloc: Global, service: &mut impl Served, asked: &Asked) -> Result<A
 fn has_joined(rt: &impl Abort, answer: &Answer, first: u32, member: u32) {
     match answer {
         Answer::Joined { faction, unit } => {
-            is_number(rt, i64::from(*faction), i64::from(first));
-            is_number(rt, i64::from(*unit), i64::from(member));
+            assert_number(rt, i64::from(*faction), i64::from(first));
+            assert_number(rt, i64::from(*unit), i64::from(member));
         }
         _ => assert!(rt; false),
     }
@@ -104,11 +104,11 @@ fn has_joined(rt: &impl Abort, answer: &Answer, first: u32, member: u32) {
 fn is_kept(rt: &impl Abort, answer: &Answer, wanted: usize, faulty: &[(u32, u32)]) {
     match answer {
         Answer::Mailed { orders, faults } => {
-            is_count(rt, *orders, wanted);
-            is_count(rt, faults.len(), faulty.len());
+            assert_count(rt, *orders, wanted);
+            assert_count(rt, faults.len(), faulty.len());
             for (told, (line, fault)) in faults.as_slice().iter().zip(faulty.iter()) {
-                is_number(rt, i64::from(told.line), i64::from(*line));
-                is_number(rt, i64::from(told.fault.number()), i64::from(*fault));
+                assert_number(rt, i64::from(told.line), i64::from(*line));
+                assert_number(rt, i64::from(told.fault.number()), i64::from(*fault));
             }
         }
         _ => assert!(rt; false),
@@ -118,7 +118,7 @@ fn is_kept(rt: &impl Abort, answer: &Answer, wanted: usize, faulty: &[(u32, u32)
 /// Asserts the month in the answer to a closing.
 fn is_closed(rt: &impl Abort, answer: &Answer, wanted: u32) {
     match answer {
-        Answer::MonthDone { month } => is_number(rt, i64::from(*month), i64::from(wanted)),
+        Answer::MonthDone { month } => assert_number(rt, i64::from(*month), i64::from(wanted)),
         _ => assert!(rt; false),
     }
 }
@@ -126,7 +126,7 @@ fn is_closed(rt: &impl Abort, answer: &Answer, wanted: u32) {
 /// Asserts the last closed month of the campaign.
 fn has_month(rt: &impl Abort, service: &impl Served, month: u32) {
     match service.campaign() {
-        Some(campaign) => is_number(rt, i64::from(campaign.month()), i64::from(month)),
+        Some(campaign) => assert_number(rt, i64::from(campaign.month()), i64::from(month)),
         None => assert!(rt; false),
     }
 }
@@ -135,9 +135,9 @@ fn has_month(rt: &impl Abort, service: &impl Served, month: u32) {
 fn has_numbers(rt: &impl Abort, service: &impl Served, faction: u32, unit: u32, units: usize) {
     match service.campaign() {
         Some(campaign) => {
-            is_number(rt, i64::from(campaign.next_faction()), i64::from(faction));
-            is_number(rt, i64::from(campaign.next_unit()), i64::from(unit));
-            is_count(rt, campaign.unit_count(), units);
+            assert_number(rt, i64::from(campaign.next_faction()), i64::from(faction));
+            assert_number(rt, i64::from(campaign.next_unit()), i64::from(unit));
+            assert_count(rt, campaign.unit_count(), units);
         }
         None => assert!(rt; false),
     }
@@ -158,16 +158,16 @@ fn keeps(rt: &impl Abort, service: &impl Served, text: &Option<&str>) {
 /// Asserts the text of the books.
 fn has_books(rt: &impl Abort, service: &impl Served, wanted: &str) -> Result<(), Fail> {
     match service.books() {
-        Some(text) => is_text(rt, text?.as_str(), wanted),
+        Some(text) => assert_text(rt, text?.as_str(), wanted),
         None => assert!(rt; false),
     }
     Ok(())
 }
 
 /// Asserts the answer to the command of a step.
-pub(crate) fn is_wanted(rt: &impl Abort, answer: &Answer, step: &Step) {
+pub(crate) fn assert_answer(rt: &impl Abort, answer: &Answer, step: &Step) {
     match step {
-        Step::Told(_, words) => is_text(rt, told(answer), words),
+        Step::Told(_, words) => assert_text(rt, told(answer), words),
         Step::Joined(_, faction, unit) => has_joined(rt, answer, *faction, *unit),
         Step::Mailed(_, orders, faulty) => is_kept(rt, answer, *orders, faulty),
         Step::Closed(_, month) => is_closed(rt, answer, *month),
@@ -176,7 +176,7 @@ pub(crate) fn is_wanted(rt: &impl Abort, answer: &Answer, step: &Step) {
 }
 
 /// Asserts what a step says of the campaign.
-fn stands(rt: &impl Abort, service: &impl Served, step: &Step) -> Result<(), Fail> {
+fn assert_campaign(rt: &impl Abort, service: &impl Served, step: &Step) -> Result<(), Fail> {
     match step {
         Step::Closed(_, month) | Step::Month(month) => has_month(rt, service, *month),
         Step::Numbers(faction, unit, units) => has_numbers(rt, service, *faction, *unit, *units),
@@ -196,9 +196,9 @@ fn take(
 ) -> Result<(), Fail> {
     if let Some(asked) = asked_by(step) {
         let answer = answered(alloc, service, asked)?;
-        is_wanted(rt, &answer, step);
+        assert_answer(rt, &answer, step);
     }
-    stands(rt, service, step)
+    assert_campaign(rt, service, step)
 }
 
 /// Takes the steps in turn, and asserts each.
@@ -224,7 +224,7 @@ pub(crate) fn plays(
 ) -> Result<(), Fail> {
     let mut service = begun_in_memory(alloc, world)?;
     let done = follow(rt, alloc, &mut service, steps);
-    holds(rt, &mut service.end(), rows);
+    assert_tables(rt, &mut service.end(), rows);
     done
 }
 
@@ -242,6 +242,6 @@ pub(crate) fn plays_course(rt: &impl Abort, alloc: Global, course: &Course) -> R
     let conn = begun_in_memory(alloc, course.world)?.end();
     let mut service = filled(alloc, conn, course.rows)?;
     let done = follow(rt, alloc, &mut service, course.steps);
-    holds(rt, &mut service.end(), course.after);
+    assert_tables(rt, &mut service.end(), course.after);
     done
 }

@@ -4,7 +4,7 @@ ghost use Rattle.std.specs.Prelude.{IfOk};
 ghost use Rattle.atl_state.specs.Good.{IsGood};
 
 use super::commands::FIRST_REPORT;
-use super::compare::{are_numbers, is_count, is_number, is_text, is_total};
+use super::compare::{assert_count, assert_number, assert_numbers, assert_text, assert_total};
 use atl_report::{report_text, view};
 use atl_state::{Campaign, Entry, MOST_UNITS, Thing, founded};
 use atl_tables::limits::MOST_REGIONS;
@@ -44,13 +44,13 @@ fn total(campaign: &Campaign, thing: Thing) -> Option<u64> {
 
 /// Asserts what a campaign just founded holds.
 fn is_founded(rt: &impl Abort, campaign: &Campaign) {
-    is_number(rt, i64::from(campaign.month()), 0);
-    is_text(rt, campaign.pass().as_str(), "gm");
-    is_number(rt, i64::from(campaign.next_faction()), 1);
-    is_number(rt, i64::from(campaign.next_unit()), 1);
-    is_number(rt, i64::from(campaign.next_structure()), 1);
-    is_total(rt, total(campaign, Thing::Money), 500);
-    is_total(rt, total(campaign, Thing::People), 1000);
+    assert_number(rt, i64::from(campaign.month()), 0);
+    assert_text(rt, campaign.pass().as_str(), "gm");
+    assert_number(rt, i64::from(campaign.next_faction()), 1);
+    assert_number(rt, i64::from(campaign.next_unit()), 1);
+    assert_number(rt, i64::from(campaign.next_structure()), 1);
+    assert_total(rt, total(campaign, Thing::Money), 500);
+    assert_total(rt, total(campaign, Thing::People), 1000);
 }
 
 /// Asserts a founding.
@@ -68,28 +68,28 @@ fn founding(rt: HostRuntime) -> Result<(), Fail> {
 
 /// Asserts the books after a join.
 fn has_entries(rt: &impl Abort, campaign: &Campaign) {
-    is_count(rt, campaign.things(), 2);
+    assert_count(rt, campaign.things(), 2);
     if campaign.things() >= 2 {
-        is_number(rt, campaign.booked(Entry::Founding, Thing::Money), 500);
-        is_number(rt, campaign.booked(Entry::Founding, Thing::People), 1000);
-        is_number(rt, campaign.booked(Entry::Joining, Thing::Money), 1000);
-        is_number(rt, campaign.booked(Entry::Joining, Thing::People), 1);
+        assert_number(rt, campaign.booked(Entry::Founding, Thing::Money), 500);
+        assert_number(rt, campaign.booked(Entry::Founding, Thing::People), 1000);
+        assert_number(rt, campaign.booked(Entry::Joining, Thing::Money), 1000);
+        assert_number(rt, campaign.booked(Entry::Joining, Thing::People), 1);
     }
 }
 
 /// Asserts the totals after a join.
 fn has_totals(rt: &impl Abort, campaign: &Campaign) {
-    is_total(rt, total(campaign, Thing::Money), 1500);
-    is_total(rt, total(campaign, Thing::People), 1001);
-    is_total(rt, total(campaign, Thing::Item(0)), 0);
+    assert_total(rt, total(campaign, Thing::Money), 1500);
+    assert_total(rt, total(campaign, Thing::People), 1001);
+    assert_total(rt, total(campaign, Thing::Item(0)), 0);
 }
 
 /// Asserts the faction that joined.
 fn has_faction(rt: &impl Abort, campaign: &Campaign) {
     match campaign.faction(1) {
         Some(faction) => {
-            is_number(rt, i64::from(faction.number), 1);
-            is_text(rt, faction.joined_as.as_str(), "Avalon");
+            assert_number(rt, i64::from(faction.number), 1);
+            assert_text(rt, faction.joined_as.as_str(), "Avalon");
             assert!(rt; !faction.gone);
         }
         None => assert!(rt; false),
@@ -100,17 +100,17 @@ fn has_faction(rt: &impl Abort, campaign: &Campaign) {
 fn has_unit(rt: &impl Abort, campaign: &Campaign) {
     match campaign.unit(1) {
         Some(unit) => {
-            is_text(rt, unit.holding.name().as_str(), "Unit 1");
-            is_number(rt, i64::from(unit.holding.men()), 1);
-            is_number(rt, i64::from(unit.region), 1);
+            assert_text(rt, unit.holding.name().as_str(), "Unit 1");
+            assert_number(rt, i64::from(unit.holding.men()), 1);
+            assert_number(rt, i64::from(unit.region), 1);
         }
         None => assert!(rt; false),
     }
-    are_numbers(rt, campaign.in_region(1), &[1]);
-    are_numbers(rt, campaign.in_region(2), &[]);
-    are_numbers(rt, campaign.of_faction(1), &[1]);
-    are_numbers(rt, campaign.of_faction(2), &[]);
-    is_count(rt, campaign.unit_count(), 1);
+    assert_numbers(rt, campaign.in_region(1), &[1]);
+    assert_numbers(rt, campaign.in_region(2), &[]);
+    assert_numbers(rt, campaign.of_faction(1), &[1]);
+    assert_numbers(rt, campaign.of_faction(2), &[]);
+    assert_count(rt, campaign.unit_count(), 1);
 }
 
 /// Asserts a join.
@@ -135,7 +135,7 @@ fn lends(rt: &impl Abort, campaign: &mut Campaign) {
     if let Some(holding) = campaign.unit_mut(1) {
         holding.set_money(7);
     }
-    is_total(rt, total(campaign, Thing::Money), 507);
+    assert_total(rt, total(campaign, Thing::Money), 507);
 }
 
 /// The report of what faction 1 sees.
@@ -148,7 +148,7 @@ fn report_of(alloc: Global, world: &World, campaign: &Campaign) -> Result<Text, 
 /// Asserts the stored report of faction 1.
 fn has_report(rt: &impl Abort, campaign: &Campaign) {
     match campaign.report(1) {
-        Some(stored) => is_text(rt, stored.as_str(), FIRST_REPORT),
+        Some(stored) => assert_text(rt, stored.as_str(), FIRST_REPORT),
         None => assert!(rt; false),
     }
 }

@@ -1,5 +1,5 @@
 //! SELECTs for numbers of a campaign's tables, and what they return after a join.
-use super::compare::is_amount;
+use super::compare::assert_amount;
 use super::serving::Tables;
 use std::process::Abort;
 
@@ -54,9 +54,13 @@ pub(crate) const STOCKED: &str = "SELECT count(*) FROM market";
 pub(crate) const STOCK: &str = "SELECT sum(stock) FROM market";
 
 /// Asserts what each SELECT returns.
-pub(crate) fn holds(rt: &impl Abort, tables: &mut impl Tables, wanted: &[(&str, Option<i64>)]) {
+pub(crate) fn assert_tables(
+    rt: &impl Abort,
+    tables: &mut impl Tables,
+    wanted: &[(&str, Option<i64>)],
+) {
     for (sql, amount) in wanted {
-        is_amount(rt, tables.number(sql), *amount);
+        assert_amount(rt, tables.number(sql), *amount);
     }
 }
 

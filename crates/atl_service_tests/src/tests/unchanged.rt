@@ -1,8 +1,8 @@
 //! Tests that refused commands change no row, neither of the service's campaign nor of its tables.
-use super::compare::is_text;
+use super::compare::assert_text;
 use super::damage::changed;
 use super::making::opened;
-use super::opening::{has_rows, rows_in};
+use super::opening::{assert_rows, rows_in};
 use super::script::{Step, follow};
 use super::serving::Served;
 use sqlite::{Alter, Connection, Row};
@@ -49,13 +49,13 @@ pub(crate) fn all_rows<S: Alter>(alloc: Global, conn: &mut Connection<S>) -> Res
 }
 
 /// Asserts all rows of all tables.
-pub(crate) fn has_all_rows<S: Alter>(
+pub(crate) fn assert_all_rows<S: Alter>(
     rt: &impl Abort,
     alloc: Global,
     conn: &mut Connection<S>,
     rows: &str,
 ) -> Result<(), Fail> {
-    is_text(rt, all_rows(alloc, conn)?.as_str(), rows);
+    assert_text(rt, all_rows(alloc, conn)?.as_str(), rows);
     Ok(())
 }
 
@@ -68,7 +68,7 @@ fn leaves_rows(
 ) -> Result<(), Fail> {
     let rows = rows_in(alloc, service)?;
     follow(rt, alloc, service, slice::from_ref(step))?;
-    has_rows(rt, alloc, service, rows.as_str())
+    assert_rows(rt, alloc, service, rows.as_str())
 }
 
 /// Asserts the answer to a step, and that the campaign and the tables have the same rows before and
@@ -85,7 +85,7 @@ fn leaves_all_rows<S: Alter + Drop>(
     let done = leaves_rows(rt, alloc, &mut service, step);
     let mut conn = service.end();
     done?;
-    has_all_rows(rt, alloc, &mut conn, rows.as_str())?;
+    assert_all_rows(rt, alloc, &mut conn, rows.as_str())?;
     Ok(conn)
 }
 

@@ -1,12 +1,12 @@
 //! Tests of `upgrade`: a file of the first format is not opened, and is upgraded once
 //! (docs/FORMATS.md, "Upgrading a file").
 use super::commands::{AVALON, FAR_REPORT};
-use super::founding::is_refused;
+use super::founding::assert_refused;
 use super::making::{begun_in_memory, filled, opened};
-use super::opening::{has_rows, rows_in};
+use super::opening::{assert_rows, rows_in};
 use super::script::{Asked, Step, follow};
 use super::serving::{Served, Tables};
-use super::tables::{FORMAT, STOCK, STOCKED, holds};
+use super::tables::{FORMAT, STOCK, STOCKED, assert_tables};
 use atl_service::{open, upgrade};
 use atl_test_files::old_file;
 use atl_test_worlds::{ISLE, ISLE_WITH_MARKET, SMALL};
@@ -58,7 +58,7 @@ fn stays_shut(
     conn: Connection<MemStore>,
     words: &str,
 ) -> Connection<MemStore> {
-    is_refused(rt, open(alloc, conn), words)
+    assert_refused(rt, open(alloc, conn), words)
 }
 
 /// Asserts why a file isn't upgraded; returns the connection.
@@ -69,7 +69,7 @@ fn refuses(
     world: &str,
     words: &str,
 ) -> Connection<MemStore> {
-    is_refused(rt, upgrade(alloc, conn, world), words)
+    assert_refused(rt, upgrade(alloc, conn, world), words)
 }
 
 /// Upgrades a file after refused attempts, and asserts the campaign's rows.
@@ -84,7 +84,7 @@ fn upgraded(
     let conn = refuses(rt, alloc, conn, "a = = b", "world");
     match upgrade(alloc, conn, ISLE_WITH_MARKET) {
         Ok(service) => {
-            has_rows(rt, alloc, &service, rows)?;
+            assert_rows(rt, alloc, &service, rows)?;
             Ok(service.end())
         }
         Err(_) => Err(Fail::new("upgrade")),
@@ -101,9 +101,9 @@ fn goes_on(
 ) -> Result<(), Fail> {
     let conn = refuses(rt, alloc, conn, ISLE_WITH_MARKET, "not old");
     let mut service = opened(alloc, conn)?;
-    has_rows(rt, alloc, &service, rows)?;
+    assert_rows(rt, alloc, &service, rows)?;
     let done = follow(rt, alloc, &mut service, story.behind);
-    holds(rt, &mut service.end(), story.after);
+    assert_tables(rt, &mut service.end(), story.after);
     done
 }
 
