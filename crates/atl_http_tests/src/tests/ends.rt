@@ -1,7 +1,7 @@
 //! A reader that gives a few bytes at a time, and a writer that takes few or none; both can fail or
 //! be interrupted.
 use std::alloc::Global;
-use std::io::{ErrorKind, Read, Write, self};
+use std::io::{self, ErrorKind, Read, Write};
 
 /// A reader that gives `bytes` in pieces of `piece` bytes, with `interruptions` interrupted reads
 /// before each piece.

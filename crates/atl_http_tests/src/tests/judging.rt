@@ -30,7 +30,12 @@ fn name_of(verdict: &Verdict) -> &'static str {
 }
 
 /// Asserts the verdict on some bytes.
-fn assert_verdict(rt: &impl Abort, alloc: Global, bytes: &str, wanted: &str) -> Result<(), AllocError> {
+fn assert_verdict(
+    rt: &impl Abort,
+    alloc: Global,
+    bytes: &str,
+    wanted: &str,
+) -> Result<(), AllocError> {
     let verdict = verdict_on(alloc, bytes.as_bytes())?;
     assert_text(rt, name_of(&verdict), wanted);
     Ok(())

@@ -6,7 +6,7 @@ use super::requests::{JOIN, JOINED, REPORT, REPORTED, TOO_LONG};
 use super::serving::Served;
 use atl_http::listening::ListenFault;
 use std::alloc::Global;
-use std::io::{Read, Write, self};
+use std::io::{self, Read, Write};
 use std::net::{Ipv4Addr, Net, Shutdown, SocketAddr, TcpListener, TcpStream};
 use std::process::Abort;
 use std::rt::Clock;
@@ -55,7 +55,12 @@ fn peers<R: Net<Stream = TcpStream>>(
 }
 
 /// Asserts all bytes that a peer receives.
-fn assert_received(rt: &impl Abort, alloc: Global, stream: &TcpStream, wanted: &str) -> io::Result<()> {
+fn assert_received(
+    rt: &impl Abort,
+    alloc: Global,
+    stream: &TcpStream,
+    wanted: &str,
+) -> io::Result<()> {
     let mut reader = stream;
     let mut told = String::new(alloc);
     reader.read_to_string(&mut told)?;

@@ -51,7 +51,11 @@ pub(crate) fn told(served: Result<u16, HttpFault>, written: &[u8]) -> &str {
 }
 
 /// Asserts the text of the books.
-pub(crate) fn assert_books(rt: &impl Abort, service: &impl Served, wanted: &str) -> Result<(), Fail> {
+pub(crate) fn assert_books(
+    rt: &impl Abort,
+    service: &impl Served,
+    wanted: &str,
+) -> Result<(), Fail> {
     match service.books() {
         Some(text) => assert_text(rt, text?.as_str(), wanted),
         None => assert_true(rt, false),
@@ -73,7 +77,12 @@ pub(crate) fn assert_reply(
 }
 
 /// Serves requests in turn, each readable at once, and asserts each reply.
-pub(crate) fn assert_replies(rt: &impl Abort, alloc: Global, service: &mut impl Served, cases: &[Case]) {
+pub(crate) fn assert_replies(
+    rt: &impl Abort,
+    alloc: Global,
+    service: &mut impl Served,
+    cases: &[Case],
+) {
     for (request, wanted) in cases.iter() {
         let mut reader = request.as_bytes();
         assert_reply(rt, alloc, service, &mut reader, wanted);
