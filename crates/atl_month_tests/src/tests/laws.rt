@@ -1,4 +1,5 @@
-//! Calls each law of the crates under test once. A law does nothing and its clause is proved, so nothing is asserted.
+//! Calls each law of the crates under test once and asserts nothing: a law does nothing, and its
+//! clause is proved.
 use atl_action::{nobody_is_taught_twice, units_learn_by_orders, units_study_as_begun};
 use atl_instant::{
     days_go_with_men, mailings_have_no_order, one_order_stands, orders_are_in_mailings,

@@ -1,4 +1,4 @@
-//! Which orders each phase gets, and in which order.
+//! Tests of which orders of a month each phase gets, in which order, and of aliases and events.
 use super::months::{month, world};
 use super::phases::{Studying, Working};
 use super::telling::row_is;
@@ -11,7 +11,7 @@ use std::alloc::Global;
 use std::process::Abort;
 use std::test::Fail;
 
-/// Adds the orders of a phase: unit, line, faction and keyword of each.
+/// Appends the orders of a phase: unit, line, faction and keyword of each.
 fn tell<P: PhaseVerbs>(
     alloc: Global,
     month: &Month,
@@ -33,7 +33,7 @@ fn tell<P: PhaseVerbs>(
     Ok(())
 }
 
-/// What the phases of FORM, GIVE, RECRUIT, STUDY and WORK have.
+/// The orders that the phases of FORM, GIVE, RECRUIT, STUDY and WORK get, each phase ended by `|`.
 fn told_of(alloc: Global, month: &Month) -> Result<String, Fail> {
     let mut told = String::new(alloc);
     tell(alloc, month, &FormPhase, Arrangement::ByFaction, &mut told)?;
@@ -44,7 +44,7 @@ fn told_of(alloc: Global, month: &Month) -> Result<String, Fail> {
     Ok(told)
 }
 
-/// Mailings, and what each phase has of them.
+/// Mailings, and the orders that each phase gets of them.
 static ROWS: [(&[&str], &str); 9] = [
     (&[], "|||||"),
     // Of month-long orders the last stands, whatever its verb.
@@ -99,6 +99,7 @@ static ROWS: [(&[&str], &str); 9] = [
     ),
 ];
 
+/// Asserts the orders that the phases get of a row's mailings.
 fn row_tells(
     rt: &impl Abort,
     alloc: Global,
@@ -113,6 +114,7 @@ fn row_tells(
     Ok(())
 }
 
+/// Asserts each row of `ROWS`.
 fn rows_tell(rt: &impl Abort, alloc: Global, world: &World) -> Result<(), Fail> {
     for (row, (texts, wanted)) in ROWS.iter().enumerate() {
         row_tells(rt, alloc, world, row, texts, wanted)?;
@@ -136,7 +138,7 @@ fn formed(alloc: Global, world: &World) -> Result<Month, Fail> {
     Ok(month)
 }
 
-/// The month-long orders that stand.
+/// Asserts the month-long orders that count.
 fn month_long_are(
     rt: &impl Abort,
     alloc: Global,
@@ -173,6 +175,7 @@ fn month_long_orders(rt: HostRuntime) -> Result<(), Fail> {
     )
 }
 
+/// Asserts the units of some aliases.
 fn aliases_are(rt: &impl Abort, month: &Month) {
     assert!(rt; month.alias(1, 1) == Some(7));
     assert!(rt; month.alias(1, 2).is_none());
@@ -180,6 +183,7 @@ fn aliases_are(rt: &impl Abort, month: &Month) {
     assert!(rt; month.alias(3, 1).is_none());
 }
 
+/// Asserts the aliases of `formed`, and the orders that the phases get.
 fn formed_tells(rt: &impl Abort, alloc: Global, month: &Month) -> Result<(), Fail> {
     aliases_are(rt, month);
     let told = told_of(alloc, month)?;
@@ -199,6 +203,7 @@ fn aliases_of_factions(rt: HostRuntime) -> Result<(), Fail> {
     formed_tells(&rt, rt.alloc(), &month)
 }
 
+/// An outcome of FORM: it made unit 7.
 const EVENT: Event = Event {
     faction: 1,
     unit: 4,
@@ -207,17 +212,18 @@ const EVENT: Event = Event {
     outcome: Outcome::Done(7),
 };
 
+/// Asserts the verb of an order, or that there is no order.
 fn is_verb(rt: &impl Abort, told: Option<Verb>, wanted: Option<Verb>) {
     assert!(rt; told == wanted);
 }
 
-/// The verb of the order at a place of a faction's mailing.
+/// The verb of the order with an index in a faction's mailing.
 fn verb_at(month: &Month, faction: u32, place: usize) -> Option<Verb> {
     let entry = month.mailing(faction)?.entries.as_slice().get(place)?;
     Some(entry.order.verb)
 }
 
-/// The orders at places, as far as there are any, and the mailings.
+/// Asserts the orders at some indexes, and the mailings.
 fn orders_are(rt: &impl Abort, month: &Month) {
     is_verb(rt, verb_at(month, 1, 1), Some(Verb::Work));
     is_verb(rt, verb_at(month, 2, 1), Some(Verb::Study));
@@ -232,6 +238,7 @@ fn orders_are(rt: &impl Abort, month: &Month) {
     assert!(rt; month.mailing(3).is_none());
 }
 
+/// Asserts the events and the words of a month, before and after an event is added.
 fn events_are(rt: &impl Abort, mut month: Month) -> Result<(), Fail> {
     assert!(rt; month.events().is_empty());
     month.add_event(EVENT)?;

@@ -1,4 +1,4 @@
-//! The text of the books, worked out by hand.
+//! Tests of the text of the books, worked out by hand.
 ghost use Rattle.atl_state.specs.Good.{IsGood};
 
 use super::compare::is_text;
@@ -11,7 +11,8 @@ use std::alloc::Global;
 use std::process::Abort;
 use std::test::Fail;
 
-/// A month after the first faction joined: its man worked for 12, 10 were spent on upkeep, and the region's income is 1,000.
+/// A month after Avalon joined: its man worked for 12, 10 were spent on upkeep, and the region's
+/// income was 1,000.
 const FIRST_MONTH: Scene = Scene {
     people: &[Person { money: 1002, ..MAN }],
     regions: &[(1, 1000, 1500)],
@@ -27,6 +28,7 @@ const FIRST_MONTH: Scene = Scene {
     ..NOBODY
 };
 
+/// The text of the books of `FIRST_MONTH`.
 const OF_FIRST_MONTH: &str = "money founding 500
 money joining 1000
 money income 1000
@@ -38,7 +40,7 @@ people joining 1
 people total 1001
 ";
 
-/// The same month, in which the faction left.
+/// The same month, in which the faction quit.
 const QUITTING: Scene = Scene {
     regions: &[(1, 1000, 1500)],
     books: &[
@@ -53,6 +55,7 @@ const QUITTING: Scene = Scene {
     ..NOBODY
 };
 
+/// The text of the books of `QUITTING`.
 const OF_QUITTING: &str = "money founding 500
 money joining 1000
 money income 1000
@@ -64,7 +67,7 @@ people left -1
 people total 1000
 ";
 
-/// Every entry has an amount, and many are negative.
+/// Books with an amount under every entry, many of them negative.
 const EVERY_ENTRY: Scene = Scene {
     regions: &[(1, 1000, 489)],
     books: &[
@@ -89,6 +92,7 @@ const EVERY_ENTRY: Scene = Scene {
     ..NOBODY
 };
 
+/// The text of the books of `EVERY_ENTRY`.
 const OF_EVERY_ENTRY: &str = "money founding 500
 money joining 1
 money income 199999999999999
@@ -110,7 +114,7 @@ people founding 1000
 people total 1000
 ";
 
-/// Two units made 7 and 13 wood, and a third one 2 carts of 10 of its 12 wood.
+/// Units that made 7 and 13 wood, and one that made 2 carts out of 10 of its 12 wood.
 const PRODUCTION: Scene = Scene {
     people: &[
         Person {
@@ -144,6 +148,7 @@ const PRODUCTION: Scene = Scene {
     ..NOBODY
 };
 
+/// The text of the books of `PRODUCTION`.
 const OF_PRODUCTION: &str = "money founding 650
 money total 650
 people founding 1300
@@ -157,7 +162,7 @@ item \"cart\" made 2
 item \"cart\" total 2
 ";
 
-/// Nobody has joined, and there are no items.
+/// The text of the books of the island without units and items.
 const OF_THE_ISLE: &str = "money founding 650
 money total 650
 people founding 1300
@@ -166,14 +171,17 @@ item \"wood\" total 0
 item \"cart\" total 0
 ";
 
+/// Scenes of the small world, and the text of their books.
 static OF_SMALL: [(Scene, &str); 3] = [
     (FIRST_MONTH, OF_FIRST_MONTH),
     (QUITTING, OF_QUITTING),
     (EVERY_ENTRY, OF_EVERY_ENTRY),
 ];
 
+/// Scenes of the island, and the text of their books.
 static OF_ISLE: [(Scene, &str); 2] = [(PRODUCTION, OF_PRODUCTION), (NOBODY, OF_THE_ISLE)];
 
+/// Asserts the text of a campaign's books.
 fn tell(
     rt: &impl Abort,
     alloc: Global,
@@ -188,6 +196,7 @@ fn tell(
     Ok(())
 }
 
+/// Asserts the text of a scene's books.
 fn tells(
     rt: &impl Abort,
     alloc: Global,
@@ -199,6 +208,7 @@ fn tells(
     tell(rt, alloc, world, &campaign, wanted)
 }
 
+/// Asserts the text of each scene's books.
 fn tells_all(
     rt: &impl Abort,
     alloc: Global,

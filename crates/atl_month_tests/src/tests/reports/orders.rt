@@ -1,4 +1,4 @@
-//! What a report tells of orders, without any region.
+//! Tests of what a report says of orders, without any region.
 use super::compare::is_text;
 use atl_orders::{FaultyLine, LineFault, Verb};
 use atl_report::{View, report_text};
@@ -9,7 +9,7 @@ use std::alloc::Global;
 use std::process::Abort;
 use std::test::Fail;
 
-/// What the first faction's mailing and month had, and its report.
+/// The faulty lines and the events of a month, and the wanted report of faction 1.
 struct Case {
     faults: &'static [FaultyLine],
     events: &'static [Event],
@@ -58,7 +58,7 @@ const UPKEEP: Event = Event {
     outcome: Outcome::Done(4_294_967_300),
 };
 
-/// For an alias that no unit has.
+/// An order for an alias that no unit has.
 const FORMED_BY_NOBODY: Event = Event {
     faction: 1,
     unit: 0,
@@ -67,7 +67,7 @@ const FORMED_BY_NOBODY: Event = Event {
     outcome: Outcome::Fault(1),
 };
 
-/// Of a number that no fault has.
+/// An event with a fault number that no fault has.
 const NAMELESS: Event = Event {
     faction: 1,
     unit: 1,
@@ -76,6 +76,7 @@ const NAMELESS: Event = Event {
     outcome: Outcome::Fault(99),
 };
 
+/// An event of another faction.
 const OF_ANOTHER: Event = Event {
     faction: 2,
     unit: 7,
@@ -84,6 +85,7 @@ const OF_ANOTHER: Event = Event {
     outcome: Outcome::Done(50),
 };
 
+/// Months, and the report of faction 1 on each.
 static CASES: [Case; 9] = [
     Case {
         faults: &[],
@@ -165,7 +167,7 @@ Unit 2: 3 starved.
     },
 ];
 
-/// What a faction sees that has no unit with men.
+/// The view of a faction that has no unit with men.
 fn nowhere(alloc: Global) -> Result<View, Fail> {
     Ok(View {
         month: 3,
@@ -175,6 +177,7 @@ fn nowhere(alloc: Global) -> Result<View, Fail> {
     })
 }
 
+/// Asserts the report of a case.
 fn tells(
     rt: &impl Abort,
     alloc: Global,
@@ -187,6 +190,7 @@ fn tells(
     Ok(())
 }
 
+/// Asserts the report of each case.
 fn tells_all(rt: &impl Abort, alloc: Global, world: &World) -> Result<(), Fail> {
     let view = nowhere(alloc)?;
     for case in CASES.iter() {
@@ -201,7 +205,7 @@ fn faults_and_events(rt: HostRuntime) -> Result<(), Fail> {
     tells_all(&rt, rt.alloc(), &world)
 }
 
-/// A fault of an order is printed with its number, one of a joining without.
+/// The fault of an order is printed with its number, that of a join without.
 #[test]
 fn printed_faults(rt: HostRuntime) -> Result<(), Fail> {
     let of_order = format!(in rt.alloc(); "{}", EventFault::NoWay)?;
