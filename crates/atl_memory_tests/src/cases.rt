@@ -51,11 +51,9 @@ const CLOSED: &str = "month done 1";
 const REPORTED: &str = "A report.";
 
 /// Lines of Avalon's report on the month. Of 100 money unit 1 pays 40, and sends 2 of its 5 men to
-/// the unit that it forms.
-/// Its 3 men take 30 money in tax, and of 90 it pays for one recruit. Unit 6 has 5 wood, gives 2 of
-/// it away and builds with 3.
-/// The 4 men of unit 2 get 30 days each and 30 more, as all are taught. In the forest 15 men make
-/// as much wood.
+/// the unit that it forms. Its 3 men take 30 money in tax, and of 90 it pays for one recruit. Unit
+/// 6 has 5 wood, gives 2 of it away and builds with 3. The 4 men of unit 2 get 30 days each and 30
+/// more, as all are taught. In the forest 15 men make as much wood.
 static OF_AVALON: [&str; 14] = [
     "Unit 1, line 4, FORM: done 12.",
     "Unit 1, line 7, FORM: done 13.",

@@ -1,8 +1,7 @@
 //! Tries each call that takes memory with too little of it, and prints for each whether it answers
-//! Memory and leaves all as before.
-//! Either only some blocks are left or, where the heap counts growths (tests/fuse.c), each growth
-//! is refused in turn;
-//! with a number on the command line only every growth of that step.
+//! Memory and leaves all as before. Either only some blocks are left or, where the heap counts
+//! growths (tests/fuse.c), each growth is refused in turn; with a number on the command line only
+//! every growth of that step.
 #![tactic(auto)]
 
 mod cases;

@@ -58,8 +58,7 @@ fn told_of(
 }
 
 /// A file of cases as far as it was read: the campaign and the phases for the next case, the case
-/// that is being read,
-/// how many were played, and the report of those that differ.
+/// that is being read, how many were played, and the report of those that differ.
 struct Player {
     world: World,
     setting: Setting,
@@ -211,8 +210,7 @@ fn world_at(rt: &HostRuntime, path: &str) -> Result<World, Failed> {
 }
 
 /// The report on a file: how many cases it has, which of them differ, and which lines can't be read
-/// or played.
-/// The first line of the file names its world.
+/// or played. The first line of the file names its world.
 pub(crate) fn told_of_file(rt: &HostRuntime, path: &str) -> Result<String, Failed> {
     let alloc = rt.alloc();
     let text = text_at(rt, path)?;

@@ -1,6 +1,6 @@
 //! Plays files of cases: a campaign, mailings, and what must come of them (data/README.md says how
-//! a file is written).
-//! Each file of the command line is played, and each case that comes to something else is printed.
+//! a file is written). Each file of the command line is played, and each case that comes to
+//! something else is printed.
 #![tactic(auto)]
 
 mod bookings;

@@ -50,8 +50,7 @@ pub(crate) struct Stocked {
 }
 
 /// The campaign of a case: units and structures, numbered from 1, what the units have, what is in
-/// stock,
-/// which units lost their men afterwards, and the least number that the next unit may get.
+/// stock, which units lost their men afterwards, and the least number that the next unit may get.
 pub(crate) struct Setting {
     pub units: Vec<Stood>,
     pub has: Vec<Had>,

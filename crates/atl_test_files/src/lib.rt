@@ -22,8 +22,8 @@ CREATE TABLE report (faction INTEGER NOT NULL PRIMARY KEY, text TEXT NOT NULL) S
 CREATE TABLE books (entry INTEGER NOT NULL, thing INTEGER NOT NULL, amount INTEGER NOT NULL, PRIMARY KEY (entry, thing)) STRICT";
 
 /// Makes the tables of the first format in a database without them, with a world text and a
-/// campaign's rows, in one transaction.
-/// Stocks are left out. If a statement fails, the transaction may be left open.
+/// campaign's rows, in one transaction. Stocks are left out. If a statement fails, the transaction
+/// may be left open.
 pub fn old_file<S: Alter>(
     conn: &mut Connection<S>,
     world: &str,

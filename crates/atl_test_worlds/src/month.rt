@@ -1,8 +1,8 @@
 //! A month on the island: SQL for the rows before it, and the mailings of two factions.
 
 /// SQL, one transaction, that adds two factions, eleven units and a boat to the tables of an island
-/// where nobody has joined.
-/// A unit of each faction is in the boat; all that they hold is booked under Joining.
+/// where nobody has joined. A unit of each faction is in the boat; all that they hold is booked
+/// under Joining.
 pub const ROWS: &str =
     "BEGIN; INSERT INTO faction VALUES (1, 'Avalon', 'Avalon', 'pw', 0), (2, 'Bree', 'Bree', 'pb', 0);
 INSERT INTO report VALUES (1, 'A report.'), (2, 'A report.');

@@ -1,6 +1,5 @@
 //! Tests of the words of the dice (docs/FORMATS.md, "Dice"), against words that were worked out
-//! independently
-//! from PCG's published generator of 32-bit words.
+//! independently from PCG's published generator of 32-bit words.
 use atl_http::Dice;
 use std::alloc::{AllocError, Global};
 use std::process::Abort;

@@ -4,8 +4,7 @@ use std::alloc::Global;
 use std::io::{self, ErrorKind, Read, Write};
 
 /// A reader that gives `bytes` in pieces of `piece` bytes, with `interruptions` interrupted reads
-/// before each piece.
-/// It fails after `reads_left` reads, and counts its reads.
+/// before each piece. It fails after `reads_left` reads, and counts its reads.
 #[derive(Drop)]
 pub(crate) struct Pieces<'a> {
     bytes: &'a [u8],
@@ -51,8 +50,7 @@ impl<'a> Read for Pieces<'a> {
 }
 
 /// A writer that takes pieces of `piece` bytes, with `interruptions` interrupted writes before each
-/// piece.
-/// After `most` bytes it fails, or takes none; it counts its writes.
+/// piece. After `most` bytes it fails, or takes none; it counts its writes.
 #[derive(Drop)]
 pub(crate) struct Narrow {
     pub(crate) taken: Vec<u8>,

@@ -17,8 +17,8 @@ const LONG_BODY: &str =
     "POST /orders/1 HTTP/1.1\r\nHost: x\r\nAtlantis-Pass: pw\r\nContent-Length: 65537\r\n\r\n";
 
 /// What each peer sends, whether it then ends its side, and the reply. One joins, one ends within
-/// its request, which counts as
-/// served, one is refused for the length of its body, and one asks for a report.
+/// its request, which counts as served, one is refused for the length of its body, and one asks for
+/// a report.
 static PEERS: [(&str, bool, &str); 4] = [
     (JOIN, false, JOINED),
     ("GET /report/1", true, ""),

@@ -44,8 +44,8 @@ pub(crate) const BAD_JSON: &str =
     "HTTP/1.1 400 Bad Request\r\nContent-Type: application/json\r\nContent-Length: 30\r\nConnection: close\r\n\r\n{\"error\":\"BadJson\",\"number\":0}";
 
 /// A faction joins, its name is taken from then on, and its report is answered. An empty Host
-/// counts as one,
-/// HTTP/1.0 may have two, and for a GET neither Content-Length nor Transfer-Encoding counts.
+/// counts as one, HTTP/1.0 may have two, and for a GET neither Content-Length nor Transfer-Encoding
+/// counts.
 static JOINING: [Case; 6] = [
     (JOIN, JOINED),
     (
@@ -305,8 +305,7 @@ fn bodies(rt: HostRuntime) -> Result<(), Fail> {
 }
 
 /// Bodies with both texts and a value that can't be read: nested 128 deep, beyond all numbers, or
-/// half a character.
-/// One nested 127 deep is read, and empty lines may come before a head.
+/// half a character. One nested 127 deep is read, and empty lines may come before a head.
 static VALUES: [Case; 4] = [
     (
         "POST /join HTTP/1.0\r\nContent-Length: 291\r\n\r\n{\"name\":\"Avalon\",\"pass\":\"pw\",\"more\":[[[[[[[[[[[[[[[[[[[[[[[[[[[[[[[[[[[[[[[[[[[[[[[[[[[[[[[[[[[[[[[[[[[[[[[[[[[[[[[[[[[[[[[[[[[[[[[[[[[[[[[[[[[[[[[[[[[[[[[[[[[[[[[]]]]]]]]]]]]]]]]]]]]]]]]]]]]]]]]]]]]]]]]]]]]]]]]]]]]]]]]]]]]]]]]]]]]]]]]]]]]]]]]]]]]]]]]]]]]]]]]]]]]]]]]]]]]]]]]]]]]]]]]]]]]]]]}",

@@ -8,7 +8,7 @@ use super::reference::plain::Plain;
 use super::reference::sharing::Sharing;
 use super::reference::trade::Trade;
 use super::reference::{shares, sharing, upkeep};
-use super::shares::{are_small, is_shared};
+use super::shares::{are_small, assert_shares};
 use atl_instant::{Month, Phase};
 use atl_market::{BuyPhase, ProducePhase, RecruitPhase, SellPhase, TaxPhase, WorkPhase, share};
 use atl_month::UpkeepPhase;
@@ -21,7 +21,7 @@ use std::test::Fail;
 // ---- what is compared
 
 /// Asserts that two lists are equal; the message names the index of the first difference.
-fn are_as<T: PartialEq>(rt: &impl Abort, what: &str, told: &[T], wanted: &[T]) {
+fn assert_equal_lists<T: PartialEq>(rt: &impl Abort, what: &str, told: &[T], wanted: &[T]) {
     assert!(rt; told.len() == wanted.len(), "so many {what}");
     for (place, (told, wanted)) in told.iter().zip(wanted.iter()).enumerate() {
         assert!(rt; told == wanted, "{what}, at {place}");
@@ -29,25 +29,25 @@ fn are_as<T: PartialEq>(rt: &impl Abort, what: &str, told: &[T], wanted: &[T]) {
 }
 
 /// Asserts that goods, stocks and books are those of the reference.
-fn amounts_are(
+fn assert_amounts(
     rt: &impl Abort,
     alloc: Global,
     told: &Plain,
     wanted: &Plain,
 ) -> Result<(), AllocError> {
-    are_as(
+    assert_equal_lists(
         rt,
         "goods",
         &told.sorted_goods(alloc)?,
         &wanted.sorted_goods(alloc)?,
     );
-    are_as(
+    assert_equal_lists(
         rt,
         "stocks",
         &told.sorted_stocks(alloc)?,
         &wanted.sorted_stocks(alloc)?,
     );
-    are_as(
+    assert_equal_lists(
         rt,
         "books",
         &told.sorted_books(alloc)?,
@@ -57,7 +57,7 @@ fn amounts_are(
 }
 
 /// Asserts that a campaign and the outcomes of its orders are those of the reference.
-fn is_as(
+fn assert_campaign(
     rt: &impl Abort,
     alloc: Global,
     campaign: &Campaign,
@@ -65,10 +65,10 @@ fn is_as(
     wanted: &Plain,
 ) -> Result<(), AllocError> {
     let told = Plain::of(alloc, campaign)?;
-    are_as(rt, "units", &told.people, &wanted.people);
-    are_as(rt, "regions", &told.lands, &wanted.lands);
-    are_as(rt, "events", month.events(), &wanted.events);
-    amounts_are(rt, alloc, &told, wanted)
+    assert_equal_lists(rt, "units", &told.people, &wanted.people);
+    assert_equal_lists(rt, "regions", &told.lands, &wanted.lands);
+    assert_equal_lists(rt, "events", month.events(), &wanted.events);
+    assert_amounts(rt, alloc, &told, wanted)
 }
 
 // ---- the phases
@@ -253,7 +253,7 @@ fn agrees(rt: &impl Abort, alloc: Global, world: &World, played: Played) -> Resu
     let month = crowd_month(alloc, world)?;
     let wanted = reckoned(alloc, world, played, &campaign, &month)?;
     let (campaign, month) = run_on(alloc, world, played, campaign, month)?;
-    is_as(rt, alloc, &campaign, &month, &wanted)?;
+    assert_campaign(rt, alloc, &campaign, &month, &wanted)?;
     Ok(())
 }
 
@@ -294,7 +294,7 @@ fn pot_agrees(rt: &impl Abort, alloc: Global, pot: u64, wants: &[u64]) -> Result
     }
     let told = share(alloc, pot, wants)?;
     let wanted = shares::share(alloc, pot, wants)?;
-    is_shared(rt, pot, &told, &wanted);
+    assert_shares(rt, pot, &told, &wanted);
     Ok(())
 }
 

@@ -1,7 +1,6 @@
 //! The campaign that `agreeing` plays: 300 units of four factions in twelve regions, and a month of
-//! their orders.
-//! What each unit has and orders is picked by its number from tables whose lengths have no common
-//! factor.
+//! their orders. What each unit has and orders is picked by its number from tables whose lengths
+//! have no common factor.
 ghost use Rattle.std.specs.Prelude.{◌≤◌, IfOk, length};
 ghost use Rattle.atl_state.specs.Good.{IsGood};
 ghost use Rattle.atl_instant.specs.Fit.{AreFit};
@@ -262,6 +261,7 @@ fn stalls_of(region: u32) -> [Stall; 2] {
     ]
 }
 
+/// Appends a market to the world text.
 fn add_stall(alloc: Global, stall: Stall, text: &mut String) -> Result<(), AllocError> {
     let Stall {
         item: _,

@@ -1,12 +1,11 @@
 //! Tests of what closing a month marks of units: the rows of all that change, and only those goods
-//! that are used, made, given
-//! or studied.
+//! that are used, made, given or studied.
 ghost use Rattle.std.specs.Prelude.{IfOk};
 ghost use Rattle.atl_state.specs.Good.{IsGood};
 
 use super::crowd::checked;
 use super::months::{own_mailings, small_world};
-use super::telling::row_is;
+use super::telling::assert_row;
 use atl_month::close_month;
 use atl_state::parts::{Parts, StoredBooks, StoredHas};
 use atl_state::{Campaign, LAST_MONTH, founded};
@@ -57,7 +56,7 @@ fn two_factions(alloc: Global, world: &World) -> Result<Campaign, Fail>
 static PAYING: [&str; 1] = ["#ATLANTIS 1\nUNIT 1\nNAME UNIT Watch\nPAY 2 10\nRECRUIT 1\n"];
 
 /// The campaign after a month of these mailings, with a word of the dice for each region.
-fn behind(
+fn after_month(
     alloc: Global,
     world: &World,
     campaign: Campaign,
@@ -77,11 +76,11 @@ fn behind(
 /// The campaign of two factions after a month of `PAYING`.
 fn paid(alloc: Global, world: &World) -> Result<Campaign, Fail> {
     let campaign = two_factions(alloc, world)?;
-    behind(alloc, world, campaign, &PAYING, &[0])
+    after_month(alloc, world, campaign, &PAYING, &[0])
 }
 
 /// Asserts that a truth value is true.
-fn is_so(rt: &impl Abort, told: bool) {
+fn assert_true(rt: &impl Abort, told: bool) {
     assert!(rt; told);
 }
 
@@ -97,8 +96,8 @@ fn has_a_recruit(campaign: &Campaign) -> bool {
 fn names_pay_recruits_and_upkeep_mark_no_goods(rt: HostRuntime) -> Result<(), Fail> {
     let world = small_world(rt.alloc())?;
     let campaign = paid(rt.alloc(), &world)?;
-    is_so(&rt, has_a_recruit(&campaign));
-    marks_are(&rt, rt.alloc(), 0, &campaign, "1 2 |1 2 ||||")?;
+    assert_true(&rt, has_a_recruit(&campaign));
+    assert_marks(&rt, rt.alloc(), 0, &campaign, "1 2 |1 2 ||||")?;
     Ok(())
 }
 
@@ -110,7 +109,7 @@ const WOOD: i64 = 20;
 /// How many days of carpentry unit 1 has.
 const CARPENTRY: i64 = 30;
 
-/// The first unit has wood, booked under joining, and days of carpentry.
+/// Adds rows for wood, booked under Joining, and for days of carpentry of unit 1.
 fn equip(rows: &mut Parts) -> Result<(), AllocError> {
     rows.has.push(StoredHas {
         unit: 1,
@@ -143,9 +142,9 @@ fn equipped(alloc: Global, world: &World) -> Result<Campaign, Fail>
 }
 
 /// The campaign of `equipped` after a month of one mailing.
-fn island_behind(alloc: Global, world: &World, mailing: &str) -> Result<Campaign, Fail> {
+fn island_after_month(alloc: Global, world: &World, mailing: &str) -> Result<Campaign, Fail> {
     let campaign = equipped(alloc, world)?;
-    behind(alloc, world, campaign, &[mailing], &[0, 0, 0, 0])
+    after_month(alloc, world, campaign, &[mailing], &[0, 0, 0, 0])
 }
 
 /// Appends a list of numbers, ended by `|`.
@@ -173,6 +172,7 @@ fn tell_things_of(
     Ok(())
 }
 
+/// Appends the things of all units, ended by `|`.
 fn tell_things(
     alloc: Global,
     units: Entries<'_, Numbered<()>>,
@@ -197,7 +197,7 @@ fn marks_of(alloc: Global, campaign: &Campaign) -> Result<String, AllocError> {
 }
 
 /// Asserts what `marks_of` says of a campaign; the message names the index of the row.
-fn marks_are(
+fn assert_marks(
     rt: &impl Abort,
     alloc: Global,
     row: usize,
@@ -205,7 +205,7 @@ fn marks_are(
     wanted: &str,
 ) -> Result<(), AllocError> {
     let told = marks_of(alloc, campaign)?;
-    row_is(rt, row, told.as_str(), wanted);
+    assert_row(rt, row, told.as_str(), wanted);
     Ok(())
 }
 
@@ -225,10 +225,11 @@ static MARKED: [(&str, &str); 6] = [
     ),
 ];
 
+/// Asserts what each month of `MARKED` marks.
 fn months_mark(rt: &impl Abort, alloc: Global, world: &World) -> Result<(), Fail> {
     for (row, (mailing, wanted)) in MARKED.iter().enumerate() {
-        let campaign = island_behind(alloc, world, mailing)?;
-        marks_are(rt, alloc, row, &campaign, wanted)?;
+        let campaign = island_after_month(alloc, world, mailing)?;
+        assert_marks(rt, alloc, row, &campaign, wanted)?;
     }
     Ok(())
 }

@@ -1,7 +1,7 @@
 //! Tests of which orders of a month each phase gets, in which order, and of aliases and events.
 use super::months::{month, world};
 use super::phases::{Studying, Working};
-use super::telling::row_is;
+use super::telling::assert_row;
 use atl_instant::{Arrangement, FormPhase, GivePhase, Month, MonthLongVerbs, PhaseVerbs};
 use atl_market::RecruitPhase;
 use atl_orders::Verb;
@@ -110,7 +110,7 @@ fn row_tells(
 ) -> Result<(), Fail> {
     let month = month(alloc, world, texts)?;
     let told = told_of(alloc, &month)?;
-    row_is(rt, row, told.as_str(), wanted);
+    assert_row(rt, row, told.as_str(), wanted);
     Ok(())
 }
 
@@ -128,7 +128,8 @@ fn orders_of_phases(rt: HostRuntime) -> Result<(), Fail> {
     rows_tell(&rt, rt.alloc(), &world)
 }
 
-/// FORM 1 of faction 1 made unit 7, and FORM 2 of faction 2 unit 6.
+/// A month of two mailings, in which FORM 1 of faction 1 made unit 7, and FORM 2 of faction 2 made
+/// unit 6.
 fn formed(alloc: Global, world: &World) -> Result<Month, Fail> {
     let first = "#ATLANTIS 1\nUNIT 4\nFORM 1\nWORK\nEND\nFORM 2\nWORK";
     let second = "#ATLANTIS 2\nUNIT 5\nFORM 1\nSTUDY sailing\nEND\nFORM 2\nWORK";
@@ -155,7 +156,7 @@ fn month_long_are(
         Arrangement::ByUnit,
         &mut told,
     )?;
-    row_is(rt, 0, told.as_str(), wanted);
+    assert_row(rt, 0, told.as_str(), wanted);
     Ok(())
 }
 
@@ -187,7 +188,7 @@ fn aliases_are(rt: &impl Abort, month: &Month) {
 fn formed_tells(rt: &impl Abort, alloc: Global, month: &Month) -> Result<(), Fail> {
     aliases_are(rt, month);
     let told = told_of(alloc, month)?;
-    row_is(
+    assert_row(
         rt,
         0,
         told.as_str(),
@@ -213,7 +214,7 @@ const EVENT: Event = Event {
 };
 
 /// Asserts the verb of an order, or that there is no order.
-fn is_verb(rt: &impl Abort, told: Option<Verb>, wanted: Option<Verb>) {
+fn assert_verb(rt: &impl Abort, told: Option<Verb>, wanted: Option<Verb>) {
     assert!(rt; told == wanted);
 }
 
@@ -225,10 +226,10 @@ fn verb_at(month: &Month, faction: u32, place: usize) -> Option<Verb> {
 
 /// Asserts the orders at some indexes, and the mailings.
 fn orders_are(rt: &impl Abort, month: &Month) {
-    is_verb(rt, verb_at(month, 1, 1), Some(Verb::Work));
-    is_verb(rt, verb_at(month, 2, 1), Some(Verb::Study));
-    is_verb(rt, verb_at(month, 2, 4), None);
-    is_verb(rt, verb_at(month, 3, 0), None);
+    assert_verb(rt, verb_at(month, 1, 1), Some(Verb::Work));
+    assert_verb(rt, verb_at(month, 2, 1), Some(Verb::Study));
+    assert_verb(rt, verb_at(month, 2, 4), None);
+    assert_verb(rt, verb_at(month, 3, 0), None);
     assert!(rt;
         month
             .mailing(2)

@@ -4,7 +4,7 @@ ghost use Rattle.std.specs.Prelude.{IfOk, ⊤};
 ghost use Rattle.atl_market.specs.Pots.{AreWants};
 ghost use Rattle.atl_month_tests.specs.Places.{pot_in};
 
-use super::telling::{row_is, tell_pair};
+use super::telling::{assert_row, tell_pair};
 use atl_market::{Pots, pot_shares};
 use atl_state::{Campaign, Holding, LAST_UNIT, Unit, founded};
 use atl_tables::{Numbered, Text, World, read_world};
@@ -151,7 +151,7 @@ fn shares(
 fn shares_all(rt: &impl Abort, alloc: Global, world: &World) -> Result<(), Fail> {
     for (row, (takers, pots, wanted)) in SHARED.iter().enumerate() {
         let told = shares(alloc, world, takers, *pots)?;
-        row_is(rt, row, told.as_str(), wanted);
+        assert_row(rt, row, told.as_str(), wanted);
     }
     Ok(())
 }

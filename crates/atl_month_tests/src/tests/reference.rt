@@ -1,6 +1,5 @@
 //! A second calculation of the phases that share pots and of upkeep, for comparison: by prefix sums
-//! over plain lists, slow and
-//! simple, with a look at all units for each pot and each unit.
+//! over plain lists, slow and simple, with a look at all units for each pot and each unit.
 pub(crate) mod plain;
 mod pots;
 mod produce;

@@ -3,7 +3,7 @@
 ghost use Rattle.std.specs.Prelude.{All, IfOk};
 ghost use Rattle.atl_month.specs.UpkeepSharing.{AreInOrder, IsUpkeepInput};
 
-use super::telling::{row_is, tell_pair};
+use super::telling::{assert_row, tell_pair};
 use atl_month::{UpkeepInput, upkeep_payments};
 use std::alloc::{AllocError, Global};
 use std::test::Fail;
@@ -77,7 +77,7 @@ fn told_of(alloc: Global, units: &[(u8, u8, u16, u16)]) -> Result<String, Fail> 
 #[test]
 fn upkeep_is_settled(rt: HostRuntime) -> Result<(), Fail> {
     for (row, (units, wanted)) in SETTLED.iter().enumerate() {
-        row_is(&rt, row, told_of(rt.alloc(), units)?.as_str(), wanted);
+        assert_row(&rt, row, told_of(rt.alloc(), units)?.as_str(), wanted);
     }
     Ok(())
 }

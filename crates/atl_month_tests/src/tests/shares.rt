@@ -23,7 +23,7 @@ static SHARED: [(u64, &[u64], &[u64]); 8] = [
 ];
 
 /// Asserts the shares of a pot.
-pub(crate) fn is_shared(rt: &impl Abort, pot: u64, told: &[u64], wanted: &[u64]) {
+pub(crate) fn assert_shares(rt: &impl Abort, pot: u64, told: &[u64], wanted: &[u64]) {
     assert_eq!(rt; told, wanted, "of {pot}");
 }
 
@@ -46,7 +46,7 @@ fn shares(
         return Err(Fail::new("a pot and wants that are small enough"));
     }
     let given = share(alloc, pot, wants)?;
-    is_shared(rt, pot, given.as_slice(), wanted);
+    assert_shares(rt, pot, given.as_slice(), wanted);
     Ok(())
 }
 

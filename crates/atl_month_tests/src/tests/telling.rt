@@ -3,7 +3,7 @@ use std::alloc::{AllocError, Global};
 use std::process::Abort;
 
 /// Asserts that a text is the wanted one; the message names the index of the row.
-pub(crate) fn row_is(rt: &impl Abort, row: usize, told: &str, wanted: &str) {
+pub(crate) fn assert_row(rt: &impl Abort, row: usize, told: &str, wanted: &str) {
     assert_eq!(rt; told, wanted, "at {row}");
 }
 

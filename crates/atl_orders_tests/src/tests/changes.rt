@@ -557,8 +557,8 @@ pub(crate) static ARRAY_CHANGES: [Change; 13] = [
     ),
 ];
 
-/// The world with 200 equal markets, unchanged: it is within the limit, so the fault is the
-/// name that comes twice.
+/// The world with 200 equal markets, unchanged: it is within the limit, so the fault is the name
+/// that comes twice.
 pub(crate) static EQUAL_MARKETS: [Change; 1] = [(
     "[rules]",
     "[rules]",
@@ -572,8 +572,8 @@ pub(crate) static TOO_MANY_MARKETS: [Change; 1] = [(
     "4 OutOfRange region[0].market",
 )];
 
-/// An edit: a piece of the text, what replaces it, and the first fault then in the second
-/// format and in the first.
+/// An edit: a piece of the text, what replaces it, and the first fault then in the second format
+/// and in the first.
 pub(crate) type TwoFaults = (&'static str, &'static str, &'static str, &'static str);
 
 /// Edits of the world with one market that make a fault of the market, which the first format

@@ -1,5 +1,5 @@
-//! Tests of `Text`, `Sequence` and `Numbered` (a map by number), call by call, and of the names
-//! of world faults.
+//! Tests of `Text`, `Sequence` and `Numbered` (a map by number), call by call, and of the names of
+//! world faults.
 use super::asserts::{assert_number, assert_numbers, assert_row};
 use atl_tables::{Numbered, Sequence, Text, WorldFault};
 use std::alloc::Global;

@@ -21,8 +21,8 @@ fn before(header: &str) -> &'static str {
     }
 }
 
-/// The fault that the first format reports where the second reports `fault`: none for a
-/// market's, which it ignores.
+/// The fault that the first format reports where the second reports `fault`: none for a market's,
+/// which it ignores.
 fn old_fault(fault: &str) -> &str {
     if fault.contains(".market") {
         "none"
@@ -158,8 +158,7 @@ skill = \"carpentry\"
 level = 1
 ";
 
-/// What is appended to the small world: `front`, `open` n times, `inside`, `close` n times,
-/// `end`.
+/// What is appended to the small world: `front`, `open` n times, `inside`, `close` n times, `end`.
 #[derive(Clone, Copy)]
 struct Long {
     front: &'static str,
@@ -203,8 +202,8 @@ const MANY_KINDS: Long = Long {
     ..EMPTY
 };
 
-/// What is appended, how often, and the first fault: at the limit of a list the names come
-/// twice, beyond it there are too many.
+/// What is appended, how often, and the first fault: at the limit of a list the names come twice,
+/// beyond it there are too many.
 static MANY: [(Long, usize, &str); 11] = [
     (MANY_REGIONS, 1, "5 TwoNames region[1].number"),
     (MANY_REGIONS, 9_999, "5 TwoNames region[1].number"),
@@ -269,8 +268,8 @@ const DOTTED_BELOW: Long = Long {
     end: " = 1\n",
 };
 
-/// What is appended, n, and the first fault. Keys that the format doesn't name are ignored.
-/// A key of 80 parts below a header of 80 is 160 deep.
+/// What is appended, n, and the first fault. Keys that the format doesn't name are ignored. A key
+/// of 80 parts below a header of 80 is 160 deep.
 static NESTED: [(Long, usize, &str); 16] = [
     (TABLES, 80, "none"),
     (TABLES, 81, "1 NotToml"),

@@ -1,5 +1,5 @@
-//! Tests of reading a mailing: each form of order, blocks, line ends, long texts, and the spans
-//! of names.
+//! Tests of reading a mailing: each form of order, blocks, line ends, long texts, and the spans of
+//! names.
 use super::asserts::{assert_number, assert_row};
 use super::worlds::{THINGS, world_with};
 use atl_orders::{MailFault, Mailing, Operands, Span, read_mailing};
@@ -66,8 +66,8 @@ fn assert_read(
     Ok(())
 }
 
-/// Good orders in any case, quoted and bare, with comments, tabs and surplus words, and how
-/// each is read.
+/// Good orders in any case, quoted and bare, with comments, tabs and surplus words, and how each is
+/// read.
 static GOOD: [(&str, &str); 24] = [
     ("WORK", "Work Nothing"),
     ("\"work\" now", "Work Nothing"),
@@ -212,8 +212,8 @@ static BAD_WORK: [(&str, &str); 20] = [
     ("UNIT 2 \"\x7f", "6 BadByte"),
 ];
 
-/// Asserts how each line is read as line 3 of a mailing, after `UNIT 7`; `front` stands before
-/// each wanted text.
+/// Asserts how each line is read as line 3 of a mailing, after `UNIT 7`; `front` stands before each
+/// wanted text.
 fn lines_tell(
     rt: &impl Abort,
     alloc: Global,
@@ -354,8 +354,8 @@ fn words_of(alloc: Global, mailing: &Mailing) -> Result<String, Fail> {
     Ok(words)
 }
 
-/// Mailings, and what `words_of` says of each. A name is the text at its span, with `_` as a
-/// space where it is bare.
+/// Mailings, and what `words_of` says of each. A name is the text at its span, with `_` as a space
+/// where it is bare.
 static WORDS: [(&str, &str); 3] = [
     (
         "#ATLANTIS 1\nUNIT 7\nBOARD 1\nFORM 1\nEND\nRECRUIT 3",

@@ -1,5 +1,5 @@
-//! Tests of a world's markets in both formats, and of whether two worlds differ in their
-//! markets alone.
+//! Tests of a world's markets in both formats, and of whether two worlds differ in their markets
+//! alone.
 use super::asserts::assert_shown;
 use super::worlds::{MARKET, changed, read_in, with_markets};
 use atl_tables::{Format, World, read_world};
@@ -37,8 +37,8 @@ fn markets_in_both_formats(rt: HostRuntime) -> Result<(), Fail> {
     )
 }
 
-/// Edits of the world with one market, and whether the two worlds then count as different in
-/// their markets alone.
+/// Edits of the world with one market, and whether the two worlds then count as different in their
+/// markets alone.
 static CHANGES: [(&str, &str, bool); 24] = [
     ("price = 7", "price = 8", true),
     ("pays = 5", "pays = 6", true),

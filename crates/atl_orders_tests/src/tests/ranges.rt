@@ -1,5 +1,5 @@
-//! Tests of each number of a world file: missing, no whole number, at both ends of its range,
-//! and one beyond.
+//! Tests of each number of a world file: missing, no whole number, at both ends of its range, and
+//! one beyond.
 use super::faults::assert_change;
 use super::worlds::with_markets;
 use std::alloc::Global;
@@ -113,8 +113,7 @@ fn number_is(
     }
 }
 
-/// Asserts that a key takes the ends of its range, and neither their neighbours outside nor
-/// 1.5.
+/// Asserts that a key takes the ends of its range, and neither their neighbours outside nor 1.5.
 fn has_range(
     rt: &impl Abort,
     alloc: Global,

@@ -6,8 +6,8 @@ use std::alloc::Global;
 use std::process::Abort;
 use std::test::Fail;
 
-/// All that a world must hold once read; lists as `Debug` prints them, and regions as
-/// `region_text` prints them.
+/// All that a world must hold once read; lists as `Debug` prints them, and regions as `region_text`
+/// prints them.
 struct Shown {
     rules: &'static str,
     terrains: &'static str,

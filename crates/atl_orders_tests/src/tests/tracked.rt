@@ -1,5 +1,5 @@
-//! Tests of `MarkedMap`, a map with a dirty set: the numbers whose values changed since the
-//! last `unmark`.
+//! Tests of `MarkedMap`, a map with a dirty set: the numbers whose values changed since the last
+//! `unmark`.
 use super::asserts::{assert_number, assert_numbers};
 use super::containers::{assert_map, filled};
 use atl_tables::MarkedMap;
@@ -42,8 +42,8 @@ static CHANGES: [Row; 12] = [
     (Step::TakeOut(8), 4, &[1, 4, 5, 20, 30]),
 ];
 
-/// Calls from the same map on, by which marks are set and cleared, also those of numbers
-/// without a value.
+/// Calls from the same map on, by which marks are set and cleared, also those of numbers without a
+/// value.
 static MARKS: [Row; 13] = [
     (Step::Remove(20), 2, &[20]),
     (Step::Unmark, 2, &[]),
@@ -60,8 +60,8 @@ static MARKS: [Row; 13] = [
     (Step::Unmark, 0, &[]),
 ];
 
-/// Calls from the same map on that lead back to it: a value is removed and inserted again, and
-/// a new one comes and goes.
+/// Calls from the same map on that lead back to it: a value is removed and inserted again, and a
+/// new one comes and goes.
 static ROUND: [Row; 5] = [
     (Step::Remove(20), 2, &[20]),
     (Step::Insert(20, 2), 3, &[20]),
@@ -155,8 +155,7 @@ fn goes_round(rt: &impl Abort, alloc: Global, map: &mut MarkedMap<u32>) -> Resul
     assert_steps(rt, alloc, map, &MARKS)
 }
 
-/// A removed number stays marked, and `mark` marks only numbers that have a value or are
-/// marked.
+/// A removed number stays marked, and `mark` marks only numbers that have a value or are marked.
 #[test]
 fn marks_of_what_is_gone(rt: HostRuntime) -> Result<(), Fail> {
     let mut map = MarkedMap::of(rt.alloc(), filled(rt.alloc())?)?;
@@ -192,8 +191,8 @@ fn puts_thirds(map: &mut MarkedMap<u32>) -> Result<(), Fail> {
     Ok(())
 }
 
-/// Asserts that the marked numbers come in rising order from 1, with or without each third, and
-/// how many there are.
+/// Asserts that the marked numbers come in rising order from 1, with or without each third, and how
+/// many there are.
 fn count_up(rt: &impl Abort, map: &MarkedMap<u32>, thirds: bool, count: usize) {
     assert_number(rt, map.marked(), count);
     let mut wanted = 1;
@@ -203,8 +202,8 @@ fn count_up(rt: &impl Abort, map: &MarkedMap<u32>, thirds: bool, count: usize) {
     }
 }
 
-/// Marks all numbers in one of the two orders, takes out thirds and inserts them again, and
-/// clears all marks.
+/// Marks all numbers in one of the two orders, takes out thirds and inserts them again, and clears
+/// all marks.
 fn mixes(rt: &impl Abort, map: &mut MarkedMap<u32>, falling: bool) -> Result<(), Fail> {
     map.unmark();
     marks_each(map, falling);

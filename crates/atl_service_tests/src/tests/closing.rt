@@ -35,8 +35,7 @@ Exits: none.
 ";
 
 /// What the tables hold after month 1. The money is 2,502 (500 founded, 1,000 joined, 1,000 of
-/// income, 12 of wages,
-/// 10 spent on upkeep), and the people are 1,001.
+/// income, 12 of wages, 10 spent on upkeep), and the people are 1,001.
 pub(crate) const AFTER_MONTH_ONE: [(&str, Option<i64>); 12] = [
     (MONTH, Some(1)),
     (NEXT, Some(200002)),

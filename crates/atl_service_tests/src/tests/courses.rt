@@ -39,12 +39,9 @@ const TWO_MONTHS: [Step; 5] = [
 ];
 
 /// What the tables hold after both months. Of 1,000 money unit 1 has 1,002 after its first month,
-/// in which it works for 12
-/// and pays 10. It pays 170, takes 10 in tax, works and pays 10 again, and gets the 100 of unit 2,
-/// which is swept: 944.
-/// Unit 3 recruits for 50, works and pays 10: 22. The region has 500, gets 1,000 and, of a peasant
-/// less, 999, and gives the tax.
-/// The people are 1,001.
+/// in which it works for 12 and pays 10. It pays 170, takes 10 in tax, works and pays 10 again, and
+/// gets the 100 of unit 2, which is swept: 944. Unit 3 recruits for 50, works and pays 10: 22. The
+/// region has 500, gets 1,000 and, of a peasant less, 999, and gives the tax. The people are 1,001.
 const AFTER_BOTH: [(&str, Option<i64>); 8] = [
     (MONTH, Some(2)),
     (NEXT, Some(200004)),

@@ -1,6 +1,5 @@
 //! Tests that a disk that stops at any of its calls leaves the campaign before a write or after it,
-//! never a part: at a founding,
-//! a join, mailings and closings.
+//! never a part: at a founding, a join, mailings and closings.
 use super::compare::assert_text;
 use super::courses::COURSES;
 use super::files::connected;
@@ -92,8 +91,7 @@ fn is_done(answer: &Answer) -> bool {
 }
 
 /// Runs the commands, and returns how many were done. The one at which the disk stops must be
-/// answered Store, and all later
-/// ones Closed; then there is no campaign, and there are no books.
+/// answered Store, and all later ones Closed; then there is no campaign, and there are no books.
 fn run_each(rt: &impl Abort, service: &mut impl Served, commands: &[Command]) -> usize {
     let mut done = 0usize;
     let mut stopped = false;
@@ -212,8 +210,7 @@ fn rows_left<S: Alter + Drop>(
 }
 
 /// Plays a plan in files, and asserts that a crash leaves the campaign after the writes done, or
-/// after one more.
-/// The result is how many writes were done, none if the files can't be opened.
+/// after one more. The result is how many writes were done, none if the files can't be opened.
 fn stopped<D: Crash + Drop>(
     rt: &impl Abort,
     alloc: Global,

@@ -185,9 +185,8 @@ static SHAPES: [(&str, Told); 10] = [
 ];
 
 /// The same for statements that make two faults, in the order in which opening looks for them: the
-/// campaign's own row can't be
-/// read; it breaks the first rule; another table can't be read; a value of another type; tables
-/// that differ; a later rule.
+/// campaign's own row can't be read; it breaks the first rule; another table can't be read; a value
+/// of another type; tables that differ; a later rule.
 static MEETINGS: [(&str, Told); 16] = [
     ("DROP TABLE campaign; DROP TABLE unit", Told::NotACampaign),
     (

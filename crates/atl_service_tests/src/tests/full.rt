@@ -52,8 +52,7 @@ const BREE_JOINS: [Step; 1] = [Step::Told(BREE, "joined")];
 const NOBODY_JOINS: [Step; 1] = [Step::Told(BREE, "full")];
 
 /// A campaign filled by hand: the SQL that doubles its rows and up to which number, the SQL that
-/// makes the books fit,
-/// a join, and what the tables hold afterwards.
+/// makes the books fit, a join, and what the tables hold afterwards.
 struct Filled {
     more: Option<(&'static str, i64)>,
     then: &'static str,

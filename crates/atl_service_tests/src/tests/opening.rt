@@ -19,8 +19,7 @@ use std::process::Abort;
 use std::test::Fail;
 
 /// What is done with a database between two openings: the world to found (None: open what is
-/// there), commands,
-/// SQL statements, and what the tables hold afterwards.
+/// there), commands, SQL statements, and what the tables hold afterwards.
 pub(crate) struct Session {
     pub(crate) world: Option<&'static str>,
     pub(crate) steps: &'static [Step],

@@ -12,8 +12,7 @@ use std::slice;
 use std::test::Fail;
 
 /// SQL on the island with a market that both have joined, after which each of the ten tables has
-/// rows.
-/// The last unit number was given, Avalon has sent a mailing, and Bree is gone.
+/// rows. The last unit number was given, Avalon has sent a mailing, and Bree is gone.
 pub(crate) const EVERY_TABLE: &str = "INSERT INTO mail VALUES (1, x'2341544C414E5449532031');
 INSERT INTO has VALUES (1, 1, 0, 450);
 INSERT INTO structure VALUES (1, 0, 'Ship 1', 3, 10, 0);

@@ -16,8 +16,7 @@ use std::process::Abort;
 use std::test::Fail;
 
 /// A file of the first format: steps on the island before it was written, SQL statements on it,
-/// steps after the upgrade,
-/// and what the tables hold at the end.
+/// steps after the upgrade, and what the tables hold at the end.
 struct Story {
     before: &'static [Step],
     by_hand: &'static str,

@@ -1,5 +1,5 @@
-//! Builds the rows of the tables of a campaign by hand, so that tests of `check` can put one
-//! wrong value in.
+//! Builds the rows of the tables of a campaign by hand, so that tests of `check` can put one wrong
+//! value in.
 use atl_state::parts::{
     Parts, StoredBooks, StoredCampaignRow, StoredFaction, StoredHas, StoredMarket, StoredRegion,
     StoredReport, StoredStructure, StoredUnit,
@@ -8,9 +8,8 @@ use atl_tables::{Format, Sequence, Text};
 use std::alloc::Global;
 use std::test::Fail;
 
-/// The values of the island campaign's rows that tests vary. Avalon and Bree have a unit each
-/// in region 3.
-/// Region 1 has a market with room for 30 wood.
+/// The values of the island campaign's rows that tests vary. Avalon and Bree have a unit each in
+/// region 3. Region 1 has a market with room for 30 wood.
 #[derive(Clone, Copy)]
 pub(crate) struct Rows {
     /// The format that is asked for, and the number that the campaign's own row has of it.

@@ -1,5 +1,5 @@
-//! Tests of `check`: rows of a good campaign are accepted, and others get the number of the
-//! first rule that they break.
+//! Tests of `check`: rows of a good campaign are accepted, and others get the number of the first
+//! rule that they break.
 use super::by_hand::{Rows, parts};
 use super::compare::{assert_amount, assert_count, assert_row, assert_rows};
 use atl_state::parts::Parts;
@@ -124,8 +124,7 @@ static MARKET_CASES: [(Rows, u64); 14] = [
     ),
 ];
 
-/// The number of the broken rule that a check reports, 0 if it accepts, and 99 if memory ran
-/// out.
+/// The number of the broken rule that a check reports, 0 if it accepts, and 99 if memory ran out.
 fn rule_of(checked: Result<Campaign, CheckFault>) -> u64 {
     match checked {
         Ok(_) => 0,
@@ -156,8 +155,8 @@ pub(crate) fn checked(alloc: Global, world: &World, rows: Parts) -> Result<Campa
     }
 }
 
-/// Asserts the counts and the stock of the campaign that `GOOD` makes, and that nothing of it
-/// is marked.
+/// Asserts the counts and the stock of the campaign that `GOOD` makes, and that nothing of it is
+/// marked.
 fn assert_island(rt: &impl Abort, campaign: &Campaign) {
     assert_count(rt, campaign.unit_count(), 2);
     assert_count(rt, campaign.faction_count(), 2);
@@ -170,8 +169,8 @@ fn assert_island(rt: &impl Abort, campaign: &Campaign) {
 /// The wanted row of the stock, as `Debug` prints it.
 const STOCK: &str = "[StoredMarket { region: 1, item: 0, stock: 20 }]";
 
-/// Asserts that a campaign's rows in the second format are accepted again, and that those of
-/// the first leave out the stock.
+/// Asserts that a campaign's rows in the second format are accepted again, and that those of the
+/// first leave out the stock.
 fn comes_back(rt: &impl Abort, alloc: Global, world: &World, first: &Campaign) -> Result<(), Fail> {
     let old = first.parts_as(Format::First)?;
     assert_rows(rt, alloc, old.markets.as_slice(), "[]")?;

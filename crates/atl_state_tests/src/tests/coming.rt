@@ -1,5 +1,5 @@
-//! Tests of which parts are marked when a faction joins, and when units and structures are
-//! added, lent or removed.
+//! Tests of which parts are marked when a faction joins, and when units and structures are added,
+//! lent or removed.
 use super::compare::{assert_amount, assert_count};
 use super::making::{BOAT, avalon_joins, founded_in};
 use super::shown::{Ask, Row, assert_steps};

@@ -1,5 +1,5 @@
-//! Assertions for these tests, one for each type: an `assert_eq!` costs much to prove, so each
-//! is written once.
+//! Assertions for these tests, one for each type: an `assert_eq!` costs much to prove, so each is
+//! written once.
 use std::alloc::Global;
 use std::fmt::Debug;
 use std::process::Abort;

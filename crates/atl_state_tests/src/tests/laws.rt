@@ -1,5 +1,5 @@
-//! Calls each law of the crates under test once and asserts nothing: a law does nothing, and
-//! its clause is proved.
+//! Calls each law of the crates under test once and asserts nothing: a law does nothing, and its
+//! clause is proved.
 use atl_state::good_campaigns_are_early;
 
 #[test]

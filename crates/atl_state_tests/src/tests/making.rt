@@ -55,8 +55,7 @@ pub(crate) fn one_man(alloc: Global) -> Result<Holding, Fail> {
     Ok(Holding::new(name, 1, 0, Numbered::new(alloc), Numbered::new(alloc)))
 }
 
-/// Adds a unit of one man of a faction to region Far, in no structure; the answer is its
-/// number.
+/// Adds a unit of one man of a faction to region Far, in no structure; the answer is its number.
 pub(crate) fn man_comes(alloc: Global, campaign: &mut Campaign, faction: u32) -> Result<u32, Fail> {
     if campaign.next_unit() > LAST_UNIT || campaign.unit(campaign.next_unit()).is_some() {
         return Err(Fail::new("a free number"));

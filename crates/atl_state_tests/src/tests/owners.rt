@@ -214,8 +214,8 @@ static ENTERING: [Step; 3] = [
     Step::Unit(3, OfUnit::Place(3, 1)),
 ];
 
-/// A structure, a unit that leaves it, and who owns it then. Unit 2 owns the boat, with units 1
-/// and 3 inside.
+/// A structure, a unit that leaves it, and who owns it then. Unit 2 owns the boat, with units 1 and
+/// 3 inside.
 static AFTER: [(u32, u32, u32); 5] = [(1, 2, 1), (1, 1, 2), (1, 3, 2), (2, 1, 0), (9, 1, 0)];
 
 /// Asserts for each row of `AFTER` who would own the structure.

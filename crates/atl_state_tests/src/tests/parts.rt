@@ -8,8 +8,7 @@ use std::alloc::Global;
 use std::process::Abort;
 use std::test::Fail;
 
-/// Steps that give Avalon a lodge, 12 wood, 60 days of sailing, a guard, a mailing and a
-/// report.
+/// Steps that give Avalon a lodge, 12 wood, 60 days of sailing, a guard, a mailing and a report.
 static SETTLING: [Step; 7] = [
     Step::Begins(LODGE, 1),
     Step::Structure(1, OfStructure::Owner(1)),
@@ -63,8 +62,7 @@ const MAIL: &str =
 /// The wanted row of the report.
 const REPORTS: &str = "[StoredReport { faction: 1, text: Text { string: \"A report.\\n\" } }]";
 
-/// The wanted rows of the books: what the regions held at the founding, and what joining
-/// brought.
+/// The wanted rows of the books: what the regions held at the founding, and what joining brought.
 const BOOKS: &str = "[StoredBooks { entry: 1, thing: 0, amount: 650 }, \
     StoredBooks { entry: 1, thing: 1, amount: 1300 }, \
     StoredBooks { entry: 2, thing: 0, amount: 1000 }, \

@@ -1,5 +1,4 @@
-//! Tests of units removed and added in turn: who is there, what is marked, and the campaign's
-//! rows.
+//! Tests of units removed and added in turn: who is there, what is marked, and the campaign's rows.
 use super::checks::checked;
 use super::compare::assert_count;
 use super::making::{FAR, joined_in};
@@ -42,8 +41,8 @@ static COMING: [Step; 25] = [
     Step::Comes(1, 14),
 ];
 
-/// Units that came and units that went are marked. After the marks are cleared, only those of
-/// the next change are.
+/// Units that came and units that went are marked. After the marks are cleared, only those of the
+/// next change are.
 static MARKS: [Row; 6] = [
     (
         Step::Nothing,

@@ -1,5 +1,5 @@
-//! Tests of the calls that set one part of a campaign: what each sets, and that it marks that
-//! part alone.
+//! Tests of the calls that set one part of a campaign: what each sets, and that it marks that part
+//! alone.
 use super::making::{FAR, LODGE, joined_by};
 use super::shown::{Ask, Row, assert_unmarked_steps};
 use super::steps::{OfFaction, OfRegion, OfStructure, OfUnit, Step, does};

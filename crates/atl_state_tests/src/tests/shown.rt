@@ -13,8 +13,8 @@ use std::test::Fail;
 #[derive(Drop, Clone, Copy)]
 pub(crate) enum Ask {
     Month,
-    /// How many factions, regions, units and structures there are, and the next numbers of a
-    /// unit and a structure.
+    /// How many factions, regions, units and structures there are, and the next numbers of a unit
+    /// and a structure.
     Counts,
     Faction(u32),
     /// The mail of a faction, and how many mails there are.
@@ -276,8 +276,7 @@ fn marks_text(alloc: Global, campaign: &Campaign) -> Result<String, Fail> {
 /// A step, a question after it, the answer, and what is marked then (`marks_text`).
 pub(crate) type Row = (Step, Ask, &'static str, &'static str);
 
-/// Makes the step of a row, and asserts its answer and its marks; `place` is the index of the
-/// row.
+/// Makes the step of a row, and asserts its answer and its marks; `place` is the index of the row.
 fn is_so_after(
     rt: &impl Abort,
     alloc: Global,

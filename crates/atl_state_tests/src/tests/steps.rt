@@ -16,11 +16,11 @@ pub(crate) enum Step {
     Region(u32, OfRegion),
     Unit(u32, OfUnit),
     Structure(u32, OfStructure),
-    /// A unit of one man of a faction is added in region Far; the second number is the one it
-    /// must get.
+    /// A unit of one man of a faction is added in region Far; the second number is the one it must
+    /// get.
     Comes(u32, u32),
-    /// A structure of a kind is begun there, without an owner; the second number is the one it
-    /// must get.
+    /// A structure of a kind is begun there, without an owner; the second number is the one it must
+    /// get.
     Begins(u16, u32),
 }
 

@@ -12,8 +12,8 @@ const ALL_WOOD: Ask = Ask::Total(Thing::Item(0));
 /// The question how much wood region 1 has in stock.
 const STOCK: Ask = Ask::Stock(1, 0);
 
-/// Steps that set stocks. Setting the same amount marks nothing, an amount of 0 is not listed,
-/// and without a region nothing changes.
+/// Steps that set stocks. Setting the same amount marks nothing, an amount of 0 is not listed, and
+/// without a region nothing changes.
 static WOOD: [Row; 11] = [
     (Step::Unmark, ALL_WOOD, "0", "0"),
     (

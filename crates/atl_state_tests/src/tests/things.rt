@@ -8,9 +8,8 @@ use std::test::Fail;
 /// The question how much unit 1 has of item 7, and its days of skill 3.
 const GOODS: Ask = Ask::Goods(1, 7, 3);
 
-/// Steps with the count of parts marked. A unit counts once, however many of its items and
-/// skills are marked.
-/// An item or skill set to 0 is marked too.
+/// Steps with the count of parts marked. A unit counts once, however many of its items and skills
+/// are marked. An item or skill set to 0 is marked too.
 static ONE_BY_ONE: [Row; 11] = [
     (Step::Unmark, GOODS, "0, 0 days", "0"),
     (

@@ -1,5 +1,5 @@
-//! Tests of the walks over all factions, regions, units and structures of a campaign, and of
-//! its totals.
+//! Tests of the walks over all factions, regions, units and structures of a campaign, and of its
+//! totals.
 use super::compare::{assert_amount, assert_count, assert_text};
 use super::making::{LODGE, joined_by};
 use super::shown::{Ask, Row, assert_steps};

@@ -1,5 +1,5 @@
-//! The calls of the store as steps of a script, each with its answer: `Done`, or the fault.
-//! Each call is made at one location alone, since a proof ties its clauses anew at each.
+//! The calls of the store as steps of a script, each with its answer: `Done`, or the fault. Each
+//! call is made at one location alone, since a proof ties its clauses anew at each.
 use super::campaigns::{founded_by, has_arrived, has_few_things, joined};
 use super::words::{done, done_or_fault, text_of};
 use atl_state::Campaign;
@@ -85,8 +85,7 @@ pub(crate) fn load_answer<S: Alter>(
 }
 
 /// The answer of `upgrade` to a world text; if it is `Done`, the campaign is replaced by the
-/// upgraded one.
-/// For a text that is no world the answer is `World`, without its fault.
+/// upgraded one. For a text that is no world the answer is `World`, without its fault.
 pub(crate) fn upgrade_answer<S: Alter>(
     alloc: Global,
     conn: &mut Connection<S>,

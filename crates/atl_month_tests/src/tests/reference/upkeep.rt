@@ -6,8 +6,7 @@ use atl_tables::World;
 use std::alloc::{AllocError, Global};
 
 /// What the units of a faction in a region have left after their own upkeep and what they are short
-/// of:
-/// of all of them, and of those before one unit.
+/// of: of all of them, and of those before one unit.
 #[derive(Clone, Copy, Drop)]
 struct Purse {
     left: u64,

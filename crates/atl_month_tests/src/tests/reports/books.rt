@@ -1,7 +1,7 @@
 //! Tests of the text of the books, worked out by hand.
 ghost use Rattle.atl_state.specs.Good.{IsGood};
 
-use super::compare::is_text;
+use super::compare::assert_text;
 use super::scenes::{CART, MAN, NOBODY, Person, Scene, WOOD, campaign_of};
 use atl_report::books_text;
 use atl_state::Campaign;
@@ -192,12 +192,12 @@ fn tell(
     requires { IsGood world.now campaign.now.value }
 {
     let text = books_text(alloc, world, campaign)?;
-    is_text(rt, text.as_str(), wanted);
+    assert_text(rt, text.as_str(), wanted);
     Ok(())
 }
 
 /// Asserts the text of a scene's books.
-fn tells(
+fn assert_case(
     rt: &impl Abort,
     alloc: Global,
     world: &World,
@@ -209,14 +209,14 @@ fn tells(
 }
 
 /// Asserts the text of each scene's books.
-fn tells_all(
+fn assert_cases(
     rt: &impl Abort,
     alloc: Global,
     world: &World,
     cases: &[(Scene, &str)],
 ) -> Result<(), Fail> {
     for (scene, wanted) in cases {
-        tells(rt, alloc, world, scene, wanted)?;
+        assert_case(rt, alloc, world, scene, wanted)?;
     }
     Ok(())
 }
@@ -224,11 +224,11 @@ fn tells_all(
 #[test]
 fn books_of_money_and_people(rt: HostRuntime) -> Result<(), Fail> {
     let world = read_world(rt.alloc(), SMALL)?;
-    tells_all(&rt, rt.alloc(), &world, &OF_SMALL)
+    assert_cases(&rt, rt.alloc(), &world, &OF_SMALL)
 }
 
 #[test]
 fn books_of_items(rt: HostRuntime) -> Result<(), Fail> {
     let world = read_world(rt.alloc(), ISLE)?;
-    tells_all(&rt, rt.alloc(), &world, &OF_ISLE)
+    assert_cases(&rt, rt.alloc(), &world, &OF_ISLE)
 }

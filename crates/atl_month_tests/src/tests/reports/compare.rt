@@ -2,6 +2,6 @@
 use std::process::Abort;
 
 /// Asserts that a text is the wanted one.
-pub(crate) fn is_text(rt: &impl Abort, told: &str, wanted: &str) {
+pub(crate) fn assert_text(rt: &impl Abort, told: &str, wanted: &str) {
     assert_eq!(rt; told, wanted);
 }

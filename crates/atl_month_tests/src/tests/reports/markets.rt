@@ -1,6 +1,6 @@
 //! Tests of reports of regions with markets. The world is the island with two markets in region 4;
 //! its text has the cart's first.
-use super::compare::is_text;
+use super::compare::assert_text;
 use super::scenes::{Built, LODGE, MAN, NOBODY, Person, Scene, campaign_of};
 use atl_report::{report_text, view};
 use atl_tables::{World, read_world};
@@ -115,18 +115,18 @@ Exits: east 2.
 ];
 
 /// Asserts the report of a case.
-fn tells(rt: &impl Abort, alloc: Global, world: &World, case: &Case) -> Result<(), Fail> {
+fn assert_case(rt: &impl Abort, alloc: Global, world: &World, case: &Case) -> Result<(), Fail> {
     let campaign = campaign_of(alloc, world, &case.scene)?;
     let seen = view(alloc, world, &campaign, 1)?;
     let text = report_text(alloc, world, &seen, &[], &[])?;
-    is_text(rt, text.as_str(), case.wanted);
+    assert_text(rt, text.as_str(), case.wanted);
     Ok(())
 }
 
 /// Asserts the report of each case.
-fn tells_all(rt: &impl Abort, alloc: Global, world: &World) -> Result<(), Fail> {
+fn assert_cases(rt: &impl Abort, alloc: Global, world: &World) -> Result<(), Fail> {
     for case in CASES.iter() {
-        tells(rt, alloc, world, case)?;
+        assert_case(rt, alloc, world, case)?;
     }
     Ok(())
 }
@@ -135,5 +135,5 @@ fn tells_all(rt: &impl Abort, alloc: Global, world: &World) -> Result<(), Fail> 
 fn markets(rt: HostRuntime) -> Result<(), Fail> {
     let text = format!(in rt.alloc(); "{ISLE}{MARKETS}")?;
     let world = read_world(rt.alloc(), text.as_str())?;
-    tells_all(&rt, rt.alloc(), &world)
+    assert_cases(&rt, rt.alloc(), &world)
 }

@@ -1,5 +1,5 @@
 //! Tests of what a report says of orders, without any region.
-use super::compare::is_text;
+use super::compare::assert_text;
 use atl_orders::{FaultyLine, LineFault, Verb};
 use atl_report::{View, report_text};
 use atl_state::{Event, EventFault, EventVerb, JoinFault, Outcome};
@@ -178,7 +178,7 @@ fn nowhere(alloc: Global) -> Result<View, Fail> {
 }
 
 /// Asserts the report of a case.
-fn tells(
+fn assert_case(
     rt: &impl Abort,
     alloc: Global,
     world: &World,
@@ -186,15 +186,15 @@ fn tells(
     case: &Case,
 ) -> Result<(), Fail> {
     let text = report_text(alloc, world, view, case.faults, case.events)?;
-    is_text(rt, text.as_str(), case.wanted);
+    assert_text(rt, text.as_str(), case.wanted);
     Ok(())
 }
 
 /// Asserts the report of each case.
-fn tells_all(rt: &impl Abort, alloc: Global, world: &World) -> Result<(), Fail> {
+fn assert_cases(rt: &impl Abort, alloc: Global, world: &World) -> Result<(), Fail> {
     let view = nowhere(alloc)?;
     for case in CASES.iter() {
-        tells(rt, alloc, world, &view, case)?;
+        assert_case(rt, alloc, world, &view, case)?;
     }
     Ok(())
 }
@@ -202,7 +202,7 @@ fn tells_all(rt: &impl Abort, alloc: Global, world: &World) -> Result<(), Fail> 
 #[test]
 fn faults_and_events(rt: HostRuntime) -> Result<(), Fail> {
     let world = read_world(rt.alloc(), SMALL)?;
-    tells_all(&rt, rt.alloc(), &world)
+    assert_cases(&rt, rt.alloc(), &world)
 }
 
 /// The fault of an order is printed with its number, that of a join without.
@@ -210,7 +210,7 @@ fn faults_and_events(rt: HostRuntime) -> Result<(), Fail> {
 fn printed_faults(rt: HostRuntime) -> Result<(), Fail> {
     let of_order = format!(in rt.alloc(); "{}", EventFault::NoWay)?;
     let of_joining = format!(in rt.alloc(); "{}", JoinFault::NameTaken)?;
-    is_text(&rt, of_order.as_str(), "17 NoWay");
-    is_text(&rt, of_joining.as_str(), "NameTaken");
+    assert_text(&rt, of_order.as_str(), "17 NoWay");
+    assert_text(&rt, of_joining.as_str(), "NameTaken");
     Ok(())
 }

@@ -94,8 +94,7 @@ pub(crate) struct Scene {
     /// The stocks: region, item and amount.
     pub stocks: &'static [(i64, i64, i64)],
     /// What is booked: entry, thing and amount. If nothing is, all that units have is booked under
-    /// Joining, and all stocks
-    /// under Stocked.
+    /// Joining, and all stocks under Stocked.
     pub books: &'static [(i64, i64, i64)],
 }
 

@@ -1,6 +1,6 @@
 //! Tests of who sees whom, by whole reports worked out by hand (docs/RULES.md, "Sight"). The world
 //! is the island.
-use super::compare::is_text;
+use super::compare::assert_text;
 use super::scenes::{
     BOAT, Built, CART, LODGE, LUMBERJACK, MAN, NOBODY, OBSERVATION, Person, SAILING, STEALTH,
     Scene, WOOD, campaign_of,
@@ -549,37 +549,37 @@ fn tell(
 ) -> Result<(), Fail> {
     let seen = view(alloc, world, campaign, case.faction)?;
     let text = report_text(alloc, world, &seen, case.faults, case.events)?;
-    is_text(rt, text.as_str(), case.wanted);
+    assert_text(rt, text.as_str(), case.wanted);
     Ok(())
 }
 
 /// Asserts the report of a case.
-fn tells(rt: &impl Abort, alloc: Global, world: &World, case: &Case) -> Result<(), Fail> {
+fn assert_case(rt: &impl Abort, alloc: Global, world: &World, case: &Case) -> Result<(), Fail> {
     let mut campaign = campaign_of(alloc, world, &case.scene)?;
     empty_all(&mut campaign, case.empty);
     tell(rt, alloc, world, &campaign, case)
 }
 
 /// Asserts the report of each case.
-fn tells_all(rt: &impl Abort, alloc: Global, cases: &[Case]) -> Result<(), Fail> {
+fn assert_cases(rt: &impl Abort, alloc: Global, cases: &[Case]) -> Result<(), Fail> {
     let world = read_world(alloc, ISLE)?;
     for case in cases {
-        tells(rt, alloc, &world, case)?;
+        assert_case(rt, alloc, &world, case)?;
     }
     Ok(())
 }
 
 #[test]
 fn hidden_units(rt: HostRuntime) -> Result<(), Fail> {
-    tells_all(&rt, rt.alloc(), &HIDDEN)
+    assert_cases(&rt, rt.alloc(), &HIDDEN)
 }
 
 #[test]
 fn units_without_men(rt: HostRuntime) -> Result<(), Fail> {
-    tells_all(&rt, rt.alloc(), &EMPTY)
+    assert_cases(&rt, rt.alloc(), &EMPTY)
 }
 
 #[test]
 fn all_sorts_of_lines(rt: HostRuntime) -> Result<(), Fail> {
-    tells_all(&rt, rt.alloc(), &WHOLE)
+    assert_cases(&rt, rt.alloc(), &WHOLE)
 }

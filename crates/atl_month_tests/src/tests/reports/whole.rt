@@ -2,7 +2,7 @@
 ghost use Rattle.std.specs.Prelude.{IfOk};
 ghost use Rattle.atl_state.specs.Good.{IsGood};
 
-use super::compare::is_text;
+use super::compare::assert_text;
 use atl_orders::{FaultyLine, LineFault, Verb};
 use atl_report::{report_text, view};
 use atl_state::{Campaign, Event, EventVerb, Outcome, founded};
@@ -61,10 +61,15 @@ fn avalon_joins(world: &World, campaign: &mut Campaign) -> Result<(u32, u32), Fa
 }
 
 /// Asserts the report of faction 1.
-fn is_told(rt: &impl Abort, alloc: Global, world: &World, campaign: &Campaign) -> Result<(), Fail> {
+fn assert_report(
+    rt: &impl Abort,
+    alloc: Global,
+    world: &World,
+    campaign: &Campaign,
+) -> Result<(), Fail> {
     let seen = view(alloc, world, campaign, 1)?;
     let text = report_text(alloc, world, &seen, &FAULTS, &EVENTS)?;
-    is_text(rt, text.as_str(), WHOLE);
+    assert_text(rt, text.as_str(), WHOLE);
     Ok(())
 }
 
@@ -72,7 +77,7 @@ fn is_told(rt: &impl Abort, alloc: Global, world: &World, campaign: &Campaign) -
 fn joins_and_reads(rt: &impl Abort, alloc: Global, world: &World) -> Result<(), Fail> {
     let mut campaign = founded_in(alloc, world)?;
     avalon_joins(world, &mut campaign)?;
-    is_told(rt, alloc, world, &campaign)
+    assert_report(rt, alloc, world, &campaign)
 }
 
 #[test]
