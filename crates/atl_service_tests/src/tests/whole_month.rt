@@ -1,4 +1,4 @@
-//! A test of a whole month: ten units of two factions with orders of most kinds, against results
+//! A test of a whole month: ten units of two factions with every kind of order but SELL and BUY, against results
 //! worked out by hand.
 use super::script::{Asked, Course, Step, plays_course};
 use super::tables::{MAILINGS, MONTH, NEXT, UNITS};
