@@ -37,6 +37,7 @@ fn is_broken(rt: &impl Abort, alloc: Global, most: usize, fails: bool) -> Result
     Ok(())
 }
 
+/// A reply breaks off after any number of bytes, because a write fails.
 #[test]
 fn writes_that_fail(rt: HostRuntime) -> Result<(), Fail> {
     for most in 0..JOINED.len() {
@@ -45,6 +46,7 @@ fn writes_that_fail(rt: HostRuntime) -> Result<(), Fail> {
     Ok(())
 }
 
+/// A reply breaks off after any number of bytes, because a write takes none.
 #[test]
 fn writes_that_take_nothing(rt: HostRuntime) -> Result<(), Fail> {
     for most in 0..JOINED.len() {
@@ -68,6 +70,7 @@ fn assert_numbers(rt: &impl Abort, faults: &[(HttpFault, Option<u8>)]) {
     }
 }
 
+/// Each fault of HTTP has its number.
 #[test]
 fn numbers(rt: HostRuntime) {
     assert_numbers(&rt, &NUMBERS);

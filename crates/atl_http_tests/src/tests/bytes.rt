@@ -39,6 +39,7 @@ fn no_texts(rt: &impl Abort, alloc: Global, service: &mut impl Served) {
     }
 }
 
+/// Requests with bytes that aren't UTF-8 get their replies.
 #[test]
 fn no_text(rt: HostRuntime) -> Result<(), Fail> {
     let mut service = begun(rt.alloc())?;

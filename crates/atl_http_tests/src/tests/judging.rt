@@ -49,7 +49,7 @@ fn bytes_are_judged(rt: HostRuntime) -> Result<(), AllocError> {
     Ok(())
 }
 
-/// Calls a law and asserts nothing: the law does nothing, and its clause is proved.
+/// Asserts nothing: the clause of this law is proved.
 #[test]
 fn states_that_pieces_do_not_matter() {
     pieces_do_not_matter();

@@ -198,6 +198,7 @@ fn fronts(rt: HostRuntime) -> Result<(), Fail> {
     Ok(())
 }
 
+/// A request cut short changes nothing, and one in two pieces joins.
 #[test]
 fn in_two_pieces(rt: HostRuntime) -> Result<(), Fail> {
     let mut service = begun(rt.alloc())?;
@@ -206,6 +207,7 @@ fn in_two_pieces(rt: HostRuntime) -> Result<(), Fail> {
     done
 }
 
+/// Nothing after the end of a request is read.
 #[test]
 fn no_further(rt: HostRuntime) -> Result<(), Fail> {
     let mut service = begun(rt.alloc())?;
@@ -214,6 +216,7 @@ fn no_further(rt: HostRuntime) -> Result<(), Fail> {
     Ok(())
 }
 
+/// A head may have a certain length and number of fields, and no more.
 #[test]
 fn heads_at_the_limit(rt: HostRuntime) -> Result<(), Fail> {
     let mut service = begun(rt.alloc())?;
@@ -222,6 +225,7 @@ fn heads_at_the_limit(rt: HostRuntime) -> Result<(), Fail> {
     done
 }
 
+/// The longest mailing is stored if it comes byte by byte.
 #[test]
 fn the_longest_mailing(rt: HostRuntime) -> Result<(), Fail> {
     let mut service = begun(rt.alloc())?;

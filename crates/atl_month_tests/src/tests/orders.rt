@@ -122,6 +122,7 @@ fn rows_tell(rt: &impl Abort, alloc: Global, world: &World) -> Result<(), Fail> 
     Ok(())
 }
 
+/// Each phase gets its orders, in its order.
 #[test]
 fn orders_of_phases(rt: HostRuntime) -> Result<(), Fail> {
     let world = world(rt.alloc())?;
@@ -160,6 +161,7 @@ fn month_long_are(
     Ok(())
 }
 
+/// Of the month-long orders of a unit only the last in a mailing counts.
 #[test]
 fn month_long_orders(rt: HostRuntime) -> Result<(), Fail> {
     let world = world(rt.alloc())?;
@@ -197,6 +199,7 @@ fn formed_tells(rt: &impl Abort, alloc: Global, month: &Month) -> Result<(), Fai
     Ok(())
 }
 
+/// An alias is a faction's own, and stands for the unit that its FORM made.
 #[test]
 fn aliases_of_factions(rt: HostRuntime) -> Result<(), Fail> {
     let world = world(rt.alloc())?;
@@ -250,6 +253,7 @@ fn events_are(rt: &impl Abort, mut month: Month) -> Result<(), Fail> {
     Ok(())
 }
 
+/// A month lends its orders, mailings, words and events.
 #[test]
 fn orders_and_events(rt: HostRuntime) -> Result<(), Fail> {
     let world = world(rt.alloc())?;

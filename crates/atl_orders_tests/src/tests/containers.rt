@@ -25,6 +25,7 @@ fn made_in_each_way(rt: &impl Abort, alloc: Global, text: &str) -> Result<(), Fa
 /// Texts to make: empty, one letter, with a space, and beyond ASCII.
 static TEXTS: [&str; 4] = ["", "a", "Big Bob", "\u{e9}\u{1f600}"];
 
+/// Each way of making a `Text` keeps its bytes, and so does a copy.
 #[test]
 fn texts(rt: HostRuntime) -> Result<(), Fail> {
     for text in TEXTS.iter() {
@@ -39,6 +40,7 @@ fn assert_list(rt: &impl Abort, list: &Sequence<u32>, wanted: &[u32]) {
     assert_numbers(rt, list.as_slice(), wanted);
 }
 
+/// A `Sequence` keeps the values that are pushed, in order.
 #[test]
 fn sequences(rt: HostRuntime) -> Result<(), Fail> {
     let mut list = Sequence::new(rt.alloc());
@@ -90,6 +92,7 @@ fn changes_entries(rt: &impl Abort, map: &mut Numbered<u32>) {
     map.remove(2);
 }
 
+/// A `Numbered` keeps values by number, in rising order, through inserts, changes and removals.
 #[test]
 fn numbered(rt: HostRuntime) -> Result<(), Fail> {
     assert_map(&rt, rt.alloc(), &Numbered::new(rt.alloc()), &[])?;
@@ -145,6 +148,7 @@ fn assert_fault(rt: &impl Abort, alloc: Global, row: &(u8, &str, &str)) -> Resul
     Ok(())
 }
 
+/// Each world fault has its number, its name and its path.
 #[test]
 fn world_faults(rt: HostRuntime) -> Result<(), Fail> {
     for row in FAULTS.iter() {

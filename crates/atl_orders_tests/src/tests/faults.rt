@@ -73,6 +73,7 @@ fn assert_changes(
     Ok(())
 }
 
+/// Each edit of the small world gets its first fault.
 #[test]
 fn faulty_worlds(rt: HostRuntime) -> Result<(), Fail> {
     assert_changes(&rt, rt.alloc(), SMALL, &SMALL_CHANGES)?;
@@ -91,6 +92,7 @@ fn things_are(rt: &impl Abort, alloc: Global, text: &str) -> Result<(), Fail> {
     assert_changes(rt, alloc, text, &OUTPUT_CHANGES)
 }
 
+/// Each edit of the world with an item, a skill and a kind gets its first fault.
 #[test]
 fn faulty_things(rt: HostRuntime) -> Result<(), Fail> {
     let text = small_with(rt.alloc(), MORE)?;
@@ -118,6 +120,7 @@ fn later_faults_are(rt: &impl Abort, alloc: Global) -> Result<(), Fail> {
     Ok(())
 }
 
+/// Each edit of worlds with markets gets its first fault, in both formats.
 #[test]
 fn faulty_markets(rt: HostRuntime) -> Result<(), Fail> {
     markets_are(&rt, rt.alloc(), 0, &ARRAY_CHANGES)?;

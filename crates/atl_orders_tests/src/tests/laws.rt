@@ -2,6 +2,7 @@
 use atl_orders::{readings_keep_bounds, rules_are_the_reading};
 use atl_tables::old_worlds_have_no_markets;
 
+/// Asserts nothing: the clause of each law is proved.
 #[test]
 fn states_laws_of_both_readers() {
     rules_are_the_reading();

@@ -435,6 +435,7 @@ fn all_is_read(rt: &impl Abort, alloc: Global, world: &World) -> Result<(), Fail
     Ok(())
 }
 
+/// Each order, text and span is read as its table says.
 #[test]
 fn mailings(rt: HostRuntime) -> Result<(), Fail> {
     let world = world_with(rt.alloc(), THINGS)?;

@@ -24,6 +24,7 @@ fn markets_are(
 const OF_WOOD: &str =
     "[Some(Market { item: 0, price: 7, pays: 5, limit: 30, restock: 20 }), None, None]";
 
+/// The second format reads markets, and the first ignores them.
 #[test]
 fn markets_in_both_formats(rt: HostRuntime) -> Result<(), Fail> {
     let text = with_markets(rt.alloc(), 1)?;
@@ -105,6 +106,7 @@ fn all_differ(rt: &impl Abort, alloc: Global, text: &str) -> Result<(), Fail> {
     Ok(())
 }
 
+/// Two worlds differ in their markets alone only if nothing else differs.
 #[test]
 fn worlds_with_other_markets(rt: HostRuntime) -> Result<(), Fail> {
     let text = with_markets(rt.alloc(), 1)?;

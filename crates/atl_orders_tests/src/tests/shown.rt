@@ -139,6 +139,7 @@ fn assert_world(rt: &impl Abort, alloc: Global, text: &str, wanted: &Shown) -> R
     regions_are(rt, alloc, &world, wanted)
 }
 
+/// The small world and the island are read in full.
 #[test]
 fn worlds_are_shown(rt: HostRuntime) -> Result<(), Fail> {
     assert_world(&rt, rt.alloc(), SMALL, &SMALL_SHOWN)?;

@@ -51,6 +51,7 @@ static ONE_JOINS: [Step; 2] = [
     Step::Told(Asked::Report(1, "pw"), FIRST_REPORT),
 ];
 
+/// A faction that joins gets its first report.
 #[test]
 fn first_report(rt: HostRuntime) -> Result<(), Fail> {
     assert_count(&rt, FIRST_REPORT.len(), 161);
@@ -85,6 +86,7 @@ static FAR_JOINS: [Step; 2] = [
 /// What the tables hold then.
 static AFTER_FAR: [(&str, Option<i64>); 2] = [(FACTIONS, Some(1)), (UNITS, Some(1))];
 
+/// The word 1 of the dice places a faction in the second land region.
 #[test]
 fn the_second_land_region(rt: HostRuntime) -> Result<(), Fail> {
     plays(&rt, rt.alloc(), ISLE, &FAR_JOINS, &AFTER_FAR)

@@ -2,6 +2,7 @@
 //! clause is proved.
 use atl_service::only_the_last_mail_counts;
 
+/// Asserts nothing: the clause of the law is proved.
 #[test]
 fn states_that_only_the_last_mail_counts() {
     only_the_last_mail_counts();

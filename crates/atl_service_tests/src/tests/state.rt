@@ -60,6 +60,7 @@ fn founds(rt: &impl Abort, alloc: Global, world: &World) -> Result<(), Fail> {
     Ok(())
 }
 
+/// A campaign just founded holds what its world says.
 #[test]
 fn founding(rt: HostRuntime) -> Result<(), Fail> {
     let world = small_world(rt.alloc())?;
@@ -124,6 +125,7 @@ fn joins(rt: &impl Abort, alloc: Global, world: &World) -> Result<(), Fail> {
     Ok(())
 }
 
+/// A join adds a faction, a unit, and entries of the books.
 #[test]
 fn joining(rt: HostRuntime) -> Result<(), Fail> {
     let world = small_world(rt.alloc())?;
@@ -175,6 +177,7 @@ fn lends_and_stores(rt: &impl Abort, alloc: Global, world: &World) -> Result<(),
     done
 }
 
+/// A lent unit changes the total of money, and a stored report is found.
 #[test]
 fn lending_and_reporting(rt: HostRuntime) -> Result<(), Fail> {
     let world = small_world(rt.alloc())?;

@@ -88,7 +88,7 @@ fn leaves_all_rows<S: Alter + Drop>(
     Ok(conn)
 }
 
-/// The same for each step.
+/// Asserts the answer to each step, and that none changes a row of the campaign or of the tables.
 fn leave_all_rows<S: Alter + Drop>(
     rt: &impl Abort,
     alloc: Global,
@@ -102,7 +102,7 @@ fn leave_all_rows<S: Alter + Drop>(
     Ok(())
 }
 
-/// The same on the island with a market, after SQL statements.
+/// Asserts the same on the island with a market that both have joined, after SQL statements.
 pub(crate) fn refuses(
     rt: &impl Abort,
     alloc: Global,

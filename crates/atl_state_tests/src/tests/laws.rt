@@ -2,6 +2,7 @@
 //! clause is proved.
 use atl_state::good_campaigns_are_early;
 
+/// Asserts nothing: the clause of the law is proved.
 #[test]
 fn states_that_good_campaigns_are_early() {
     good_campaigns_are_early();

@@ -30,7 +30,7 @@ fn level(days: u64, men: u64) -> u64 {
     level
 }
 
-/// The level of a unit in the skill that an item needs.
+/// The level of a unit in the skill that an item needs; 0 if no skill makes it.
 fn level_of(plain: &Plain, person: Person, item: &Item) -> u64 {
     match item.skill {
         Some(skill) => level(
