@@ -2,14 +2,18 @@
 use super::making::{Case, plays};
 use std::test::Fail;
 
+/// The request by which Avalon joins.
 pub(crate) const JOIN: &str =
     "POST /join HTTP/1.1\r\nHost: x\r\nContent-Length: 29\r\n\r\n{\"name\":\"Avalon\",\"pass\":\"pw\"}";
 
+/// The reply to Avalon's join.
 pub(crate) const JOINED: &str =
     "HTTP/1.1 200 OK\r\nContent-Type: application/json\r\nContent-Length: 22\r\nConnection: close\r\n\r\n{\"faction\":1,\"unit\":1}";
 
+/// The request for Avalon's report.
 pub(crate) const REPORT: &str = "GET /report/1 HTTP/1.1\r\nHost: x\r\nAtlantis-Pass: pw\r\n\r\n";
 
+/// The reply with Avalon's first report.
 pub(crate) const REPORTED: &str =
     "HTTP/1.1 200 OK\r\nContent-Type: text/plain\r\nContent-Length: 161\r\nConnection: close\r\n\r\nAtlantis report, month 0, faction 1 \"Avalon\".
 Orders:
@@ -19,27 +23,35 @@ Exits: none.
 * Unit 1 \"Unit 1\": 1 men, 1000 money.
 ";
 
+/// The reply to a request that can't be read.
 pub(crate) const BAD_REQUEST: &str =
     "HTTP/1.1 400 Bad Request\r\nContent-Type: application/json\r\nContent-Length: 33\r\nConnection: close\r\n\r\n{\"error\":\"BadRequest\",\"number\":0}";
 
+/// The reply to a path without a route.
 pub(crate) const NO_ROUTE: &str =
     "HTTP/1.1 404 Not Found\r\nContent-Type: application/json\r\nContent-Length: 30\r\nConnection: close\r\n\r\n{\"error\":\"NoRoute\",\"number\":0}";
 
+/// The reply to another method than POST on a route that takes only POST.
 const POST_ONLY: &str =
     "HTTP/1.1 405 Method Not Allowed\r\nContent-Type: application/json\r\nContent-Length: 32\r\nConnection: close\r\nAllow: POST\r\n\r\n{\"error\":\"BadMethod\",\"number\":0}";
 
+/// The reply to another method than GET on a route that takes only GET.
 const GET_ONLY: &str =
     "HTTP/1.1 405 Method Not Allowed\r\nContent-Type: application/json\r\nContent-Length: 32\r\nConnection: close\r\nAllow: GET\r\n\r\n{\"error\":\"BadMethod\",\"number\":0}";
 
+/// The reply to a body without a length.
 const NO_LENGTH: &str =
     "HTTP/1.1 411 Length Required\r\nContent-Type: application/json\r\nContent-Length: 31\r\nConnection: close\r\n\r\n{\"error\":\"NoLength\",\"number\":0}";
 
+/// The reply to a body that is too long.
 pub(crate) const TOO_LONG: &str =
     "HTTP/1.1 413 Payload Too Large\r\nContent-Type: application/json\r\nContent-Length: 34\r\nConnection: close\r\n\r\n{\"error\":\"BodyTooLong\",\"number\":0}";
 
+/// The reply to a request without one pass text.
 const NO_PASS: &str =
     "HTTP/1.1 400 Bad Request\r\nContent-Type: application/json\r\nContent-Length: 29\r\nConnection: close\r\n\r\n{\"error\":\"NoPass\",\"number\":0}";
 
+/// The reply to a body that isn't the object wanted.
 pub(crate) const BAD_JSON: &str =
     "HTTP/1.1 400 Bad Request\r\nContent-Type: application/json\r\nContent-Length: 30\r\nConnection: close\r\n\r\n{\"error\":\"BadJson\",\"number\":0}";
 

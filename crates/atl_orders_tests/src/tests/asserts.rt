@@ -1,4 +1,5 @@
-//! Assertions of these tests, a function for each type. An `assert_eq!` costs much to prove, so each is written once.
+//! Assertions for these tests, one for each type: an `assert_eq!` costs much to prove, so each is
+//! written once.
 use std::alloc::Global;
 use std::fmt::Debug;
 use std::process::Abort;

@@ -131,6 +131,7 @@ fn faulty_markets(rt: HostRuntime) -> Result<(), Fail> {
     later_faults_are(&rt, rt.alloc())
 }
 
+/// The text of a region, to be repeated.
 const REGION: &str = "[[region]]
 number = 1
 name = \"Vale\"
@@ -139,6 +140,7 @@ peasants = 1000
 money = 500
 ";
 
+/// The text of a terrain, to be repeated.
 const TERRAIN: &str = "[[terrain]]
 name = \"Plain\"
 land = true
@@ -148,10 +150,13 @@ money_limit = 0
 peasant_limit = 0
 ";
 
+/// The text of an item, to be repeated.
 const ITEM: &str = "[[item]]\nname = \"wood\"\nweight = 5\ncarry = 0\n";
 
+/// The text of a skill, to be repeated.
 const SKILL: &str = "[[skill]]\nname = \"carpentry\"\nfee = 10\n";
 
+/// The text of a kind, to be repeated.
 const KIND: &str = "[[kind]]
 name = \"lodge\"
 ship = false
@@ -180,26 +185,31 @@ const EMPTY: Long = Long {
     end: "",
 };
 
+/// n regions.
 const MANY_REGIONS: Long = Long {
     open: REGION,
     ..EMPTY
 };
 
+/// n terrains.
 const MANY_TERRAINS: Long = Long {
     open: TERRAIN,
     ..EMPTY
 };
 
+/// n items.
 const MANY_ITEMS: Long = Long {
     open: ITEM,
     ..EMPTY
 };
 
+/// n skills.
 const MANY_SKILLS: Long = Long {
     open: SKILL,
     ..EMPTY
 };
 
+/// n kinds.
 const MANY_KINDS: Long = Long {
     open: KIND,
     ..EMPTY

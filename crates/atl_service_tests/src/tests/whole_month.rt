@@ -63,8 +63,9 @@ PRODUCE wood
 QUIT 1
 ";
 
-/// Of 100 money unit 1 pays 40, and sends 2 of its 5 men to the unit that it forms. With 3 men it takes 30 of 500 money in tax, so
-/// it can pay for one recruit, and 4 men earn 48. Unit 2 pays 10 for each of its 4 men and gets 30 days for each and 30 more, as all
+/// Avalon's report on the month. Of 100 money unit 1 pays 40, and sends 2 of its 5 men to the unit
+/// that it forms. With 3 men it takes 30 of 500 money in tax, so it can pay for one recruit, and 4
+/// men earn 48. Unit 2 pays 10 for each of its 4 men and gets 30 days for each and 30 more, as all
 /// are taught. The 40 men of two factions who can make wood share 20. Each man costs 10 of upkeep.
 const TOLD_AVALON: &str = "Atlantis report, month 1, faction 1 \"Avalon\".
 Orders:
@@ -105,7 +106,8 @@ Structure 2 \"Ship 2\", boat, 3 of 10, owner 6.
 - Unit 9 \"Unit 9\" of faction 2 \"Bree\": 25 men.
 ";
 
-/// There is nowhere to work at sea. Unit 10 has 14 money for two men, so one of them starves.
+/// Bree's report on the month. There are no jobs at sea. Unit 10 has 14 money for two men, so one
+/// of them starves.
 const TOLD_BREE: &str = "Atlantis report, month 1, faction 2 \"Bree\".
 Orders:
 Unit 8, line 3, LEAVE: done 0.

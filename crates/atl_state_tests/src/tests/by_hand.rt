@@ -33,18 +33,18 @@ pub(crate) struct Rows {
     pub(crate) days: i64,
     /// The owner of a lodge in region 3, or 0 where there is no lodge.
     pub(crate) lodge: i64,
-    /// The entry of what joining brought of money.
+    /// The entry under which the money of the joins is booked.
     pub(crate) entry: i64,
     /// How many reports there are.
     pub(crate) reports: i64,
-    /// Region, item and stock of the market's row, and how often the row stands there.
+    /// Region, item and stock of the market's row, and how often the row is there.
     pub(crate) market: i64,
     pub(crate) item: i64,
     pub(crate) stock: i64,
     pub(crate) times: i64,
-    /// The entry under which 20 wood are booked, where the market's row is there.
+    /// The entry under which 20 wood are booked, if the market's row is there.
     pub(crate) stocked: i64,
-    /// What is booked of money as bought.
+    /// The money booked as bought.
     pub(crate) bought: i64,
 }
 

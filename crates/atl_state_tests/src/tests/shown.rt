@@ -39,6 +39,7 @@ fn none(alloc: Global) -> Result<String, Fail> {
     Ok(String::from_str(alloc, "none")?)
 }
 
+/// The answer to `Ask::Counts`.
 fn counts_text(alloc: Global, campaign: &Campaign) -> Result<String, Fail> {
     let counts = [
         campaign.faction_count(),
@@ -50,6 +51,7 @@ fn counts_text(alloc: Global, campaign: &Campaign) -> Result<String, Fail> {
     Ok(format!(in alloc; "{counts:?}, next {next:?}")?)
 }
 
+/// A faction's names and pass text, and whether it is gone.
 fn faction_text(alloc: Global, campaign: &Campaign, number: u32) -> Result<String, Fail> {
     match campaign.faction(number) {
         Some(faction) => {
@@ -61,6 +63,7 @@ fn faction_text(alloc: Global, campaign: &Campaign, number: u32) -> Result<Strin
     }
 }
 
+/// The mail of a faction, or `none`, and how many mails there are.
 fn mail_text(alloc: Global, campaign: &Campaign, faction: u32) -> Result<String, Fail> {
     let text = match campaign.mail_of(faction) {
         Some(mail) => str::from_utf8(mail.as_slice()).unwrap_or("no text"),
@@ -70,6 +73,7 @@ fn mail_text(alloc: Global, campaign: &Campaign, faction: u32) -> Result<String,
     Ok(format!(in alloc; "{text} of {count}")?)
 }
 
+/// The report of a faction, or `none`, and how many reports there are.
 fn report_text(alloc: Global, campaign: &Campaign, faction: u32) -> Result<String, Fail> {
     let text = match campaign.report(faction) {
         Some(report) => report.as_str(),
@@ -79,6 +83,7 @@ fn report_text(alloc: Global, campaign: &Campaign, faction: u32) -> Result<Strin
     Ok(format!(in alloc; "{text} of {count}")?)
 }
 
+/// A region's peasants and money.
 fn region_text(alloc: Global, campaign: &Campaign, number: u32) -> Result<String, Fail> {
     match campaign.region(number) {
         Some(region) => {
@@ -89,6 +94,7 @@ fn region_text(alloc: Global, campaign: &Campaign, number: u32) -> Result<String
     }
 }
 
+/// A region's stock of an item, and how many stocks it lists.
 fn stock_text(alloc: Global, campaign: &Campaign, number: u32, item: u32) -> Result<String, Fail> {
     let stock = campaign.stock(number, item);
     match campaign.region(number) {
@@ -100,6 +106,7 @@ fn stock_text(alloc: Global, campaign: &Campaign, number: u32, item: u32) -> Res
     }
 }
 
+/// The numbers of all units.
 fn units_text(alloc: Global, campaign: &Campaign) -> Result<String, Fail> {
     let mut numbers = Vec::new(alloc);
     for (number, _) in campaign.units() {
@@ -121,6 +128,7 @@ fn unit_text(alloc: Global, campaign: &Campaign, number: u32) -> Result<String, 
     Ok(format!(in alloc; "{name}: {men} men, {money} money, guard: {guard}, {places:?}")?)
 }
 
+/// How much a unit has of an item, and its days of a skill.
 fn goods_text(
     alloc: Global,
     campaign: &Campaign,
@@ -147,6 +155,7 @@ fn structure_text(alloc: Global, campaign: &Campaign, number: u32) -> Result<Str
     Ok(format!(in alloc; "{name}: kind {kind}, region {region}, {done} done, owner {owner}")?)
 }
 
+/// The total of a thing; too many units or regions to sum are a failure.
 fn total_text(alloc: Global, campaign: &Campaign, thing: Thing) -> Result<String, Fail> {
     if campaign.unit_count() > MOST_UNITS || campaign.region_count() > MOST_REGIONS {
         return Err(Fail::new("few units and regions"));
@@ -155,6 +164,7 @@ fn total_text(alloc: Global, campaign: &Campaign, thing: Thing) -> Result<String
     Ok(format!(in alloc; "{total}")?)
 }
 
+/// The last closed month.
 fn month_text(alloc: Global, campaign: &Campaign) -> Result<String, Fail> {
     let month = campaign.month();
     Ok(format!(in alloc; "{month}")?)

@@ -16,16 +16,19 @@ struct Case {
     wanted: &'static str,
 }
 
+/// A faulty line with an unknown order.
 const UNKNOWN_ORDER: FaultyLine = FaultyLine {
     line: 5,
     fault: LineFault::UnknownOrder,
 };
 
+/// A faulty line with a bad name.
 const BAD_NAME: FaultyLine = FaultyLine {
     line: 65,
     fault: LineFault::BadName,
 };
 
+/// A unit worked for 12.
 const WORKED: Event = Event {
     faction: 1,
     unit: 1,
@@ -34,6 +37,7 @@ const WORKED: Event = Event {
     outcome: Outcome::Done(12),
 };
 
+/// A QUIT with the wrong number.
 const QUIT: Event = Event {
     faction: 1,
     unit: 1,
@@ -42,6 +46,7 @@ const QUIT: Event = Event {
     outcome: Outcome::Fault(11),
 };
 
+/// Three men of a unit starved.
 const STARVED: Event = Event {
     faction: 1,
     unit: 2,
@@ -50,6 +55,7 @@ const STARVED: Event = Event {
     outcome: Outcome::Starved(3),
 };
 
+/// An event of upkeep that no month has: done, with a number beyond 32 bits.
 const UPKEEP: Event = Event {
     faction: 1,
     unit: 2,

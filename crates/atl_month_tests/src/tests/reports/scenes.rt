@@ -32,14 +32,19 @@ const SKILL: i64 = 1;
 /// The item wood, as kind and number.
 pub(crate) const WOOD: (i64, i64) = (ITEM, 0);
 
+/// The item cart, as kind and number.
 pub(crate) const CART: (i64, i64) = (ITEM, 1);
 
+/// The skill lumberjack, as kind and number.
 pub(crate) const LUMBERJACK: (i64, i64) = (SKILL, 0);
 
+/// The skill sailing, as kind and number.
 pub(crate) const SAILING: (i64, i64) = (SKILL, 3);
 
+/// The skill stealth, as kind and number.
 pub(crate) const STEALTH: (i64, i64) = (SKILL, 4);
 
+/// The skill observation, as kind and number.
 pub(crate) const OBSERVATION: (i64, i64) = (SKILL, 5);
 
 /// The number of the kind boat.
