@@ -57,8 +57,9 @@ fn told_of(
     Ok(told_between(alloc, world, &before, &after, &events)?)
 }
 
-/// A file of cases as far as it was read: the campaign and the phases for the next case, the case
-/// that is being read, how many were played, and the report of those that differ.
+/// A file of cases as far as it was read.
+/// It has the campaign and the phases for the next case, the case that is being read, the count of
+/// those played, and a report.
 struct Player {
     world: World,
     setting: Setting,

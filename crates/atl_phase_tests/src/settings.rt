@@ -49,8 +49,8 @@ pub(crate) struct Stocked {
     pub amount: i64,
 }
 
-/// The campaign of a case: units and structures, numbered from 1, what the units have, what is in
-/// stock, which units lost their men afterwards, and the least number that the next unit may get.
+/// The campaign of a case: units and structures, numbered from 1, their goods, and stocks.
+/// Some units lose their men after it was made. The next unit's number is at least `next_unit`.
 pub(crate) struct Setting {
     pub units: Vec<Stood>,
     pub has: Vec<Had>,

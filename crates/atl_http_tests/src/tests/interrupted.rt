@@ -10,7 +10,8 @@ use std::process::Abort;
 use std::test::Fail;
 
 /// How many bytes a read gives, how many reads are interrupted before each, and how many reads
-/// there are in all: 1,000,000 in one piece and in two, and 81 times 12,345 byte by byte.
+/// there are in all.
+/// They are 1,000,000 in one piece and in two, and 81 times 12,345 byte by byte.
 static READS: [(usize, usize, usize); 3] = [
     (81, 999_999, 1_000_000),
     (41, 499_999, 1_000_000),
@@ -75,8 +76,9 @@ fn reads_beyond_the_bound(rt: HostRuntime) -> Result<(), Fail> {
     Ok(())
 }
 
-/// How many bytes a write takes, and how many writes are interrupted before each: in all 999,999,
-/// 999,998 and 999,936 before the 112 bytes of the reply are written.
+/// How many bytes a write takes, and how many writes are interrupted before each.
+/// In all 999,999, 999,998 and 999,936 are interrupted before the 112 bytes of the reply are
+/// written.
 static WRITES: [(usize, usize); 3] = [(112, 999_999), (56, 499_999), (1, 8_928)];
 
 /// The same with one more interruption before each, and how many bytes and writes were done when

@@ -22,7 +22,7 @@ pub(crate) trait Served {
         writer: &mut W,
     ) -> Result<u16, HttpFault>;
 
-    /// Serves so many connections.
+    /// Serves `count` connections.
     fn serve_each<C: Clock>(
         &mut self,
         alloc: Global,

@@ -1,5 +1,5 @@
-//! Tests of what closing a month marks of units: the rows of all that change, and only those goods
-//! that are used, made, given or studied.
+//! Tests of what closing a month marks of units: the rows of all that change, and only those of
+//! their goods that change.
 ghost use Rattle.std.specs.Prelude.{IfOk};
 ghost use Rattle.atl_state.specs.Good.{IsGood};
 

@@ -1,5 +1,6 @@
-//! A second calculation of the phases that share pots and of upkeep, for comparison: by prefix sums
-//! over plain lists, slow and simple, with a look at all units for each pot and each unit.
+//! A second calculation of upkeep and of the phases that share pots, to compare with, slow and
+//! simple.
+//! It uses prefix sums over plain lists, and looks at all units for each pot and each unit.
 pub(crate) mod plain;
 mod pots;
 mod produce;

@@ -1,5 +1,6 @@
 //! Tests that a disk that stops at any of its calls leaves the campaign before a write or after it,
-//! never a part: at a founding, a join, mailings and closings.
+//! never a part.
+//! The writes are those of a founding, a join, mailings and closings.
 use super::compare::assert_text;
 use super::courses::COURSES;
 use super::files::connected;

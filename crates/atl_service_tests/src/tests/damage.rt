@@ -184,9 +184,10 @@ static SHAPES: [(&str, Told); 10] = [
     ),
 ];
 
-/// The same for statements that make two faults, in the order in which opening looks for them: the
-/// campaign's own row can't be read; it breaks the first rule; another table can't be read; a value
-/// of another type; tables that differ; a later rule.
+/// The same for statements that make two faults, of which the first in this order is answered.
+/// The campaign's own row can't be read; it breaks the first rule; another table can't be read; a
+/// value has another type; tables differ;
+/// rows break a later rule.
 static MEETINGS: [(&str, Told); 16] = [
     ("DROP TABLE campaign; DROP TABLE unit", Told::NotACampaign),
     (

@@ -51,8 +51,9 @@ const BREE_JOINS: [Step; 1] = [Step::Told(BREE, "joined")];
 /// Bree is refused, as the campaign is full.
 const NOBODY_JOINS: [Step; 1] = [Step::Told(BREE, "full")];
 
-/// A campaign filled by hand: the SQL that doubles its rows and up to which number, the SQL that
-/// makes the books fit, a join, and what the tables hold afterwards.
+/// A campaign filled by hand, a join in it, and what the tables hold afterwards.
+/// The SQL of `more` doubles the rows up to a number, and that of `then` makes the campaign good
+/// again.
 struct Filled {
     more: Option<(&'static str, i64)>,
     then: &'static str,

@@ -18,8 +18,9 @@ use std::alloc::Global;
 use std::process::Abort;
 use std::test::Fail;
 
-/// What is done with a database between two openings: the world to found (None: open what is
-/// there), commands, SQL statements, and what the tables hold afterwards.
+/// What is done with a database between two openings: a world to found, steps, SQL statements, and
+/// queries afterwards.
+/// Without a world the campaign that is there is opened.
 pub(crate) struct Session {
     pub(crate) world: Option<&'static str>,
     pub(crate) steps: &'static [Step],

@@ -1,5 +1,5 @@
-//! A test of a whole month: ten units of two factions with every kind of order but SELL and BUY,
-//! against results worked out by hand.
+//! A test of a whole month, worked out by hand: ten units of two factions with every kind of order
+//! but SELL and BUY.
 use super::script::{Asked, Course, Step, plays_course};
 use super::tables::{MAILINGS, MONTH, NEXT, UNITS};
 use atl_test_worlds::ISLE;

@@ -8,8 +8,9 @@ use std::alloc::Global;
 use std::process::Abort;
 use std::test::Fail;
 
-/// A step, and after it: the owners of both structures, the units inside each, those of region 3 and of faction 1, and
-/// how many things the step marked.
+/// A step, and who owns both structures and which units are where after it.
+/// It lists the units inside each, in region 3 and of faction 1, and how many parts the step
+/// marked.
 struct Case {
     step: Step,
     owners: (u32, u32),
@@ -19,8 +20,8 @@ struct Case {
     marks: usize,
 }
 
-/// Steps from units 1 and 3 of faction 1 and unit 2 of faction 2, all in region 3, where a boat 1 and a lodge 2 stand
-/// without owners.
+/// Steps from units 1 and 3 of faction 1 and unit 2 of faction 2, all in region 3.
+/// A boat 1 and a lodge 2 are there, without owners.
 static CASES: [Case; 13] = [
     // Who enters an ownerless structure owns it.
     Case {

@@ -16,8 +16,7 @@ pub(crate) fn numbers(text: &str) -> Result<[u32; 3], Fail> {
     Ok(all)
 }
 
-/// Sets what a unit has: `money 1 8` gives unit 1 the money 8, and `item 1 2 5` sets its amount of
-/// item 2 to 5.
+/// Sets what a unit has: `money 1 8` sets unit 1's money to 8, and `item 1 2 5` its item 2 to 5.
 fn set_amount(
     campaign: &mut Campaign,
     what: &str,
@@ -63,8 +62,8 @@ fn set_lent(holding: &mut Holding, what: &str, first: u32, second: u32) -> Resul
     Ok(())
 }
 
-/// Changes a unit through the holding that is lent, which marks all of it: `days 3 1 30` gives unit
-/// 3 30 days of skill 1.
+/// Changes a unit through the holding that is lent, which marks all of it: `days 3 1 30` sets unit
+/// 3's days of skill 1.
 pub(crate) fn lend(campaign: &mut Campaign, text: &str) -> Result<(), Fail> {
     let (what, rest) = text.split_once(' ').ok_or("what is lent")?;
     let [unit, first, second] = numbers(rest)?;

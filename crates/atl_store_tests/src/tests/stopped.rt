@@ -1,5 +1,5 @@
-//! Tests that a disk that stops at any of its calls leaves the campaign as it was before a step or
-//! after it, never a part.
+//! Tests that a disk that stops at any of its calls leaves the campaign before a step or after it,
+//! never a part.
 use super::calls::load_answer;
 use super::contents::contents;
 use super::game::{Game, new_game};

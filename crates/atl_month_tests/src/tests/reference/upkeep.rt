@@ -5,8 +5,9 @@ use atl_state::{Entry, Event, EventVerb, Outcome, Thing};
 use atl_tables::World;
 use std::alloc::{AllocError, Global};
 
-/// What the units of a faction in a region have left after their own upkeep and what they are short
-/// of: of all of them, and of those before one unit.
+/// Sums over a faction's units in a region: money left after their own upkeep, and money that they
+/// are short of.
+/// There are sums over all of them, and sums over those before one unit.
 #[derive(Clone, Copy, Drop)]
 struct Purse {
     left: u64,
