@@ -1,4 +1,4 @@
--- For proofs alone: which verbs belong to the two phases that only these tests have.
+-- For these tests alone: which verbs belong to the two phases that only these tests have.
 use Rattle.std.specs.Prelude.{Bool, true, false}
 use Rattle.atl_orders.specs.declared.verb.Verb.{Verb}
 use Rattle.atl_orders.specs.declared.verb.Verb.TheVariants.{Study, Work}

@@ -1,4 +1,4 @@
--- For proofs alone: the pots of the tests, an amount for each of the regions 1 and 2.
+-- For these tests alone: the pots of the tests, an amount for each of the regions 1 and 2.
 use Rattle.std.specs.Prelude.{ℕ, ◌==◌, if◌then◌else◌}
 
 -- The pot of `region`: `first` in region 1, `second` in region 2, and 0 elsewhere.

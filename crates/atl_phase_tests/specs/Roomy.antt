@@ -1,4 +1,4 @@
--- For proofs alone: campaigns whose books have room for any of the phases that the cases play.
+-- For these tests alone: campaigns whose books have room for any of the phases that the cases play.
 use Rattle.std.specs.Prelude.{ℕ}
 use Rattle.atl_state.specs.Campaign.{CampaignValue}
 use Rattle.atl_instant.specs.Bounds.{HaveRoom}
