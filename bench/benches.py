@@ -1,4 +1,4 @@
-"""What benches share that are scripts."""
+"""Functions that the Python benches share: they load another bench, run the program, and measure time and memory."""
 import importlib.machinery, importlib.util, os, subprocess, sys, time
 
 HERE = os.path.dirname(os.path.abspath(__file__))

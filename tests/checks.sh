@@ -1,5 +1,5 @@
-# What tests/program.sh and tests/upgrade.sh share: commands that are run and compared, in a folder of their own. It is sourced by a script that
-# has set `here` to the top of the repository.
+# Shell functions that run a command and compare its output, its errors and its status, in a temporary folder. Sourced by tests/program.sh,
+# upgrade.sh, club.sh and start.sh, which have set `here` to the top of the repository.
 work=$(mktemp -d)
 trap 'rm -rf "$work"' EXIT
 cd "$work" || exit 1

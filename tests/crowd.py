@@ -1,6 +1,6 @@
 #!/usr/bin/env python3
-"""Prints the cases of crates/atl_phase_tests/data/crowd.txt: 300 units of two factions in 12 regions with markets and orders of all sorts, and beside
-them what tests/plain.py reckons."""
+"""Prints the cases of crates/atl_phase_tests/data/crowd.txt: 300 units of two factions in 12 regions with markets and orders of all sorts, and what
+comes of them by tests/plain.py."""
 import os, random, sys
 
 sys.dont_write_bytecode = True

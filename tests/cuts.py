@@ -1,5 +1,5 @@
 #!/usr/bin/env python3
-"""Cuts the power in the midst of each command that writes, and kills the program while it serves and while it recovers.
+"""Simulates power cuts during each command that writes, and kills the program while it serves and while it recovers.
 Each time the file must hold the campaign before the command or the one after it, and never a third. All rows are
 compared, as SQLite reads them on one copy, and as the program leaves them on another. Called as
     tests/cuts.py [TIMES [SEED]]

@@ -1,6 +1,6 @@
 #!/usr/bin/env bash
-# Plays a month with curl against the program's serve, and the same month by its other subcommands, and compares all that is told and the rows
-# of both databases. Called without arguments, it takes some seconds once the program is built, and ends with 'http: all as expected'. It wants
+# Plays a month with curl against the program's serve, and the same month by its other subcommands, and compares all replies and outputs, and the
+# rows of both databases. Called without arguments, it takes some seconds once the program is built, and ends with 'http: all as expected'. It wants
 # curl; without sqlite3 the rows aren't compared, which is said at the end.
 set -u
 here=$(cd "$(dirname "$0")/.." && pwd)

@@ -1,7 +1,7 @@
 #!/usr/bin/env bash
-# Kills `join`, `mail`, `close` and `upgrade`, by turns, at random moments, and finds each time that the campaign in the file is the one before
-# the command or the one after it: by `report`, by the rows of all tables, and by `PRAGMA integrity_check`. Before that the same is found by
-# sqlite3 alone of a copy of what the kill left. Where strace is there, each command is then killed at each system call that it makes, and each of its
+# Kills `join`, `mail`, `close` and `upgrade` in turn at random moments, and checks each time that the file holds the campaign from before
+# the command or from after it: by `report`, by the rows of all tables, and by `PRAGMA integrity_check`. Before that, sqlite3 alone checks the same
+# on a copy of what the kill left. Where strace is there, each command is then killed at each system call that it makes, and each of its
 # calls on files is made to fail, once with a fault of the disk and once with a full disk. Called as
 #   tests/killed.sh [KILLS]
 # with 200 kills where none is said, it takes one to four minutes once the program is built, wants sqlite3, and ends with what was found. A command that

@@ -1,7 +1,7 @@
 #!/usr/bin/env bash
-# Refuses growths of memory, one at a time, and finds each time that the answer is Memory and all is as before, or that the outcome is the
-# very one of ample memory, and that no run is told Memory in which no growth was refused. This is done within one process, of the calls
-# that crates/atl_memory_tests tries, and of the subcommands of the program, each on a copy of a file. The heap that refuses is
+# Refuses requests for memory, one at a time, and checks each time that the answer is Memory and nothing has changed, or that the outcome is
+# that of enough memory; and that Memory is never the answer if none was refused. This is done within one process, for the calls
+# that crates/atl_memory_tests tries, and for the subcommands of the program, each on a copy of a file. The heap that refuses is
 # tests/fuse.c, which is put before the C library's. Called as
 #   tests/memory.sh [STEP [PROGRAM_STEP]]
 # it refuses every STEP-th growth of the calls (1 where none is said) and every PROGRAM_STEP-th of the subcommands (97), each up to a run

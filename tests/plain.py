@@ -1,5 +1,5 @@
 #!/usr/bin/env python3
-"""Reckons cases of phases plainly, by the sentences of docs/RULES.md and without a thought of speed: for each unit all units are gone over.
+"""Calculates cases of phases once more by the sentences of docs/RULES.md, simply and slowly: for each unit it looks at all units.
 
 tests/plain.py FILE..    plays the cases of files of crates/atl_phase_tests/data, and tells each line in which they differ from what is written there"""
 import os, sys

@@ -1,6 +1,6 @@
 #!/usr/bin/env bash
-# Tries the script gm: by links, without rt, as a first look, with an rt that fails, and with one that builds. The rt here is a stand-in, and the
-# program is the built one. Called without arguments, it takes a second once the program is built, and ends with 'start: all as expected'.
+# Tests the script gm, which builds the program if need be and runs it: called by links, without rt, for the first time, with an rt that fails, and
+# with one that builds. The rt here is a stand-in, and the program is the built one. Called without arguments, it takes a second once the program is built, and ends with 'start: all as expected'.
 set -u
 here=$(cd "$(dirname "$0")/.." && pwd)
 . "$here/tests/checks.sh"

@@ -1,7 +1,8 @@
 #!/usr/bin/env bash
-# Upgrades files of the first format, which the last program of that format made (tests/old/make.sh says how): they are refused with no byte
-# changed until then, and after it the campaigns are as that program printed them, and go on. Called without arguments,
-# it ends with 'upgrade: all as expected'. Without sqlite3 what looks into a file by it is passed over, and so is the largest file.
+# Upgrades files of the first format, which the last program of that format made (tests/old/make.sh says how). Before the upgrade every other
+# command refuses them and changes no byte; after it the reports and books are those that the old program printed, and months can be closed.
+# Called without arguments, it ends with 'upgrade: all as expected'. Without sqlite3 what looks into a file by it is passed over, and so is
+# the largest file.
 set -u
 here=$(cd "$(dirname "$0")/.." && pwd)
 . "$here/tests/checks.sh"

@@ -1,4 +1,4 @@
-"""What the cases share: they compare, and what differs is printed and counted."""
+"""Compares values for the cases of tests/web, and prints and counts what differs."""
 import traceback
 
 

@@ -1,4 +1,4 @@
-"""The lines of web/nginx.conf, asked by curl."""
+"""Cases that ask nginx with the lines of web/nginx.conf by curl, and compare its replies."""
 import os
 import re
 import socket

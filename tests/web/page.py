@@ -1,4 +1,4 @@
-"""The page of web/ in a browser: what a player does with it, and what is shown then."""
+"""Cases of the page of web/ in a browser: what a player does on it, and what it must then show."""
 import functools
 import http.server
 import os

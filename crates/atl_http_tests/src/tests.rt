@@ -1,4 +1,5 @@
-//! The tests, and what they share.
+//! Tests of requests, replies, readers and writers that fail, sockets and dice, and what they
+//! share.
 mod broken;
 mod bytes;
 mod compare;

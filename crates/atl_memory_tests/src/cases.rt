@@ -1,4 +1,4 @@
-//! The calls that are tried, and the answer of each with enough memory.
+//! The calls that are tried, and what each must come to with enough memory.
 use crate::setting::{all_commands, begun, close, founded, join, next_mail, report};
 use crate::texts::{books, rows, told};
 use atl_service::{Command, Service};
@@ -7,7 +7,7 @@ use atl_tables::let_go;
 use sqlite::{Alter, Connection};
 use std::alloc::{AllocError, Global};
 
-/// A call that takes memory.
+/// A public call that takes memory.
 #[derive(Clone, Copy, Debug, PartialEq, Eq)]
 pub enum Call {
     Found,
@@ -23,7 +23,7 @@ pub enum Call {
     Check,
 }
 
-/// The calls in the order of their trials.
+/// All calls, in the order in which they are tried.
 pub static CALLS: [Call; 11] = [
     Call::Found,
     Call::Open,
@@ -38,19 +38,22 @@ pub static CALLS: [Call; 11] = [
     Call::Check,
 ];
 
-/// The factions 1 and 2 and the units 1 to 11 are there.
+/// The answer to the join: factions 1 and 2 and units 1 to 11 were there before.
 const JOINED: &str = "joined 3 12";
 
-/// DANCE stands on the sixth line.
+/// The answer to the mailing; DANCE is on its sixth line.
 const MAILED: &str = "mailed 11 [FaultyLine { line: 6, fault: UnknownOrder }]";
 
+/// The answer to the closing.
 const CLOSED: &str = "month done 1";
 
+/// The answer to the report.
 const REPORTED: &str = "A report.";
 
-/// Of 100 money unit 1 pays 40, and sends 2 of its 5 men to the unit that it forms. Its 3 men take 30 money in tax, and of 90 it pays
-/// for one recruit. Unit 6 has 5 wood, gives 2 of it away and builds with 3. The 4 men of unit 2 get 30 days each and 30 more, as all
-/// are taught. In the forest 15 men make as much wood.
+/// Lines of Avalon's report on the month. Of 100 money unit 1 pays 40, and sends 2 of its 5 men to
+/// the unit that it forms. Its 3 men take 30 money in tax, and of 90 it pays for one recruit. Unit
+/// 6 has 5 wood, gives 2 of it away and builds with 3. The 4 men of unit 2 get 30 days each and 30
+/// more, as all are taught. In the forest 15 men make as much wood.
 static OF_AVALON: [&str; 14] = [
     "Unit 1, line 4, FORM: done 12.",
     "Unit 1, line 7, FORM: done 13.",
@@ -68,24 +71,25 @@ static OF_AVALON: [&str; 14] = [
     "Unit 5, line 21, PRODUCE: done 15.",
 ];
 
-/// Unit 10 has 4 money, earns 20 and pays 20, so it has 4 left of the 10 that unit 11 is short of.
+/// Lines of Bree's report. Unit 10 has 4 money, earns 20 and pays 20, so it has 4 left of the 10
+/// that unit 11 is short of.
 static OF_BREE: [&str; 2] = [
     "Unit 11, line 3, STUDY: fault 23 NoFee.",
     "Unit 11: 1 starved.",
 ];
 
-/// A call, and what comes of it where memory is ample.
+/// A call, and what it comes to with enough memory.
 pub struct Case {
     pub call: Call,
-    /// The commands of the call, or those that are run behind it.
+    /// The commands of the call, or those that are run after it.
     pub commands: Vec<Command>,
-    /// One command of each sort.
+    /// One command of each kind.
     pub later: Vec<Command>,
-    /// What each command of the call is answered.
+    /// The answer to each command, as text.
     pub told: Vec<String>,
-    /// The rows before the first of them and behind each.
+    /// All rows of the campaign before the first command and after each.
     pub rows: Vec<String>,
-    /// The text of the books before the first of them.
+    /// The text of the books before the first command.
     pub books: String,
 }
 
@@ -95,12 +99,14 @@ impl Drop for Case {
     }
 }
 
+/// A list of one command.
 fn one(alloc: Global, command: Command) -> Result<Vec<Command>, AllocError> {
     let mut commands = Vec::new(alloc);
     commands.push(command)?;
     Ok(commands)
 }
 
+/// The commands of a call, or those that are run after it.
 fn commands_of(alloc: Global, call: Call) -> Result<Vec<Command>, AllocError> {
     match call {
         Call::Join | Call::Books => one(alloc, join(alloc)?),
@@ -114,7 +120,8 @@ fn commands_of(alloc: Global, call: Call) -> Result<Vec<Command>, AllocError> {
     }
 }
 
-/// What the command of a call at this place, counted from 0, is to be answered. None is said of the report of the month.
+/// The wanted answer to the command of a call with an index from 0; None if any is right, as for
+/// the month's report.
 fn wanted(call: Call, at: usize) -> Option<&'static str> {
     match (call, at) {
         (Call::Join | Call::Books | Call::RunAll, 0) => Some(JOINED),
@@ -125,7 +132,7 @@ fn wanted(call: Call, at: usize) -> Option<&'static str> {
     }
 }
 
-/// Whether a stored report has these lines.
+/// Whether the stored report of a faction has all these lines.
 fn reports(campaign: &Campaign, faction: u32, lines: &[&str]) -> bool {
     match campaign.report(faction) {
         Some(report) => lines
@@ -135,8 +142,9 @@ fn reports(campaign: &Campaign, faction: u32, lines: &[&str]) -> bool {
     }
 }
 
-/// Whether the month is closed in which all is done that is ordered, and which the units without men don't outlast.
-fn is_rich(campaign: Option<&Campaign>) -> bool {
+/// Whether the month was closed as wanted: both reports have their lines, unit 12 stays, and units
+/// 11 and 13 were swept.
+fn is_month_right(campaign: Option<&Campaign>) -> bool {
     match campaign {
         Some(campaign) => {
             reports(campaign, 1, &OF_AVALON)
@@ -150,6 +158,7 @@ fn is_rich(campaign: Option<&Campaign>) -> bool {
 }
 
 impl Case {
+    /// A case before it is played.
     fn new(alloc: Global, call: Call) -> Result<Case, AllocError> {
         Ok(Case {
             call,
@@ -161,7 +170,7 @@ impl Case {
         })
     }
 
-    /// Runs the commands, and keeps what comes of them.
+    /// Runs the commands, and keeps their answers and the rows.
     fn play<S: Alter>(&mut self, alloc: Global, service: &mut Service<S>) -> Option<()> {
         self.books = books(service)?;
         self.rows.push(rows(alloc, service.campaign())?).ok()?;
@@ -173,7 +182,8 @@ impl Case {
         Some(())
     }
 
-    /// Whether the commands were answered as they are to be, and the month is the one that is to be.
+    /// Whether the commands were answered as wanted, and the month, if the call closes one, is the
+    /// wanted one.
     fn is_right(&self, campaign: Option<&Campaign>) -> bool {
         let mut are_told = true;
         for (at, told) in self.told.iter().enumerate() {
@@ -181,10 +191,10 @@ impl Case {
                 are_told = are_told && told.as_str() == wanted;
             }
         }
-        are_told && (self.call != Call::Close || is_rich(campaign))
+        are_told && (self.call != Call::Close || is_month_right(campaign))
     }
 
-    /// The case of a call, played in this database. None where it doesn't come to what it is to come to.
+    /// The case of a call, played in a database; None if it doesn't come to what is wanted.
     fn played<S: Alter + Drop>(alloc: Global, call: Call, conn: Connection<S>) -> Option<Case> {
         let mut case = Case::new(alloc, call).ok()?;
         let mut service = match call {
@@ -199,14 +209,14 @@ impl Case {
         }
     }
 
-    /// The case of a call. None where it doesn't come to what it is to come to.
+    /// The case of a call, played in memory; None if it doesn't come to what is wanted.
     pub fn of(alloc: Global, call: Call) -> Option<Case> {
         let conn = Connection::open_in_memory(alloc).ok()?;
         Case::played(alloc, call, conn)
     }
 
-    /// The rows behind so many of the commands.
-    pub fn rows_behind(&self, commands: usize) -> &str {
+    /// All rows after `commands` commands.
+    pub fn rows_after(&self, commands: usize) -> &str {
         match self.rows.get(commands) {
             Some(rows) => rows.as_str(),
             None => "",

@@ -1,5 +1,7 @@
-//! Tries each call that takes memory with too little of it: with so many blocks left, and, where the heap counts growths (tests/fuse.c),
-//! with each growth refused in turn, or with every so many-th where the command line has a number.
+//! Tries each call that takes memory with too little of it, and prints for each whether it answers
+//! Memory and leaves all as before. Either only some blocks are left or, where the heap counts
+//! growths (tests/fuse.c), each growth is refused in turn; with a number on the command line only
+//! every growth of that step.
 #![tactic(auto)]
 
 mod cases;
@@ -16,11 +18,12 @@ use crate::trials::{Outcome, tried};
 use std::alloc::{AllocError, Global};
 use std::{env, io};
 
-/// So many calls of `deepen` lie upon each other where the stack has more room than any call that is tried needs.
+/// How many calls of `deepen` are nested, so that the stack has more room than any tried call
+/// needs.
 const DEPTH: u32 = 8_192;
 
-/// Calls itself so many times, with a block held in each call. The stack has room for them from then on. Whether all blocks
-/// were had.
+/// Calls itself `times` times with a block held in each call, which makes the stack grow; true if
+/// all blocks were had.
 fn deepen(alloc: Global, times: u32) -> bool {
     if times == 0 {
         return true;
@@ -30,7 +33,7 @@ fn deepen(alloc: Global, times: u32) -> bool {
     held.is_ok() && is_deep
 }
 
-/// Tries a call with a block more left each time, until it is done.
+/// Tries a call with one block more left each time, until it is done.
 fn with_blocks(rt: &HostRuntime, case: &Case, shortage: &mut Shortage) -> io::Result<()> {
     let call = case.call;
     for blocks in 0..2_000u32 {
@@ -46,7 +49,7 @@ fn with_blocks(rt: &HostRuntime, case: &Case, shortage: &mut Shortage) -> io::Re
     println!(rt; "{call:?}: never done")
 }
 
-/// Refuses every so many-th growth of a call, until a run meets no refusal.
+/// Tries a call with each growth refused in turn, in steps of `step`, until none is refused.
 fn with_refusals(
     rt: &HostRuntime,
     case: &Case,
@@ -72,7 +75,7 @@ fn with_refusals(
     println!(rt; "{call:?}: never done")
 }
 
-/// Tries a call in droughts, or, where a step is given, with refusals.
+/// Tries a call with few blocks left or, if a step is given, with refused growths.
 fn try_call(
     rt: &HostRuntime,
     call: Call,

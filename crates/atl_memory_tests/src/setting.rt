@@ -1,4 +1,5 @@
-//! The campaign that is tried: two factions, eleven units, a boat, and mail of both; and the commands that are run in it.
+//! The campaign in which calls are tried (two factions, eleven units, a boat, and mail of both),
+//! and the commands.
 use atl_service::{Answer, Command, Service, found, open};
 use atl_tables::Sequence;
 use atl_test_files::old_file;
@@ -7,7 +8,7 @@ use atl_test_worlds::month::{OF_AVALON, OF_BREE, ROWS};
 use sqlite::{Alter, Connection, MemStore};
 use std::alloc::{AllocError, Global};
 
-/// Eleven orders of the second faction in the place of its one, and a line that is none.
+/// Bree's second mailing, which replaces its first: eleven orders, and a faulty line.
 const NEXT_OF_BREE: &str = "#ATLANTIS 2 pb
 UNIT 8
 LEAVE
@@ -28,10 +29,12 @@ UNIT 11
 TEACH 10 NEW 1
 ";
 
+/// The bytes of a text.
 fn bytes(alloc: Global, text: &str) -> Result<Sequence<u8>, AllocError> {
     Sequence::from_slice(alloc, text.as_bytes())
 }
 
+/// The command `Mail`.
 fn mail(alloc: Global, faction: u32, pass: &str, text: &str) -> Result<Command, AllocError> {
     Ok(Command::Mail {
         faction,
@@ -40,7 +43,7 @@ fn mail(alloc: Global, faction: u32, pass: &str, text: &str) -> Result<Command, 
     })
 }
 
-/// A third faction joins.
+/// The command by which a third faction joins.
 pub fn join(alloc: Global) -> Result<Command, AllocError> {
     Ok(Command::Join {
         name: bytes(alloc, "Cork")?,
@@ -49,12 +52,12 @@ pub fn join(alloc: Global) -> Result<Command, AllocError> {
     })
 }
 
-/// The second faction sends other orders.
+/// The command by which Bree sends its second mailing.
 pub fn next_mail(alloc: Global) -> Result<Command, AllocError> {
     mail(alloc, 2, "pb", NEXT_OF_BREE)
 }
 
-/// The first month is closed.
+/// The command that closes month 1.
 pub fn close(alloc: Global) -> Result<Command, AllocError> {
     Ok(Command::Close {
         month: 1,
@@ -63,7 +66,7 @@ pub fn close(alloc: Global) -> Result<Command, AllocError> {
     })
 }
 
-/// The first faction asks for its report.
+/// The command by which Avalon asks for its report.
 pub fn report(alloc: Global) -> Result<Command, AllocError> {
     Ok(Command::Report {
         faction: 1,
@@ -71,7 +74,7 @@ pub fn report(alloc: Global) -> Result<Command, AllocError> {
     })
 }
 
-/// One command of each sort.
+/// One command of each kind.
 pub fn all_commands(alloc: Global) -> Result<Vec<Command>, AllocError> {
     let mut commands = Vec::new(alloc);
     commands.push(join(alloc)?)?;
@@ -81,7 +84,7 @@ pub fn all_commands(alloc: Global) -> Result<Vec<Command>, AllocError> {
     Ok(commands)
 }
 
-/// A campaign of the isle where nobody has joined.
+/// The service of the island's campaign just founded.
 pub fn founded<S: Alter + Drop>(alloc: Global, conn: Connection<S>) -> Option<Service<S>> {
     match found(alloc, conn, ISLE, b"gm") {
         Ok(service) => Some(service),
@@ -89,7 +92,7 @@ pub fn founded<S: Alter + Drop>(alloc: Global, conn: Connection<S>) -> Option<Se
     }
 }
 
-/// The same with the units, and with nothing mailed.
+/// The service of the island's campaign with the factions and units, without mail.
 fn filled<S: Alter + Drop>(alloc: Global, conn: Connection<S>) -> Option<Service<S>> {
     let mut conn = founded(alloc, conn)?.end();
     conn.execute_batch(ROWS).ok()?;
@@ -99,7 +102,7 @@ fn filled<S: Alter + Drop>(alloc: Global, conn: Connection<S>) -> Option<Service
     }
 }
 
-/// Whether a mailing is kept.
+/// Whether a mailing is stored.
 fn is_kept<S: Alter>(service: &mut Service<S>, mail: Result<Command, AllocError>) -> bool {
     match &mail {
         Ok(mail) => matches!(&service.run(mail), Answer::Mailed { .. }),
@@ -107,7 +110,7 @@ fn is_kept<S: Alter>(service: &mut Service<S>, mail: Result<Command, AllocError>
     }
 }
 
-/// The same with the mail of both factions.
+/// The service of the island's campaign with the units and the mail of both factions.
 pub fn begun<S: Alter + Drop>(alloc: Global, conn: Connection<S>) -> Option<Service<S>> {
     let mut service = filled(alloc, conn)?;
     let are_kept = is_kept(&mut service, mail(alloc, 1, "pw", OF_AVALON))

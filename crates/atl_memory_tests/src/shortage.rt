@@ -1,22 +1,22 @@
-//! Two ways to run short of memory: a growth that is refused, or only a few blocks left.
+//! Two ways to run short of memory: one growth is refused, or only a few blocks are left.
 use crate::drought::Drought;
 use crate::fuse;
 use atl_tables::let_go;
 use std::alloc::Global;
 
-/// How memory is to be short.
+/// How memory is short.
 #[derive(Clone, Copy, Debug, PartialEq, Eq)]
 pub enum Limit {
-    /// The heap that counts refuses the growth of this number.
+    /// The growth with this number is refused, by a heap that counts (`fuse`).
     Growth(u32),
-    /// Nothing is left but so many blocks.
+    /// Only this many blocks are left.
     Blocks(u32),
 }
 
-/// Memory as it is to be during a call.
+/// A shortage that can begin and end, and whether it met a call.
 pub struct Shortage {
     pub limit: Limit,
-    /// Whether a growth was refused in the call before, where that is known.
+    /// Whether a growth was refused in the last call; None if it isn't known.
     pub was_refused: Option<bool>,
     drought: Drought,
 }
@@ -28,7 +28,7 @@ impl Drop for Shortage {
 }
 
 impl Shortage {
-    /// No shortage yet. None without room for the lists of a drought.
+    /// A shortage that hasn't begun; None if there is no room for the lists of a drought.
     pub fn new(alloc: Global) -> Option<Shortage> {
         Some(Shortage {
             limit: Limit::Blocks(0),
@@ -37,7 +37,7 @@ impl Shortage {
         })
     }
 
-    /// From here on memory is short.
+    /// Makes memory short.
     pub fn begin(&mut self, alloc: Global) {
         match self.limit {
             Limit::Growth(growth) => {
@@ -47,7 +47,7 @@ impl Shortage {
         }
     }
 
-    /// From here on memory is ample.
+    /// Makes memory ample again.
     pub fn end(&mut self, alloc: Global) {
         self.was_refused = match self.limit {
             Limit::Growth(_) => Some(fuse::has_refused(alloc)),

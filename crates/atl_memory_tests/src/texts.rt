@@ -1,21 +1,21 @@
-//! Turns rows and answers into texts, to compare all of them at once.
+//! Turns rows and answers into texts, so that all of them are compared at once.
 use atl_service::{Answer, Service, open};
 use atl_state::{Campaign, Parts};
 use sqlite::{Alter, Connection};
 use std::alloc::Global;
 
-/// All rows, as a text.
+/// All rows, as `Debug` prints them.
 pub fn text_of(alloc: Global, parts: &Parts) -> Option<String> {
     format!(in alloc; "{parts:?}").ok()
 }
 
-/// All rows of a campaign, as a text.
+/// All rows of a campaign, as `Debug` prints them.
 pub fn rows(alloc: Global, campaign: Option<&Campaign>) -> Option<String> {
     let parts = campaign?.parts().ok()?;
     text_of(alloc, &parts)
 }
 
-/// All rows that a database holds, as a text.
+/// All rows of the campaign in a database, as `Debug` prints them.
 pub fn rows_of<S: Alter + Drop>(alloc: Global, conn: Connection<S>) -> Option<String> {
     match open(alloc, conn) {
         Ok(service) => rows(alloc, service.campaign()),
@@ -28,7 +28,7 @@ pub fn books<S: Alter>(service: &Service<S>) -> Option<String> {
     service.books()?.ok()
 }
 
-/// An answer as a text.
+/// An answer as text.
 pub fn told(alloc: Global, answer: &Answer) -> Option<String> {
     match answer {
         Answer::Joined { faction, unit } => format!(in alloc; "joined {faction} {unit}").ok(),

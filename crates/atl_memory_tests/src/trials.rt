@@ -1,4 +1,4 @@
-//! Tries a call with too little memory, and checks what it leaves.
+//! Tries one call with too little memory, and checks its answer and what it leaves.
 use crate::cases::{Call, Case};
 use crate::setting::{begun, old_of};
 use crate::shortage::Shortage;
@@ -13,7 +13,7 @@ use std::alloc::Global;
 /// What a call with memory short came to.
 #[derive(Clone, Copy, PartialEq, Eq, Debug)]
 enum Came {
-    /// Memory, and all is as before.
+    /// The answer is Memory, and all is as before.
     Memory,
     /// The very outcome of ample memory.
     Done,
@@ -21,21 +21,22 @@ enum Came {
     Wrong(&'static str),
 }
 
-/// The same, beside whether a growth was refused.
+/// What a call with memory short came to, together with whether a growth was refused.
 #[derive(Clone, Copy, PartialEq, Eq, Debug)]
 pub enum Outcome {
     /// The answer is Memory, and all is as before.
     Held,
     /// The outcome is that of ample memory, and none was refused as far as is known.
     Done,
-    /// A growth was refused, and the outcome is that of ample memory none the less.
+    /// A growth was refused, and the outcome is nevertheless that of enough memory.
     MadeGood,
-    /// Memory, and no growth was refused.
+    /// The answer is Memory, although no growth was refused.
     Untrue,
     /// Something else, and what.
     Wrong(&'static str),
 }
 
+/// The outcome of a call, from what it came to and whether a growth was refused.
 fn judged(was_refused: Option<bool>, came: Came) -> Outcome {
     match (was_refused, came) {
         (_, Came::Wrong(what)) => Outcome::Wrong(what),
@@ -46,7 +47,7 @@ fn judged(was_refused: Option<bool>, came: Came) -> Outcome {
     }
 }
 
-/// Memory, where all is as before.
+/// Memory, if all is as before.
 fn held(is_as_before: bool) -> Came {
     if is_as_before {
         Came::Memory
@@ -55,7 +56,7 @@ fn held(is_as_before: bool) -> Came {
     }
 }
 
-/// The outcome, where it is that of ample memory.
+/// Done, if the outcome is that of enough memory.
 fn done(is_as_wanted: bool) -> Came {
     if is_as_wanted {
         Came::Done
@@ -64,13 +65,14 @@ fn done(is_as_wanted: bool) -> Came {
     }
 }
 
-/// Whether a service has these rows, and its tables too.
+/// Whether a service and its tables have these rows.
 fn has_rows<S: Alter + Drop>(alloc: Global, service: Service<S>, wanted: &str) -> bool {
     is_text(rows(alloc, service.campaign()), wanted)
         && is_text(rows_of(alloc, service.end()), wanted)
 }
 
-/// Whether a service shows nothing, lends its world, and answers Closed to each sort of command.
+/// Whether a service has no campaign and no books, still lends its world, and answers Closed to
+/// each kind of command.
 fn is_closed<S: Alter>(service: &mut Service<S>, case: &Case) -> bool {
     let mut is_closed = service.campaign().is_none()
         && service.books().is_none()
@@ -96,12 +98,14 @@ fn is_left_closed<S: Alter + Drop>(
 enum End {
     /// All are those of ample memory.
     Done,
-    /// So many are, behind them comes Memory, and then Closed.
+    /// The first ones, this many, are those of enough memory; then comes Memory, and then only
+    /// Closed.
     Memory(usize),
-    /// They are others.
+    /// They are something else.
     Astray,
 }
 
+/// How answers end, compared with those of enough memory.
 fn end_of(alloc: Global, answers: &[Answer], wanted: &[String]) -> End {
     let mut end = End::Done;
     for (at, (answer, wanted)) in answers.iter().zip(wanted.iter()).enumerate() {
@@ -119,7 +123,7 @@ fn end_of(alloc: Global, answers: &[Answer], wanted: &[String]) -> End {
     }
 }
 
-/// What answers to the commands of a case, and the service behind them, come to.
+/// What the answers to a case's commands and the service after them come to.
 fn ended<S: Alter + Drop>(
     alloc: Global,
     service: Service<S>,
@@ -127,21 +131,23 @@ fn ended<S: Alter + Drop>(
     case: &Case,
 ) -> Came {
     match end_of(alloc, answers, &case.told) {
-        End::Done => done(has_rows(alloc, service, case.rows_behind(answers.len()))),
-        End::Memory(at) => held(is_left_closed(alloc, service, case, case.rows_behind(at))),
+        End::Done => done(has_rows(alloc, service, case.rows_after(answers.len()))),
+        End::Memory(at) => held(is_left_closed(alloc, service, case, case.rows_after(at))),
         End::Astray => Came::Wrong("another answer"),
     }
 }
 
-/// Whether a service is as before, and goes on: the commands come to what they come to with ample memory.
+/// Whether a service is as before, and the commands now come to what they come to with enough
+/// memory.
 fn goes_on<S: Alter + Drop>(alloc: Global, mut service: Service<S>, case: &Case) -> bool {
-    let is_as_before = is_text(rows(alloc, service.campaign()), case.rows_behind(0));
+    let is_as_before = is_text(rows(alloc, service.campaign()), case.rows_after(0));
     match service.run_all(&case.commands) {
         Ok(answers) => is_as_before && ended(alloc, service, &answers, case) == Came::Done,
         Err(_) => false,
     }
 }
 
+/// Tries a founding.
 fn founds<S: Alter + Drop>(
     alloc: Global,
     conn: Connection<S>,
@@ -152,7 +158,7 @@ fn founds<S: Alter + Drop>(
     let answer = found(alloc, conn, ISLE, b"gm");
     shortage.end(alloc);
     match answer {
-        Ok(service) => done(has_rows(alloc, service, case.rows_behind(0))),
+        Ok(service) => done(has_rows(alloc, service, case.rows_after(0))),
         Err(
             Refused {
                 why: Cause::Memory,
@@ -163,6 +169,7 @@ fn founds<S: Alter + Drop>(
     }
 }
 
+/// Tries an opening.
 fn opens<S: Alter + Drop>(
     alloc: Global,
     service: Service<S>,
@@ -174,18 +181,19 @@ fn opens<S: Alter + Drop>(
     let answer = open(alloc, conn);
     shortage.end(alloc);
     match answer {
-        Ok(service) => done(has_rows(alloc, service, case.rows_behind(0))),
+        Ok(service) => done(has_rows(alloc, service, case.rows_after(0))),
         Err(
             Refused {
                 why: Cause::Memory,
                 conn,
             },
-        ) => held(is_text(rows_of(alloc, conn), case.rows_behind(0))),
+        ) => held(is_text(rows_of(alloc, conn), case.rows_after(0))),
         Err(_) => Came::Wrong("another cause"),
     }
 }
 
-/// Whether a file is an old one still, and is upgraded to what it comes to with ample memory.
+/// Whether a file is still of the first format, and an upgrade now comes to what it comes to with
+/// enough memory.
 fn is_still_old<S: Alter + Drop>(alloc: Global, conn: Connection<S>, case: &Case) -> bool {
     match open(alloc, conn) {
         Err(
@@ -194,14 +202,14 @@ fn is_still_old<S: Alter + Drop>(alloc: Global, conn: Connection<S>, case: &Case
                 conn,
             },
         ) => match upgrade(alloc, conn, ISLE_WITH_MARKET) {
-            Ok(service) => has_rows(alloc, service, case.rows_behind(0)),
+            Ok(service) => has_rows(alloc, service, case.rows_after(0)),
             Err(_) => false,
         },
         _ => false,
     }
 }
 
-/// The upgrade of an old file that has the campaign of a service.
+/// Tries the upgrade of a file of the first format with a service's campaign.
 fn upgrades<S: Alter + Drop>(
     alloc: Global,
     service: Service<S>,
@@ -215,7 +223,7 @@ fn upgrades<S: Alter + Drop>(
     let answer = upgrade(alloc, conn, ISLE_WITH_MARKET);
     shortage.end(alloc);
     match answer {
-        Ok(service) => done(has_rows(alloc, service, case.rows_behind(0))),
+        Ok(service) => done(has_rows(alloc, service, case.rows_after(0))),
         Err(
             Refused {
                 why: Cause::Memory,
@@ -226,6 +234,7 @@ fn upgrades<S: Alter + Drop>(
     }
 }
 
+/// Tries one command.
 fn runs<S: Alter + Drop>(
     alloc: Global,
     mut service: Service<S>,
@@ -244,6 +253,7 @@ fn runs<S: Alter + Drop>(
     }
 }
 
+/// Tries a list of commands.
 fn runs_all<S: Alter + Drop>(
     alloc: Global,
     mut service: Service<S>,
@@ -259,6 +269,7 @@ fn runs_all<S: Alter + Drop>(
     }
 }
 
+/// Tries the text of the books.
 fn tells_books<S: Alter + Drop>(
     alloc: Global,
     service: Service<S>,
@@ -276,17 +287,19 @@ fn tells_books<S: Alter + Drop>(
     }
 }
 
+/// Tries the rows of a campaign.
 fn gives_rows(alloc: Global, campaign: &Campaign, case: &Case, shortage: &mut Shortage) -> Came {
     shortage.begin(alloc);
     let parts = campaign.parts();
     shortage.end(alloc);
-    let is_left = is_text(rows(alloc, Some(campaign)), case.rows_behind(0));
+    let is_left = is_text(rows(alloc, Some(campaign)), case.rows_after(0));
     match &parts {
-        Ok(parts) => done(is_left && is_text(text_of(alloc, parts), case.rows_behind(0))),
+        Ok(parts) => done(is_left && is_text(text_of(alloc, parts), case.rows_after(0))),
         Err(_) => held(is_left),
     }
 }
 
+/// Tries the check of a campaign's rows.
 fn checks(
     alloc: Global,
     world: &World,
@@ -301,13 +314,13 @@ fn checks(
     let checked = check(alloc, world, parts);
     shortage.end(alloc);
     match &checked {
-        Ok(checked) => done(is_text(rows(alloc, Some(checked)), case.rows_behind(0))),
-        Err(CheckFault::Memory) => held(is_text(rows(alloc, Some(campaign)), case.rows_behind(0))),
+        Ok(checked) => done(is_text(rows(alloc, Some(checked)), case.rows_after(0))),
+        Err(CheckFault::Memory) => held(is_text(rows(alloc, Some(campaign)), case.rows_after(0))),
         Err(_) => Came::Wrong("a rule is broken"),
     }
 }
 
-/// A call that reads the campaign of a service.
+/// Tries a call that reads the campaign of a service.
 fn reads<S: Alter + Drop>(
     alloc: Global,
     service: Service<S>,
@@ -323,7 +336,7 @@ fn reads<S: Alter + Drop>(
     }
 }
 
-/// A call on a service.
+/// Tries any call on a service.
 fn called<S: Alter + Drop>(
     alloc: Global,
     service: Service<S>,
@@ -340,6 +353,7 @@ fn called<S: Alter + Drop>(
     }
 }
 
+/// Tries the call of a case in a database.
 fn tried_in<S: Alter + Drop>(
     alloc: Global,
     conn: Connection<S>,
@@ -355,7 +369,7 @@ fn tried_in<S: Alter + Drop>(
     }
 }
 
-/// What comes of the call of a case with memory short.
+/// What the call of a case comes to with memory short.
 pub fn tried(alloc: Global, case: &Case, shortage: &mut Shortage) -> Outcome {
     let came = match Connection::open_in_memory(alloc) {
         Ok(conn) => tried_in(alloc, conn, case, shortage),

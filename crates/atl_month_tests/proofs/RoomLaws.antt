@@ -1,4 +1,4 @@
--- Good campaigns have room for the phases that share pots, and for upkeep.
+-- Laws for the proofs of `agreeing`: the books of good campaigns have room for each phase that it plays.
 use Rattle.std.proofs.Common.{◌≤◌, ℕ, Bool, true, false, arith}
 use Rattle.std.specs.Prelude.{if◌then◌else◌}
 use Rattle.atl_tables.specs.Worlds.{WorldValue}
@@ -16,10 +16,12 @@ use Rattle.atl_market.specs.Work.{work_spec}
 use Rattle.atl_month.specs.Upkeep.{upkeep_spec}
 use Rattle.atl_month.proofs.PhaseLaws.{early_are, later_are, upkeep_alone, work_alone}
 
+-- What is at most `most_moved` or 0, whichever `b` chooses, is at most 5,000,000,000,000,000,000.
 little : (b : Bool) (moved : ℕ) → moved ≤ (if b then most_moved else 0) → moved ≤ 5000000000000000000
 little true moved l = omega (arith, l)
 little false moved l = omega (arith, l)
 
+-- The books of a good campaign have room for a phase that moves only its own entries.
 room_of : (phase : PhaseSpec) → MovesItsOwn phase → (w : WorldValue) (c : CampaignValue) → IsGood w c → HaveRoom phase.moving c
 room_of phase own w c good = room_when_sound w c phase.moving (λ e t. little (may_move phase.moved e t) (phase.moving e t) (own e t)) good.sound
 

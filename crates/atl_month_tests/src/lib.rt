@@ -1,4 +1,5 @@
-//! Tests of the calls that the phases of a month stand on, and of reports. The phases themselves are played by atl_phase_tests.
+//! Tests of the calls that the phases of a month rest on, and of reports. atl_phase_tests plays the
+//! phases themselves.
 #![tactic(auto)]
 
 #[cfg(test)]

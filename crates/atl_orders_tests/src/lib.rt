@@ -1,4 +1,5 @@
-//! Tests of the world's reader, the containers and the reader of mailings.
+//! Tests of atl_tables and atl_orders: the readers of worlds and of mailings, names, look-ups and
+//! containers.
 #![tactic(auto)]
 
 #[cfg(test)]

@@ -1,6 +1,7 @@
-//! The two readers, the look-ups, the rules of names and the containers, by their public calls alone. A function here holds
-//! at most one thing that is large (a world, a mailing), and lends it; the tables of cases are short, and lent; and each
-//! assertion of equality stands once, in `asserts`: so the proofs stay short.
+//! Tests of the two readers, the look-ups, the rules of names and the containers, by their public
+//! calls alone. A function here holds at most one large value (a world, a mailing) and lends it;
+//! tables of cases are short; and each assertion of equality is written once, in `asserts`: so the
+//! proofs stay short.
 mod asserts;
 mod changes;
 mod containers;

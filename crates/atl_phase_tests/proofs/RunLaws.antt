@@ -1,4 +1,4 @@
--- What the phases of the cases need.
+-- Laws for the proofs of `runs` and `settings`: the books of these campaigns have room for each phase.
 use Rattle.std.proofs.Common.{◌≡◌, ◌≤◌, ℕ, Bool, true, false, sym, subst, arith}
 use Rattle.std.specs.Prelude.{if◌then◌else◌}
 use Rattle.atl_tables.specs.Worlds.{WorldValue}
@@ -20,25 +20,28 @@ use Rattle.atl_month.proofs.MoveLaws.{phases_little}
 use Rattle.atl_month.proofs.PhaseLaws.{season_alone, sweep_alone, upkeep_alone, work_alone}
 use Rattle.atl_phase_tests.specs.Roomy.{IsRoomy, much}
 
--- a good campaign is roomy, and so is one with the same books
+-- The books of a good campaign are roomy, and so are those of any campaign with the same books.
 pub roomy_when_good : (w : WorldValue) (c d : CampaignValue) → IsGood w c → d.books ≡ c.books → IsRoomy d
 roomy_when_good w c d good books e t = subst (λ b. HasRoom much (amount_in b e t)) (sym books) (room_when_sound w c (λ f u. much) (λ f u. omega arith) good.sound e t)
 
--- there is room for what moves less
+-- Roomy books have room for whatever moves at most `much`.
 pub room_for : (c : CampaignValue) (moving : BookBound) → ((e : Entry) (t : Thing) → moving e t ≤ much) → IsRoomy c → HaveRoom moving c
 room_for c moving little room = room_less moving (λ e t. much) c little room
 
+-- Roomy books have room for the phases that carry out orders.
 pub room_for_orders : (c : CampaignValue) → IsRoomy c → HaveRoom orders_moving c
 room_for_orders c = room_for c orders_moving (λ e t. omega (arith, phases_little e t))
 
--- a phase moves less, and so do two
+-- What is at most `most_moved` or 0, whichever `b` chooses, is at most `most_moved`.
 cut : (b : Bool) (moved : ℕ) → moved ≤ (if b then most_moved else 0) → moved ≤ most_moved
 cut true moved l = l
 cut false moved l = omega (arith, l)
 
+-- A phase that moves only its own entries moves at most `most_moved` of each thing.
 moves_little : (phase : PhaseSpec) → MovesItsOwn phase → (e : Entry) (t : Thing) → phase.moving e t ≤ most_moved
 moves_little phase own e t = cut (may_move phase.moved e t) (phase.moving e t) (own e t)
 
+-- Roomy books have room for a phase that moves only its own entries.
 room_of : (phase : PhaseSpec) → MovesItsOwn phase → (c : CampaignValue) → IsRoomy c → HaveRoom phase.moving c
 room_of phase own c = room_for c phase.moving (λ e t. omega (arith, moves_little phase own e t))
 

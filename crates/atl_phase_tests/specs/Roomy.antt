@@ -1,11 +1,12 @@
--- Campaigns whose books have room for any phases.
+-- For these tests alone: campaigns whose books have room for any of the phases that the cases play.
 use Rattle.std.specs.Prelude.{ℕ}
 use Rattle.atl_state.specs.Campaign.{CampaignValue}
 use Rattle.atl_instant.specs.Bounds.{HaveRoom}
 
--- far more than a month moves
+-- The room that the proofs ask for: far more than one month can book.
 abbrev pub much : ℕ
 much = 5000000000000000000
 
+-- Every amount of the books of `c` has room for `much` more.
 abbrev pub IsRoomy : CampaignValue → Type 0
 IsRoomy c = HaveRoom (λ e t. much) c

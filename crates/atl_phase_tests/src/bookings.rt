@@ -1,4 +1,5 @@
-//! What was booked between two campaigns, a line each.
+//! Prints what was booked between two campaigns (docs/RULES.md, "Books"), a line for each entry and
+//! thing.
 ghost use Rattle.std.specs.Prelude.{◌≡◌};
 ghost use Rattle.atl_records.specs.Books.{thing_index};
 
@@ -7,14 +8,16 @@ use atl_state::{Campaign, ENTRY_COUNT, Entry, Thing};
 use atl_tables::World;
 use std::alloc::{AllocError, Global};
 
-/// The places of money, people and the first item among the things of the books.
+/// The index of money among the things of the books.
 const MONEY: usize = 0;
 
+/// The index of people among the things of the books.
 const PEOPLE: usize = 1;
 
+/// The index of the first item among the things of the books.
 const FIRST_ITEM: usize = 2;
 
-/// All entries of the books, by their names.
+/// All entries of the books with their names in files of cases.
 static ENTRIES: [(&str, Entry); ENTRY_COUNT] = [
     ("founding", Entry::Founding),
     ("joining", Entry::Joining),
@@ -34,7 +37,8 @@ static ENTRIES: [(&str, Entry); ENTRY_COUNT] = [
     ("stocked", Entry::Stocked),
 ];
 
-/// What is booked of a thing under an entry; 0 where there is no such thing.
+/// The amount booked of a thing under an entry, or 0 if the books have no such thing; `place` is
+/// the thing's index.
 fn booked(campaign: &Campaign, entry: Entry, place: usize, thing: Thing) -> i64
     requires { thing_index thing ≡ place }
 {
@@ -45,8 +49,8 @@ fn booked(campaign: &Campaign, entry: Entry, place: usize, thing: Thing) -> i64
     }
 }
 
-/// Tells what was booked of a thing.
-fn thing(
+/// Appends a line for each entry under which the amount of a thing changed.
+fn tell_thing(
     alloc: Global,
     of: &str,
     place: usize,
@@ -66,8 +70,8 @@ fn thing(
     Ok(())
 }
 
-/// Tells what was booked.
-pub(crate) fn books(
+/// Appends a line for each entry and thing whose booked amount changed.
+pub(crate) fn tell_books(
     alloc: Global,
     world: &World,
     before: &Campaign,
@@ -75,12 +79,12 @@ pub(crate) fn books(
     told: &mut String,
 ) -> Result<(), AllocError> {
     let money = Thing::Money;
-    thing(alloc, "booked money", MONEY, money, before, after, told)?;
+    tell_thing(alloc, "booked money", MONEY, money, before, after, told)?;
     let people = Thing::People;
-    thing(alloc, "booked people", PEOPLE, people, before, after, told)?;
+    tell_thing(alloc, "booked people", PEOPLE, people, before, after, told)?;
     for (place, item) in world.items().iter().enumerate() {
         let of = format!(in alloc; "booked {}", item.name.as_str())?;
-        thing(
+        tell_thing(
             alloc,
             of.as_str(),
             FIRST_ITEM + place,

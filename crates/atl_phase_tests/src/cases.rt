@@ -1,4 +1,5 @@
-//! The cases of a file, one after the other.
+//! Plays the cases of a file, one after the other, and compares what comes of each with what is
+//! written there.
 use crate::changes::tell_changes;
 use crate::failed::Failed;
 use crate::months::read_all;
@@ -11,7 +12,7 @@ use std::alloc::{AllocError, Global};
 use std::fs;
 use std::str::Lines;
 
-/// Tells what came of an order.
+/// Appends a line with the outcome of an order.
 fn tell_event(alloc: Global, event: &Event, told: &mut String) -> Result<(), AllocError> {
     let (word, number) = match event.outcome {
         Outcome::Done(number) => ("done", number),
@@ -26,7 +27,7 @@ fn tell_event(alloc: Global, event: &Event, told: &mut String) -> Result<(), All
     told.push_str(line.as_str())
 }
 
-/// What has changed from one campaign to another, and what came of orders.
+/// The differences between two campaigns and the outcomes of the orders, as lines.
 fn told_between(
     alloc: Global,
     world: &World,
@@ -42,7 +43,7 @@ fn told_between(
     Ok(told)
 }
 
-/// What comes of a case: what changes, and what is told of its orders.
+/// What comes of a case, as lines: the changes of the campaign, and the outcomes of its orders.
 fn told_of(
     alloc: Global,
     world: &World,
@@ -56,8 +57,9 @@ fn told_of(
     Ok(told_between(alloc, world, &before, &after, &events)?)
 }
 
-/// A file of cases as far as it was read: the campaign and the phases of the cases to come, how many were played, and what is told of
-/// those that came to something else.
+/// A file of cases as far as it was read.
+/// It has the campaign and the phases for the next case, the case that is being read, the count of
+/// those played, and a report.
 struct Player {
     world: World,
     setting: Setting,
@@ -74,6 +76,7 @@ impl Drop for Player {
 }
 
 impl Player {
+    /// A player without a campaign's lines, before the first line is read.
     fn new(alloc: Global, world: World) -> Player {
         Player {
             world,
@@ -85,7 +88,8 @@ impl Player {
         }
     }
 
-    /// Plays a case.
+    /// Plays a case, and appends what came of it to the report if that differs from what is
+    /// written.
     fn play(&mut self, alloc: Global, case: &Case) -> Result<(), Failed> {
         let told = told_of(alloc, &self.world, &self.setting, self.run, case)?;
         self.played = self.played.wrapping_add(1);
@@ -104,7 +108,8 @@ impl Player {
         }
     }
 
-    /// Adds a line to the campaign of the cases to come, so many times.
+    /// Adds the units, goods or structures of a line to the campaign of the next cases, `count`
+    /// times.
     fn set(&mut self, count: u32, line: &str) -> Option<()> {
         let (word, rest) = line.split_once(' ')?;
         for _ in 0..count {
@@ -113,13 +118,13 @@ impl Player {
         Some(())
     }
 
-    /// Adds a line to the campaign of the cases to come, as many times as the line says.
+    /// Adds what a `times` line says, as often as it says, to the campaign of the next cases.
     fn set_times(&mut self, text: &str) -> Option<()> {
         let (count, line) = text.split_once(' ')?;
         self.set(count.parse::<u32>().ok()?, line)
     }
 
-    /// Adds a line to the case, or to the campaign where no case has begun.
+    /// Adds a line to the current case, or to the campaign if no case has begun.
     fn take(&mut self, alloc: Global, line: &str) -> Option<()> {
         let (word, rest) = line.split_once(' ').unwrap_or((line, ""));
         match &mut self.case {
@@ -129,27 +134,28 @@ impl Player {
         }
     }
 
-    /// Begins another campaign.
+    /// Plays the last case, and starts an empty campaign for the next ones.
     fn begin_campaign(&mut self, alloc: Global) -> Result<(), Failed> {
         self.finish(alloc)?;
         self.setting = Setting::new(alloc);
         Ok(())
     }
 
-    /// The cases to come play the phases of a name.
+    /// Plays the last case, and sets which phases the next ones play.
     fn begin_run(&mut self, alloc: Global, name: &str) -> Result<(), Failed> {
         self.finish(alloc)?;
         self.run = Run::of_name(name).ok_or(Failed("no phases"))?;
         Ok(())
     }
 
+    /// Plays the last case, and begins one with a title.
     fn begin_case(&mut self, alloc: Global, title: &str) -> Result<(), Failed> {
         self.finish(alloc)?;
         self.case = Some(Case::new(alloc, title)?);
         Ok(())
     }
 
-    /// Reads a line.
+    /// Carries out a line of the file.
     fn read(&mut self, alloc: Global, line: &str) -> Result<(), Failed> {
         if line.is_empty() || line.starts_with("--") {
             Ok(())
@@ -164,7 +170,8 @@ impl Player {
         }
     }
 
-    /// Tells that a line cannot be read or its case not be played.
+    /// Appends to the report that a line can't be read, or its case not be played; `place` is its
+    /// index after the first line.
     fn tell_failed(
         &mut self,
         alloc: Global,
@@ -175,7 +182,7 @@ impl Player {
         self.told.push_str(line.as_str())
     }
 
-    /// Reads the lines of a file behind the first, and plays their cases.
+    /// Carries out all lines of a file after the first, and plays the last case.
     fn read_all(&mut self, alloc: Global, lines: Lines<'_>) -> Result<(), Failed> {
         for (place, line) in lines.enumerate() {
             if let Err(failed) = self.read(alloc, line) {
@@ -186,6 +193,7 @@ impl Player {
     }
 }
 
+/// The text of the file at a path.
 fn text_at(rt: &HostRuntime, path: &str) -> Result<String, Failed> {
     match fs::read_to_string(rt, path) {
         Ok(text) => Ok(text),
@@ -193,6 +201,7 @@ fn text_at(rt: &HostRuntime, path: &str) -> Result<String, Failed> {
     }
 }
 
+/// The world of the file at a path.
 fn world_at(rt: &HostRuntime, path: &str) -> Result<World, Failed> {
     let text = text_at(rt, path)?;
     match read_world(rt.alloc(), text.as_str()) {
@@ -201,8 +210,8 @@ fn world_at(rt: &HostRuntime, path: &str) -> Result<World, Failed> {
     }
 }
 
-/// Plays the cases of a file, and tells how many there are, which of them come to something else than is written there, and which lines
-/// cannot be read or played. The first line names the file of their world.
+/// The report on a file: how many cases it has, which of them differ, and which lines can't be read
+/// or played. The first line of the file names its world.
 pub(crate) fn told_of_file(rt: &HostRuntime, path: &str) -> Result<String, Failed> {
     let alloc = rt.alloc();
     let text = text_at(rt, path)?;

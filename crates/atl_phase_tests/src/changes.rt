@@ -1,5 +1,5 @@
-//! Prints the differences between two campaigns, a line each.
-use crate::bookings::books;
+//! Prints the differences between two campaigns, a line for each number or text that changed.
+use crate::bookings::tell_books;
 use crate::lines::{number, text};
 use atl_state::{Campaign, Faction, Region, Structure, Unit};
 use atl_tables::World;
@@ -7,7 +7,7 @@ use std::alloc::{AllocError, Global};
 
 // ---- units
 
-/// A unit's faction, region, structure, men, money and flag; nothing of one that isn't there.
+/// A unit's faction, region, structure, men, money and guard flag; zeros if there is no unit.
 fn numbers_of(unit: Option<&Unit>) -> [i64; 6] {
     match unit {
         Some(found) => [
@@ -22,8 +22,10 @@ fn numbers_of(unit: Option<&Unit>) -> [i64; 6] {
     }
 }
 
+/// The names of the numbers of `numbers_of`.
 static NUMBERS: [&str; 6] = ["faction", "region", "inside", "men", "money", "guard"];
 
+/// The name of a unit, or an empty text if there is no unit.
 fn unit_name(unit: Option<&Unit>) -> &str {
     match unit {
         Some(found) => found.holding.name().as_str(),
@@ -31,6 +33,7 @@ fn unit_name(unit: Option<&Unit>) -> &str {
     }
 }
 
+/// How much a unit has of an item; 0 if there is no unit.
 fn amount_of(unit: Option<&Unit>, item: u32) -> i64 {
     match unit {
         Some(found) => i64::from(found.holding.amount(item)),
@@ -38,6 +41,7 @@ fn amount_of(unit: Option<&Unit>, item: u32) -> i64 {
     }
 }
 
+/// A unit's days of a skill; 0 if there is no unit.
 fn days_of(unit: Option<&Unit>, skill: u32) -> i64 {
     match unit {
         Some(found) => i64::from(found.holding.days_of(skill)),
@@ -45,8 +49,8 @@ fn days_of(unit: Option<&Unit>, skill: u32) -> i64 {
     }
 }
 
-/// Tells what a unit has more or less.
-fn goods(
+/// Appends a line for each item of which a unit has more or less.
+fn tell_goods(
     alloc: Global,
     world: &World,
     of: &str,
@@ -63,8 +67,8 @@ fn goods(
     Ok(())
 }
 
-/// Tells what a unit has studied more or less.
-fn skills(
+/// Appends a line for each skill of which a unit has more or fewer days.
+fn tell_skills(
     alloc: Global,
     world: &World,
     of: &str,
@@ -81,8 +85,8 @@ fn skills(
     Ok(())
 }
 
-/// Tells how a unit that is there has changed.
-fn unit(
+/// Appends the changes of a unit: its name, its numbers, its items and its skills.
+fn tell_unit(
     alloc: Global,
     world: &World,
     of: &str,
@@ -95,12 +99,12 @@ fn unit(
     for (what, (was, is)) in NUMBERS.iter().zip(old.iter().zip(new.iter())) {
         number(alloc, of, what, *was, *is, told)?;
     }
-    goods(alloc, world, of, before, after, told)?;
-    skills(alloc, world, of, before, after, told)
+    tell_goods(alloc, world, of, before, after, told)?;
+    tell_skills(alloc, world, of, before, after, told)
 }
 
-/// Tells how the units have changed that were there before.
-fn units(
+/// Appends the changes of the units that were there before.
+fn tell_units(
     alloc: Global,
     world: &World,
     before: &Campaign,
@@ -114,14 +118,14 @@ fn units(
             told.push_str(of.as_str())?;
             told.push_str(" gone\n")?;
         } else {
-            unit(alloc, world, of.as_str(), Some(old), new, told)?;
+            tell_unit(alloc, world, of.as_str(), Some(old), new, told)?;
         }
     }
     Ok(())
 }
 
-/// Tells of the units that are new.
-fn new_units(
+/// Appends the lines of the units that weren't there before.
+fn tell_new_units(
     alloc: Global,
     world: &World,
     before: &Campaign,
@@ -131,7 +135,7 @@ fn new_units(
     for (number, new) in after.units() {
         if before.unit(number).is_none() {
             let of = format!(in alloc; "unit {number}")?;
-            unit(alloc, world, of.as_str(), None, Some(new), told)?;
+            tell_unit(alloc, world, of.as_str(), None, Some(new), told)?;
         }
     }
     Ok(())
@@ -139,7 +143,7 @@ fn new_units(
 
 // ---- structures
 
-/// A structure's region, how much is done, and its owner; nothing of one that isn't there.
+/// A structure's region, how much is built, and its owner; zeros if there is no structure.
 fn sides_of(structure: Option<&Structure>) -> [i64; 3] {
     match structure {
         Some(found) => [
@@ -151,9 +155,10 @@ fn sides_of(structure: Option<&Structure>) -> [i64; 3] {
     }
 }
 
+/// The names of the numbers of `sides_of`.
 static SIDES: [&str; 3] = ["region", "done", "owner"];
 
-/// The name of a structure and that of its kind.
+/// The name of a structure and that of its kind; empty texts if there is no structure.
 fn names_of<'a>(world: &'a World, structure: Option<&'a Structure>) -> (&'a str, &'a str) {
     let Some(found) = structure else {
         return ("", "");
@@ -164,8 +169,8 @@ fn names_of<'a>(world: &'a World, structure: Option<&'a Structure>) -> (&'a str,
     }
 }
 
-/// Tells how a structure that is there has changed.
-fn structure(
+/// Appends the changes of a structure: its names and its numbers.
+fn tell_structure(
     alloc: Global,
     world: &World,
     of: &str,
@@ -183,8 +188,8 @@ fn structure(
     Ok(())
 }
 
-/// Tells how structures have changed, those that are new among them.
-fn structures(
+/// Appends the changes of all structures, new ones too.
+fn tell_structures(
     alloc: Global,
     world: &World,
     before: &Campaign,
@@ -193,7 +198,7 @@ fn structures(
 ) -> Result<(), AllocError> {
     for (place, new) in after.structures() {
         let of = format!(in alloc; "structure {place}")?;
-        structure(
+        tell_structure(
             alloc,
             world,
             of.as_str(),
@@ -207,8 +212,8 @@ fn structures(
 
 // ---- regions and factions
 
-/// Tells what a region has more or less in stock.
-fn stocks(
+/// Appends a line for each item of which a region has more or less in stock.
+fn tell_stocks(
     alloc: Global,
     world: &World,
     of: &str,
@@ -226,7 +231,8 @@ fn stocks(
     Ok(())
 }
 
-fn region(
+/// Appends the changes of a region: peasants, money and stocks; `place` is its number.
+fn tell_region(
     alloc: Global,
     world: &World,
     place: u32,
@@ -239,10 +245,11 @@ fn region(
     number(alloc, of.as_str(), "peasants", peasants, now, told)?;
     let (money, now) = (i64::from(old.money), i64::from(new.money));
     number(alloc, of.as_str(), "money", money, now, told)?;
-    stocks(alloc, world, of.as_str(), old, new, told)
+    tell_stocks(alloc, world, of.as_str(), old, new, told)
 }
 
-fn regions(
+/// Appends the changes of all regions.
+fn tell_regions(
     alloc: Global,
     world: &World,
     before: &Campaign,
@@ -251,13 +258,14 @@ fn regions(
 ) -> Result<(), AllocError> {
     for (place, new) in after.regions() {
         if let Some(old) = before.region(place) {
-            region(alloc, world, place, old, new, told)?;
+            tell_region(alloc, world, place, old, new, told)?;
         }
     }
     Ok(())
 }
 
-fn faction(
+/// Appends the changes of a faction: its name, and whether it is gone; `place` is its number.
+fn tell_faction(
     alloc: Global,
     place: u32,
     old: &Faction,
@@ -283,7 +291,8 @@ fn faction(
     )
 }
 
-fn factions(
+/// Appends the changes of all factions.
+fn tell_factions(
     alloc: Global,
     before: &Campaign,
     after: &Campaign,
@@ -291,7 +300,7 @@ fn factions(
 ) -> Result<(), AllocError> {
     for (place, new) in after.factions() {
         if let Some(old) = before.faction(place) {
-            faction(alloc, place, old, new, told)?;
+            tell_faction(alloc, place, old, new, told)?;
         }
     }
     Ok(())
@@ -299,8 +308,8 @@ fn factions(
 
 // ---- the numbers that come next
 
-/// Tells which numbers come next, where they aren't those that came next before.
-fn nexts(
+/// Appends the next numbers of a unit and of a structure, if they changed.
+fn tell_nexts(
     alloc: Global,
     before: &Campaign,
     after: &Campaign,
@@ -319,8 +328,7 @@ fn nexts(
     )
 }
 
-/// Tells all that has changed from one campaign of the world to another: names, numbers, goods, days, stocks, which
-/// numbers come next, and what was booked.
+/// Appends all differences between two campaigns of a world, a line each.
 pub(crate) fn tell_changes(
     alloc: Global,
     world: &World,
@@ -328,11 +336,11 @@ pub(crate) fn tell_changes(
     after: &Campaign,
     told: &mut String,
 ) -> Result<(), AllocError> {
-    units(alloc, world, before, after, told)?;
-    new_units(alloc, world, before, after, told)?;
-    structures(alloc, world, before, after, told)?;
-    regions(alloc, world, before, after, told)?;
-    factions(alloc, before, after, told)?;
-    nexts(alloc, before, after, told)?;
-    books(alloc, world, before, after, told)
+    tell_units(alloc, world, before, after, told)?;
+    tell_new_units(alloc, world, before, after, told)?;
+    tell_structures(alloc, world, before, after, told)?;
+    tell_regions(alloc, world, before, after, told)?;
+    tell_factions(alloc, before, after, told)?;
+    tell_nexts(alloc, before, after, told)?;
+    tell_books(alloc, world, before, after, told)
 }

@@ -1,4 +1,4 @@
-//! Why a file of cases cannot be played.
+//! The error type of this program: why a file of cases, or a line of it, can't be played.
 use std::alloc::{AllocError, AllocFailed};
 
 /// Why a file of cases, or a line of it, cannot be played.

@@ -1,7 +1,7 @@
-//! Prints a changed number or text as a line.
+//! Appends a line for a number or a text that changed.
 use std::alloc::{AllocError, Global};
 
-/// Tells a number where it isn't what it was.
+/// Appends the line `of what after`, unless the number is unchanged.
 pub(crate) fn number(
     alloc: Global,
     of: &str,
@@ -17,7 +17,7 @@ pub(crate) fn number(
     told.push_str(line.as_str())
 }
 
-/// Tells a text where it isn't what it was.
+/// Appends the line `of what after`, unless the text is unchanged.
 pub(crate) fn text(
     alloc: Global,
     of: &str,

@@ -1,5 +1,6 @@
-//! Plays cases of phases that stand in files: a campaign, mailings, and beside them what comes of it. Each file of the command line
-//! is played, and each case that comes to something else is told.
+//! Plays files of cases: a campaign, mailings, and what must come of them (data/README.md says how
+//! a file is written). Each file of the command line is played, and each case that comes to
+//! something else is printed.
 #![tactic(auto)]
 
 mod bookings;
@@ -15,6 +16,7 @@ mod settings;
 use crate::failed::Failed;
 use std::{env, io};
 
+/// Plays each file of the command line, and prints its count of cases and those that differ.
 fn run(rt: &HostRuntime) -> io::Result<()> {
     let words: Vec<String> = env::args(rt)?.collect(rt.alloc())?;
     for path in words.iter().skip(1) {

@@ -1,4 +1,4 @@
-//! Builds months of mailings from texts.
+//! Reads mailings, and makes the month that the phases of a case work on.
 ghost use Rattle.std.specs.Prelude.{◌≡◌, All, IfOk, map};
 ghost use Rattle.atl_orders.specs.Mailing.{IsReadWith};
 ghost use Rattle.atl_instant.specs.Month.{HaveOwnFactions};
@@ -11,6 +11,7 @@ use atl_state::are_distinct;
 use atl_tables::World;
 use std::alloc::{AllocError, Global};
 
+/// The mailings of some texts, in the same order; a text that is refused is a failure.
 fn mailings_of(alloc: Global, world: &World, texts: &[String]) -> Result<Vec<Mailing>, Failed>
     ensures { IfOk result (λ mailings. All (IsReadWith world.now) mailings.items) }
 {
@@ -24,6 +25,7 @@ fn mailings_of(alloc: Global, world: &World, texts: &[String]) -> Result<Vec<Mai
     Ok(mailings)
 }
 
+/// The faction of each mailing, in the same order.
 fn factions_of(alloc: Global, mailings: &[Mailing]) -> Result<Vec<u32>, AllocError>
     ensures { IfOk result (λ factions. factions.items ≡ map (λ m. m.faction) mailings.now) }
 {
@@ -34,7 +36,7 @@ fn factions_of(alloc: Global, mailings: &[Mailing]) -> Result<Vec<u32>, AllocErr
     Ok(factions)
 }
 
-/// The mailings of these texts, no two of one faction.
+/// The mailings of some texts; two of one faction are a failure.
 pub(crate) fn read_all(
     alloc: Global,
     world: &World,
@@ -51,7 +53,7 @@ pub(crate) fn read_all(
     Ok(mailings)
 }
 
-/// A month with these mailings and words.
+/// The month of some mailings and words of the dice, before any phase.
 pub(crate) fn month_of(
     alloc: Global,
     world: &World,

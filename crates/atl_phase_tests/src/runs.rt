@@ -1,4 +1,4 @@
-//! Which phases a case plays.
+//! Plays the phases that a case asks for, on its campaign and its month.
 ghost use Rattle.std.specs.Prelude.{All};
 ghost use Rattle.atl_orders.specs.Mailing.{IsReadWith};
 ghost use Rattle.atl_state.specs.Good.{IsEarly};
@@ -17,10 +17,10 @@ use atl_state::{Campaign, Event, LAST_MONTH};
 use atl_tables::World;
 use std::alloc::{AllocError, Global};
 
-/// Phases that a case plays.
+/// Which phases a case plays.
 #[derive(Clone, Copy, Drop)]
 pub(crate) enum Run {
-    /// All that carry out orders but for WORK, which units have without an order, too.
+    /// All phases that carry out orders, except WORK, which units also do without an order.
     Orders,
     Work,
     Upkeep,
@@ -32,7 +32,7 @@ pub(crate) enum Run {
     Month,
 }
 
-/// All of them, by their names.
+/// The phases by the names that files of cases give them.
 static RUNS: [(&str, Run); 7] = [
     ("orders", Run::Orders),
     ("work", Run::Work),
@@ -44,7 +44,7 @@ static RUNS: [(&str, Run); 7] = [
 ];
 
 impl Run {
-    /// The phases of a name.
+    /// The phases with a name in files of cases.
     pub fn of_name(name: &str) -> Option<Run> {
         for (listed, run) in RUNS.iter() {
             if name == *listed {
@@ -55,6 +55,7 @@ impl Run {
     }
 }
 
+/// Plays all phases that carry out orders, except WORK.
 fn carry_out(
     alloc: Global,
     world: &World,
@@ -68,6 +69,7 @@ fn carry_out(
     OrderPhases.run(alloc, world, campaign, month)
 }
 
+/// Plays the phase WORK.
 fn work(
     alloc: Global,
     world: &World,
@@ -81,6 +83,7 @@ fn work(
     WorkPhase.run(alloc, world, campaign, month)
 }
 
+/// Plays the phase of upkeep.
 fn pay_upkeep(
     alloc: Global,
     world: &World,
@@ -94,6 +97,7 @@ fn pay_upkeep(
     UpkeepPhase.run(alloc, world, campaign, month)
 }
 
+/// Plays the season.
 fn grow(
     alloc: Global,
     world: &World,
@@ -107,6 +111,7 @@ fn grow(
     SeasonPhase.run(alloc, world, campaign, month)
 }
 
+/// Plays the season twice, with the same words.
 fn grow_twice(
     alloc: Global,
     world: &World,
@@ -120,6 +125,7 @@ fn grow_twice(
     (SeasonPhase, SeasonPhase).run(alloc, world, campaign, month)
 }
 
+/// Plays the sweep.
 fn sweep(
     alloc: Global,
     world: &World,
@@ -133,7 +139,8 @@ fn sweep(
     SweepPhase.run(alloc, world, campaign, month)
 }
 
-/// The campaign and the month behind some phases; nothing is played of a whole month.
+/// The campaign and the month after the phases of `run`; a whole month is left to `close`, and does
+/// nothing here.
 fn run_on(
     alloc: Global,
     world: &World,
@@ -156,7 +163,7 @@ fn run_on(
     }
 }
 
-/// Closes a month over the campaign of a setting.
+/// The campaign and the events after closing a whole month over the campaign of a setting.
 fn close(
     alloc: Global,
     world: &World,
@@ -174,7 +181,7 @@ fn close(
     Ok(close_month(alloc, world, campaign, mailings, words)?)
 }
 
-/// The campaign behind phases over the campaign of a setting, and what is told of it.
+/// The campaign and the events after the phases of `run`, over the campaign of a setting.
 pub(crate) fn played(
     alloc: Global,
     world: &World,

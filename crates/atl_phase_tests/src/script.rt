@@ -1,9 +1,9 @@
-//! Reads the lines of a file of cases.
+//! Reads the lines of a file of cases (data/README.md has a table of them).
 use crate::settings::{Built, Had, Setting, Stocked, Stood};
 use atl_tables::{World, let_go};
 use std::alloc::{AllocError, Global};
 
-/// A case: what it begins with, the mailings and the words of its month, and the lines that are to be told of it.
+/// A case: its title, the mailings and the words of its month, and the lines that must come of it.
 pub(crate) struct Case {
     pub title: String,
     pub mailings: Vec<String>,
@@ -18,7 +18,7 @@ impl Drop for Case {
 }
 
 impl Case {
-    /// A case of a title, without mailings and words.
+    /// A case with a title, without mailings, words and lines.
     pub fn new(alloc: Global, title: &str) -> Result<Case, AllocError> {
         Ok(Case {
             title: String::from_str(alloc, title)?,
@@ -37,14 +37,14 @@ impl Case {
         Ok(())
     }
 
-    /// Adds a line that is to be told.
+    /// Appends a line that must come of the case.
     fn add_wanted(&mut self, line: &str) -> Result<(), AllocError> {
         self.wanted.push_str(line)?;
         self.wanted.push_str("\n")
     }
 }
 
-/// The numbers that a text is made of, with blanks between them: just so many.
+/// The N whole numbers of a text, separated by blanks; none if it isn't exactly that.
 fn numbers<const N: usize>(text: &str) -> Option<[i64; N]> {
     let mut all = [0; N];
     let mut words = text.split_whitespace();
@@ -57,7 +57,7 @@ fn numbers<const N: usize>(text: &str) -> Option<[i64; N]> {
     Some(all)
 }
 
-/// `FACTION REGION STRUCTURE MEN MONEY`, and `guard` behind it for one with its flag set.
+/// Reads `FACTION REGION STRUCTURE MEN MONEY`, followed by `guard` if the flag is set.
 fn unit(text: &str) -> Option<Stood> {
     let (text, guard) = match text.strip_suffix(" guard") {
         Some(front) => (front, true),
@@ -74,7 +74,7 @@ fn unit(text: &str) -> Option<Stood> {
     })
 }
 
-/// `UNIT THING AMOUNT`, of an item or of a skill of the world.
+/// Reads `UNIT THING AMOUNT`; the thing is an item or a skill of the world.
 fn had(world: &World, text: &str) -> Option<Had> {
     let (unit, rest) = text.split_once(' ')?;
     let (name, amount) = rest.split_once(' ')?;
@@ -91,7 +91,7 @@ fn had(world: &World, text: &str) -> Option<Had> {
     })
 }
 
-/// `KIND REGION DONE OWNER`, of a kind of the world.
+/// Reads `KIND REGION DONE OWNER`; the kind is one of the world.
 fn structure(world: &World, text: &str) -> Option<Built> {
     let (name, rest) = text.split_once(' ')?;
     let [region, done, owner] = numbers::<3>(rest)?;
@@ -103,7 +103,7 @@ fn structure(world: &World, text: &str) -> Option<Built> {
     })
 }
 
-/// `REGION ITEM AMOUNT`, of an item of the world.
+/// Reads `REGION ITEM AMOUNT`; the item is one of the world.
 fn stocked(world: &World, text: &str) -> Option<Stocked> {
     let (region, rest) = text.split_once(' ')?;
     let (name, amount) = rest.split_once(' ')?;
@@ -114,28 +114,32 @@ fn stocked(world: &World, text: &str) -> Option<Stocked> {
     })
 }
 
-/// Adds a unit to a setting.
+/// Adds the unit of a `unit` line to a setting.
 fn add_unit(setting: &mut Setting, text: &str) -> Option<()> {
     setting.units.push(unit(text)?).ok()
 }
 
+/// Adds the goods or days of a `has` line to a setting.
 fn add_goods(world: &World, setting: &mut Setting, text: &str) -> Option<()> {
     setting.has.push(had(world, text)?).ok()
 }
 
+/// Adds the stock of a `stock` line to a setting.
 fn add_stock(world: &World, setting: &mut Setting, text: &str) -> Option<()> {
     setting.stocks.push(stocked(world, text)?).ok()
 }
 
+/// Adds the structure of a `structure` line to a setting.
 fn add_structure(world: &World, setting: &mut Setting, text: &str) -> Option<()> {
     setting.structures.push(structure(world, text)?).ok()
 }
 
+/// Adds the unit of a `menless` line, which loses its men, to a setting.
 fn add_menless(setting: &mut Setting, text: &str) -> Option<()> {
     setting.menless.push(text.parse::<u32>().ok()?).ok()
 }
 
-/// Adds what a line says to a setting. None where it says nothing of one, or memory is short.
+/// Adds what a line says to a setting; None if the line can't be read, or memory is short.
 pub(crate) fn take_setting(
     world: &World,
     setting: &mut Setting,
@@ -160,7 +164,7 @@ pub(crate) fn take_setting(
     }
 }
 
-/// Adds what a line says to a case. None where it says nothing of one, or memory is short.
+/// Adds what a line says to a case; None if the line can't be read, or memory is short.
 pub(crate) fn take_case(alloc: Global, case: &mut Case, word: &str, rest: &str) -> Option<()> {
     if word == "mail" {
         case.mailings.push(String::new(alloc)).ok()

@@ -1,4 +1,4 @@
-//! Builds the campaign that a case begins with.
+//! Builds the campaign that a case begins with, by way of rows of the tables and their check.
 ghost use Rattle.std.specs.Prelude.{◌≡◌, IfOk};
 ghost use Rattle.atl_state.specs.Good.{IsEarly, IsGood};
 ghost use Rattle.atl_phase_tests.specs.Roomy.{IsRoomy};
@@ -12,7 +12,7 @@ use atl_state::{Campaign, check_as, founded};
 use atl_tables::{Format, Numbered, Sequence, Text, World, let_go};
 use std::alloc::{AllocError, Global};
 
-/// A unit of faction 1 or 2.
+/// A unit of a setting, of faction 1 or 2.
 #[derive(Clone, Copy, Drop)]
 pub(crate) struct Stood {
     pub faction: i64,
@@ -23,7 +23,7 @@ pub(crate) struct Stood {
     pub guard: bool,
 }
 
-/// What a unit has: an item, or days of a skill.
+/// What a unit of a setting has: an amount of an item, or days of a skill.
 #[derive(Clone, Copy, Drop)]
 pub(crate) struct Had {
     pub unit: i64,
@@ -32,7 +32,7 @@ pub(crate) struct Had {
     pub amount: i64,
 }
 
-/// A structure, and how much of it is done.
+/// A structure of a setting, and how much of it is built.
 #[derive(Clone, Copy, Drop)]
 pub(crate) struct Built {
     pub kind: i64,
@@ -41,7 +41,7 @@ pub(crate) struct Built {
     pub owner: i64,
 }
 
-/// What a region has in stock of an item.
+/// What a region of a setting has in stock of an item.
 #[derive(Clone, Copy, Drop)]
 pub(crate) struct Stocked {
     pub region: i64,
@@ -49,8 +49,8 @@ pub(crate) struct Stocked {
     pub amount: i64,
 }
 
-/// Units and structures, numbered from 1, what the units have, what is in stock, and which of the units have lost their men since. No unit
-/// comes next before this number.
+/// The campaign of a case: units and structures, numbered from 1, their goods, and stocks.
+/// Some units lose their men after it was made. The next unit's number is at least `next_unit`.
 pub(crate) struct Setting {
     pub units: Vec<Stood>,
     pub has: Vec<Had>,
@@ -79,6 +79,7 @@ impl Setting {
         }
     }
 
+    /// The number of the next unit: after the last one, and at least the field's value.
     fn next_unit(&self) -> i64 {
         (self.units.len() as i64)
             .wrapping_add(1)
@@ -86,25 +87,31 @@ impl Setting {
     }
 }
 
-/// The names that the factions joined under, in the order of their numbers, and the number that comes next.
+/// The names of the factions, in the order of their numbers from 1.
 static FACTIONS: [&str; 2] = ["Avalon", "Bree"];
 
+/// The number of the next faction.
 const NEXT_FACTION: i64 = 3;
 
-/// The id of a campaign's own row, and its format.
+/// The id of the campaign's own row.
 const CAMPAIGN_ID: i64 = 1;
 
+/// The format of the campaign's own row.
 const CAMPAIGN_FORMAT: i64 = 2;
 
-/// In rows of the books the number of joining among the entries, and of money, people and the first item among the things.
+/// The number of Joining among the entries of the books.
 const JOINING: i64 = 2;
 
+/// The number of money among the things of the books.
 const MONEY: i64 = 0;
 
+/// The number of people among the things of the books.
 const PEOPLE: i64 = 1;
 
+/// The number of the first item among the things of the books.
 const FIRST_ITEM: i64 = 2;
 
+/// The campaign's own row.
 fn head(alloc: Global, setting: &Setting) -> Result<Sequence<StoredCampaignRow>, AllocError> {
     let mut all = Sequence::new(alloc);
     all.push(StoredCampaignRow {
@@ -119,7 +126,7 @@ fn head(alloc: Global, setting: &Setting) -> Result<Sequence<StoredCampaignRow>,
     Ok(all)
 }
 
-/// A faction, which is gone where it has no unit.
+/// The row of a faction, which is gone if it has no unit.
 fn faction(
     alloc: Global,
     number: i64,
@@ -136,6 +143,7 @@ fn faction(
     })
 }
 
+/// The rows of both factions.
 fn factions(alloc: Global, units: &[Stood]) -> Result<Sequence<StoredFaction>, AllocError> {
     let mut all = Sequence::new(alloc);
     let mut number: i64 = 0;
@@ -146,6 +154,7 @@ fn factions(alloc: Global, units: &[Stood]) -> Result<Sequence<StoredFaction>, A
     Ok(all)
 }
 
+/// The rows of the reports, one for each faction.
 fn reports(alloc: Global) -> Result<Sequence<StoredReport>, AllocError> {
     let mut all = Sequence::new(alloc);
     for faction in 1..NEXT_FACTION {
@@ -157,6 +166,7 @@ fn reports(alloc: Global) -> Result<Sequence<StoredReport>, AllocError> {
     Ok(all)
 }
 
+/// The row of a unit.
 fn unit(alloc: Global, number: i64, stood: &Stood) -> Result<StoredUnit, AllocError> {
     Ok(StoredUnit {
         number,
@@ -170,6 +180,7 @@ fn unit(alloc: Global, number: i64, stood: &Stood) -> Result<StoredUnit, AllocEr
     })
 }
 
+/// The rows of the units, numbered from 1.
 fn units_of(alloc: Global, units: &[Stood]) -> Result<Sequence<StoredUnit>, AllocError> {
     let mut all = Sequence::new(alloc);
     let mut number: i64 = 0;
@@ -180,6 +191,7 @@ fn units_of(alloc: Global, units: &[Stood]) -> Result<Sequence<StoredUnit>, Allo
     Ok(all)
 }
 
+/// The rows of what the units have.
 fn has_of(alloc: Global, has: &[Had]) -> Result<Sequence<StoredHas>, AllocError> {
     let mut all = Sequence::new(alloc);
     for had in has {
@@ -193,6 +205,7 @@ fn has_of(alloc: Global, has: &[Had]) -> Result<Sequence<StoredHas>, AllocError>
     Ok(all)
 }
 
+/// The rows of the stocks of markets.
 fn markets_of(alloc: Global, stocks: &[Stocked]) -> Result<Sequence<StoredMarket>, AllocError> {
     let mut all = Sequence::new(alloc);
     for stock in stocks {
@@ -205,6 +218,7 @@ fn markets_of(alloc: Global, stocks: &[Stocked]) -> Result<Sequence<StoredMarket
     Ok(all)
 }
 
+/// The row of a structure.
 fn structure(alloc: Global, number: i64, built: &Built) -> Result<StoredStructure, AllocError> {
     Ok(StoredStructure {
         number,
@@ -216,6 +230,7 @@ fn structure(alloc: Global, number: i64, built: &Built) -> Result<StoredStructur
     })
 }
 
+/// The rows of the structures, numbered from 1.
 fn structures_of(
     alloc: Global,
     structures: &[Built],
@@ -229,7 +244,7 @@ fn structures_of(
     Ok(all)
 }
 
-/// Books an amount of a thing, by its number in the table, under joining.
+/// Adds a row of the books for an amount of a thing under Joining, unless it is 0.
 fn book(books: &mut Sequence<StoredBooks>, thing: i64, amount: i64) -> Result<(), AllocError> {
     if amount != 0 {
         books.push(StoredBooks {
@@ -241,7 +256,7 @@ fn book(books: &mut Sequence<StoredBooks>, thing: i64, amount: i64) -> Result<()
     Ok(())
 }
 
-/// How much of an item all units have.
+/// The sum of an item over all units.
 fn all_of(has: &[Had], item: i64) -> i64 {
     let mut sum: i64 = 0;
     for had in has {
@@ -252,7 +267,7 @@ fn all_of(has: &[Had], item: i64) -> i64 {
     sum
 }
 
-/// How much of an item all regions have in stock.
+/// The sum of an item over all stocks.
 fn all_in_stock(stocks: &[Stocked], item: i64) -> i64 {
     let mut sum: i64 = 0;
     for stock in stocks {
@@ -263,7 +278,7 @@ fn all_in_stock(stocks: &[Stocked], item: i64) -> i64 {
     sum
 }
 
-/// The money and the men of all units.
+/// The sums of money and of men over all units.
 fn money_and_men(units: &[Stood]) -> (i64, i64) {
     let mut money: i64 = 0;
     let mut men: i64 = 0;
@@ -274,7 +289,7 @@ fn money_and_men(units: &[Stood]) -> (i64, i64) {
     (money, men)
 }
 
-/// Books what the units have, and what is in stock, under joining.
+/// Books all that the units have and all that is in stock under Joining, so that the books fit.
 fn book_all(
     world: &World,
     setting: &Setting,
@@ -293,7 +308,7 @@ fn book_all(
     Ok(())
 }
 
-/// Puts a setting into the rows of a campaign that was just founded.
+/// Replaces the rows of a campaign just founded by those of a setting.
 fn fill(
     alloc: Global,
     world: &World,
@@ -311,13 +326,15 @@ fn fill(
     Ok(())
 }
 
+/// All rows of the campaign of a setting.
 fn rows_of(alloc: Global, world: &World, setting: &Setting) -> Result<Parts, AllocError> {
     let mut parts = founded(alloc, world, b"gm")?.parts()?;
     fill(alloc, world, setting, &mut parts)?;
     Ok(parts)
 }
 
-/// The campaign of a setting before units lose their men.
+/// The campaign of a setting before units lose their men; rows that the check refuses are a
+/// failure.
 pub(crate) fn good_campaign(
     alloc: Global,
     world: &World,
@@ -332,7 +349,7 @@ pub(crate) fn good_campaign(
     }
 }
 
-/// A unit loses its men and what they studied.
+/// Takes all men and all days of study from a unit.
 fn loses_men(alloc: Global, world: &World, campaign: &mut Campaign, number: u32)
     requires early { IsEarly world.now campaign.old.value }
     ensures early { IsEarly world.now campaign.new.value }
@@ -344,7 +361,7 @@ fn loses_men(alloc: Global, world: &World, campaign: &mut Campaign, number: u32)
     }
 }
 
-/// Units lose their men.
+/// Takes all men and all days of study from each of some units.
 fn lose_men(alloc: Global, world: &World, campaign: &mut Campaign, units: &[u32])
     requires early { IsEarly world.now campaign.old.value }
     ensures early { IsEarly world.now campaign.new.value }
@@ -355,7 +372,7 @@ fn lose_men(alloc: Global, world: &World, campaign: &mut Campaign, units: &[u32]
     }
 }
 
-/// The campaign of a setting.
+/// The campaign of a setting after the units lost their men.
 pub(crate) fn campaign_of(
     alloc: Global,
     world: &World,

@@ -1,4 +1,5 @@
-//! Tests of the service: a club's commands and their answers, a disk that stops, and the calls beneath the service.
+//! Tests of atl_service: commands and their answers, opening and upgrading files, and disks that
+//! stop.
 #![tactic(auto)]
 
 #[cfg(test)]

@@ -1,4 +1,4 @@
-//! A club's first commands, and the calls beneath them.
+//! Tests of a service by commands, and of the calls on campaigns that it makes.
 mod closing;
 mod commands;
 mod compare;

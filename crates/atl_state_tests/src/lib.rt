@@ -1,4 +1,5 @@
-//! Tests of the campaign's calls, over a small world and an island.
+//! Tests of atl_records and atl_state: campaigns, what units hold, books, checks of rows, and
+//! marks.
 #![tactic(auto)]
 
 #[cfg(test)]

@@ -1,5 +1,5 @@
-//! The calls on campaigns and on holdings, with answers worked out by hand. Of what is large (a world, a campaign) each
-//! function holds one and lends it.
+//! Tests of the calls on campaigns and holdings, against answers worked out by hand. A function
+//! here holds at most one large value (a world, a campaign) and lends it.
 mod books;
 mod by_hand;
 mod checks;

@@ -1,4 +1,5 @@
-//! Tests of the store: a small world's campaign is created, written and read, and its disk stops.
+//! Tests of atl_store: tables that are created, written, read and upgraded, also on disks that
+//! stop.
 #![tactic(auto)]
 
 #[cfg(test)]

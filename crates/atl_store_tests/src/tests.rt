@@ -1,4 +1,4 @@
-//! Scripts that are played on a store, and disks that stop.
+//! Tests of the store by scripts of steps, on databases in memory and on disks that stop.
 mod calls;
 mod campaigns;
 mod compare;

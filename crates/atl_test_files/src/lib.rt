@@ -1,4 +1,5 @@
-//! A file of the first format for tests: the nine tables as they stood before there were markets, with the rows of a campaign.
+//! Makes files of the first format for tests: its nine tables (docs/FORMATS.md, "Upgrading a file")
+//! with a campaign's rows.
 #![tactic(auto)]
 
 mod rows;
@@ -8,6 +9,7 @@ use atl_state::Campaign;
 use atl_tables::Format;
 use sqlite::{Alter, Connection, Error};
 
+/// The SQL statements that make the nine tables of the first format.
 const FIRST_TABLES: &str =
     "CREATE TABLE campaign (id INTEGER NOT NULL PRIMARY KEY CHECK (id = 1), format INTEGER NOT NULL, month INTEGER NOT NULL, next_faction INTEGER NOT NULL, next_unit INTEGER NOT NULL, next_structure INTEGER NOT NULL, pass TEXT NOT NULL, world TEXT NOT NULL) STRICT;
 CREATE TABLE faction (number INTEGER NOT NULL PRIMARY KEY, joined_as TEXT NOT NULL UNIQUE, name TEXT NOT NULL, pass TEXT NOT NULL, gone INTEGER NOT NULL) STRICT;
@@ -19,8 +21,9 @@ CREATE TABLE mail (faction INTEGER NOT NULL PRIMARY KEY, text BLOB NOT NULL) STR
 CREATE TABLE report (faction INTEGER NOT NULL PRIMARY KEY, text TEXT NOT NULL) STRICT;
 CREATE TABLE books (entry INTEGER NOT NULL, thing INTEGER NOT NULL, amount INTEGER NOT NULL, PRIMARY KEY (entry, thing)) STRICT";
 
-/// Makes the tables of the first format where there are none, with this world text and the rows of a campaign, in one transaction.
-/// Of its stocks none is written. Where a statement fails the transaction may be open.
+/// Makes the tables of the first format in a database without them, with a world text and a
+/// campaign's rows, in one transaction. Stocks are left out. If a statement fails, the transaction
+/// may be left open.
 pub fn old_file<S: Alter>(
     conn: &mut Connection<S>,
     world: &str,

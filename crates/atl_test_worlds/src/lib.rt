@@ -1,10 +1,10 @@
-//! Texts that the crates of tests share: worlds, and a month.
+//! World texts that several crates of tests share, and a month with orders (`month`).
 #![tactic(auto)]
 
 pub mod month;
 
-/// A world with one region: who joins has so much money, so many find work there, and so many peasants live there. Behind it
-/// stands more of its text.
+/// The text of a world with one region: the money of who joins, how many find work, how many
+/// peasants, and text to append.
 macro_rules! vale {
     ($start_money:literal, $places:literal, $peasants:literal, $more:literal) => {
         concat!(
@@ -43,19 +43,19 @@ money = 500
     };
 }
 
-/// The world with one region.
+/// The small world: one region, nothing else.
 pub const SMALL: &str = vale!(1000, 100, 1000, "");
 
-/// The same where nobody starts with money.
+/// The small world where who joins gets no money.
 pub const POOR: &str = vale!(0, 100, 1000, "");
 
-/// The same where nobody finds work, and who joins has money for half a month.
+/// The small world where nobody finds work, and who joins gets money for half a month.
 pub const BARREN: &str = vale!(5, 0, 1000, "");
 
-/// The same with three peasants.
+/// The small world with three peasants.
 pub const THREE_PEASANTS: &str = vale!(1000, 100, 3, "");
 
-/// The same with another region to its east.
+/// The small world with a second region to the east.
 pub const TWO_REGIONS: &str = vale!(
     1000,
     100,
@@ -71,7 +71,7 @@ west = 1
 "#
 );
 
-/// The same with an item and a skill.
+/// The small world with an item (wood) and a skill (sailing).
 pub const WOOD_AND_SAILING: &str = vale!(
     1000,
     100,
@@ -86,7 +86,7 @@ fee = 10
 "#
 );
 
-/// The same with a market of its one item.
+/// The small world with an item (wood) and a market for it.
 pub const MART: &str = vale!(
     1000,
     100,
@@ -104,7 +104,8 @@ carry = 0
 "#
 );
 
-/// An island of three regions with land, and the sea. These texts stand behind its first region and its third one.
+/// The text of an island of three land regions and one of sea, with text to insert after its first
+/// and its third region.
 macro_rules! isle {
     ($of_first:literal, $of_third:literal) => {
         concat!(

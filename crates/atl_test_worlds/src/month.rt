@@ -1,7 +1,8 @@
-//! A month on the isle: the rows before it, and the mailings of two factions.
+//! A month on the island: SQL for the rows before it, and the mailings of two factions.
 
-/// Two factions, eleven units, and a boat with a unit of each; all that they hold is booked as brought by joining. The
-/// statements are one transaction on the tables of a campaign of the isle where nobody has joined.
+/// SQL, one transaction, that adds two factions, eleven units and a boat to the tables of an island
+/// where nobody has joined. A unit of each faction is in the boat; all that they hold is booked
+/// under Joining.
 pub const ROWS: &str =
     "BEGIN; INSERT INTO faction VALUES (1, 'Avalon', 'Avalon', 'pw', 0), (2, 'Bree', 'Bree', 'pb', 0);
 INSERT INTO report VALUES (1, 'A report.'), (2, 'A report.');
@@ -14,7 +15,8 @@ INSERT INTO structure VALUES (1, 0, 'Ship 1', 1, 10, 4);
 INSERT INTO books VALUES (2, 0, 904), (2, 1, 61), (2, 2, 6);
 UPDATE campaign SET next_faction = 3, next_unit = 12, next_structure = 2; COMMIT";
 
-/// Eighteen orders of every sort; the unit that is formed first gets men, and the other gets none.
+/// A mailing of eighteen orders. Of the two units that it forms the first gets men, and the second
+/// gets none.
 pub const OF_AVALON: &str = "#ATLANTIS 1 pw
 UNIT 1
 NAME UNIT Watch
@@ -46,7 +48,7 @@ MOVE SOUTH
 #END
 ";
 
-/// An order that its unit can't pay for, so that it earns nothing either, and starves.
+/// A mailing of one order. Its unit can't pay for it, earns nothing either, and starves.
 pub const OF_BREE: &str = "#ATLANTIS 2 pb
 UNIT 11
 STUDY carpentry

@@ -1,5 +1,6 @@
-//! Replies that can't be written to their end: the faction has joined all the same.
-use super::compare::{is_count, is_fault, is_number, is_true};
+//! Tests of replies that can't be written to their end: the command has run all the same. And the
+//! numbers of faults.
+use super::compare::{assert_count, assert_fault, assert_number, assert_true};
 use super::ends::Narrow;
 use super::making::begun;
 use super::requests::{JOIN, JOINED};
@@ -9,7 +10,8 @@ use std::alloc::Global;
 use std::process::Abort;
 use std::test::Fail;
 
-/// A faction joins, and of its reply so many bytes are taken.
+/// Serves a join to a writer that takes `taken` bytes; asserts WriteFault, the bytes written, and
+/// that the faction has joined.
 pub(crate) fn breaks_off(
     rt: &impl Abort,
     alloc: Global,
@@ -19,13 +21,14 @@ pub(crate) fn breaks_off(
 ) {
     let mut reader = JOIN.as_bytes();
     let served = service.serve(alloc, &mut reader, writer);
-    is_fault(rt, served, HttpFault::WriteFault);
-    is_count(rt, writer.taken.len(), taken);
-    is_true(rt, JOINED.as_bytes().starts_with(&writer.taken));
-    is_number(rt, service.next_faction(), 2);
+    assert_fault(rt, served, HttpFault::WriteFault);
+    assert_count(rt, writer.taken.len(), taken);
+    assert_true(rt, JOINED.as_bytes().starts_with(&writer.taken));
+    assert_number(rt, service.next_faction(), 2);
 }
 
-/// The same in a new campaign, where no more is taken than so many bytes.
+/// The same in a new campaign, with a writer that takes at most `most` bytes and then fails, or
+/// takes none.
 fn is_broken(rt: &impl Abort, alloc: Global, most: usize, fails: bool) -> Result<(), Fail> {
     let mut service = begun(alloc)?;
     let mut writer = Narrow::of(alloc, most, fails);
@@ -34,6 +37,7 @@ fn is_broken(rt: &impl Abort, alloc: Global, most: usize, fails: bool) -> Result
     Ok(())
 }
 
+/// A reply breaks off after any number of bytes, because a write fails.
 #[test]
 fn writes_that_fail(rt: HostRuntime) -> Result<(), Fail> {
     for most in 0..JOINED.len() {
@@ -42,6 +46,7 @@ fn writes_that_fail(rt: HostRuntime) -> Result<(), Fail> {
     Ok(())
 }
 
+/// A reply breaks off after any number of bytes, because a write takes none.
 #[test]
 fn writes_that_take_nothing(rt: HostRuntime) -> Result<(), Fail> {
     for most in 0..JOINED.len() {
@@ -50,7 +55,7 @@ fn writes_that_take_nothing(rt: HostRuntime) -> Result<(), Fail> {
     Ok(())
 }
 
-/// The number of each fault.
+/// Each fault of HTTP and its number; Memory has none.
 static NUMBERS: [(HttpFault, Option<u8>); 4] = [
     (HttpFault::Cut, Some(1)),
     (HttpFault::ReadFault, Some(2)),
@@ -58,13 +63,15 @@ static NUMBERS: [(HttpFault, Option<u8>); 4] = [
     (HttpFault::Memory, None),
 ];
 
-fn has_numbers(rt: &impl Abort, faults: &[(HttpFault, Option<u8>)]) {
+/// Asserts the number of each fault.
+fn assert_numbers(rt: &impl Abort, faults: &[(HttpFault, Option<u8>)]) {
     for (fault, number) in faults.iter() {
-        is_true(rt, fault.number() == *number);
+        assert_true(rt, fault.number() == *number);
     }
 }
 
+/// Each fault of HTTP has its number.
 #[test]
 fn numbers(rt: HostRuntime) {
-    has_numbers(&rt, &NUMBERS);
+    assert_numbers(&rt, &NUMBERS);
 }

@@ -1,16 +1,17 @@
-//! Requests that are no text.
-use super::making::{begun, tells};
+//! Tests of requests with bytes that are not UTF-8.
+use super::making::{assert_reply, begun};
 use super::requests::{BAD_JSON, BAD_REQUEST, JOIN, JOINED};
 use super::serving::Served;
 use std::alloc::Global;
 use std::process::Abort;
 use std::test::Fail;
 
-/// What is told of orders of which no line can be read.
+/// The reply to orders without a header.
 const NO_HEADER: &str =
     "HTTP/1.1 400 Bad Request\r\nContent-Type: application/json\r\nContent-Length: 31\r\nConnection: close\r\n\r\n{\"error\":\"NoHeader\",\"number\":9}";
 
-/// A target, a field's name and bodies of bytes 255. In a query too they are no target; in a value they may stand.
+/// Requests with bytes 255 in the target, a field's name, a field's value and the body, and their
+/// replies.
 static CASES: [(&[u8], &str); 6] = [
     (b"GET /\xff HTTP/1.0\r\n\r\n", BAD_REQUEST),
     (b"GET /report/1?\xff HTTP/1.0\r\n\r\n", BAD_REQUEST),
@@ -29,14 +30,16 @@ static CASES: [(&[u8], &str); 6] = [
     ),
 ];
 
+/// Joins, and asserts the reply to each request of `CASES`.
 fn no_texts(rt: &impl Abort, alloc: Global, service: &mut impl Served) {
-    tells(rt, alloc, service, &mut JOIN.as_bytes(), JOINED);
+    assert_reply(rt, alloc, service, &mut JOIN.as_bytes(), JOINED);
     for (request, wanted) in CASES.iter() {
         let mut reader = *request;
-        tells(rt, alloc, service, &mut reader, wanted);
+        assert_reply(rt, alloc, service, &mut reader, wanted);
     }
 }
 
+/// Requests with bytes that aren't UTF-8 get their replies.
 #[test]
 fn no_text(rt: HostRuntime) -> Result<(), Fail> {
     let mut service = begun(rt.alloc())?;

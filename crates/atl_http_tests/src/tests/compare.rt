@@ -1,23 +1,29 @@
-//! Compares what is returned with what is wanted. Only this module asserts.
+//! Assertions for these tests, one for each type: an `assert_eq!` costs much to prove, so each is
+//! written once.
 use atl_http::HttpFault;
 use std::process::Abort;
 
-pub(crate) fn is_count(rt: &impl Abort, told: usize, wanted: usize) {
+/// Asserts that a count is the wanted one.
+pub(crate) fn assert_count(rt: &impl Abort, told: usize, wanted: usize) {
     assert_eq!(rt; told, wanted);
 }
 
-pub(crate) fn is_number(rt: &impl Abort, told: u32, wanted: u32) {
+/// Asserts that a number is the wanted one.
+pub(crate) fn assert_number(rt: &impl Abort, told: u32, wanted: u32) {
     assert_eq!(rt; told, wanted);
 }
 
-pub(crate) fn is_fault(rt: &impl Abort, told: Result<u16, HttpFault>, wanted: HttpFault) {
+/// Asserts that serving a request ended with a fault.
+pub(crate) fn assert_fault(rt: &impl Abort, told: Result<u16, HttpFault>, wanted: HttpFault) {
     assert_eq!(rt; told.err(), Some(wanted));
 }
 
-pub(crate) fn is_true(rt: &impl Abort, told: bool) {
+/// Asserts that a truth value is true.
+pub(crate) fn assert_true(rt: &impl Abort, told: bool) {
     assert!(rt; told);
 }
 
-pub(crate) fn is_text(rt: &impl Abort, told: &str, wanted: &str) {
+/// Asserts that a text is the wanted one.
+pub(crate) fn assert_text(rt: &impl Abort, told: &str, wanted: &str) {
     assert_eq!(rt; told, wanted);
 }

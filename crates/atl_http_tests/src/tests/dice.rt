@@ -1,9 +1,10 @@
-//! Words of dice. What is expected was worked out apart, from PCG's published generator of 32-bit words, whose own demo gives the first
-//! words of seed 42 and stream 54.
+//! Tests of the words of the dice (docs/FORMATS.md, "Dice"), against words that were worked out
+//! independently from PCG's published generator of 32-bit words.
 use atl_http::Dice;
 use std::alloc::{AllocError, Global};
 use std::process::Abort;
 
+/// The first words of seed 42 and stream 54, which the generator's own demo prints.
 static DEMO: [u32; 6] = [
     0xa15c_02b7,
     0x7b47_f409,
@@ -13,7 +14,7 @@ static DEMO: [u32; 6] = [
     0xcbed_606e,
 ];
 
-/// Seeds, factions, and the word of each.
+/// A seed, a faction's number, and the word for its join.
 static JOINING_WORDS: [(u64, u32, u32); 6] = [
     (1, 1, 2_662_848_630),
     (1, 2, 1_686_128_983),
@@ -23,7 +24,8 @@ static JOINING_WORDS: [(u64, u32, u32); 6] = [
     (u64::MAX, u32::MAX, 726_911_579),
 ];
 
-fn words_are(
+/// Asserts the first words of a month.
+fn assert_words(
     rt: &impl Abort,
     alloc: Global,
     seed: u64,
@@ -35,7 +37,8 @@ fn words_are(
     Ok(())
 }
 
-fn joining_words_are(rt: &impl Abort, rows: &[(u64, u32, u32)]) {
+/// Asserts the word for each join.
+fn assert_join_words(rt: &impl Abort, rows: &[(u64, u32, u32)]) {
     for (seed, faction, word) in rows.iter() {
         let dice = Dice { seed: *seed };
         assert!(rt; dice.join_word(*faction) == *word, "{seed} {faction}");
@@ -45,33 +48,33 @@ fn joining_words_are(rt: &impl Abort, rows: &[(u64, u32, u32)]) {
 #[test]
 fn words_of_months(rt: HostRuntime) -> Result<(), AllocError> {
     let alloc = rt.alloc();
-    words_are(&rt, alloc, 42, 54, &DEMO)?;
-    words_are(
+    assert_words(&rt, alloc, 42, 54, &DEMO)?;
+    assert_words(
         &rt,
         alloc,
         7,
         1,
         &[2_215_483_850, 315_054_046, 1_954_657_312],
     )?;
-    words_are(
+    assert_words(
         &rt,
         alloc,
         7,
         2,
         &[2_544_825_812, 805_222_483, 2_583_008_270],
     )?;
-    words_are(&rt, alloc, u64::MAX, 9_999, &[617_612_273])?;
-    words_are(&rt, alloc, 7, 1, &[])
+    assert_words(&rt, alloc, u64::MAX, 9_999, &[617_612_273])?;
+    assert_words(&rt, alloc, 7, 1, &[])
 }
 
 #[test]
 fn words_of_factions(rt: HostRuntime) {
-    joining_words_are(&rt, &JOINING_WORDS);
+    assert_join_words(&rt, &JOINING_WORDS);
 }
 
-/// A faction's stream is a month's that never comes.
+/// A faction's stream has a number beyond all months, 10,000 more than the faction's.
 #[test]
 fn streams_of_factions(rt: HostRuntime) -> Result<(), AllocError> {
     let alloc = rt.alloc();
-    words_are(&rt, alloc, 7, 10_001, &[Dice { seed: 7 }.join_word(1)])
+    assert_words(&rt, alloc, 7, 10_001, &[Dice { seed: 7 }.join_word(1)])
 }

@@ -1,9 +1,10 @@
-//! Readers that give a few bytes at a time, and writers that take few or none.
+//! A reader that gives a few bytes at a time, and a writer that takes few or none; both can fail or
+//! be interrupted.
 use std::alloc::Global;
 use std::io::{self, ErrorKind, Read, Write};
 
-/// Gives a text in pieces of so many bytes, before each of which so many reads are interrupted; fails once so many reads were done. It
-/// counts its reads.
+/// A reader that gives `bytes` in pieces of `piece` bytes, with `interruptions` interrupted reads
+/// before each piece. It fails after `reads_left` reads, and counts its reads.
 #[derive(Drop)]
 pub(crate) struct Pieces<'a> {
     bytes: &'a [u8],
@@ -15,6 +16,7 @@ pub(crate) struct Pieces<'a> {
 }
 
 impl<'a> Pieces<'a> {
+    /// A reader that is never interrupted and doesn't fail.
     pub(crate) fn of(bytes: &'a [u8], piece: usize) -> Pieces<'a> {
         Pieces {
             bytes,
@@ -47,8 +49,8 @@ impl<'a> Read for Pieces<'a> {
     }
 }
 
-/// Takes pieces of so many bytes, before each of which so many writes are interrupted, and once it has taken enough fails or takes none. It
-/// counts its writes.
+/// A writer that takes pieces of `piece` bytes, with `interruptions` interrupted writes before each
+/// piece. After `most` bytes it fails, or takes none; it counts its writes.
 #[derive(Drop)]
 pub(crate) struct Narrow {
     pub(crate) taken: Vec<u8>,
@@ -61,6 +63,7 @@ pub(crate) struct Narrow {
 }
 
 impl Narrow {
+    /// A writer that takes one byte at a time and is never interrupted.
     pub(crate) fn of(alloc: Global, most: usize, fails: bool) -> Narrow {
         Narrow {
             taken: Vec::new(alloc),

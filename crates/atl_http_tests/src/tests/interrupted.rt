@@ -1,24 +1,25 @@
-//! Reads and writes that are interrupted, up to the bound and beyond it.
+//! Tests of reads and writes that are interrupted, up to the bound of 1,000,000 and beyond it.
 use super::broken::breaks_off;
-use super::compare::{is_count, is_text};
+use super::compare::{assert_count, assert_text};
 use super::ends::{Narrow, Pieces};
-use super::making::{begun, tells, told};
+use super::making::{assert_reply, begun, told};
 use super::requests::{JOIN, JOINED};
 use super::serving::Served;
 use std::alloc::Global;
 use std::process::Abort;
 use std::test::Fail;
 
-/// How many bytes a read gives, before each that gives some so many are interrupted, and how many reads there are then: 1,000,000 in one
-/// piece and in two, and of each byte by itself 81 times 12,345.
+/// How many bytes a read gives, how many reads are interrupted before each, and how many reads
+/// there are in all.
+/// They are 1,000,000 in one piece and in two, and 81 times 12,345 byte by byte.
 static READS: [(usize, usize, usize); 3] = [
     (81, 999_999, 1_000_000),
     (41, 499_999, 1_000_000),
     (1, 12_344, 999_945),
 ];
 
-/// With an interruption more before each piece the request isn't whole after 1,000,000 reads: it would be after 1,000,001, 1,000,002 and
-/// 1,000,026, and never where no read gives a byte.
+/// The same with one more interruption before each piece, so that the request isn't whole after
+/// 1,000,000 reads.
 static TOO_MANY_READS: [(usize, usize); 4] = [
     (81, 1_000_000),
     (41, 500_000),
@@ -26,7 +27,7 @@ static TOO_MANY_READS: [(usize, usize); 4] = [
     (1, usize::MAX),
 ];
 
-/// Serves a joining from a reader, and asserts what is told and how often was read.
+/// Serves a join from a reader, and asserts the reply or the fault, and how many reads there were.
 fn joins_by(
     rt: &impl Abort,
     alloc: Global,
@@ -35,10 +36,11 @@ fn joins_by(
     words: &str,
     reads: usize,
 ) {
-    tells(rt, alloc, service, reader, words);
-    is_count(rt, reader.reads, reads);
+    assert_reply(rt, alloc, service, reader, words);
+    assert_count(rt, reader.reads, reads);
 }
 
+/// Asserts each row of `READS`.
 fn are_read(rt: &impl Abort, alloc: Global) -> Result<(), Fail> {
     for (piece, interruptions, reads) in READS.iter() {
         let mut service = begun(alloc)?;
@@ -55,14 +57,15 @@ fn reads_within_the_bound(rt: HostRuntime) -> Result<(), Fail> {
     are_read(&rt, rt.alloc())
 }
 
-/// No command is run: the faction that joins then is the first.
+/// Asserts each row of `TOO_MANY_READS`. No command is run: the faction that joins next is the
+/// first.
 fn are_too_many(rt: &impl Abort, alloc: Global, service: &mut impl Served) {
     for (piece, interruptions) in TOO_MANY_READS.iter() {
         let mut reader = Pieces::of(JOIN.as_bytes(), *piece);
         reader.interruptions = *interruptions;
         joins_by(rt, alloc, service, &mut reader, "read fault", 1_000_000);
     }
-    tells(rt, alloc, service, &mut JOIN.as_bytes(), JOINED);
+    assert_reply(rt, alloc, service, &mut JOIN.as_bytes(), JOINED);
 }
 
 #[test]
@@ -73,12 +76,13 @@ fn reads_beyond_the_bound(rt: HostRuntime) -> Result<(), Fail> {
     Ok(())
 }
 
-/// How many bytes a write takes, and before each that takes some so many are interrupted: together 999,999, 999,998 and 999,936 before
-/// all 112 bytes of the reply are written.
+/// How many bytes a write takes, and how many writes are interrupted before each.
+/// In all 999,999, 999,998 and 999,936 are interrupted before the 112 bytes of the reply are
+/// written.
 static WRITES: [(usize, usize); 3] = [(112, 999_999), (56, 499_999), (1, 8_928)];
 
-/// With an interruption more before each there are 1,000,000 before the last write, or before any. How many bytes are written by then,
-/// and by how many writes.
+/// The same with one more interruption before each, and how many bytes and writes were done when
+/// serving ends.
 static TOO_MANY_WRITES: [(usize, usize, usize, usize); 4] = [
     (112, 1_000_000, 0, 1_000_000),
     (56, 500_000, 56, 1_000_001),
@@ -86,12 +90,14 @@ static TOO_MANY_WRITES: [(usize, usize, usize, usize); 4] = [
     (1, usize::MAX, 0, 1_000_000),
 ];
 
+/// Serves a join to a writer, and asserts the reply.
 fn joins_over(rt: &impl Abort, alloc: Global, service: &mut impl Served, writer: &mut Narrow) {
     let mut reader = JOIN.as_bytes();
     let served = service.serve(alloc, &mut reader, writer);
-    is_text(rt, told(served, &writer.taken), JOINED);
+    assert_text(rt, told(served, &writer.taken), JOINED);
 }
 
+/// Asserts each row of `WRITES`.
 fn are_written(rt: &impl Abort, alloc: Global) -> Result<(), Fail> {
     for (piece, interruptions) in WRITES.iter() {
         let mut service = begun(alloc)?;
@@ -109,6 +115,7 @@ fn writes_within_the_bound(rt: HostRuntime) -> Result<(), Fail> {
     are_written(&rt, rt.alloc())
 }
 
+/// Asserts each row of `TOO_MANY_WRITES`.
 fn break_off(rt: &impl Abort, alloc: Global) -> Result<(), Fail> {
     for (piece, interruptions, taken, writes) in TOO_MANY_WRITES.iter() {
         let mut service = begun(alloc)?;
@@ -116,7 +123,7 @@ fn break_off(rt: &impl Abort, alloc: Global) -> Result<(), Fail> {
         writer.piece = *piece;
         writer.interruptions = *interruptions;
         breaks_off(rt, alloc, &mut service, &mut writer, *taken);
-        is_count(rt, writer.writes, *writes);
+        assert_count(rt, writer.writes, *writes);
         let _conn = service.end();
     }
     Ok(())

@@ -1,11 +1,11 @@
-//! The verdict on the first bytes of a request, before any command runs. See docs/FORMATS.md,
-//! "HTTP".
-use super::compare::is_text;
+//! Tests of the verdict on the first bytes of a request, before any command runs (docs/FORMATS.md,
+//! "HTTP").
+use super::compare::assert_text;
 use atl_http::{Verdict, pieces_do_not_matter, verdict_on};
 use std::alloc::{AllocError, Global};
 use std::process::Abort;
 
-/// Bytes, and what they come to.
+/// The bytes read so far, and the verdict: more are needed, a refusal, or a command.
 static BYTES: [(&str, &str); 5] = [
     ("", "more"),
     ("GET /report/1 HTTP/1.0\r\n", "more"),
@@ -20,6 +20,7 @@ static BYTES: [(&str, &str); 5] = [
     ("GET /nowhere HTTP/1.0\r\n\r\nmore", "NoRoute"),
 ];
 
+/// The name of a verdict.
 fn name_of(verdict: &Verdict) -> &'static str {
     match verdict {
         Verdict::More => "more",
@@ -28,21 +29,27 @@ fn name_of(verdict: &Verdict) -> &'static str {
     }
 }
 
-fn comes_to(rt: &impl Abort, alloc: Global, bytes: &str, wanted: &str) -> Result<(), AllocError> {
+/// Asserts the verdict on some bytes.
+fn assert_verdict(
+    rt: &impl Abort,
+    alloc: Global,
+    bytes: &str,
+    wanted: &str,
+) -> Result<(), AllocError> {
     let verdict = verdict_on(alloc, bytes.as_bytes())?;
-    is_text(rt, name_of(&verdict), wanted);
+    assert_text(rt, name_of(&verdict), wanted);
     Ok(())
 }
 
 #[test]
 fn bytes_are_judged(rt: HostRuntime) -> Result<(), AllocError> {
     for (bytes, wanted) in BYTES.iter() {
-        comes_to(&rt, rt.alloc(), bytes, wanted)?;
+        assert_verdict(&rt, rt.alloc(), bytes, wanted)?;
     }
     Ok(())
 }
 
-/// Nothing is asserted here: the clause of this call is proved.
+/// Asserts nothing: the clause of this law is proved.
 #[test]
 fn states_that_pieces_do_not_matter() {
     pieces_do_not_matter();

@@ -1,14 +1,15 @@
-//! A campaign at its limits.
-use super::making::{Case, begun, tell_each};
+//! Tests of a campaign at its limits, over HTTP.
+use super::making::{Case, assert_replies, begun};
 use super::requests::JOIN;
 use atl_service::{Service, open};
 use sqlite::MemStore;
 use std::alloc::Global;
 use std::test::Fail;
 
-/// The last month was closed, and the last unit number was given.
+/// SQL that makes the last month closed and the last unit number given.
 const LIMITS: &str = "UPDATE campaign SET month = 9999, next_unit = 1000000000";
 
+/// A join and a closing that are refused then.
 static AT_LIMITS: [Case; 2] = [
     (
         JOIN,
@@ -20,7 +21,7 @@ static AT_LIMITS: [Case; 2] = [
     ),
 ];
 
-/// A new campaign that was changed by hand.
+/// A new campaign, changed by SQL statements.
 fn changed(alloc: Global, sql: &str) -> Result<Service<MemStore>, Fail> {
     let mut conn = begun(alloc)?.end();
     conn.execute_batch(sql)?;
@@ -33,7 +34,7 @@ fn changed(alloc: Global, sql: &str) -> Result<Service<MemStore>, Fail> {
 #[test]
 fn at_the_limits(rt: HostRuntime) -> Result<(), Fail> {
     let mut service = changed(rt.alloc(), LIMITS)?;
-    tell_each(&rt, rt.alloc(), &mut service, &AT_LIMITS);
+    assert_replies(&rt, rt.alloc(), &mut service, &AT_LIMITS);
     let _conn = service.end();
     Ok(())
 }

@@ -1,6 +1,7 @@
-//! Connections over a socket of this machine, in one process: each peer has sent its request before they are served.
-use super::compare::{is_text, is_true};
-use super::making::{begun, tells};
+//! Tests of serving connections over a socket, in one process: each peer has sent its request
+//! before any is served.
+use super::compare::{assert_text, assert_true};
+use super::making::{assert_reply, begun};
 use super::requests::{JOIN, JOINED, REPORT, REPORTED, TOO_LONG};
 use super::serving::Served;
 use atl_http::listening::ListenFault;
@@ -11,12 +12,13 @@ use std::process::Abort;
 use std::rt::Clock;
 use std::test::Fail;
 
-/// A body that is too long, of which nothing has come.
+/// The head of a request whose body is too long; no byte of the body follows.
 const LONG_BODY: &str =
     "POST /orders/1 HTTP/1.1\r\nHost: x\r\nAtlantis-Pass: pw\r\nContent-Length: 65537\r\n\r\n";
 
-/// What each peer sends, whether it sends no more, and what it is told. One joins, one ends within its request, which counts as
-/// served, one is told that its body is too long before it comes, and one asks for a report.
+/// What each peer sends, whether it then ends its side, and the reply. One joins, one ends within
+/// its request, which counts as served, one is refused for the length of its body, and one asks for
+/// a report.
 static PEERS: [(&str, bool, &str); 4] = [
     (JOIN, false, JOINED),
     ("GET /report/1", true, ""),
@@ -24,7 +26,7 @@ static PEERS: [(&str, bool, &str); 4] = [
     (REPORT, false, REPORTED),
 ];
 
-/// A peer that has sent a request, and may send more if it hasn't ended.
+/// A connection of a peer that has sent a request, and has ended its side if `ends`.
 fn peer<R: Net<Stream = TcpStream>>(
     net: &R,
     to: SocketAddr,
@@ -39,6 +41,7 @@ fn peer<R: Net<Stream = TcpStream>>(
     Ok(stream)
 }
 
+/// The connections of all peers.
 fn peers<R: Net<Stream = TcpStream>>(
     net: &R,
     alloc: Global,
@@ -51,23 +54,29 @@ fn peers<R: Net<Stream = TcpStream>>(
     Ok(streams)
 }
 
-/// Asserts all that a peer is told.
-fn is_told(rt: &impl Abort, alloc: Global, stream: &TcpStream, wanted: &str) -> io::Result<()> {
+/// Asserts all bytes that a peer receives.
+fn assert_received(
+    rt: &impl Abort,
+    alloc: Global,
+    stream: &TcpStream,
+    wanted: &str,
+) -> io::Result<()> {
     let mut reader = stream;
     let mut told = String::new(alloc);
     reader.read_to_string(&mut told)?;
-    is_text(rt, told.as_str(), wanted);
+    assert_text(rt, told.as_str(), wanted);
     Ok(())
 }
 
-fn are_told(rt: &impl Abort, alloc: Global, streams: &[TcpStream]) -> io::Result<()> {
+/// Asserts what each peer receives.
+fn assert_all_received(rt: &impl Abort, alloc: Global, streams: &[TcpStream]) -> io::Result<()> {
     for (stream, (_, _, wanted)) in streams.iter().zip(PEERS.iter()) {
-        is_told(rt, alloc, stream, wanted)?;
+        assert_received(rt, alloc, stream, wanted)?;
     }
     Ok(())
 }
 
-/// All peers have sent their requests before the first is served.
+/// Serves four connections, and asserts what each peer receives.
 fn four_are_served<R: Net<Stream = TcpStream> + Clock + Abort>(
     rt: &R,
     alloc: Global,
@@ -76,8 +85,8 @@ fn four_are_served<R: Net<Stream = TcpStream> + Clock + Abort>(
 ) -> io::Result<()> {
     let streams = peers(rt, alloc, listener.local_addr()?)?;
     let done = service.serve_each(alloc, rt, listener, 4);
-    is_true(rt, done.is_ok());
-    are_told(rt, alloc, &streams)
+    assert_true(rt, done.is_ok());
+    assert_all_received(rt, alloc, &streams)
 }
 
 #[test]
@@ -94,8 +103,8 @@ fn over_a_socket(rt: HostRuntime) -> Result<(), Fail> {
     }
 }
 
-/// Nobody is there at a listener that doesn't wait, so no connection can be taken. No command is run: the faction that joins then is the
-/// first.
+/// Asserts Net if a listener that doesn't wait has no connection. No command is run: the faction
+/// that joins next is the first.
 fn nobody_is_served<R: Clock + Abort>(
     rt: &R,
     alloc: Global,
@@ -104,8 +113,8 @@ fn nobody_is_served<R: Clock + Abort>(
 ) -> io::Result<()> {
     listener.set_nonblocking(true)?;
     let done = service.serve_each(alloc, rt, listener, 4);
-    is_true(rt, done == Err(ListenFault::Net));
-    tells(rt, alloc, service, &mut JOIN.as_bytes(), JOINED);
+    assert_true(rt, done == Err(ListenFault::Net));
+    assert_reply(rt, alloc, service, &mut JOIN.as_bytes(), JOINED);
     Ok(())
 }
 

@@ -1,5 +1,5 @@
-//! Builds services and requests, and plays tables of requests and replies.
-use super::compare::{is_text, is_true};
+//! Makes services, and plays tables of requests with their wanted replies.
+use super::compare::{assert_text, assert_true};
 use super::serving::Served;
 use atl_http::HttpFault;
 use atl_service::{Service, found};
@@ -11,10 +11,10 @@ use std::process::Abort;
 use std::str;
 use std::test::Fail;
 
-/// A request and what is told of it: its reply, or the fault.
+/// A request, and its wanted reply or the name of the fault.
 pub(crate) type Case = (&'static str, &'static str);
 
-/// A campaign of the small world, in a database of its own in memory.
+/// The service of the small world's campaign, just founded in memory.
 pub(crate) fn begun(alloc: Global) -> Result<Service<MemStore>, Fail> {
     match found(alloc, Connection::open_in_memory(alloc)?, SMALL, b"gm") {
         Ok(service) => Ok(service),
@@ -22,14 +22,14 @@ pub(crate) fn begun(alloc: Global) -> Result<Service<MemStore>, Fail> {
     }
 }
 
-/// The status that a reply tells in its first line.
+/// The status in the first line of a reply.
 fn status_in(reply: &str) -> Option<u16> {
     let (_, rest) = reply.split_once(' ')?;
     let (status, _) = rest.split_once(' ')?;
     status.parse::<u16>().ok()
 }
 
-/// The reply that was written, if it tells the status that was answered.
+/// A reply, if its status is the one that was returned.
 fn reply_of(status: u16, written: &[u8]) -> &str {
     match str::from_utf8(written) {
         Ok(reply) if status_in(reply) == Some(status) => reply,
@@ -38,7 +38,7 @@ fn reply_of(status: u16, written: &[u8]) -> &str {
     }
 }
 
-/// What is told of a request: the bytes of its reply; of a fault its name, or that bytes were written.
+/// The reply, or the name of the fault; `a part` if there was a fault after bytes were written.
 pub(crate) fn told(served: Result<u16, HttpFault>, written: &[u8]) -> &str {
     match served {
         Ok(status) => reply_of(status, written),
@@ -50,16 +50,21 @@ pub(crate) fn told(served: Result<u16, HttpFault>, written: &[u8]) -> &str {
     }
 }
 
-pub(crate) fn has_books(rt: &impl Abort, service: &impl Served, wanted: &str) -> Result<(), Fail> {
+/// Asserts the text of the books.
+pub(crate) fn assert_books(
+    rt: &impl Abort,
+    service: &impl Served,
+    wanted: &str,
+) -> Result<(), Fail> {
     match service.books() {
-        Some(text) => is_text(rt, text?.as_str(), wanted),
-        None => is_true(rt, false),
+        Some(text) => assert_text(rt, text?.as_str(), wanted),
+        None => assert_true(rt, false),
     }
     Ok(())
 }
 
-/// Serves what comes from a reader, and asserts what is told of it.
-pub(crate) fn tells(
+/// Serves a request from a reader, and asserts the reply or the fault.
+pub(crate) fn assert_reply(
     rt: &impl Abort,
     alloc: Global,
     service: &mut impl Served,
@@ -68,21 +73,26 @@ pub(crate) fn tells(
 ) {
     let mut written = Vec::new(alloc);
     let served = service.serve(alloc, reader, &mut written);
-    is_text(rt, told(served, &written), wanted);
+    assert_text(rt, told(served, &written), wanted);
 }
 
-/// Serves requests one after another, each from all its bytes at once.
-pub(crate) fn tell_each(rt: &impl Abort, alloc: Global, service: &mut impl Served, cases: &[Case]) {
+/// Serves requests in turn, each readable at once, and asserts each reply.
+pub(crate) fn assert_replies(
+    rt: &impl Abort,
+    alloc: Global,
+    service: &mut impl Served,
+    cases: &[Case],
+) {
     for (request, wanted) in cases.iter() {
         let mut reader = request.as_bytes();
-        tells(rt, alloc, service, &mut reader, wanted);
+        assert_reply(rt, alloc, service, &mut reader, wanted);
     }
 }
 
-/// Plays requests on a new campaign of the small world.
+/// The same on a new campaign of the small world.
 pub(crate) fn plays(rt: &impl Abort, alloc: Global, cases: &[Case]) -> Result<(), Fail> {
     let mut service = begun(alloc)?;
-    tell_each(rt, alloc, &mut service, cases);
+    assert_replies(rt, alloc, &mut service, cases);
     let _conn = service.end();
     Ok(())
 }

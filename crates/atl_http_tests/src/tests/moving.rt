@@ -1,32 +1,33 @@
-//! Requests that arrive in pieces or cut short, and replies that can't be written.
-use super::compare::{is_count, is_number, is_text};
+//! Tests of requests that arrive in pieces or cut short, of replies written in pieces, and of long
+//! heads and bodies.
+use super::compare::{assert_count, assert_number, assert_text};
 use super::ends::{Narrow, Pieces};
-use super::making::{begun, has_books, tells, told};
+use super::making::{assert_books, assert_reply, begun, told};
 use super::requests::{BAD_REQUEST, JOIN, JOINED, NO_ROUTE, REPORT, REPORTED, TOO_LONG};
 use super::serving::Served;
 use std::alloc::Global;
 use std::process::Abort;
 use std::test::Fail;
 
-/// What the books tell while nobody has joined.
+/// The text of the books before anybody has joined.
 const FOUNDED: &str = "money founding 500
 money total 500
 people founding 1000
 people total 1000
 ";
 
-/// The first 10 bytes of the body and then the end change nothing; the whole in two pieces is a joining.
+/// Asserts that a request cut short changes nothing, and that a whole one in two pieces joins.
 fn cut_and_whole(rt: &impl Abort, alloc: Global, service: &mut impl Served) -> Result<(), Fail> {
-    tells(
+    assert_reply(
         rt,
         alloc,
         service,
         &mut Pieces::of(&JOIN.as_bytes()[..62], 50),
         "cut",
     );
-    has_books(rt, service, FOUNDED)?;
-    is_number(rt, service.next_faction(), 1);
-    tells(
+    assert_books(rt, service, FOUNDED)?;
+    assert_number(rt, service.next_faction(), 1);
+    assert_reply(
         rt,
         alloc,
         service,
@@ -36,45 +37,50 @@ fn cut_and_whole(rt: &impl Abort, alloc: Global, service: &mut impl Served) -> R
     Ok(())
 }
 
-/// How many bytes each read gives, and in how many reads the whole request comes.
+/// How many bytes each read gives, and in how many reads the request is whole.
 static BY_PIECES: [(usize, usize); 3] = [(1, JOIN.len()), (8, 11), (JOIN.len(), 1)];
 
-/// A read that fails before the request is whole runs no command, whichever read it is: who joins next is the first.
+/// Asserts that a read that fails before the request is whole runs no command, whichever read it
+/// is.
 fn fails_at_each_read(rt: &impl Abort, alloc: Global, service: &mut impl Served) {
     for (piece, reads) in BY_PIECES.iter() {
         for done in 0..*reads {
             let mut reader = Pieces::of(JOIN.as_bytes(), *piece);
             reader.reads_left = done;
-            tells(rt, alloc, service, &mut reader, "read fault");
+            assert_reply(rt, alloc, service, &mut reader, "read fault");
         }
     }
 }
 
+/// Asserts failed reads, a join byte by byte with interruptions, and a reply written in pieces.
 fn joins_in_pieces(rt: &impl Abort, alloc: Global, service: &mut impl Served) {
     fails_at_each_read(rt, alloc, service);
     let mut reader = Pieces::of(JOIN.as_bytes(), 1);
     reader.interruptions = 1;
     reader.reads_left = 2 * JOIN.len();
-    tells(rt, alloc, service, &mut reader, JOINED);
+    assert_reply(rt, alloc, service, &mut reader, JOINED);
     writes_in_pieces(rt, alloc, service);
 }
 
+/// Asserts that no proper beginning of a request runs a command.
 fn no_front_is_enough(rt: &impl Abort, alloc: Global, service: &mut impl Served) {
     for len in 0..JOIN.len() {
-        tells(rt, alloc, service, &mut &JOIN.as_bytes()[..len], "cut");
+        assert_reply(rt, alloc, service, &mut &JOIN.as_bytes()[..len], "cut");
     }
-    tells(rt, alloc, service, &mut JOIN.as_bytes(), JOINED);
+    assert_reply(rt, alloc, service, &mut JOIN.as_bytes(), JOINED);
 }
 
+/// Asserts a report that is written byte by byte with interruptions.
 fn writes_in_pieces(rt: &impl Abort, alloc: Global, service: &mut impl Served) {
     let mut writer = Narrow::of(alloc, REPORTED.len(), true);
     writer.interruptions = 1;
     let mut reader = REPORT.as_bytes();
     let served = service.serve(alloc, &mut reader, &mut writer);
-    is_text(rt, told(served, &writer.taken), REPORTED);
+    assert_text(rt, told(served, &writer.taken), REPORTED);
 }
 
-/// Requests with bytes behind them, how many of their bytes are read where each read gives one, and the replies.
+/// Requests with bytes after their end, how many bytes are read if each read gives one, and the
+/// replies.
 static NO_FURTHER: [(&str, usize, &str); 4] = [
     (
         "POST /join HTTP/1.1\r\nHost: x\r\nContent-Length: 29\r\n\r\n{\"name\":\"Avalon\",\"pass\":\"pw\"} and more",
@@ -94,21 +100,24 @@ static NO_FURTHER: [(&str, usize, &str); 4] = [
     ("GET /joins HTTP/1.0\r\n\r\nGET", 23, NO_ROUTE),
 ];
 
+/// Asserts that nothing after the end of a request is read.
 fn reads_no_further(rt: &impl Abort, alloc: Global, service: &mut impl Served) {
     for (request, reads, wanted) in NO_FURTHER.iter() {
         let mut reader = Pieces::of(request.as_bytes(), 1);
-        tells(rt, alloc, service, &mut reader, wanted);
-        is_count(rt, reader.reads, *reads);
+        assert_reply(rt, alloc, service, &mut reader, wanted);
+        assert_count(rt, reader.reads, *reads);
     }
 }
 
+/// The head of the longest mailing.
 const LONGEST_HEAD: &str =
     "POST /orders/1 HTTP/1.0\r\nAtlantis-Pass: pw\r\nContent-Length: 65536\r\n\r\n";
 
+/// The reply to the longest mailing.
 const MAILED: &str =
     "HTTP/1.1 200 OK\r\nContent-Type: application/json\r\nContent-Length: 24\r\nConnection: close\r\n\r\n{\"faults\":[],\"orders\":0}";
 
-/// The longest mailing: a header of 11 bytes, and line feeds.
+/// The request with the longest mailing: a header of 11 bytes, and line feeds.
 fn longest_request(alloc: Global) -> Result<Vec<u8>, Fail> {
     let mut request = Vec::from_slice(alloc, LONGEST_HEAD.as_bytes())?;
     request.extend_from_slice(b"#ATLANTIS 1")?;
@@ -116,21 +125,21 @@ fn longest_request(alloc: Global) -> Result<Vec<u8>, Fail> {
     Ok(request)
 }
 
-/// The longest mailing comes byte by byte.
+/// Asserts that the longest mailing is stored if it comes byte by byte.
 fn mails_byte_by_byte(
     rt: &impl Abort,
     alloc: Global,
     service: &mut impl Served,
 ) -> Result<(), Fail> {
-    tells(rt, alloc, service, &mut JOIN.as_bytes(), JOINED);
+    assert_reply(rt, alloc, service, &mut JOIN.as_bytes(), JOINED);
     let request = longest_request(alloc)?;
     let mut reader = Pieces::of(&request, 1);
-    tells(rt, alloc, service, &mut reader, MAILED);
-    is_count(rt, reader.reads, LONGEST_HEAD.len() + 65_536);
+    assert_reply(rt, alloc, service, &mut reader, MAILED);
+    assert_count(rt, reader.reads, LONGEST_HEAD.len() + 65_536);
     Ok(())
 }
 
-/// A head with a field of so many bytes and so many short ones.
+/// A head of a report's request with a field of `long` bytes and `fields` short fields.
 fn head(alloc: Global, long: usize, fields: usize) -> Result<Vec<u8>, Fail> {
     let mut head = Vec::from_slice(alloc, b"GET /report/1 HTTP/1.0\r\nAtlantis-Pass: pw\r\nA:")?;
     head.extend_from_slice(&b"x".repeat(alloc, long)?)?;
@@ -139,8 +148,8 @@ fn head(alloc: Global, long: usize, fields: usize) -> Result<Vec<u8>, Fail> {
     Ok(head)
 }
 
-/// How many bytes the long field has, how many short ones stand behind it, and what is told. 45 bytes stand before what the long
-/// field says, and 4 behind it.
+/// The length of the long field's value, how many short fields follow, and the reply. 45 bytes come
+/// before that value, and 4 after it.
 static LONG_HEADS: [(usize, usize, &str); 4] = [
     (8_143, 0, REPORTED),
     (8_144, 0, BAD_REQUEST),
@@ -148,6 +157,7 @@ static LONG_HEADS: [(usize, usize, &str); 4] = [
     (1, 31, BAD_REQUEST),
 ];
 
+/// Asserts the reply to a head.
 fn long_head(
     rt: &impl Abort,
     alloc: Global,
@@ -157,18 +167,20 @@ fn long_head(
     wanted: &str,
 ) -> Result<(), Fail> {
     let request = head(alloc, long, fields)?;
-    tells(rt, alloc, service, &mut request.as_slice(), wanted);
+    assert_reply(rt, alloc, service, &mut request.as_slice(), wanted);
     Ok(())
 }
 
+/// Asserts the reply to each head of `LONG_HEADS`.
 fn long_heads(rt: &impl Abort, alloc: Global, service: &mut impl Served) -> Result<(), Fail> {
-    tells(rt, alloc, service, &mut JOIN.as_bytes(), JOINED);
+    assert_reply(rt, alloc, service, &mut JOIN.as_bytes(), JOINED);
     for (long, fields, wanted) in LONG_HEADS.iter() {
         long_head(rt, alloc, service, *long, *fields, wanted)?;
     }
     Ok(())
 }
 
+/// Reads that fail run no command, and a join may come byte by byte.
 #[test]
 fn in_pieces(rt: HostRuntime) -> Result<(), Fail> {
     let mut service = begun(rt.alloc())?;
@@ -177,6 +189,7 @@ fn in_pieces(rt: HostRuntime) -> Result<(), Fail> {
     Ok(())
 }
 
+/// A request cut short at any byte runs no command.
 #[test]
 fn fronts(rt: HostRuntime) -> Result<(), Fail> {
     let mut service = begun(rt.alloc())?;
@@ -185,6 +198,7 @@ fn fronts(rt: HostRuntime) -> Result<(), Fail> {
     Ok(())
 }
 
+/// A request cut short changes nothing, and one in two pieces joins.
 #[test]
 fn in_two_pieces(rt: HostRuntime) -> Result<(), Fail> {
     let mut service = begun(rt.alloc())?;
@@ -193,6 +207,7 @@ fn in_two_pieces(rt: HostRuntime) -> Result<(), Fail> {
     done
 }
 
+/// Nothing after the end of a request is read.
 #[test]
 fn no_further(rt: HostRuntime) -> Result<(), Fail> {
     let mut service = begun(rt.alloc())?;
@@ -201,6 +216,7 @@ fn no_further(rt: HostRuntime) -> Result<(), Fail> {
     Ok(())
 }
 
+/// A head may have a certain length and number of fields, and no more.
 #[test]
 fn heads_at_the_limit(rt: HostRuntime) -> Result<(), Fail> {
     let mut service = begun(rt.alloc())?;
@@ -209,6 +225,7 @@ fn heads_at_the_limit(rt: HostRuntime) -> Result<(), Fail> {
     done
 }
 
+/// The longest mailing is stored if it comes byte by byte.
 #[test]
 fn the_longest_mailing(rt: HostRuntime) -> Result<(), Fail> {
     let mut service = begun(rt.alloc())?;

@@ -1,15 +1,19 @@
-//! Requests, each with its whole reply.
+//! Tests of requests with their whole replies (docs/FORMATS.md, "HTTP").
 use super::making::{Case, plays};
 use std::test::Fail;
 
+/// The request by which Avalon joins.
 pub(crate) const JOIN: &str =
     "POST /join HTTP/1.1\r\nHost: x\r\nContent-Length: 29\r\n\r\n{\"name\":\"Avalon\",\"pass\":\"pw\"}";
 
+/// The reply to Avalon's join.
 pub(crate) const JOINED: &str =
     "HTTP/1.1 200 OK\r\nContent-Type: application/json\r\nContent-Length: 22\r\nConnection: close\r\n\r\n{\"faction\":1,\"unit\":1}";
 
+/// The request for Avalon's report.
 pub(crate) const REPORT: &str = "GET /report/1 HTTP/1.1\r\nHost: x\r\nAtlantis-Pass: pw\r\n\r\n";
 
+/// The reply with Avalon's first report.
 pub(crate) const REPORTED: &str =
     "HTTP/1.1 200 OK\r\nContent-Type: text/plain\r\nContent-Length: 161\r\nConnection: close\r\n\r\nAtlantis report, month 0, faction 1 \"Avalon\".
 Orders:
@@ -19,32 +23,41 @@ Exits: none.
 * Unit 1 \"Unit 1\": 1 men, 1000 money.
 ";
 
+/// The reply to a request that can't be read.
 pub(crate) const BAD_REQUEST: &str =
     "HTTP/1.1 400 Bad Request\r\nContent-Type: application/json\r\nContent-Length: 33\r\nConnection: close\r\n\r\n{\"error\":\"BadRequest\",\"number\":0}";
 
+/// The reply to a path without a route.
 pub(crate) const NO_ROUTE: &str =
     "HTTP/1.1 404 Not Found\r\nContent-Type: application/json\r\nContent-Length: 30\r\nConnection: close\r\n\r\n{\"error\":\"NoRoute\",\"number\":0}";
 
+/// The reply to another method than POST on a route that takes only POST.
 const POST_ONLY: &str =
     "HTTP/1.1 405 Method Not Allowed\r\nContent-Type: application/json\r\nContent-Length: 32\r\nConnection: close\r\nAllow: POST\r\n\r\n{\"error\":\"BadMethod\",\"number\":0}";
 
+/// The reply to another method than GET on a route that takes only GET.
 const GET_ONLY: &str =
     "HTTP/1.1 405 Method Not Allowed\r\nContent-Type: application/json\r\nContent-Length: 32\r\nConnection: close\r\nAllow: GET\r\n\r\n{\"error\":\"BadMethod\",\"number\":0}";
 
+/// The reply to a body without a length.
 const NO_LENGTH: &str =
     "HTTP/1.1 411 Length Required\r\nContent-Type: application/json\r\nContent-Length: 31\r\nConnection: close\r\n\r\n{\"error\":\"NoLength\",\"number\":0}";
 
+/// The reply to a body that is too long.
 pub(crate) const TOO_LONG: &str =
     "HTTP/1.1 413 Payload Too Large\r\nContent-Type: application/json\r\nContent-Length: 34\r\nConnection: close\r\n\r\n{\"error\":\"BodyTooLong\",\"number\":0}";
 
+/// The reply to a request without one pass text.
 const NO_PASS: &str =
     "HTTP/1.1 400 Bad Request\r\nContent-Type: application/json\r\nContent-Length: 29\r\nConnection: close\r\n\r\n{\"error\":\"NoPass\",\"number\":0}";
 
+/// The reply to a body that isn't the object wanted.
 pub(crate) const BAD_JSON: &str =
     "HTTP/1.1 400 Bad Request\r\nContent-Type: application/json\r\nContent-Length: 30\r\nConnection: close\r\n\r\n{\"error\":\"BadJson\",\"number\":0}";
 
-/// A faction joins, the name is taken from then on, and its report is told. An empty Host is one, HTTP/1.0 may have two, and
-/// of a GET neither Content-Length nor Transfer-Encoding counts.
+/// A faction joins, its name is taken from then on, and its report is answered. An empty Host
+/// counts as one, HTTP/1.0 may have two, and for a GET neither Content-Length nor Transfer-Encoding
+/// counts.
 static JOINING: [Case; 6] = [
     (JOIN, JOINED),
     (
@@ -71,7 +84,7 @@ fn joining(rt: HostRuntime) -> Result<(), Fail> {
     plays(&rt, rt.alloc(), &JOINING)
 }
 
-/// Orders are sent, a month is closed, and what comes of it is told.
+/// Orders are sent, a month is closed, and the report is answered.
 static A_MONTH: [Case; 4] = [
     (JOIN, JOINED),
     (
@@ -93,7 +106,8 @@ fn a_month(rt: HostRuntime) -> Result<(), Fail> {
     plays(&rt, rt.alloc(), &A_MONTH)
 }
 
-/// A faction quits, and sends orders no more. A mailing that is too long is a body that is too long, which is told first.
+/// A faction quits, and its later orders are refused. A mailing too long is refused for its body's
+/// length first.
 static QUITTING: [Case; 4] = [
     (JOIN, JOINED),
     (
@@ -115,7 +129,7 @@ fn quitting(rt: HostRuntime) -> Result<(), Fail> {
     plays(&rt, rt.alloc(), &QUITTING)
 }
 
-/// Refusals of joinings, reports, closings and mailings.
+/// Refused joins, reports, closings and mailings.
 static REFUSALS: [Case; 9] = [
     (
         "POST /join HTTP/1.1\r\nHost: x\r\nContent-Length: 24\r\n\r\n{\"name\":\" x\",\"pass\":\"p\"}",
@@ -157,7 +171,7 @@ fn refusals(rt: HostRuntime) -> Result<(), Fail> {
     plays(&rt, rt.alloc(), &REFUSALS)
 }
 
-/// Heads that are refused, with as many fields of Host as they should not have, or with none.
+/// Refused heads, among them those with a wrong number of Host fields.
 static HEADS: [Case; 6] = [
     ("\u{1}", BAD_REQUEST),
     ("GET /report/1 HTTP/2.0\r\n\r\n", BAD_REQUEST),
@@ -178,7 +192,7 @@ fn heads(rt: HostRuntime) -> Result<(), Fail> {
     plays(&rt, rt.alloc(), &HEADS)
 }
 
-/// Paths without a route, and methods that a route has not.
+/// Paths without a route, and methods that a route doesn't have.
 static ROUTES: [Case; 13] = [
     ("GET / HTTP/1.0\r\n\r\n", NO_ROUTE),
     ("GET /report/1234567890 HTTP/1.0\r\n\r\n", NO_ROUTE),
@@ -200,7 +214,7 @@ fn routes(rt: HostRuntime) -> Result<(), Fail> {
     plays(&rt, rt.alloc(), &ROUTES)
 }
 
-/// Bodies without a good length, or with two, and requests without one pass text.
+/// Bodies without a good length or with two, and requests without exactly one pass text.
 static LENGTHS: [Case; 14] = [
     ("POST /join HTTP/1.0\r\n\r\n", NO_LENGTH),
     (
@@ -259,7 +273,8 @@ fn lengths(rt: HostRuntime) -> Result<(), Fail> {
     plays(&rt, rt.alloc(), &LENGTHS)
 }
 
-/// Bodies that are no object with both texts; of equal keys the last counts, and bytes behind the body don't.
+/// Bodies that are no object with both texts. Of equal keys the last counts, and bytes after the
+/// body don't.
 static BODIES: [Case; 9] = [
     ("POST /join HTTP/1.0\r\nContent-Length: 0\r\n\r\n", BAD_JSON),
     (
@@ -301,8 +316,8 @@ fn bodies(rt: HostRuntime) -> Result<(), Fail> {
     plays(&rt, rt.alloc(), &BODIES)
 }
 
-/// Bodies with both texts beside a value that can't be read: nested in 128, past all numbers, half a character. One that is nested in 127
-/// can, and empty lines may stand before a head.
+/// Bodies with both texts and a value that can't be read: nested 128 deep, beyond all numbers, or
+/// half a character. One nested 127 deep is read, and empty lines may come before a head.
 static VALUES: [Case; 4] = [
     (
         "POST /join HTTP/1.0\r\nContent-Length: 291\r\n\r\n{\"name\":\"Avalon\",\"pass\":\"pw\",\"more\":[[[[[[[[[[[[[[[[[[[[[[[[[[[[[[[[[[[[[[[[[[[[[[[[[[[[[[[[[[[[[[[[[[[[[[[[[[[[[[[[[[[[[[[[[[[[[[[[[[[[[[[[[[[[[[[[[[[[[[[[[[[[[[[]]]]]]]]]]]]]]]]]]]]]]]]]]]]]]]]]]]]]]]]]]]]]]]]]]]]]]]]]]]]]]]]]]]]]]]]]]]]]]]]]]]]]]]]]]]]]]]]]]]]]]]]]]]]]]]]]]]]]]]]]]]]]]]}",

@@ -1,5 +1,5 @@
-//! What tests ask of a service over HTTP, whatever store its campaign stands in. What takes it by these calls is proved
-//! without what a contract knows of a store.
+//! The calls of a service over HTTP as a trait, so that what tests them is proved without the
+//! contract of a store.
 use atl_http::listening::{ListenFault, serve_each};
 use atl_http::{Dice, HttpFault, serve_one};
 use atl_service::Service;
@@ -9,10 +9,10 @@ use std::io::{Read, Write};
 use std::net::TcpListener;
 use std::rt::Clock;
 
-/// The dice of all tests.
+/// The dice of all these tests: seed 1.
 const DICE: Dice = Dice { seed: 1 };
 
-/// The calls of a service.
+/// A service that serves requests.
 pub(crate) trait Served {
     /// Serves one request.
     fn serve<R: Read, W: Write>(
@@ -22,7 +22,7 @@ pub(crate) trait Served {
         writer: &mut W,
     ) -> Result<u16, HttpFault>;
 
-    /// Serves so many connections.
+    /// Serves `count` connections.
     fn serve_each<C: Clock>(
         &mut self,
         alloc: Global,

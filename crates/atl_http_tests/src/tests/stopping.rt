@@ -1,5 +1,6 @@
-//! A disk that stops while a faction joins: the fault is told once, and from then on that the service is closed.
-use super::making::{Case, tell_each};
+//! Tests of a disk that stops while a faction joins: the fault is answered once, and from then on
+//! that the service is closed.
+use super::making::{Case, assert_replies};
 use super::requests::{JOIN, REPORT};
 use atl_service::found;
 use atl_test_worlds::SMALL;
@@ -9,14 +10,18 @@ use std::alloc::Global;
 use std::process::Abort;
 use std::test::Fail;
 
+/// The reply with the fault Store.
 const STORE: &str =
     "HTTP/1.1 500 Internal Server Error\r\nContent-Type: application/json\r\nContent-Length: 28\r\nConnection: close\r\n\r\n{\"error\":\"Store\",\"number\":0}";
 
+/// The reply with the fault Closed.
 const CLOSED: &str =
     "HTTP/1.1 500 Internal Server Error\r\nContent-Type: application/json\r\nContent-Length: 29\r\nConnection: close\r\n\r\n{\"error\":\"Closed\",\"number\":0}";
 
+/// A join at which the disk stops, and two requests after it.
 static STOPPED: [Case; 3] = [(JOIN, STORE), (JOIN, CLOSED), (REPORT, CLOSED)];
 
+/// A connection to files, or None if the disk stops.
 fn open<D: Disk + Drop>(alloc: Global, files: Files<D>) -> Option<Connection<FileStore<D>>> {
     if !files.may_be_used() {
         return None;
@@ -24,7 +29,8 @@ fn open<D: Disk + Drop>(alloc: Global, files: Files<D>) -> Option<Connection<Fil
     Connection::open_files(alloc, files, Options::new(1)).ok()
 }
 
-/// Whether a campaign could be founded on these files; then the next call of the disk is the joining's.
+/// Founds a campaign on files and asserts `STOPPED`; false if the disk stopped before the campaign
+/// was founded.
 fn stops<D: Disk + Drop>(rt: &impl Abort, alloc: Global, files: Files<D>) -> bool {
     let Some(conn) = open(alloc, files) else {
         return false;
@@ -32,12 +38,12 @@ fn stops<D: Disk + Drop>(rt: &impl Abort, alloc: Global, files: Files<D>) -> boo
     let Ok(mut service) = found(alloc, conn, SMALL, b"gm") else {
         return false;
     };
-    tell_each(rt, alloc, &mut service, &STOPPED);
+    assert_replies(rt, alloc, &mut service, &STOPPED);
     let _conn = service.end();
     true
 }
 
-/// Files on a disk that passes so many calls on.
+/// Empty files; the disk of the log stops after `calls` calls.
 fn stopping(alloc: Global, calls: u64) -> Files<Fuse<Memory>> {
     Files {
         log: Fuse::new(Memory::new(alloc), calls),
@@ -45,10 +51,12 @@ fn stopping(alloc: Global, calls: u64) -> Files<Fuse<Memory>> {
     }
 }
 
-/// So many calls of the log are too few for a founding and a joining; with some more there is a campaign.
+/// A number of calls of the log that is too low for a founding and a join; a few more are enough
+/// for the founding.
 const FEW_CALLS: u64 = 24;
 
-/// The disk stops one call later each time, until a campaign is founded.
+/// The disk stops one call later each time, until a campaign is founded: then the next call is the
+/// join's.
 #[test]
 fn a_disk_that_stops(rt: HostRuntime) -> Result<(), Fail> {
     for calls in FEW_CALLS..FEW_CALLS + 8 {

@@ -1,4 +1,5 @@
-//! Compares the phases that share pots, and upkeep, with a plain reference calculation.
+//! Tests that the phases that share pots, upkeep, and shares agree with a plain reference
+//! calculation (`reference`).
 ghost use Rattle.atl_state.specs.Good.{IsGood};
 ghost use Rattle.atl_instant.specs.Fit.{AreFit};
 
@@ -7,7 +8,7 @@ use super::reference::plain::Plain;
 use super::reference::sharing::Sharing;
 use super::reference::trade::Trade;
 use super::reference::{shares, sharing, upkeep};
-use super::shares::{are_small, is_shared};
+use super::shares::{are_small, assert_shares};
 use atl_instant::{Month, Phase};
 use atl_market::{BuyPhase, ProducePhase, RecruitPhase, SellPhase, TaxPhase, WorkPhase, share};
 use atl_month::UpkeepPhase;
@@ -19,34 +20,34 @@ use std::test::Fail;
 
 // ---- what is compared
 
-/// Two lists are the same.
-fn are_as<T: PartialEq>(rt: &impl Abort, what: &str, told: &[T], wanted: &[T]) {
+/// Asserts that two lists are equal; the message names the index of the first difference.
+fn assert_equal_lists<T: PartialEq>(rt: &impl Abort, what: &str, told: &[T], wanted: &[T]) {
     assert!(rt; told.len() == wanted.len(), "so many {what}");
     for (place, (told, wanted)) in told.iter().zip(wanted.iter()).enumerate() {
         assert!(rt; told == wanted, "{what}, at {place}");
     }
 }
 
-/// The goods of units, the stocks of regions and the books are the same.
-fn amounts_are(
+/// Asserts that goods, stocks and books are those of the reference.
+fn assert_amounts(
     rt: &impl Abort,
     alloc: Global,
     told: &Plain,
     wanted: &Plain,
 ) -> Result<(), AllocError> {
-    are_as(
+    assert_equal_lists(
         rt,
         "goods",
         &told.sorted_goods(alloc)?,
         &wanted.sorted_goods(alloc)?,
     );
-    are_as(
+    assert_equal_lists(
         rt,
         "stocks",
         &told.sorted_stocks(alloc)?,
         &wanted.sorted_stocks(alloc)?,
     );
-    are_as(
+    assert_equal_lists(
         rt,
         "books",
         &told.sorted_books(alloc)?,
@@ -55,8 +56,8 @@ fn amounts_are(
     Ok(())
 }
 
-/// A campaign, and what came of its orders, are as they were reckoned.
-fn is_as(
+/// Asserts that a campaign and the outcomes of its orders are those of the reference.
+fn assert_campaign(
     rt: &impl Abort,
     alloc: Global,
     campaign: &Campaign,
@@ -64,21 +65,22 @@ fn is_as(
     wanted: &Plain,
 ) -> Result<(), AllocError> {
     let told = Plain::of(alloc, campaign)?;
-    are_as(rt, "units", &told.people, &wanted.people);
-    are_as(rt, "regions", &told.lands, &wanted.lands);
-    are_as(rt, "events", month.events(), &wanted.events);
-    amounts_are(rt, alloc, &told, wanted)
+    assert_equal_lists(rt, "units", &told.people, &wanted.people);
+    assert_equal_lists(rt, "regions", &told.lands, &wanted.lands);
+    assert_equal_lists(rt, "events", month.events(), &wanted.events);
+    assert_amounts(rt, alloc, &told, wanted)
 }
 
 // ---- the phases
 
-/// A phase.
+/// A phase to compare: one that shares pots, or upkeep.
 #[derive(Clone, Copy, Drop)]
 enum Played {
     Sharing(Sharing),
     Upkeep,
 }
 
+/// All phases to compare.
 static PLAYED: [Played; 7] = [
     Played::Sharing(Sharing::Trade(Trade::Sell)),
     Played::Sharing(Sharing::Trade(Trade::Buy)),
@@ -89,6 +91,7 @@ static PLAYED: [Played; 7] = [
     Played::Upkeep,
 ];
 
+/// The campaign and the month after the phase SELL.
 fn run_sell(
     alloc: Global,
     world: &World,
@@ -101,6 +104,7 @@ fn run_sell(
     SellPhase {}.run(alloc, world, campaign, month)
 }
 
+/// The campaign and the month after the phase BUY.
 fn run_buy(
     alloc: Global,
     world: &World,
@@ -113,6 +117,7 @@ fn run_buy(
     BuyPhase {}.run(alloc, world, campaign, month)
 }
 
+/// The campaign and the month after the phase TAX.
 fn run_tax(
     alloc: Global,
     world: &World,
@@ -125,6 +130,7 @@ fn run_tax(
     TaxPhase.run(alloc, world, campaign, month)
 }
 
+/// The campaign and the month after the phase RECRUIT.
 fn run_recruit(
     alloc: Global,
     world: &World,
@@ -137,6 +143,7 @@ fn run_recruit(
     RecruitPhase.run(alloc, world, campaign, month)
 }
 
+/// The campaign and the month after the phase PRODUCE.
 fn run_produce(
     alloc: Global,
     world: &World,
@@ -149,6 +156,7 @@ fn run_produce(
     ProducePhase.run(alloc, world, campaign, month)
 }
 
+/// The campaign and the month after the phase WORK.
 fn run_work(
     alloc: Global,
     world: &World,
@@ -161,6 +169,7 @@ fn run_work(
     WorkPhase.run(alloc, world, campaign, month)
 }
 
+/// The campaign and the month after upkeep.
 fn run_upkeep(
     alloc: Global,
     world: &World,
@@ -173,7 +182,7 @@ fn run_upkeep(
     UpkeepPhase.run(alloc, world, campaign, month)
 }
 
-/// The campaign and the month behind a phase that shares pots.
+/// The campaign and the month after a phase that shares pots.
 fn run_sharing(
     alloc: Global,
     world: &World,
@@ -194,7 +203,7 @@ fn run_sharing(
     }
 }
 
-/// The campaign and the month behind a phase.
+/// The campaign and the month after a phase.
 fn run_on(
     alloc: Global,
     world: &World,
@@ -211,7 +220,7 @@ fn run_on(
     }
 }
 
-/// Reckons a phase.
+/// Calculates a phase by the reference.
 fn reckon(
     alloc: Global,
     world: &World,
@@ -225,7 +234,7 @@ fn reckon(
     }
 }
 
-/// A campaign behind a phase, as it is reckoned.
+/// The reference's campaign after a phase.
 fn reckoned(
     alloc: Global,
     world: &World,
@@ -238,15 +247,17 @@ fn reckoned(
     Ok(plain)
 }
 
+/// Asserts that a phase on the crowd's campaign agrees with the reference.
 fn agrees(rt: &impl Abort, alloc: Global, world: &World, played: Played) -> Result<(), Fail> {
     let campaign = crowd(alloc, world)?;
     let month = crowd_month(alloc, world)?;
     let wanted = reckoned(alloc, world, played, &campaign, &month)?;
     let (campaign, month) = run_on(alloc, world, played, campaign, month)?;
-    is_as(rt, alloc, &campaign, &month, &wanted)?;
+    assert_campaign(rt, alloc, &campaign, &month, &wanted)?;
     Ok(())
 }
 
+/// Asserts that each phase agrees.
 fn all_agree(rt: &impl Abort, alloc: Global, world: &World) -> Result<(), Fail> {
     for played in PLAYED.iter() {
         agrees(rt, alloc, world, *played)?;
@@ -262,7 +273,8 @@ fn phases_agree(rt: HostRuntime) -> Result<(), Fail> {
 
 // ---- shares
 
-/// Wants that are shared of each pot up to what they come to, and one more.
+/// Wants to share: each with every pot from 0 to `MOST_SHARED`, which is more than any of them want
+/// together.
 static WANTS: [&[u64]; 6] = [
     &[50, 60, 70],
     &[1, 1, 1, 1, 1, 1, 1],
@@ -272,18 +284,21 @@ static WANTS: [&[u64]; 6] = [
     &[0, 0],
 ];
 
+/// The largest pot.
 const MOST_SHARED: u64 = 300;
 
+/// Asserts that the shares of one pot agree with the reference.
 fn pot_agrees(rt: &impl Abort, alloc: Global, pot: u64, wants: &[u64]) -> Result<(), Fail> {
     if pot > MOST_SHARED || !are_small(wants) {
         return Err(Fail::new("a pot and wants that are small enough"));
     }
     let told = share(alloc, pot, wants)?;
     let wanted = shares::share(alloc, pot, wants)?;
-    is_shared(rt, pot, &told, &wanted);
+    assert_shares(rt, pot, &told, &wanted);
     Ok(())
 }
 
+/// Asserts that the shares of each pot up to `MOST_SHARED` agree.
 fn pots_agree(rt: &impl Abort, alloc: Global, wants: &[u64]) -> Result<(), Fail> {
     for pot in 0..=MOST_SHARED {
         pot_agrees(rt, alloc, pot, wants)?;

@@ -1,5 +1,6 @@
-//! The campaign that `agreeing` plays: 300 units of four factions in twelve regions, and a month of their orders. What each
-//! unit is, has and is told to do is dealt out by its number, from tables whose lengths have no common factor.
+//! The campaign that `agreeing` plays: 300 units of four factions in twelve regions, and a month of
+//! their orders. What each unit has and orders is picked by its number from tables whose lengths
+//! have no common factor.
 ghost use Rattle.std.specs.Prelude.{◌≤◌, IfOk, length};
 ghost use Rattle.atl_state.specs.Good.{IsGood};
 ghost use Rattle.atl_instant.specs.Fit.{AreFit};
@@ -15,15 +16,19 @@ use atl_tables::{Sequence, Text, World, read_world};
 use std::alloc::{AllocError, Global};
 use std::test::Fail;
 
+/// How many units there are, numbered from 1.
 const UNITS: u32 = 300;
 
+/// How many factions there are, numbered from 1.
 const FACTIONS: u32 = 4;
 
+/// How many regions there are, numbered from 1.
 const REGIONS: u32 = 12;
 
-/// So many units in a row stand in one region, one of each faction.
+/// How many units with consecutive numbers are in one region: one of each faction.
 const IN_A_ROW: u32 = FACTIONS;
 
+/// The world text without its regions.
 const RULES: &str = r#"[rules]
 maintenance = 60
 tax_per_man = 3
@@ -91,9 +96,10 @@ name = "carpentry"
 fee = 9
 "#;
 
+/// How many items the world has.
 const ITEMS: u32 = 5;
 
-/// A market as a region's table has it.
+/// A market of a region.
 #[derive(Clone, Copy, Drop)]
 struct Stall {
     item: u32,
@@ -103,7 +109,7 @@ struct Stall {
     limit: u32,
 }
 
-/// Two of these in a row are the markets of a region.
+/// The markets to pick from: each region has two that follow one another here.
 static STALLS: [Stall; 5] = [
     Stall {
         item: 0,
@@ -145,9 +151,10 @@ static STALLS: [Stall; 5] = [
 /// How many thirds of its limit a market has in stock.
 static FILLED: [u32; 4] = [0, 1, 3, 2];
 
+/// How many skills the world has.
 const SKILLS: u32 = 4;
 
-/// Terrain, peasants and money of regions.
+/// Terrain, peasants and money of a region.
 static LANDS: [(&str, u32, u32); 7] = [
     ("plain", 2_950, 700),
     ("hill", 120, 0),
@@ -158,22 +165,25 @@ static LANDS: [(&str, u32, u32); 7] = [
     ("hill", 61, 880),
 ];
 
+/// Men of a unit.
 static MEN: [i64; 11] = [1, 1, 2, 3, 5, 8, 13, 40, 90, 2, 1];
 
+/// Money of a unit.
 static MONEY: [i64; 7] = [0, 3, 20, 150, 900, 0, 4_000];
 
-/// One of so many units has room for hardly more money.
+/// Each unit whose number is a multiple of this has `FULL_PURSE` of money.
 const RICH: u32 = 37;
 
+/// Money that leaves a unit hardly any room for more.
 const FULL_PURSE: i64 = 999_999_990;
 
-/// Pieces of an item; of some there is room for hardly more.
+/// Amounts of an item that a unit has; the last leaves hardly any room for more.
 static PIECES: [i64; 5] = [0, 2, 0, 30, 999_999_995];
 
-/// Days of a skill of each man.
+/// Days of a skill for each man of a unit.
 static DAYS: [i64; 6] = [29, 30, 90, 0, 180, 450];
 
-/// What a unit is told to do all month.
+/// Month-long orders, or none.
 static MONTH_LONG: [&str; 9] = [
     "PRODUCE wood",
     "WORK",
@@ -186,7 +196,7 @@ static MONTH_LONG: [&str; 9] = [
     "PRODUCE wood",
 ];
 
-/// What a unit is told to sell, and to buy.
+/// SELL orders, or none.
 static SOLD: [&str; 8] = [
     "SELL 3 wood",
     "SELL 40 grain",
@@ -198,6 +208,7 @@ static SOLD: [&str; 8] = [
     "SELL 9 cart",
 ];
 
+/// BUY orders, or none.
 static BOUGHT: [&str; 13] = [
     "BUY 2 grain",
     "BUY 5 wood",
@@ -214,19 +225,26 @@ static BOUGHT: [&str; 13] = [
     "BUY 1 cart",
 ];
 
+/// How many men a unit tries to recruit.
 static RECRUITED: [u32; 5] = [1, 20, 3, 7, 400];
 
-/// The orders of one of so many units are for the next one, which is another faction's.
+/// The orders of each unit whose number is a multiple of this are for the next unit, which is
+/// another faction's.
 const ASTRAY: u32 = 29;
 
+/// The number of Joining among the entries of the books.
 const JOINING: i64 = 2;
 
+/// The number of money among the things of the books.
 const MONEY_BOOKED: i64 = 0;
 
+/// The number of people among the things of the books.
 const PEOPLE_BOOKED: i64 = 1;
 
+/// The number of the first item among the things of the books.
 const FIRST_ITEM_BOOKED: i64 = 2;
 
+/// The value of a table at the index `number`, modulo its length.
 fn dealt<T: Copy + Drop>(table: &[T], number: u32) -> T
     requires { 1 ≤ length table.now }
 {
@@ -235,7 +253,7 @@ fn dealt<T: Copy + Drop>(table: &[T], number: u32) -> T
 
 // ---- the world
 
-/// The markets of a region.
+/// The two markets of a region.
 fn stalls_of(region: u32) -> [Stall; 2] {
     [
         dealt(&STALLS, region),
@@ -243,6 +261,7 @@ fn stalls_of(region: u32) -> [Stall; 2] {
     ]
 }
 
+/// Appends a market to the world text.
 fn add_stall(alloc: Global, stall: Stall, text: &mut String) -> Result<(), AllocError> {
     let Stall {
         item: _,
@@ -257,6 +276,7 @@ fn add_stall(alloc: Global, stall: Stall, text: &mut String) -> Result<(), Alloc
     text.push_str(table.as_str())
 }
 
+/// Appends the markets of a region to the world text.
 fn add_stalls(alloc: Global, number: u32, text: &mut String) -> Result<(), AllocError> {
     for stall in stalls_of(number).iter() {
         add_stall(alloc, *stall, text)?;
@@ -264,6 +284,7 @@ fn add_stalls(alloc: Global, number: u32, text: &mut String) -> Result<(), Alloc
     Ok(())
 }
 
+/// Appends a region with its markets to the world text.
 fn add_region(alloc: Global, number: u32, text: &mut String) -> Result<(), AllocError> {
     let (terrain, peasants, money) = dealt(&LANDS, number);
     let table = format!(in alloc;
@@ -273,6 +294,7 @@ fn add_region(alloc: Global, number: u32, text: &mut String) -> Result<(), Alloc
     add_stalls(alloc, number, text)
 }
 
+/// The world of the crowd.
 pub(crate) fn crowd_world(alloc: Global) -> Result<World, Fail> {
     let mut text = String::from_str(alloc, RULES)?;
     for number in 1..=REGIONS {
@@ -283,19 +305,22 @@ pub(crate) fn crowd_world(alloc: Global) -> Result<World, Fail> {
 
 // ---- the units
 
+/// The faction of a unit.
 fn faction_of(number: u32) -> u32 {
     number % FACTIONS + 1
 }
 
+/// The region of a unit.
 fn region_of(number: u32) -> u32 {
     number / IN_A_ROW % REGIONS + 1
 }
 
-/// Units of one faction alone guard a region, and not all of them do.
+/// Whether a unit guards: in a region only units of one faction do, and not all of them.
 fn guards(number: u32) -> bool {
     region_of(number) % FACTIONS + 1 == faction_of(number) && number % 5 != 0
 }
 
+/// The money of a unit.
 fn money_of(number: u32) -> i64 {
     if number % RICH == 0 {
         FULL_PURSE
@@ -304,6 +329,7 @@ fn money_of(number: u32) -> i64 {
     }
 }
 
+/// The row of a unit.
 fn unit(alloc: Global, number: u32) -> Result<StoredUnit, AllocError> {
     Ok(StoredUnit {
         number: i64::from(number),
@@ -317,6 +343,7 @@ fn unit(alloc: Global, number: u32) -> Result<StoredUnit, AllocError> {
     })
 }
 
+/// The rows of the units.
 fn units(alloc: Global) -> Result<Sequence<StoredUnit>, AllocError> {
     let mut units = Sequence::new(alloc);
     for number in 1..=UNITS {
@@ -325,7 +352,7 @@ fn units(alloc: Global) -> Result<Sequence<StoredUnit>, AllocError> {
     Ok(units)
 }
 
-/// Adds what a unit has, if it has any.
+/// Adds a row of what a unit has, unless the amount is 0.
 fn add_good(
     number: u32,
     sort: i64,
@@ -344,10 +371,12 @@ fn add_good(
     })
 }
 
+/// How much a unit has of an item.
 fn pieces(number: u32, item: u32) -> i64 {
     dealt(&PIECES, number.wrapping_add(item))
 }
 
+/// Adds the rows of a unit's items.
 fn add_items(number: u32, has: &mut Sequence<StoredHas>) -> Result<(), AllocError> {
     for item in 0..ITEMS {
         add_good(number, 0, item, pieces(number, item), has)?;
@@ -355,6 +384,7 @@ fn add_items(number: u32, has: &mut Sequence<StoredHas>) -> Result<(), AllocErro
     Ok(())
 }
 
+/// Adds the rows of a unit's days of study.
 fn add_days(number: u32, has: &mut Sequence<StoredHas>) -> Result<(), AllocError> {
     for skill in 0..SKILLS {
         let each = dealt(&DAYS, number.wrapping_add(skill));
@@ -364,6 +394,7 @@ fn add_days(number: u32, has: &mut Sequence<StoredHas>) -> Result<(), AllocError
     Ok(())
 }
 
+/// The rows of what the units have.
 fn has(alloc: Global) -> Result<Sequence<StoredHas>, AllocError> {
     let mut has = Sequence::new(alloc);
     for number in 1..=UNITS {
@@ -375,12 +406,13 @@ fn has(alloc: Global) -> Result<Sequence<StoredHas>, AllocError> {
 
 // ---- the stocks
 
+/// The stock of a market in a region.
 fn stock_of(region: u32, stall: Stall) -> i64 {
     let thirds = dealt(&FILLED, region.wrapping_add(stall.item));
     i64::from(stall.limit.wrapping_mul(thirds) / 3)
 }
 
-/// Adds the stocks of a region, each that isn't 0.
+/// Adds the rows of a region's stocks that aren't 0.
 fn add_stocks(region: u32, markets: &mut Sequence<StoredMarket>) -> Result<(), AllocError> {
     for stall in stalls_of(region).iter() {
         let stock = stock_of(region, *stall);
@@ -395,6 +427,7 @@ fn add_stocks(region: u32, markets: &mut Sequence<StoredMarket>) -> Result<(), A
     Ok(())
 }
 
+/// The rows of all stocks.
 fn stocks(alloc: Global) -> Result<Sequence<StoredMarket>, AllocError> {
     let mut markets = Sequence::new(alloc);
     for region in 1..=REGIONS {
@@ -403,7 +436,7 @@ fn stocks(alloc: Global) -> Result<Sequence<StoredMarket>, AllocError> {
     Ok(markets)
 }
 
-/// How much of an item all regions have in stock.
+/// The sum of an item over all stocks.
 fn all_in_stock(markets: &Sequence<StoredMarket>, item: u32) -> i64 {
     let mut all: i64 = 0;
     for row in markets.as_slice() {
@@ -416,6 +449,7 @@ fn all_in_stock(markets: &Sequence<StoredMarket>, item: u32) -> i64 {
 
 // ---- factions and books
 
+/// The campaign's own row.
 fn head(alloc: Global) -> Result<Sequence<StoredCampaignRow>, AllocError> {
     let mut all = Sequence::new(alloc);
     all.push(StoredCampaignRow {
@@ -430,6 +464,7 @@ fn head(alloc: Global) -> Result<Sequence<StoredCampaignRow>, AllocError> {
     Ok(all)
 }
 
+/// The row of a faction.
 fn faction(alloc: Global, number: u32) -> Result<StoredFaction, AllocError> {
     let name = format!(in alloc; "F{number}")?;
     Ok(StoredFaction {
@@ -441,6 +476,7 @@ fn faction(alloc: Global, number: u32) -> Result<StoredFaction, AllocError> {
     })
 }
 
+/// The rows of the factions.
 fn factions(alloc: Global) -> Result<Sequence<StoredFaction>, AllocError> {
     let mut all = Sequence::new(alloc);
     for number in 1..=FACTIONS {
@@ -449,6 +485,7 @@ fn factions(alloc: Global) -> Result<Sequence<StoredFaction>, AllocError> {
     Ok(all)
 }
 
+/// The rows of the reports.
 fn reports(alloc: Global) -> Result<Sequence<StoredReport>, AllocError> {
     let mut all = Sequence::new(alloc);
     for number in 1..=FACTIONS {
@@ -460,7 +497,7 @@ fn reports(alloc: Global) -> Result<Sequence<StoredReport>, AllocError> {
     Ok(all)
 }
 
-/// Books under joining what there is of a thing.
+/// Adds a row of the books for an amount of a thing under Joining, unless it is 0.
 fn book(thing: i64, amount: i64, books: &mut Sequence<StoredBooks>) -> Result<(), AllocError> {
     if amount == 0 {
         return Ok(());
@@ -472,7 +509,7 @@ fn book(thing: i64, amount: i64, books: &mut Sequence<StoredBooks>) -> Result<()
     })
 }
 
-/// The money and the men of all units.
+/// The sums of money and of men over all units.
 fn money_and_men() -> (i64, i64) {
     let mut money: i64 = 0;
     let mut men: i64 = 0;
@@ -483,7 +520,7 @@ fn money_and_men() -> (i64, i64) {
     (money, men)
 }
 
-/// How much of an item all units have.
+/// The sum of an item over all units.
 fn all_pieces(item: u32) -> i64 {
     let mut all: i64 = 0;
     for number in 1..=UNITS {
@@ -492,6 +529,7 @@ fn all_pieces(item: u32) -> i64 {
     all
 }
 
+/// Books all that the units have and all that is in stock under Joining.
 fn book_all(
     markets: &Sequence<StoredMarket>,
     books: &mut Sequence<StoredBooks>,
@@ -507,7 +545,7 @@ fn book_all(
     Ok(())
 }
 
-/// Puts the factions and their units into the rows of a campaign that was just founded.
+/// Replaces the rows of a campaign just founded by those of the crowd.
 fn fill(alloc: Global, parts: &mut Parts) -> Result<(), AllocError> {
     parts.markets = stocks(alloc)?;
     book_all(&parts.markets, &mut parts.books)?;
@@ -519,20 +557,21 @@ fn fill(alloc: Global, parts: &mut Parts) -> Result<(), AllocError> {
     Ok(())
 }
 
+/// All rows of the crowd's campaign.
 fn rows(alloc: Global, world: &World) -> Result<Parts, AllocError> {
     let mut parts = founded(alloc, world, b"gm")?.parts()?;
     fill(alloc, &mut parts)?;
     Ok(parts)
 }
 
-/// The campaign that rows are of; nothing is marked.
+/// The campaign that `check` makes of rows; nothing of it is marked.
 pub(crate) fn checked(alloc: Global, world: &World, rows: Parts) -> Result<Campaign, Fail>
     ensures { IfOk result (λ campaign. IsGood world.now campaign.value) }
 {
     Ok(check(alloc, world, rows)?)
 }
 
-/// The campaign.
+/// The campaign of the crowd.
 pub(crate) fn crowd(alloc: Global, world: &World) -> Result<Campaign, Fail>
     ensures { IfOk result (λ campaign. IsGood world.now campaign.value) }
 {
@@ -542,7 +581,7 @@ pub(crate) fn crowd(alloc: Global, world: &World) -> Result<Campaign, Fail>
 
 // ---- the month
 
-/// The unit that an order of a faction is for.
+/// The unit that a unit's orders are for: itself, or the next one (`ASTRAY`).
 fn told_unit(number: u32) -> u32 {
     if number % ASTRAY == 0 {
         number.wrapping_add(1)
@@ -551,6 +590,7 @@ fn told_unit(number: u32) -> u32 {
     }
 }
 
+/// Appends the orders of a unit to its faction's mailing.
 fn add_orders(alloc: Global, number: u32, mailing: &mut String) -> Result<(), AllocError> {
     let unit = told_unit(number);
     let men = dealt(&RECRUITED, number);
@@ -562,6 +602,7 @@ fn add_orders(alloc: Global, number: u32, mailing: &mut String) -> Result<(), Al
     mailing.push_str(orders.as_str())
 }
 
+/// The mailing of a faction.
 fn mailing(alloc: Global, faction: u32) -> Result<String, AllocError> {
     let mut mailing = format!(in alloc; "#ATLANTIS {faction}\n")?;
     for number in 1..=UNITS {
@@ -572,6 +613,7 @@ fn mailing(alloc: Global, faction: u32) -> Result<String, AllocError> {
     Ok(mailing)
 }
 
+/// The texts as references.
 fn lent(alloc: Global, texts: &[String]) -> Result<Vec<&str>, AllocError> {
     let mut all = Vec::new(alloc);
     for text in texts {
@@ -580,7 +622,7 @@ fn lent(alloc: Global, texts: &[String]) -> Result<Vec<&str>, AllocError> {
     Ok(all)
 }
 
-/// The month of the orders of all factions.
+/// The month of the mailings of all factions.
 pub(crate) fn crowd_month(alloc: Global, world: &World) -> Result<Month, Fail>
     ensures { IfOk result (λ month. AreFit world.now month.readings) }
 {

@@ -1,4 +1,5 @@
-//! Calls each law of the crates under test once. A law does nothing and its clause is proved, so nothing is asserted.
+//! Calls each law of the crates under test once and asserts nothing: a law does nothing, and its
+//! clause is proved.
 use atl_action::{nobody_is_taught_twice, units_learn_by_orders, units_study_as_begun};
 use atl_instant::{
     days_go_with_men, mailings_have_no_order, one_order_stands, orders_are_in_mailings,
@@ -14,6 +15,7 @@ use atl_month::{
 };
 use atl_report::{only_what_is_seen_is_told, others_events_are_not_told};
 
+/// Asserts nothing: the clause of each law is proved.
 #[test]
 fn states_laws_of_the_month() {
     mailings_have_no_order();

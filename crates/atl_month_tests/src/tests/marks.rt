@@ -1,11 +1,11 @@
-//! What a closing marks of units: the rows of those that take names, pay each other, recruit, work and pay their upkeep, and of
-//! their goods only what they use, make, give or study.
+//! Tests of what closing a month marks of units: the rows of all that change, and only those of
+//! their goods that change.
 ghost use Rattle.std.specs.Prelude.{IfOk};
 ghost use Rattle.atl_state.specs.Good.{IsGood};
 
 use super::crowd::checked;
 use super::months::{own_mailings, small_world};
-use super::telling::row_is;
+use super::telling::assert_row;
 use atl_month::close_month;
 use atl_state::parts::{Parts, StoredBooks, StoredHas};
 use atl_state::{Campaign, LAST_MONTH, founded};
@@ -28,7 +28,7 @@ fn join(alloc: Global, world: &World, campaign: &mut Campaign, name: &str) -> Re
     Ok(())
 }
 
-/// The campaign with one more faction; nothing is marked.
+/// The campaign after one more faction has joined; nothing of it is marked.
 fn joined(
     alloc: Global,
     world: &World,
@@ -43,7 +43,7 @@ fn joined(
     checked(alloc, world, rows)
 }
 
-/// Two factions with a unit each, in one region.
+/// The campaign of two factions with a unit each in one region; nothing of it is marked.
 fn two_factions(alloc: Global, world: &World) -> Result<Campaign, Fail>
     ensures { IfOk result (λ campaign. IsGood world.now campaign.value) }
 {
@@ -52,11 +52,11 @@ fn two_factions(alloc: Global, world: &World) -> Result<Campaign, Fail>
     joined(alloc, world, campaign, "Bree")
 }
 
-/// The first unit takes a name, pays the second and recruits a man, and both work.
+/// A mailing by which unit 1 takes a name, pays unit 2 and recruits a man.
 static PAYING: [&str; 1] = ["#ATLANTIS 1\nUNIT 1\nNAME UNIT Watch\nPAY 2 10\nRECRUIT 1\n"];
 
-/// The campaign behind a month of these mailings, with a word for each region.
-fn behind(
+/// The campaign after a month of these mailings, with a word of the dice for each region.
+fn after_month(
     alloc: Global,
     world: &World,
     campaign: Campaign,
@@ -73,15 +73,18 @@ fn behind(
     Ok(campaign)
 }
 
+/// The campaign of two factions after a month of `PAYING`.
 fn paid(alloc: Global, world: &World) -> Result<Campaign, Fail> {
     let campaign = two_factions(alloc, world)?;
-    behind(alloc, world, campaign, &PAYING, &[0])
+    after_month(alloc, world, campaign, &PAYING, &[0])
 }
 
-fn is_so(rt: &impl Abort, told: bool) {
+/// Asserts that a truth value is true.
+fn assert_true(rt: &impl Abort, told: bool) {
     assert!(rt; told);
 }
 
+/// Whether unit 1 has two men and its new name.
 fn has_a_recruit(campaign: &Campaign) -> bool {
     match campaign.unit(1) {
         Some(unit) => unit.holding.men() == 2 && unit.holding.name().as_str() == "Watch",
@@ -93,19 +96,20 @@ fn has_a_recruit(campaign: &Campaign) -> bool {
 fn names_pay_recruits_and_upkeep_mark_no_goods(rt: HostRuntime) -> Result<(), Fail> {
     let world = small_world(rt.alloc())?;
     let campaign = paid(rt.alloc(), &world)?;
-    is_so(&rt, has_a_recruit(&campaign));
-    marks_are(&rt, rt.alloc(), 0, &campaign, "1 2 |1 2 ||||")?;
+    assert_true(&rt, has_a_recruit(&campaign));
+    assert_marks(&rt, rt.alloc(), 0, &campaign, "1 2 |1 2 ||||")?;
     Ok(())
 }
 
 // ---- the goods of a unit, thing by thing
 
-/// So much wood, and so many days of carpentry.
+/// How much wood unit 1 has.
 const WOOD: i64 = 20;
 
+/// How many days of carpentry unit 1 has.
 const CARPENTRY: i64 = 30;
 
-/// The first unit has wood, booked under joining, and days of carpentry.
+/// Adds rows for wood, booked under Joining, and for days of carpentry of unit 1.
 fn equip(rows: &mut Parts) -> Result<(), AllocError> {
     rows.has.push(StoredHas {
         unit: 1,
@@ -126,7 +130,8 @@ fn equip(rows: &mut Parts) -> Result<(), AllocError> {
     })
 }
 
-/// Two factions with a unit each, on the shore of the island, where there is a market of wood; nothing is marked.
+/// The campaign of two factions on the shore of the island, with a market of wood, after `equip`;
+/// nothing of it is marked.
 fn equipped(alloc: Global, world: &World) -> Result<Campaign, Fail>
     ensures { IfOk result (λ campaign. IsGood world.now campaign.value) }
 {
@@ -136,12 +141,13 @@ fn equipped(alloc: Global, world: &World) -> Result<Campaign, Fail>
     checked(alloc, world, rows)
 }
 
-/// The island's campaign behind a month of one mailing.
-fn island_behind(alloc: Global, world: &World, mailing: &str) -> Result<Campaign, Fail> {
+/// The campaign of `equipped` after a month of one mailing.
+fn island_after_month(alloc: Global, world: &World, mailing: &str) -> Result<Campaign, Fail> {
     let campaign = equipped(alloc, world)?;
-    behind(alloc, world, campaign, &[mailing], &[0, 0, 0, 0])
+    after_month(alloc, world, campaign, &[mailing], &[0, 0, 0, 0])
 }
 
+/// Appends a list of numbers, ended by `|`.
 fn tell_numbers(
     alloc: Global,
     numbers: MarkedNumbers<'_>,
@@ -153,7 +159,7 @@ fn tell_numbers(
     told.push_str("|")
 }
 
-/// The numbers of things, each behind that of its unit.
+/// Appends the things of a unit, each as `unit:thing`.
 fn tell_things_of(
     alloc: Global,
     unit: u32,
@@ -166,6 +172,7 @@ fn tell_things_of(
     Ok(())
 }
 
+/// Appends the things of all units, ended by `|`.
 fn tell_things(
     alloc: Global,
     units: Entries<'_, Numbered<()>>,
@@ -177,7 +184,8 @@ fn tell_things(
     told.push_str("|")
 }
 
-/// The units with a mark, those whose rows are marked, those all of whose goods are, and the marked items and skills.
+/// What is marked of units: the units, their rows, those with all their goods, single items and
+/// single skills, each ended by `|`.
 fn marks_of(alloc: Global, campaign: &Campaign) -> Result<String, AllocError> {
     let mut told = String::new(alloc);
     tell_numbers(alloc, campaign.marked_units(), &mut told)?;
@@ -188,7 +196,8 @@ fn marks_of(alloc: Global, campaign: &Campaign) -> Result<String, AllocError> {
     Ok(told)
 }
 
-fn marks_are(
+/// Asserts what `marks_of` says of a campaign; the message names the index of the row.
+fn assert_marks(
     rt: &impl Abort,
     alloc: Global,
     row: usize,
@@ -196,11 +205,11 @@ fn marks_are(
     wanted: &str,
 ) -> Result<(), AllocError> {
     let told = marks_of(alloc, campaign)?;
-    row_is(rt, row, told.as_str(), wanted);
+    assert_row(rt, row, told.as_str(), wanted);
     Ok(())
 }
 
-/// Mailings, and what their month marks of the units. All pay their upkeep.
+/// Mailings, and what a month of each marks of units; all units pay their upkeep.
 static MARKED: [(&str, &str); 6] = [
     ("#ATLANTIS 1\nUNIT 1\nWORK", "1 2 |1 2 ||||"),
     ("#ATLANTIS 1\nUNIT 1\nSTUDY lumberjack", "1 2 |1 2 |||1:0 |"),
@@ -216,10 +225,11 @@ static MARKED: [(&str, &str); 6] = [
     ),
 ];
 
+/// Asserts what each month of `MARKED` marks.
 fn months_mark(rt: &impl Abort, alloc: Global, world: &World) -> Result<(), Fail> {
     for (row, (mailing, wanted)) in MARKED.iter().enumerate() {
-        let campaign = island_behind(alloc, world, mailing)?;
-        marks_are(rt, alloc, row, &campaign, wanted)?;
+        let campaign = island_after_month(alloc, world, mailing)?;
+        assert_marks(rt, alloc, row, &campaign, wanted)?;
     }
     Ok(())
 }

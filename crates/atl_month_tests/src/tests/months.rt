@@ -1,4 +1,4 @@
-//! Builds months of mailings from texts.
+//! The worlds of these tests, and months made of mailings.
 ghost use Rattle.std.specs.Prelude.{◌≡◌, All, IfOk, map};
 ghost use Rattle.atl_orders.specs.Mailing.{IsReadWith};
 ghost use Rattle.atl_instant.specs.Month.{HaveOwnFactions};
@@ -12,14 +12,17 @@ use atl_test_worlds::{SMALL, WOOD_AND_SAILING};
 use std::alloc::{AllocError, Global};
 use std::test::Fail;
 
+/// The world with wood and sailing.
 pub(crate) fn world(alloc: Global) -> Result<World, Fail> {
     Ok(read_world(alloc, WOOD_AND_SAILING)?)
 }
 
+/// The small world.
 pub(crate) fn small_world(alloc: Global) -> Result<World, Fail> {
     Ok(read_world(alloc, SMALL)?)
 }
 
+/// The mailings of some texts, in the same order; a text that is refused is a failure.
 fn mailings_of(alloc: Global, world: &World, texts: &[&str]) -> Result<Vec<Mailing>, Fail>
     ensures { IfOk result (λ mailings. All (IsReadWith world.now) mailings.items) }
 {
@@ -30,6 +33,7 @@ fn mailings_of(alloc: Global, world: &World, texts: &[&str]) -> Result<Vec<Maili
     Ok(mailings)
 }
 
+/// The faction of each mailing, in the same order.
 fn factions_of(alloc: Global, mailings: &[Mailing]) -> Result<Vec<u32>, AllocError>
     ensures { IfOk result (λ factions. factions.items ≡ map (λ m. m.faction) mailings.now) }
 {
@@ -40,7 +44,7 @@ fn factions_of(alloc: Global, mailings: &[Mailing]) -> Result<Vec<u32>, AllocErr
     Ok(factions)
 }
 
-/// The mailings of these texts, no two of one faction.
+/// The mailings of some texts; two of one faction are a failure.
 pub(crate) fn own_mailings(
     alloc: Global,
     world: &World,
@@ -57,7 +61,7 @@ pub(crate) fn own_mailings(
     Ok(mailings)
 }
 
-/// A month with these mailings, and two words.
+/// A month of these mailings, with 7 and 9 as the words of the dice.
 pub(crate) fn month(alloc: Global, world: &World, texts: &[&str]) -> Result<Month, Fail>
     ensures { IfOk result (λ month. AreFit world.now month.readings) }
 {

@@ -1,7 +1,7 @@
-//! Which orders each phase gets, and in which order.
+//! Tests of which orders of a month each phase gets, in which order, and of aliases and events.
 use super::months::{month, world};
 use super::phases::{Studying, Working};
-use super::telling::row_is;
+use super::telling::assert_row;
 use atl_instant::{Arrangement, FormPhase, GivePhase, Month, MonthLongVerbs, PhaseVerbs};
 use atl_market::RecruitPhase;
 use atl_orders::Verb;
@@ -11,7 +11,7 @@ use std::alloc::Global;
 use std::process::Abort;
 use std::test::Fail;
 
-/// Adds the orders of a phase: unit, line, faction and keyword of each.
+/// Appends the orders of a phase: unit, line, faction and keyword of each.
 fn tell<P: PhaseVerbs>(
     alloc: Global,
     month: &Month,
@@ -33,7 +33,7 @@ fn tell<P: PhaseVerbs>(
     Ok(())
 }
 
-/// What the phases of FORM, GIVE, RECRUIT, STUDY and WORK have.
+/// The orders that the phases of FORM, GIVE, RECRUIT, STUDY and WORK get, each phase ended by `|`.
 fn told_of(alloc: Global, month: &Month) -> Result<String, Fail> {
     let mut told = String::new(alloc);
     tell(alloc, month, &FormPhase, Arrangement::ByFaction, &mut told)?;
@@ -44,7 +44,7 @@ fn told_of(alloc: Global, month: &Month) -> Result<String, Fail> {
     Ok(told)
 }
 
-/// Mailings, and what each phase has of them.
+/// Mailings, and the orders that each phase gets of them.
 static ROWS: [(&[&str], &str); 9] = [
     (&[], "|||||"),
     // Of month-long orders the last stands, whatever its verb.
@@ -99,6 +99,7 @@ static ROWS: [(&[&str], &str); 9] = [
     ),
 ];
 
+/// Asserts the orders that the phases get of a row's mailings.
 fn row_tells(
     rt: &impl Abort,
     alloc: Global,
@@ -109,10 +110,11 @@ fn row_tells(
 ) -> Result<(), Fail> {
     let month = month(alloc, world, texts)?;
     let told = told_of(alloc, &month)?;
-    row_is(rt, row, told.as_str(), wanted);
+    assert_row(rt, row, told.as_str(), wanted);
     Ok(())
 }
 
+/// Asserts each row of `ROWS`.
 fn rows_tell(rt: &impl Abort, alloc: Global, world: &World) -> Result<(), Fail> {
     for (row, (texts, wanted)) in ROWS.iter().enumerate() {
         row_tells(rt, alloc, world, row, texts, wanted)?;
@@ -120,13 +122,15 @@ fn rows_tell(rt: &impl Abort, alloc: Global, world: &World) -> Result<(), Fail> 
     Ok(())
 }
 
+/// Each phase gets its orders, in its order.
 #[test]
 fn orders_of_phases(rt: HostRuntime) -> Result<(), Fail> {
     let world = world(rt.alloc())?;
     rows_tell(&rt, rt.alloc(), &world)
 }
 
-/// FORM 1 of faction 1 made unit 7, and FORM 2 of faction 2 unit 6.
+/// A month of two mailings, in which FORM 1 of faction 1 made unit 7, and FORM 2 of faction 2 made
+/// unit 6.
 fn formed(alloc: Global, world: &World) -> Result<Month, Fail> {
     let first = "#ATLANTIS 1\nUNIT 4\nFORM 1\nWORK\nEND\nFORM 2\nWORK";
     let second = "#ATLANTIS 2\nUNIT 5\nFORM 1\nSTUDY sailing\nEND\nFORM 2\nWORK";
@@ -136,7 +140,7 @@ fn formed(alloc: Global, world: &World) -> Result<Month, Fail> {
     Ok(month)
 }
 
-/// The month-long orders that stand.
+/// Asserts the month-long orders that count.
 fn month_long_are(
     rt: &impl Abort,
     alloc: Global,
@@ -153,10 +157,11 @@ fn month_long_are(
         Arrangement::ByUnit,
         &mut told,
     )?;
-    row_is(rt, 0, told.as_str(), wanted);
+    assert_row(rt, 0, told.as_str(), wanted);
     Ok(())
 }
 
+/// Of the month-long orders of a unit only the last in a mailing counts.
 #[test]
 fn month_long_orders(rt: HostRuntime) -> Result<(), Fail> {
     let world = world(rt.alloc())?;
@@ -173,6 +178,7 @@ fn month_long_orders(rt: HostRuntime) -> Result<(), Fail> {
     )
 }
 
+/// Asserts the units of some aliases.
 fn aliases_are(rt: &impl Abort, month: &Month) {
     assert!(rt; month.alias(1, 1) == Some(7));
     assert!(rt; month.alias(1, 2).is_none());
@@ -180,10 +186,11 @@ fn aliases_are(rt: &impl Abort, month: &Month) {
     assert!(rt; month.alias(3, 1).is_none());
 }
 
+/// Asserts the aliases of `formed`, and the orders that the phases get.
 fn formed_tells(rt: &impl Abort, alloc: Global, month: &Month) -> Result<(), Fail> {
     aliases_are(rt, month);
     let told = told_of(alloc, month)?;
-    row_is(
+    assert_row(
         rt,
         0,
         told.as_str(),
@@ -192,6 +199,7 @@ fn formed_tells(rt: &impl Abort, alloc: Global, month: &Month) -> Result<(), Fai
     Ok(())
 }
 
+/// An alias is a faction's own, and stands for the unit that its FORM made.
 #[test]
 fn aliases_of_factions(rt: HostRuntime) -> Result<(), Fail> {
     let world = world(rt.alloc())?;
@@ -199,6 +207,7 @@ fn aliases_of_factions(rt: HostRuntime) -> Result<(), Fail> {
     formed_tells(&rt, rt.alloc(), &month)
 }
 
+/// An outcome of FORM: it made unit 7.
 const EVENT: Event = Event {
     faction: 1,
     unit: 4,
@@ -207,22 +216,23 @@ const EVENT: Event = Event {
     outcome: Outcome::Done(7),
 };
 
-fn is_verb(rt: &impl Abort, told: Option<Verb>, wanted: Option<Verb>) {
+/// Asserts the verb of an order, or that there is no order.
+fn assert_verb(rt: &impl Abort, told: Option<Verb>, wanted: Option<Verb>) {
     assert!(rt; told == wanted);
 }
 
-/// The verb of the order at a place of a faction's mailing.
+/// The verb of the order with an index in a faction's mailing.
 fn verb_at(month: &Month, faction: u32, place: usize) -> Option<Verb> {
     let entry = month.mailing(faction)?.entries.as_slice().get(place)?;
     Some(entry.order.verb)
 }
 
-/// The orders at places, as far as there are any, and the mailings.
+/// Asserts the orders at some indexes, and the mailings.
 fn orders_are(rt: &impl Abort, month: &Month) {
-    is_verb(rt, verb_at(month, 1, 1), Some(Verb::Work));
-    is_verb(rt, verb_at(month, 2, 1), Some(Verb::Study));
-    is_verb(rt, verb_at(month, 2, 4), None);
-    is_verb(rt, verb_at(month, 3, 0), None);
+    assert_verb(rt, verb_at(month, 1, 1), Some(Verb::Work));
+    assert_verb(rt, verb_at(month, 2, 1), Some(Verb::Study));
+    assert_verb(rt, verb_at(month, 2, 4), None);
+    assert_verb(rt, verb_at(month, 3, 0), None);
     assert!(rt;
         month
             .mailing(2)
@@ -232,6 +242,7 @@ fn orders_are(rt: &impl Abort, month: &Month) {
     assert!(rt; month.mailing(3).is_none());
 }
 
+/// Asserts the events and the words of a month, before and after an event is added.
 fn events_are(rt: &impl Abort, mut month: Month) -> Result<(), Fail> {
     assert!(rt; month.events().is_empty());
     month.add_event(EVENT)?;
@@ -242,6 +253,7 @@ fn events_are(rt: &impl Abort, mut month: Month) -> Result<(), Fail> {
     Ok(())
 }
 
+/// A month lends its orders, mailings, words and events.
 #[test]
 fn orders_and_events(rt: HostRuntime) -> Result<(), Fail> {
     let world = world(rt.alloc())?;

@@ -1,9 +1,10 @@
-//! Phases of STUDY alone and of WORK alone.
+//! Two phases for tests alone: one of STUDY, and one of WORK.
 ghost use Rattle.atl_month_tests.specs.Phases.{is_studying, is_working};
 
 use atl_instant::PhaseVerbs;
 use atl_orders::Verb;
 
+/// The phase of STUDY alone.
 pub(crate) struct Studying;
 
 impl PhaseVerbs for Studying {
@@ -14,6 +15,7 @@ impl PhaseVerbs for Studying {
     }
 }
 
+/// The phase of WORK alone.
 pub(crate) struct Working;
 
 impl PhaseVerbs for Working {

@@ -1,9 +1,10 @@
-//! Pots of two regions, worked out by hand.
+//! Tests of sharing the pots of two regions among units, against results worked out by hand
+//! (docs/RULES.md, "Shares").
 ghost use Rattle.std.specs.Prelude.{IfOk, ⊤};
 ghost use Rattle.atl_market.specs.Pots.{AreWants};
 ghost use Rattle.atl_month_tests.specs.Places.{pot_in};
 
-use super::telling::{row_is, tell_pair};
+use super::telling::{assert_row, tell_pair};
 use atl_market::{Pots, pot_shares};
 use atl_state::{Campaign, Holding, LAST_UNIT, Unit, founded};
 use atl_tables::{Numbered, Text, World, read_world};
@@ -12,7 +13,7 @@ use std::alloc::{AllocError, Global};
 use std::process::Abort;
 use std::test::Fail;
 
-/// The pots of regions 1 and 2.
+/// The pots of regions 1 and 2; all other regions have none.
 #[derive(Drop)]
 struct Places {
     first: u16,
@@ -33,7 +34,7 @@ impl Pots for Places {
     }
 }
 
-/// A unit's region, and what it wants, if it has a want.
+/// A unit's region, and how much it wants, or None.
 type Taker = (u32, Option<u16>);
 
 /// The units in their order, the pots of the two regions, and each unit's number with its share.
@@ -81,7 +82,7 @@ fn one_man(alloc: Global) -> Result<Holding, Fail> {
     Ok(Holding::new(name, 1, 0, Numbered::new(alloc), Numbered::new(alloc)))
 }
 
-/// A unit comes, under the number that comes next.
+/// Adds a unit of one man of faction 1 to a region.
 fn unit_comes(alloc: Global, campaign: &mut Campaign, region: u32) -> Result<(), Fail> {
     let holding = one_man(alloc)?;
     if campaign.next_unit() > LAST_UNIT || campaign.unit(campaign.next_unit()).is_some() {
@@ -96,7 +97,7 @@ fn unit_comes(alloc: Global, campaign: &mut Campaign, region: u32) -> Result<(),
     Ok(())
 }
 
-/// The two regions with these units, numbered from 1.
+/// The campaign of two regions with these units, numbered from 1.
 fn campaign_of(alloc: Global, world: &World, takers: &[Taker]) -> Result<Campaign, Fail> {
     let mut campaign = founded(alloc, world, b"gm")?;
     for (region, _) in takers {
@@ -105,6 +106,7 @@ fn campaign_of(alloc: Global, world: &World, takers: &[Taker]) -> Result<Campaig
     Ok(campaign)
 }
 
+/// The wants of the units, by their numbers from 1.
 fn wants_of(alloc: Global, takers: &[Taker]) -> Result<Numbered<u32>, Fail>
     ensures { IfOk result (λ wants. AreWants wants) }
 {
@@ -119,6 +121,7 @@ fn wants_of(alloc: Global, takers: &[Taker]) -> Result<Numbered<u32>, Fail>
     Ok(wants)
 }
 
+/// The shares as text: each unit's number and its share.
 fn told_of(alloc: Global, given: &Numbered<u32>) -> Result<String, AllocError> {
     let mut told = String::new(alloc);
     for (number, share) in given.iter() {
@@ -127,6 +130,7 @@ fn told_of(alloc: Global, given: &Numbered<u32>) -> Result<String, AllocError> {
     Ok(told)
 }
 
+/// The shares of some units in the pots, as text.
 fn shares(
     alloc: Global,
     world: &World,
@@ -143,10 +147,11 @@ fn shares(
     Ok(told_of(alloc, &given)?)
 }
 
+/// Asserts each row of `SHARED`.
 fn shares_all(rt: &impl Abort, alloc: Global, world: &World) -> Result<(), Fail> {
     for (row, (takers, pots, wanted)) in SHARED.iter().enumerate() {
         let told = shares(alloc, world, takers, *pots)?;
-        row_is(rt, row, told.as_str(), wanted);
+        assert_row(rt, row, told.as_str(), wanted);
     }
     Ok(())
 }

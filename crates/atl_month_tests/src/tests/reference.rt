@@ -1,5 +1,6 @@
-//! Pots and upkeep, reckoned once more: by prefix sums, with a look at all units for each pot and for each unit. Slow and plain, over
-//! lists of numbers.
+//! A second calculation of upkeep and of the phases that share pots, to compare with, slow and
+//! simple.
+//! It uses prefix sums over plain lists, and looks at all units for each pot and each unit.
 pub(crate) mod plain;
 mod pots;
 mod produce;

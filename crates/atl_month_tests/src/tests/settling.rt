@@ -1,16 +1,18 @@
-//! What upkeep takes from units of two factions and two regions, worked out by hand.
+//! Tests of what upkeep takes from units of two factions and two regions, worked out by hand
+//! (docs/RULES.md, "Upkeep").
 ghost use Rattle.std.specs.Prelude.{All, IfOk};
 ghost use Rattle.atl_month.specs.UpkeepSharing.{AreInOrder, IsUpkeepInput};
 
-use super::telling::{row_is, tell_pair};
+use super::telling::{assert_row, tell_pair};
 use atl_month::{UpkeepInput, upkeep_payments};
 use std::alloc::{AllocError, Global};
 use std::test::Fail;
 
-/// Money of a man a month.
+/// What a man costs a month.
 const MAINTENANCE: u32 = 10;
 
-/// The region, the faction, the men and the money of each unit; the money that each pays, and how many of its men starve.
+/// Region, faction, men and money of each unit; the money that each pays, and how many of its men
+/// starve.
 static SETTLED: [(&[(u8, u8, u16, u16)], &str); 11] = [
     (&[], ""),
     (&[(1, 1, 3, 25), (1, 1, 1, 18)], "25 0;15 0;"),
@@ -34,7 +36,7 @@ static SETTLED: [(&[(u8, u8, u16, u16)], &str); 11] = [
     ),
 ];
 
-/// These units, with the numbers from 1 on.
+/// The inputs of upkeep of these units, numbered from 1.
 fn purses_of(alloc: Global, units: &[(u8, u8, u16, u16)]) -> Result<Vec<UpkeepInput>, AllocError>
     ensures each { IfOk result (λ purses. All IsUpkeepInput purses.items) }
     ensures order { IfOk result (λ purses. AreInOrder purses.items) }
@@ -57,6 +59,7 @@ fn purses_of(alloc: Global, units: &[(u8, u8, u16, u16)]) -> Result<Vec<UpkeepIn
     Ok(purses)
 }
 
+/// What upkeep takes from each unit, as text: money paid and men starved.
 fn told_of(alloc: Global, units: &[(u8, u8, u16, u16)]) -> Result<String, Fail> {
     let purses = purses_of(alloc, units)?;
     let mut told = String::new(alloc);
@@ -74,7 +77,7 @@ fn told_of(alloc: Global, units: &[(u8, u8, u16, u16)]) -> Result<String, Fail> 
 #[test]
 fn upkeep_is_settled(rt: HostRuntime) -> Result<(), Fail> {
     for (row, (units, wanted)) in SETTLED.iter().enumerate() {
-        row_is(&rt, row, told_of(rt.alloc(), units)?.as_str(), wanted);
+        assert_row(&rt, row, told_of(rt.alloc(), units)?.as_str(), wanted);
     }
     Ok(())
 }

@@ -1,4 +1,4 @@
-//! Shares of single pots, worked out by hand.
+//! Tests of the shares of single pots, worked out by hand (docs/RULES.md, "Shares").
 ghost use Rattle.std.specs.Prelude.{◌≤◌, All, IsTrue};
 
 use atl_market::share;
@@ -6,7 +6,7 @@ use std::alloc::Global;
 use std::process::Abort;
 use std::test::Fail;
 
-/// A pot, what is wanted of it, and what is given.
+/// A pot, the wants, and the shares.
 static SHARED: [(u64, &[u64], &[u64]); 8] = [
     (100, &[50, 60, 70], &[27, 34, 39]),
     (100, &[110, 70], &[61, 39]),
@@ -22,16 +22,19 @@ static SHARED: [(u64, &[u64], &[u64]); 8] = [
     ),
 ];
 
-pub(crate) fn is_shared(rt: &impl Abort, pot: u64, told: &[u64], wanted: &[u64]) {
+/// Asserts the shares of a pot.
+pub(crate) fn assert_shares(rt: &impl Abort, pot: u64, told: &[u64], wanted: &[u64]) {
     assert_eq!(rt; told, wanted, "of {pot}");
 }
 
+/// Whether no want is more than 999,999,999.
 pub(crate) fn are_small(wants: &[u64]) -> bool
     ensures { IsTrue result → All (λ want. want ≤ 999999999) wants.now }
 {
     wants.iter().all(|want| *want <= 999_999_999)
 }
 
+/// Asserts the shares of a row.
 fn shares(
     rt: &impl Abort,
     alloc: Global,
@@ -43,10 +46,11 @@ fn shares(
         return Err(Fail::new("a pot and wants that are small enough"));
     }
     let given = share(alloc, pot, wants)?;
-    is_shared(rt, pot, given.as_slice(), wanted);
+    assert_shares(rt, pot, given.as_slice(), wanted);
     Ok(())
 }
 
+/// Asserts the shares of each row.
 fn shares_all(rt: &impl Abort, alloc: Global) -> Result<(), Fail> {
     for (pot, wants, wanted) in SHARED.iter() {
         shares(rt, alloc, *pot, wants, wanted)?;
@@ -59,7 +63,7 @@ fn a_pot_is_shared(rt: HostRuntime) -> Result<(), Fail> {
     shares_all(&rt, rt.alloc())
 }
 
-/// The sum of all that is given, where a crowd wants all there can be of all there can be.
+/// The sum of all shares of the largest pot.
 fn given_to_crowd(alloc: Global, wants: &[u64]) -> Result<u64, Fail> {
     if !are_small(wants) {
         return Err(Fail::new("wants that are small enough"));

@@ -1,12 +1,13 @@
-//! Compares the answer for a row of a table of cases with what is wanted.
+//! Asserts texts of table rows, and prints pairs of numbers.
 use std::alloc::{AllocError, Global};
 use std::process::Abort;
 
-pub(crate) fn row_is(rt: &impl Abort, row: usize, told: &str, wanted: &str) {
+/// Asserts that a text is the wanted one; the message names the index of the row.
+pub(crate) fn assert_row(rt: &impl Abort, row: usize, told: &str, wanted: &str) {
     assert_eq!(rt; told, wanted, "at {row}");
 }
 
-/// Tells a pair of numbers.
+/// Appends a pair of numbers.
 pub(crate) fn tell_pair(
     alloc: Global,
     first: u64,

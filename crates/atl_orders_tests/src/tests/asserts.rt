@@ -1,24 +1,27 @@
-//! Assertions of these tests, a function for each type. An `assert_eq!` costs much to prove, so each is written once.
+//! Assertions for these tests, one for each type: an `assert_eq!` costs much to prove, so each is
+//! written once.
 use std::alloc::Global;
 use std::fmt::Debug;
 use std::process::Abort;
 use std::test::Fail;
 
-/// Of a row of a table, which the message names.
-pub(crate) fn row_is(rt: &impl Abort, row: &str, told: &str, wanted: &str) {
+/// Asserts that a text is the wanted one; the message names the row of the table.
+pub(crate) fn assert_row(rt: &impl Abort, row: &str, told: &str, wanted: &str) {
     assert_eq!(rt; told, wanted, "at {row}");
 }
 
-pub(crate) fn is_number(rt: &impl Abort, told: usize, wanted: usize) {
+/// Asserts that a number is the wanted one.
+pub(crate) fn assert_number(rt: &impl Abort, told: usize, wanted: usize) {
     assert_eq!(rt; told, wanted);
 }
 
-pub(crate) fn are_numbers(rt: &impl Abort, told: &[u32], wanted: &[u32]) {
+/// Asserts that a list of numbers is the wanted one.
+pub(crate) fn assert_numbers(rt: &impl Abort, told: &[u32], wanted: &[u32]) {
     assert_eq!(rt; told, wanted);
 }
 
-/// Of values of a row, as `Debug` prints them in a list.
-pub(crate) fn are_shown<T: Debug>(
+/// Asserts what `Debug` prints of a list of values; the message names the row.
+pub(crate) fn assert_shown<T: Debug>(
     rt: &impl Abort,
     alloc: Global,
     row: &str,
@@ -26,6 +29,6 @@ pub(crate) fn are_shown<T: Debug>(
     wanted: &str,
 ) -> Result<(), Fail> {
     let told = format!(in alloc; "{told:?}")?;
-    row_is(rt, row, told.as_str(), wanted);
+    assert_row(rt, row, told.as_str(), wanted);
     Ok(())
 }

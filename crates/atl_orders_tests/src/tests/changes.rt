@@ -1,10 +1,12 @@
-//! Changes of worlds, with the faults that they make.
+//! Tables of edits to world texts, each with the first fault that the reader of worlds then
+//! reports.
 use atl_test_worlds::SMALL;
 
-/// A piece of a text, what comes in its place, and the first fault of the text that this makes.
+/// An edit: a piece of the world text, what replaces it, and the first fault of the new text
+/// (`none`: a good world).
 pub(crate) type Change = (&'static str, &'static str, &'static str);
 
-/// Changes of the small world, two of which replace all of it.
+/// Edits of the small world; the first two replace all of it.
 pub(crate) static SMALL_CHANGES: [Change; 26] = [
     (SMALL, "a = = b", "1 NotToml"),
     (SMALL, "", "2 Missing rules"),
@@ -62,7 +64,7 @@ pub(crate) static SMALL_CHANGES: [Change; 26] = [
     ),
 ];
 
-/// Changes of the small world before its region.
+/// Edits of the small world cut off above its region: the key `region`.
 pub(crate) static HEAD_CHANGES: [Change; 4] = [
     ("[rules]", "region = 3\n[rules]", "3 WrongType region"),
     ("[rules]", "region = []\n[rules]", "4 OutOfRange region"),
@@ -70,7 +72,7 @@ pub(crate) static HEAD_CHANGES: [Change; 4] = [
     ("[rules]", "region = [1]\n[rules]", "3 WrongType region[0]"),
 ];
 
-/// Changes of the rules of the small world.
+/// Edits of the small world cut off above its terrain: the key `terrain`.
 pub(crate) static RULES_CHANGES: [Change; 4] = [
     ("[rules]", "terrain = 3\n[rules]", "3 WrongType terrain"),
     ("[rules]", "terrain = []\n[rules]", "4 OutOfRange terrain"),
@@ -82,7 +84,7 @@ pub(crate) static RULES_CHANGES: [Change; 4] = [
     ),
 ];
 
-/// Changes of numbers, truths and texts of a world with an item, a skill and a kind.
+/// Edits of numbers, truth values and texts of a world with an item, a skill and a kind.
 pub(crate) static KEY_CHANGES: [Change; 22] = [
     ("[rules]", "[rules]", "none"),
     ("wage = 12", "", "2 Missing terrain[0].wage"),
@@ -140,7 +142,8 @@ pub(crate) static KEY_CHANGES: [Change; 22] = [
     ("growth = 0", "growth = 99999999999999999999", "1 NotToml"),
 ];
 
-/// Changes of its names, and of the names that speak of other things.
+/// Edits of the same world: names twice, references to names that are missing, and a terrain's
+/// `output`.
 pub(crate) static NAME_CHANGES: [Change; 13] = [
     (
         "growth = 0",
@@ -197,7 +200,7 @@ pub(crate) static NAME_CHANGES: [Change; 13] = [
     ("wage = 12", "wage = 12\noutput = { Wood = 7 }", "none"),
 ];
 
-/// Changes of names of things.
+/// Edits of the key `name` of each thing of the same world.
 pub(crate) static TITLE_CHANGES: [Change; 19] = [
     ("name = \"plain\"", "", "2 Missing terrain[0].name"),
     ("name = \"wood\"", "", "2 Missing item[0].name"),
@@ -256,7 +259,7 @@ pub(crate) static TITLE_CHANGES: [Change; 19] = [
     ("name = \"Vale\"", "name = \"Va le\"", "none"),
 ];
 
-/// Changes of truths.
+/// Edits of the truth values `land` and `ship` of the same world.
 pub(crate) static TRUTH_CHANGES: [Change; 5] = [
     ("land = true", "", "2 Missing terrain[0].land"),
     ("land = true", "land = 1", "3 WrongType terrain[0].land"),
@@ -265,7 +268,7 @@ pub(crate) static TRUTH_CHANGES: [Change; 5] = [
     ("ship = false", "ship = true", "none"),
 ];
 
-/// Changes of texts that refer to a name.
+/// Edits of the keys whose text refers to a name (`skill`, `raw`, `material`, ..).
 pub(crate) static REFERENCE_CHANGES: [Change; 20] = [
     (
         "growth = 0",
@@ -337,7 +340,7 @@ pub(crate) static REFERENCE_CHANGES: [Change; 20] = [
     ("terrain = \"plain\"", "terrain = \"PLAIN\"", "none"),
 ];
 
-/// Changes of the numbers of neighbours.
+/// Edits of a region's keys `north`, `south`, `east` and `west`.
 pub(crate) static NEIGHBOUR_CHANGES: [Change; 11] = [
     (
         "money = 500",
@@ -392,7 +395,7 @@ pub(crate) static NEIGHBOUR_CHANGES: [Change; 11] = [
     ("money = 500", "money = 500\neast = 1\nwest = 1", "none"),
 ];
 
-/// Changes of what a terrain gives.
+/// Edits of a terrain's key `output`.
 pub(crate) static OUTPUT_CHANGES: [Change; 6] = [
     ("wage = 12", "wage = 12\noutput = {}", "none"),
     (
@@ -554,25 +557,27 @@ pub(crate) static ARRAY_CHANGES: [Change; 13] = [
     ),
 ];
 
-/// The world with 200 equal markets as it is: names are equal as long as there are not too many.
+/// The world with 200 equal markets, unchanged: it is within the limit, so the fault is the name
+/// that comes twice.
 pub(crate) static EQUAL_MARKETS: [Change; 1] = [(
     "[rules]",
     "[rules]",
     "5 TwoNames region[0].market[1].item",
 )];
 
-/// The world with 201 markets.
+/// The world with 201 equal markets, unchanged: the fault is that there are too many.
 pub(crate) static TOO_MANY_MARKETS: [Change; 1] = [(
     "[rules]",
     "[rules]",
     "4 OutOfRange region[0].market",
 )];
 
-/// A piece of a text, what comes in its place, and the first faults of the text that this makes in the second format and in
-/// the first.
+/// An edit: a piece of the text, what replaces it, and the first fault then in the second format
+/// and in the first.
 pub(crate) type TwoFaults = (&'static str, &'static str, &'static str, &'static str);
 
-/// Changes of the world with one market that make a fault of the market and a later one.
+/// Edits of the world with one market that make a fault of the market, which the first format
+/// ignores, and a later one.
 pub(crate) static TWO_FAULTS: [TwoFaults; 4] = [
     (
         "restock = 20",

@@ -1,27 +1,31 @@
-//! Texts, lists, maps by number, and the faults of worlds, call by call.
-use super::asserts::{are_numbers, is_number, row_is};
+//! Tests of `Text`, `Sequence` and `Numbered` (a map by number), call by call, and of the names of
+//! world faults.
+use super::asserts::{assert_number, assert_numbers, assert_row};
 use atl_tables::{Numbered, Sequence, Text, WorldFault};
 use std::alloc::Global;
 use std::process::Abort;
 use std::test::Fail;
 
-/// Asserts the bytes of a text, and that a copy has them too.
-fn holds(rt: &impl Abort, alloc: Global, text: &Text, wanted: &str) -> Result<(), Fail> {
+/// Asserts that a text and a copy of it have the wanted bytes.
+fn assert_text(rt: &impl Abort, alloc: Global, text: &Text, wanted: &str) -> Result<(), Fail> {
     assert!(rt; text.as_bytes() == wanted.as_bytes());
-    row_is(rt, wanted, text.as_str(), wanted);
-    row_is(rt, wanted, text.copy(alloc)?.as_str(), wanted);
+    assert_row(rt, wanted, text.as_str(), wanted);
+    assert_row(rt, wanted, text.copy(alloc)?.as_str(), wanted);
     Ok(())
 }
 
+/// Asserts that each way of making a `Text` keeps the bytes.
 fn made_in_each_way(rt: &impl Abort, alloc: Global, text: &str) -> Result<(), Fail> {
-    holds(rt, alloc, &Text::from_str(alloc, text)?, text)?;
+    assert_text(rt, alloc, &Text::from_str(alloc, text)?, text)?;
     let string = String::from_str(alloc, text)?;
-    holds(rt, alloc, &Text::from_string(string), text)?;
-    holds(rt, alloc, &Text::from_utf8(alloc, text.as_bytes())?, text)
+    assert_text(rt, alloc, &Text::from_string(string), text)?;
+    assert_text(rt, alloc, &Text::from_utf8(alloc, text.as_bytes())?, text)
 }
 
+/// Texts to make: empty, one letter, with a space, and beyond ASCII.
 static TEXTS: [&str; 4] = ["", "a", "Big Bob", "\u{e9}\u{1f600}"];
 
+/// Each way of making a `Text` keeps its bytes, and so does a copy.
 #[test]
 fn texts(rt: HostRuntime) -> Result<(), Fail> {
     for text in TEXTS.iter() {
@@ -30,27 +34,28 @@ fn texts(rt: HostRuntime) -> Result<(), Fail> {
     Ok(())
 }
 
-/// Asserts the values of a list.
-fn lists(rt: &impl Abort, list: &Sequence<u32>, wanted: &[u32]) {
-    is_number(rt, list.len(), wanted.len());
-    are_numbers(rt, list.as_slice(), wanted);
+/// Asserts the length and the values of a list.
+fn assert_list(rt: &impl Abort, list: &Sequence<u32>, wanted: &[u32]) {
+    assert_number(rt, list.len(), wanted.len());
+    assert_numbers(rt, list.as_slice(), wanted);
 }
 
+/// A `Sequence` keeps the values that are pushed, in order.
 #[test]
 fn sequences(rt: HostRuntime) -> Result<(), Fail> {
     let mut list = Sequence::new(rt.alloc());
-    lists(&rt, &list, &[]);
+    assert_list(&rt, &list, &[]);
     list.push(3)?;
     list.push(1)?;
     let mut again = Sequence::from_vec(list.into_vec());
     again.push(2)?;
-    lists(&rt, &again, &[3, 1, 2]);
-    lists(&rt, &Sequence::from_slice(rt.alloc(), &[7, 7])?, &[7, 7]);
+    assert_list(&rt, &again, &[3, 1, 2]);
+    assert_list(&rt, &Sequence::from_slice(rt.alloc(), &[7, 7])?, &[7, 7]);
     Ok(())
 }
 
-/// Asserts the numbers of a map, each followed by its value.
-pub(crate) fn maps(
+/// Asserts the entries of a map: `wanted` is each number followed by its value.
+pub(crate) fn assert_map(
     rt: &impl Abort,
     alloc: Global,
     map: &Numbered<u32>,
@@ -61,12 +66,12 @@ pub(crate) fn maps(
         entries.push(number)?;
         entries.push(*value)?;
     }
-    are_numbers(rt, &entries, wanted);
-    is_number(rt, map.len(), wanted.len() / 2);
+    assert_numbers(rt, &entries, wanted);
+    assert_number(rt, map.len(), wanted.len() / 2);
     Ok(())
 }
 
-/// A map of three values.
+/// A map of the numbers 1, 20 and 30, with the values 1, 2 and 3.
 pub(crate) fn filled(alloc: Global) -> Result<Numbered<u32>, Fail> {
     let mut map = Numbered::new(alloc);
     map.insert(30, 3)?;
@@ -87,16 +92,17 @@ fn changes_entries(rt: &impl Abort, map: &mut Numbered<u32>) {
     map.remove(2);
 }
 
+/// A `Numbered` keeps values by number, in rising order, through inserts, changes and removals.
 #[test]
 fn numbered(rt: HostRuntime) -> Result<(), Fail> {
-    maps(&rt, rt.alloc(), &Numbered::new(rt.alloc()), &[])?;
+    assert_map(&rt, rt.alloc(), &Numbered::new(rt.alloc()), &[])?;
     let mut map = filled(rt.alloc())?;
-    maps(&rt, rt.alloc(), &map, &[1, 1, 20, 2, 30, 3])?;
+    assert_map(&rt, rt.alloc(), &map, &[1, 1, 20, 2, 30, 3])?;
     changes_entries(&rt, &mut map);
-    maps(&rt, rt.alloc(), &map, &[20, 9, 30, 3])
+    assert_map(&rt, rt.alloc(), &map, &[20, 9, 30, 3])
 }
 
-/// The numbers of the faults (0 for none), their names, and their paths.
+/// Each world fault: its number (0: it has none), its name, and its path (`none`: it has none).
 static FAULTS: [(u8, &str, &str); 9] = [
     (0, "Memory", "none"),
     (1, "NotToml", "none"),
@@ -124,6 +130,7 @@ fn fault_of(number: u8, path: Text) -> WorldFault {
     }
 }
 
+/// The path of a world fault, or `none`.
 fn path_of(fault: &WorldFault) -> &str {
     match fault.path() {
         Some(path) => path.as_str(),
@@ -131,19 +138,21 @@ fn path_of(fault: &WorldFault) -> &str {
     }
 }
 
-fn fault_tells(rt: &impl Abort, alloc: Global, row: &(u8, &str, &str)) -> Result<(), Fail> {
+/// Asserts the number, the name and the path of the fault of a row.
+fn assert_fault(rt: &impl Abort, alloc: Global, row: &(u8, &str, &str)) -> Result<(), Fail> {
     let (number, name, path) = *row;
     let fault = fault_of(number, Text::from_str(alloc, "rules.growth")?);
-    is_number(rt, fault.number().unwrap_or(0).into(), number.into());
-    row_is(rt, name, fault.name(), name);
-    row_is(rt, name, path_of(&fault), path);
+    assert_number(rt, fault.number().unwrap_or(0).into(), number.into());
+    assert_row(rt, name, fault.name(), name);
+    assert_row(rt, name, path_of(&fault), path);
     Ok(())
 }
 
+/// Each world fault has its number, its name and its path.
 #[test]
 fn world_faults(rt: HostRuntime) -> Result<(), Fail> {
     for row in FAULTS.iter() {
-        fault_tells(&rt, rt.alloc(), row)?;
+        assert_fault(&rt, rt.alloc(), row)?;
     }
     Ok(())
 }

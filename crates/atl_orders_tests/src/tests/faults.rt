@@ -1,5 +1,6 @@
-//! Faults of worlds, in their order and with their paths.
-use super::asserts::row_is;
+//! Tests that a faulty world text gets the right first fault with its path (docs/FORMATS.md,
+//! "Faults of a world file").
+use super::asserts::assert_row;
 use super::changes::{
     ARRAY_CHANGES, Change, EQUAL_MARKETS, HEAD_CHANGES, KEY_CHANGES, MARKET_CHANGES, NAME_CHANGES,
     NEIGHBOUR_CHANGES, OUTPUT_CHANGES, REFERENCE_CHANGES, RULES_CHANGES, SMALL_CHANGES,
@@ -12,7 +13,7 @@ use std::alloc::Global;
 use std::process::Abort;
 use std::test::Fail;
 
-/// The text of the small world before the first such header.
+/// The text of the small world above the first occurrence of `header`.
 fn before(header: &str) -> &'static str {
     match SMALL.split_once(header) {
         Some((before, _)) => before,
@@ -20,7 +21,8 @@ fn before(header: &str) -> &'static str {
     }
 }
 
-/// The fault that the first format has in the place of one of the second: it ignores markets.
+/// The fault that the first format reports where the second reports `fault`: none for a market's,
+/// which it ignores.
 fn old_fault(fault: &str) -> &str {
     if fault.contains(".market") {
         "none"
@@ -29,7 +31,7 @@ fn old_fault(fault: &str) -> &str {
     }
 }
 
-/// Asserts the first faults of a text in the second format and in the first.
+/// Asserts the first fault of a text read in the second format, and that in the first.
 fn faults_are(
     rt: &impl Abort,
     alloc: Global,
@@ -39,14 +41,14 @@ fn faults_are(
     first: &str,
 ) -> Result<(), Fail> {
     let told = fault(alloc, Format::Second, text)?;
-    row_is(rt, row, told.as_str(), second);
+    assert_row(rt, row, told.as_str(), second);
     let told = fault(alloc, Format::First, text)?;
-    row_is(rt, row, told.as_str(), first);
+    assert_row(rt, row, told.as_str(), first);
     Ok(())
 }
 
-/// Asserts the fault that a change makes.
-pub(crate) fn change_is(
+/// Asserts the fault that one edit of a text makes.
+pub(crate) fn assert_change(
     rt: &impl Abort,
     alloc: Global,
     text: &str,
@@ -58,39 +60,46 @@ pub(crate) fn change_is(
     faults_are(rt, alloc, to, text.as_str(), wanted, old_fault(wanted))
 }
 
-/// Asserts the fault that each change makes.
-fn changes_are(rt: &impl Abort, alloc: Global, text: &str, changes: &[Change]) -> Result<(), Fail> {
+/// Asserts the fault that each edit of a text makes.
+fn assert_changes(
+    rt: &impl Abort,
+    alloc: Global,
+    text: &str,
+    changes: &[Change],
+) -> Result<(), Fail> {
     for (from, to, wanted) in changes.iter() {
-        change_is(rt, alloc, text, from, to, wanted)?;
+        assert_change(rt, alloc, text, from, to, wanted)?;
     }
     Ok(())
 }
 
+/// Each edit of the small world gets its first fault.
 #[test]
 fn faulty_worlds(rt: HostRuntime) -> Result<(), Fail> {
-    changes_are(&rt, rt.alloc(), SMALL, &SMALL_CHANGES)?;
-    changes_are(&rt, rt.alloc(), before("[[region]]"), &HEAD_CHANGES)?;
-    changes_are(&rt, rt.alloc(), before("[[terrain]]"), &RULES_CHANGES)
+    assert_changes(&rt, rt.alloc(), SMALL, &SMALL_CHANGES)?;
+    assert_changes(&rt, rt.alloc(), before("[[region]]"), &HEAD_CHANGES)?;
+    assert_changes(&rt, rt.alloc(), before("[[terrain]]"), &RULES_CHANGES)
 }
 
-/// The changes of the small world with an item, a skill and a kind.
+/// Asserts the fault of each edit of the small world with an item, a skill and a kind.
 fn things_are(rt: &impl Abort, alloc: Global, text: &str) -> Result<(), Fail> {
-    changes_are(rt, alloc, text, &KEY_CHANGES)?;
-    changes_are(rt, alloc, text, &NAME_CHANGES)?;
-    changes_are(rt, alloc, text, &TITLE_CHANGES)?;
-    changes_are(rt, alloc, text, &TRUTH_CHANGES)?;
-    changes_are(rt, alloc, text, &REFERENCE_CHANGES)?;
-    changes_are(rt, alloc, text, &NEIGHBOUR_CHANGES)?;
-    changes_are(rt, alloc, text, &OUTPUT_CHANGES)
+    assert_changes(rt, alloc, text, &KEY_CHANGES)?;
+    assert_changes(rt, alloc, text, &NAME_CHANGES)?;
+    assert_changes(rt, alloc, text, &TITLE_CHANGES)?;
+    assert_changes(rt, alloc, text, &TRUTH_CHANGES)?;
+    assert_changes(rt, alloc, text, &REFERENCE_CHANGES)?;
+    assert_changes(rt, alloc, text, &NEIGHBOUR_CHANGES)?;
+    assert_changes(rt, alloc, text, &OUTPUT_CHANGES)
 }
 
+/// Each edit of the world with an item, a skill and a kind gets its first fault.
 #[test]
 fn faulty_things(rt: HostRuntime) -> Result<(), Fail> {
     let text = small_with(rt.alloc(), MORE)?;
     things_are(&rt, rt.alloc(), text.as_str())
 }
 
-/// Changes of the world with so many markets.
+/// Asserts the fault of each edit of the world with `count` markets.
 fn markets_are(
     rt: &impl Abort,
     alloc: Global,
@@ -98,10 +107,10 @@ fn markets_are(
     changes: &[Change],
 ) -> Result<(), Fail> {
     let text = with_markets(alloc, count)?;
-    changes_are(rt, alloc, text.as_str(), changes)
+    assert_changes(rt, alloc, text.as_str(), changes)
 }
 
-/// Changes of the world with one market that make two faults.
+/// Asserts both faults of each row of `TWO_FAULTS`.
 fn later_faults_are(rt: &impl Abort, alloc: Global) -> Result<(), Fail> {
     let one = with_markets(alloc, 1)?;
     for (from, to, second, first) in TWO_FAULTS.iter() {
@@ -111,6 +120,7 @@ fn later_faults_are(rt: &impl Abort, alloc: Global) -> Result<(), Fail> {
     Ok(())
 }
 
+/// Each edit of worlds with markets gets its first fault, in both formats.
 #[test]
 fn faulty_markets(rt: HostRuntime) -> Result<(), Fail> {
     markets_are(&rt, rt.alloc(), 0, &ARRAY_CHANGES)?;
@@ -121,6 +131,7 @@ fn faulty_markets(rt: HostRuntime) -> Result<(), Fail> {
     later_faults_are(&rt, rt.alloc())
 }
 
+/// The text of a region, to be repeated.
 const REGION: &str = "[[region]]
 number = 1
 name = \"Vale\"
@@ -129,6 +140,7 @@ peasants = 1000
 money = 500
 ";
 
+/// The text of a terrain, to be repeated.
 const TERRAIN: &str = "[[terrain]]
 name = \"Plain\"
 land = true
@@ -138,10 +150,13 @@ money_limit = 0
 peasant_limit = 0
 ";
 
+/// The text of an item, to be repeated.
 const ITEM: &str = "[[item]]\nname = \"wood\"\nweight = 5\ncarry = 0\n";
 
+/// The text of a skill, to be repeated.
 const SKILL: &str = "[[skill]]\nname = \"carpentry\"\nfee = 10\n";
 
+/// The text of a kind, to be repeated.
 const KIND: &str = "[[kind]]
 name = \"lodge\"
 ship = false
@@ -151,8 +166,7 @@ skill = \"carpentry\"
 level = 1
 ";
 
-/// A text that stands behind the small world: a front, a piece that is repeated, what stands inside, another piece that is
-/// repeated as often, and an end.
+/// What is appended to the small world: `front`, `open` n times, `inside`, `close` n times, `end`.
 #[derive(Clone, Copy)]
 struct Long {
     front: &'static str,
@@ -162,6 +176,7 @@ struct Long {
     end: &'static str,
 }
 
+/// Nothing to append; the other values set what differs.
 const EMPTY: Long = Long {
     front: "",
     open: "",
@@ -170,32 +185,38 @@ const EMPTY: Long = Long {
     end: "",
 };
 
+/// n regions.
 const MANY_REGIONS: Long = Long {
     open: REGION,
     ..EMPTY
 };
 
+/// n terrains.
 const MANY_TERRAINS: Long = Long {
     open: TERRAIN,
     ..EMPTY
 };
 
+/// n items.
 const MANY_ITEMS: Long = Long {
     open: ITEM,
     ..EMPTY
 };
 
+/// n skills.
 const MANY_SKILLS: Long = Long {
     open: SKILL,
     ..EMPTY
 };
 
+/// n kinds.
 const MANY_KINDS: Long = Long {
     open: KIND,
     ..EMPTY
 };
 
-/// Texts, how often their pieces are repeated, and the first fault then: names are equal as long as there are not too many.
+/// What is appended, how often, and the first fault: at the limit of a list the names come twice,
+/// beyond it there are too many.
 static MANY: [(Long, usize, &str); 11] = [
     (MANY_REGIONS, 1, "5 TwoNames region[1].number"),
     (MANY_REGIONS, 9_999, "5 TwoNames region[1].number"),
@@ -210,6 +231,7 @@ static MANY: [(Long, usize, &str); 11] = [
     (MANY_KINDS, 101, "4 OutOfRange kind"),
 ];
 
+/// Tables inside tables, n deep.
 const TABLES: Long = Long {
     front: "a = ",
     open: "{ a = ",
@@ -218,6 +240,7 @@ const TABLES: Long = Long {
     end: "",
 };
 
+/// Arrays inside arrays, n deep.
 const ARRAYS: Long = Long {
     front: "a = ",
     open: "[",
@@ -225,7 +248,7 @@ const ARRAYS: Long = Long {
     ..EMPTY
 };
 
-/// A header's key has a part more than are repeated.
+/// A header of a table whose key has n + 1 parts.
 const HEADER: Long = Long {
     front: "[a",
     open: ".a",
@@ -233,6 +256,7 @@ const HEADER: Long = Long {
     ..EMPTY
 };
 
+/// A header of an array of tables whose key has n + 1 parts.
 const ARRAY_HEADER: Long = Long {
     front: "[[a",
     open: ".a",
@@ -240,6 +264,7 @@ const ARRAY_HEADER: Long = Long {
     ..EMPTY
 };
 
+/// A dotted key with n + 1 parts.
 const DOTTED: Long = Long {
     front: "b",
     open: ".b",
@@ -247,7 +272,7 @@ const DOTTED: Long = Long {
     ..EMPTY
 };
 
-/// A dotted key below a header.
+/// A dotted key of n + 1 parts below a header of n + 1 parts.
 const DOTTED_BELOW: Long = Long {
     front: "[a",
     open: ".a",
@@ -256,8 +281,8 @@ const DOTTED_BELOW: Long = Long {
     end: " = 1\n",
 };
 
-/// Texts that nest, how deep, and the first fault then. A key that is not named is ignored. A key of 80 parts below a header of
-/// 80 is 160 deep.
+/// What is appended, n, and the first fault. Keys that the format doesn't name are ignored. A key
+/// of 80 parts below a header of 80 is 160 deep.
 static NESTED: [(Long, usize, &str); 16] = [
     (TABLES, 80, "none"),
     (TABLES, 81, "1 NotToml"),
@@ -277,7 +302,7 @@ static NESTED: [(Long, usize, &str); 16] = [
     (DOTTED_BELOW, 79, "none"),
 ];
 
-/// The small world with a text behind it, in which the pieces are repeated so often.
+/// The small world with `long` appended, its pieces repeated `times` times.
 fn long_text(alloc: Global, long: &Long, times: usize) -> Result<String, Fail> {
     let Long {
         front,
@@ -291,6 +316,7 @@ fn long_text(alloc: Global, long: &Long, times: usize) -> Result<String, Fail> {
     Ok(format!(in alloc; "{SMALL}{front}{open}{inside}{close}{end}")?)
 }
 
+/// Asserts the first fault of each row's text.
 fn long_texts_are(
     rt: &impl Abort,
     alloc: Global,
@@ -299,22 +325,24 @@ fn long_texts_are(
     for (long, times, wanted) in rows.iter() {
         let text = long_text(alloc, long, *times)?;
         let told = fault(alloc, Format::Second, text.as_str())?;
-        row_is(rt, long.open, told.as_str(), wanted);
+        assert_row(rt, long.open, told.as_str(), wanted);
     }
     Ok(())
 }
 
+/// Each list of a world has a greatest length.
 #[test]
 fn many_elements(rt: HostRuntime) -> Result<(), Fail> {
     long_texts_are(&rt, rt.alloc(), &MANY)
 }
 
+/// A world text may nest 80 deep.
 #[test]
 fn nested_texts(rt: HostRuntime) -> Result<(), Fail> {
     long_texts_are(&rt, rt.alloc(), &NESTED)
 }
 
-/// The small world with so many regions in place of its own, with the numbers from 1.
+/// The small world with `count` regions, numbered from 1, instead of its own.
 fn with_regions(alloc: Global, count: u32) -> Result<String, Fail> {
     let mut text = String::from_str(alloc, before("[[region]]"))?;
     for number in 1..=count {
@@ -326,13 +354,15 @@ fn with_regions(alloc: Global, count: u32) -> Result<String, Fail> {
     Ok(text)
 }
 
+/// Asserts the first fault of the small world with `count` regions.
 fn regions_are(rt: &impl Abort, alloc: Global, count: u32, wanted: &str) -> Result<(), Fail> {
     let text = with_regions(alloc, count)?;
     let told = fault(alloc, Format::Second, text.as_str())?;
-    row_is(rt, "regions", told.as_str(), wanted);
+    assert_row(rt, "regions", told.as_str(), wanted);
     Ok(())
 }
 
+/// A world may have 10,000 regions, and not one more.
 #[test]
 fn many_regions(rt: HostRuntime) -> Result<(), Fail> {
     regions_are(&rt, rt.alloc(), 10_000, "none")?;

@@ -1,12 +1,12 @@
-//! Items, skills and kinds by their names.
-use super::asserts::are_shown;
+//! Tests of the look-ups of items, skills and kinds by a word of a mailing.
+use super::asserts::assert_shown;
 use super::worlds::world_with;
 use atl_tables::World;
 use std::alloc::Global;
 use std::process::Abort;
 use std::test::Fail;
 
-/// Things with a word, with two words, and with an underscore.
+/// Items, skills and kinds whose names have one word, two words, or an underscore.
 const NAMED: &str = r#"[[item]]
 name = "wood"
 weight = 0
@@ -82,6 +82,7 @@ static NAMES: [(&str, bool, &str); 26] = [
     ("Vale", true, "[None, None, None]"),
 ];
 
+/// Asserts the item, the skill and the kind that the word of a row names.
 fn word_names(
     rt: &impl Abort,
     alloc: Global,
@@ -95,9 +96,10 @@ fn word_names(
         world.skill_named(bytes, quoted),
         world.kind_named(bytes, quoted),
     ];
-    are_shown(rt, alloc, word, &told, wanted)
+    assert_shown(rt, alloc, word, &told, wanted)
 }
 
+/// Asserts what each word of `NAMES` names.
 fn words_name(rt: &impl Abort, alloc: Global, world: &World) -> Result<(), Fail> {
     for row in NAMES.iter() {
         word_names(rt, alloc, world, row)?;
@@ -105,6 +107,7 @@ fn words_name(rt: &impl Abort, alloc: Global, world: &World) -> Result<(), Fail>
     Ok(())
 }
 
+/// Each word names its item, skill and kind, or none.
 #[test]
 fn names_in_orders(rt: HostRuntime) -> Result<(), Fail> {
     let world = world_with(rt.alloc(), NAMED)?;

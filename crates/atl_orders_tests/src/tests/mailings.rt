@@ -1,5 +1,6 @@
-//! Mailings: what is read of each form of order, of blocks, line ends and long texts.
-use super::asserts::{is_number, row_is};
+//! Tests of reading a mailing: each form of order, blocks, line ends, long texts, and the spans of
+//! names.
+use super::asserts::{assert_number, assert_row};
 use super::worlds::{THINGS, world_with};
 use atl_orders::{MailFault, Mailing, Operands, Span, read_mailing};
 use atl_tables::{Text, World};
@@ -7,7 +8,7 @@ use std::alloc::Global;
 use std::process::Abort;
 use std::test::Fail;
 
-/// Adds the orders of a mailing in the form of `Debug`, each behind its line.
+/// Appends each order of a mailing: its line, its unit, its verb and its operands.
 fn tell_orders(alloc: Global, mailing: &Mailing, told: &mut String) -> Result<(), Fail> {
     for entry in mailing.entries.as_slice().iter() {
         let order = format!(in alloc; "{}: {:?} {:?}", entry.line, entry.target, entry.order.verb)?;
@@ -18,7 +19,7 @@ fn tell_orders(alloc: Global, mailing: &Mailing, told: &mut String) -> Result<()
     Ok(())
 }
 
-/// Adds the faults of a mailing, each behind its line.
+/// Appends each faulty line of a mailing: its number and its fault.
 fn tell_faults(alloc: Global, mailing: &Mailing, told: &mut String) -> Result<(), Fail> {
     for faulty in mailing.faults.as_slice().iter() {
         let fault = format!(in alloc; "{}: {};", faulty.line, faulty.fault)?;
@@ -27,7 +28,7 @@ fn tell_faults(alloc: Global, mailing: &Mailing, told: &mut String) -> Result<()
     Ok(())
 }
 
-/// The orders and the faults of a mailing.
+/// The orders of a mailing as text, followed by its faulty lines.
 fn told_of(alloc: Global, mailing: &Mailing) -> Result<String, Fail> {
     let mut told = String::new(alloc);
     tell_orders(alloc, mailing, &mut told)?;
@@ -35,7 +36,8 @@ fn told_of(alloc: Global, mailing: &Mailing) -> Result<String, Fail> {
     Ok(told)
 }
 
-/// What is told of a text: its orders and faults, or why it is no mailing. A mailing keeps the text.
+/// What a text is read as: its orders and faults as text, or `refused` with the number of the
+/// refusal.
 fn told(alloc: Global, world: &World, text: &[u8]) -> Result<String, Fail> {
     match read_mailing(alloc, world, text) {
         Ok(mailing) => {
@@ -51,8 +53,8 @@ fn told(alloc: Global, world: &World, text: &[u8]) -> Result<String, Fail> {
     }
 }
 
-/// Asserts what is told of a text.
-fn text_tells(
+/// Asserts what a text is read as.
+fn assert_read(
     rt: &impl Abort,
     alloc: Global,
     world: &World,
@@ -60,11 +62,12 @@ fn text_tells(
     wanted: &str,
 ) -> Result<(), Fail> {
     let told = told(alloc, world, text)?;
-    row_is(rt, wanted, told.as_str(), wanted);
+    assert_row(rt, wanted, told.as_str(), wanted);
     Ok(())
 }
 
-/// A good form of each order, in any case, quoted and bare, with comments, tabs and words too many.
+/// Good orders in any case, quoted and bare, with comments, tabs and surplus words, and how each is
+/// read.
 static GOOD: [(&str, &str); 24] = [
     ("WORK", "Work Nothing"),
     ("\"work\" now", "Work Nothing"),
@@ -113,7 +116,7 @@ static GOOD: [(&str, &str); 24] = [
     ("FORM 5", "Form Alias(5)"),
 ];
 
-/// Orders that name things of the world.
+/// Good orders that name an item, a skill or a kind, and how each is read.
 static NAMING: [(&str, &str); 7] = [
     (
         "GIVE 2 5 LONG_BOW",
@@ -130,7 +133,8 @@ static NAMING: [(&str, &str); 7] = [
     ("buy 2 LONG_BOW x", "Buy Goods { amount: 2, item: 1 }"),
 ];
 
-/// Bad forms, with the first fault from left to right, up to those of PROMOTE.
+/// Faulty lines, from unknown orders to PROMOTE, and the number and name of each line's first
+/// fault.
 static BAD_NAMES: [(&str, &str); 20] = [
     ("ATTACK 2", "2 UnknownOrder"),
     ("\"\"", "2 UnknownOrder"),
@@ -157,7 +161,7 @@ static BAD_NAMES: [(&str, &str); 20] = [
     ("PROMOTE NEW 10000", "7 BadAlias"),
 ];
 
-/// Those of GIVE to QUIT.
+/// The same for GIVE to QUIT.
 static BAD_GOODS: [(&str, &str); 23] = [
     ("GIVE", "5 MissingWord"),
     ("GIVE 2", "5 MissingWord"),
@@ -184,7 +188,7 @@ static BAD_GOODS: [(&str, &str); 23] = [
     ("QUIT 1x", "3 BadNumber"),
 ];
 
-/// Those of STUDY to FORM, and bad bytes.
+/// The same for STUDY to FORM, and for bytes that no line may have.
 static BAD_WORK: [(&str, &str); 20] = [
     ("STUDY", "5 MissingWord"),
     ("STUDY wood", "4 UnknownThing"),
@@ -208,7 +212,8 @@ static BAD_WORK: [(&str, &str); 20] = [
     ("UNIT 2 \"\x7f", "6 BadByte"),
 ];
 
-/// Asserts what is told of each line for unit 7, behind its number.
+/// Asserts how each line is read as line 3 of a mailing, after `UNIT 7`; `front` stands before each
+/// wanted text.
 fn lines_tell(
     rt: &impl Abort,
     alloc: Global,
@@ -219,11 +224,12 @@ fn lines_tell(
     for (line, told) in rows.iter() {
         let text = format!(in alloc; "#ATLANTIS 1\nUNIT 7\n{line}")?;
         let wanted = format!(in alloc; "3: {front}{told};")?;
-        text_tells(rt, alloc, world, text.as_bytes(), wanted.as_str())?;
+        assert_read(rt, alloc, world, text.as_bytes(), wanted.as_str())?;
     }
     Ok(())
 }
 
+/// Asserts how each good order and each faulty line is read.
 fn forms_tell(rt: &impl Abort, alloc: Global, world: &World) -> Result<(), Fail> {
     lines_tell(rt, alloc, world, "Number(7) ", &GOOD)?;
     lines_tell(rt, alloc, world, "Number(7) ", &NAMING)?;
@@ -232,7 +238,7 @@ fn forms_tell(rt: &impl Abort, alloc: Global, world: &World) -> Result<(), Fail>
     lines_tell(rt, alloc, world, "", &BAD_WORK)
 }
 
-/// Whole texts, and what is told of each.
+/// Whole texts, and what each is read as.
 static TEXTS: [(&str, &str); 10] = [
     // One faulty line.
     (
@@ -264,10 +270,10 @@ static TEXTS: [(&str, &str); 10] = [
     ("#ATLANTIS 10000\n#ATLANTIS 1", "refused 3"),
 ];
 
-/// A text with a line that is no UTF-8.
+/// A mailing with a byte that is not UTF-8.
 const NO_TEXT: &[u8] = b"#ATLANTIS 1\nUNIT 1\n\xc8\nTAX ";
 
-/// Texts of a front, a piece so many times, and an end.
+/// Long texts: a front, a piece and how often it comes, an end; and what each is read as.
 static LONG: [(&str, &str, usize, &str, &str); 8] = [
     ("#ATLANTIS 1\n", "\n", 65_524, "", ""),
     ("#ATLANTIS 1\n", "\n", 65_525, "", "refused 1"),
@@ -279,6 +285,7 @@ static LONG: [(&str, &str, usize, &str, &str); 8] = [
     ("", "x\n", 32_768, "", "refused 2"),
 ];
 
+/// Asserts what each whole text is read as.
 fn texts_tell(
     rt: &impl Abort,
     alloc: Global,
@@ -286,12 +293,12 @@ fn texts_tell(
     rows: &[(&str, &str)],
 ) -> Result<(), Fail> {
     for (text, wanted) in rows.iter() {
-        text_tells(rt, alloc, world, text.as_bytes(), wanted)?;
+        assert_read(rt, alloc, world, text.as_bytes(), wanted)?;
     }
     Ok(())
 }
 
-/// A front, a piece so many times, and an end.
+/// The text of a front, a piece `times` times, and an end.
 fn repeated(
     alloc: Global,
     front: &str,
@@ -303,6 +310,7 @@ fn repeated(
     Ok(format!(in alloc; "{front}{middle}{end}")?)
 }
 
+/// Asserts what each long text is read as.
 fn long_texts_tell(
     rt: &impl Abort,
     alloc: Global,
@@ -311,15 +319,16 @@ fn long_texts_tell(
 ) -> Result<(), Fail> {
     for (front, piece, times, end, wanted) in rows.iter() {
         let text = repeated(alloc, front, piece, *times, end)?;
-        text_tells(rt, alloc, world, text.as_bytes(), wanted)?;
+        assert_read(rt, alloc, world, text.as_bytes(), wanted)?;
     }
     Ok(())
 }
 
+/// Asserts what each whole text, each text that is not UTF-8, and each long text is read as.
 fn all_texts_tell(rt: &impl Abort, alloc: Global, world: &World) -> Result<(), Fail> {
     texts_tell(rt, alloc, world, &TEXTS)?;
-    text_tells(rt, alloc, world, b"#ATLANTIS 1 \xc8", "")?;
-    text_tells(
+    assert_read(rt, alloc, world, b"#ATLANTIS 1 \xc8", "")?;
+    assert_read(
         rt,
         alloc,
         world,
@@ -329,7 +338,7 @@ fn all_texts_tell(rt: &impl Abort, alloc: Global, world: &World) -> Result<(), F
     long_texts_tell(rt, alloc, world, &LONG)
 }
 
-/// The keywords of the orders of a mailing, and the names that they give.
+/// The keyword of each order of a mailing, followed by the name that it gives, if any.
 fn words_of(alloc: Global, mailing: &Mailing) -> Result<String, Fail> {
     let mut words = String::new(alloc);
     for entry in mailing.entries.as_slice().iter() {
@@ -345,8 +354,8 @@ fn words_of(alloc: Global, mailing: &Mailing) -> Result<String, Fail> {
     Ok(words)
 }
 
-/// Mailings, and the keyword of each order with the name that it gives: a name is the part of the text that its span says,
-/// with `_` as a space where it is bare.
+/// Mailings, and what `words_of` says of each. A name is the text at its span, with `_` as a space
+/// where it is bare.
 static WORDS: [(&str, &str); 3] = [
     (
         "#ATLANTIS 1\nUNIT 7\nBOARD 1\nFORM 1\nEND\nRECRUIT 3",
@@ -362,17 +371,18 @@ static WORDS: [(&str, &str); 3] = [
     ),
 ];
 
+/// Asserts what `words_of` says of each mailing.
 fn words_are(rt: &impl Abort, alloc: Global, world: &World) -> Result<(), Fail> {
     for (text, wanted) in WORDS.iter() {
         let mailing = read_mailing(alloc, world, text.as_bytes())?;
         let words = words_of(alloc, &mailing)?;
-        row_is(rt, wanted, words.as_str(), wanted);
+        assert_row(rt, wanted, words.as_str(), wanted);
     }
     Ok(())
 }
 
-/// Spans of `#ATLANTIS 1`, a line feed, `_` and a byte that is no text: where each starts and ends, whether it is quoted, and
-/// its bytes as a name.
+/// Spans of `#ATLANTIS 1`, a line feed, `_` and a byte that is not UTF-8: start, end, whether
+/// quoted, and the name's bytes.
 static SPANS: [(usize, usize, bool, &[u8]); 5] = [
     (12, 14, false, b" \xFF"),
     (12, 14, true, b"_\xFF"),
@@ -381,6 +391,7 @@ static SPANS: [(usize, usize, bool, &[u8]); 5] = [
     (900, 901, true, b""),
 ];
 
+/// Asserts the bytes that a mailing has at a span, read as a name.
 fn span_names(
     rt: &impl Abort,
     alloc: Global,
@@ -394,6 +405,7 @@ fn span_names(
     Ok(())
 }
 
+/// Asserts the bytes at each span of `SPANS`.
 fn spans_name(rt: &impl Abort, alloc: Global, world: &World) -> Result<(), Fail> {
     let mailing = read_mailing(alloc, world, b"#ATLANTIS 1\n_\xFF")?;
     for row in SPANS.iter() {
@@ -402,19 +414,20 @@ fn spans_name(rt: &impl Abort, alloc: Global, world: &World) -> Result<(), Fail>
     Ok(())
 }
 
-/// The number of the faction that a mailing is of.
+/// The number of the faction that sent a mailing.
 fn faction_of(alloc: Global, world: &World, text: &[u8]) -> Result<usize, Fail> {
     let mailing = read_mailing(alloc, world, text)?;
     Ok(mailing.faction as usize)
 }
 
+/// Asserts all tables of this module, and the faction of two mailings.
 fn all_is_read(rt: &impl Abort, alloc: Global, world: &World) -> Result<(), Fail> {
     forms_tell(rt, alloc, world)?;
     all_texts_tell(rt, alloc, world)?;
     words_are(rt, alloc, world)?;
     spans_name(rt, alloc, world)?;
-    is_number(rt, faction_of(alloc, world, b"#ATLANTIS 1")?, 1);
-    is_number(
+    assert_number(rt, faction_of(alloc, world, b"#ATLANTIS 1")?, 1);
+    assert_number(
         rt,
         faction_of(alloc, world, b"#atlantis 09999 x\r\nTAX")?,
         9_999,
@@ -422,6 +435,7 @@ fn all_is_read(rt: &impl Abort, alloc: Global, world: &World) -> Result<(), Fail
     Ok(())
 }
 
+/// Each order, text and span is read as its table says.
 #[test]
 fn mailings(rt: HostRuntime) -> Result<(), Fail> {
     let world = world_with(rt.alloc(), THINGS)?;

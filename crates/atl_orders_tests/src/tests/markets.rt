@@ -1,5 +1,6 @@
-//! Markets of a world, and worlds that differ in them.
-use super::asserts::are_shown;
+//! Tests of a world's markets in both formats, and of whether two worlds differ in their markets
+//! alone.
+use super::asserts::assert_shown;
 use super::worlds::{MARKET, changed, read_in, with_markets};
 use atl_tables::{Format, World, read_world};
 use std::alloc::Global;
@@ -16,12 +17,14 @@ fn markets_are(
 ) -> Result<(), Fail> {
     let world = read_in(alloc, format, text)?;
     let told = [world.market(1, 0), world.market(1, 1), world.market(2, 0)];
-    are_shown(rt, alloc, "markets", &told, wanted)
+    assert_shown(rt, alloc, "markets", &told, wanted)
 }
 
+/// The wanted markets if region 1 has one for item 0 alone.
 const OF_WOOD: &str =
     "[Some(Market { item: 0, price: 7, pays: 5, limit: 30, restock: 20 }), None, None]";
 
+/// The second format reads markets, and the first ignores them.
 #[test]
 fn markets_in_both_formats(rt: HostRuntime) -> Result<(), Fail> {
     let text = with_markets(rt.alloc(), 1)?;
@@ -35,7 +38,8 @@ fn markets_in_both_formats(rt: HostRuntime) -> Result<(), Fail> {
     )
 }
 
-/// Changes of the world with one market, and whether the worlds differ in their markets alone then.
+/// Edits of the world with one market, and whether the two worlds then count as different in their
+/// markets alone.
 static CHANGES: [(&str, &str, bool); 24] = [
     ("price = 7", "price = 8", true),
     ("pays = 5", "pays = 6", true),
@@ -75,8 +79,8 @@ static CHANGES: [(&str, &str, bool); 24] = [
     ),
 ];
 
-/// Asserts that a world of this text differs from another in markets alone, or not, whichever is asked.
-fn differs(
+/// Asserts, in both directions, whether a world differs from that of a text in markets alone.
+fn assert_difference(
     rt: &impl Abort,
     alloc: Global,
     text: &str,
@@ -92,15 +96,17 @@ fn differs(
     Ok(())
 }
 
+/// Asserts what each edit of `CHANGES` says.
 fn all_differ(rt: &impl Abort, alloc: Global, text: &str) -> Result<(), Fail> {
     let world = read_world(alloc, text)?;
     for (from, to, alone) in CHANGES.iter() {
         let other = changed(alloc, text, from, to)?;
-        differs(rt, alloc, other.as_str(), &world, *alone)?;
+        assert_difference(rt, alloc, other.as_str(), &world, *alone)?;
     }
     Ok(())
 }
 
+/// Two worlds differ in their markets alone only if nothing else differs.
 #[test]
 fn worlds_with_other_markets(rt: HostRuntime) -> Result<(), Fail> {
     let text = with_markets(rt.alloc(), 1)?;

@@ -1,11 +1,15 @@
-//! What may be a name, and what a pass text.
+//! Tests of which texts may be a name, and which a pass text (docs/RULES.md, "Names and pass
+//! texts").
 use atl_tables::{name_ok, pass_ok};
 use std::process::Abort;
 
+/// 40 bytes without a space.
 const FORTY: &str = "1234567890123456789012345678901234567890";
 
+/// 40 bytes, some of them spaces.
 const SPACED: &str = "123456789 123456789 123456789 1234567890";
 
+/// 41 bytes, one more than a name may have.
 const FORTY_ONE: &str = "12345678901234567890123456789012345678901";
 
 /// Texts, whether each may be a name, and whether it may be a pass text.
@@ -38,6 +42,7 @@ static TEXTS: [(&str, bool, bool); 26] = [
     ("\u{e9}", false, false),
 ];
 
+/// Asserts for each text whether it may be a name, and whether it may be a pass text.
 fn texts_are(rt: &impl Abort, rows: &[(&str, bool, bool)]) {
     for (text, name, pass) in rows.iter() {
         let told = (name_ok(text.as_bytes()), pass_ok(text.as_bytes()));
@@ -45,6 +50,7 @@ fn texts_are(rt: &impl Abort, rows: &[(&str, bool, bool)]) {
     }
 }
 
+/// Each text may be a name, or a pass text, as the table says.
 #[test]
 fn names_and_pass_texts(rt: HostRuntime) {
     texts_are(&rt, &TEXTS);

@@ -1,14 +1,16 @@
-//! The numbers of a world file with a range of their own: missing, of another type, and at the limits of their ranges.
-use super::faults::change_is;
+//! Tests of each number of a world file: missing, no whole number, at both ends of its range, and
+//! one beyond.
+use super::faults::assert_change;
 use super::worlds::with_markets;
 use std::alloc::Global;
 use std::process::Abort;
 use std::test::Fail;
 
-/// The path of a key, a line of the world with one market, and the key's range. See docs/FORMATS.md, "The world file".
+/// The path of a key, a line of the world with one market, and the least and greatest value
+/// (docs/FORMATS.md, "The world file").
 type Range = (&'static str, &'static str, u32, u32);
 
-/// Keys that are needed, each with its own line.
+/// Keys that must be there; the line is the key's own.
 static NEEDED: [Range; 25] = [
     ("rules.maintenance", "maintenance = 10", 1, 1_000),
     ("rules.tax_per_man", "tax_per_man = 10", 0, 1_000),
@@ -52,7 +54,7 @@ static NEEDED: [Range; 25] = [
     ),
 ];
 
-/// Keys that may be missing, each with a line that it may stand behind.
+/// Keys that may be missing; the line is one that the key can follow.
 static OPTIONAL: [Range; 4] = [
     ("item[0].level", "carry = 0", 1, 5),
     ("item[0].raw_count", "carry = 0", 1, 1_000),
@@ -60,7 +62,7 @@ static OPTIONAL: [Range; 4] = [
     ("kind[0].crew", "level = 1", 0, 999_999),
 ];
 
-/// The key that a path ends with.
+/// The last part of a path.
 fn key_of(path: &str) -> &str {
     match path.rsplit_once(".") {
         Some((_, key)) => key,
@@ -68,7 +70,7 @@ fn key_of(path: &str) -> &str {
     }
 }
 
-/// What stands before the number in place of a key's line.
+/// The text up to the number, which replaces the row's line.
 fn front_of(alloc: Global, row: &Range, needed: bool) -> Result<String, Fail> {
     let (path, line, _, _) = *row;
     let key = key_of(path);
@@ -79,7 +81,7 @@ fn front_of(alloc: Global, row: &Range, needed: bool) -> Result<String, Fail> {
     }
 }
 
-/// Asserts the fault of a key with another text in place of its line.
+/// Asserts the fault at the row's key after its line was replaced by `to`.
 fn fault_is(
     rt: &impl Abort,
     alloc: Global,
@@ -90,10 +92,10 @@ fn fault_is(
 ) -> Result<(), Fail> {
     let (path, line, _, _) = *row;
     let wanted = format!(in alloc; "{fault} {path}")?;
-    change_is(rt, alloc, text, line, to, wanted.as_str())
+    assert_change(rt, alloc, text, line, to, wanted.as_str())
 }
 
-/// Asserts that a key takes a number in its range, and no other.
+/// Asserts that a key takes `number` if it is in the row's range, and is OutOfRange otherwise.
 fn number_is(
     rt: &impl Abort,
     alloc: Global,
@@ -107,11 +109,11 @@ fn number_is(
     if number < i64::from(low) || number > i64::from(high) {
         fault_is(rt, alloc, text, row, to.as_str(), "4 OutOfRange")
     } else {
-        change_is(rt, alloc, text, line, to.as_str(), "none")
+        assert_change(rt, alloc, text, line, to.as_str(), "none")
     }
 }
 
-/// Tries no whole number, the ends of a key's range, and the numbers next to them.
+/// Asserts that a key takes the ends of its range, and neither their neighbours outside nor 1.5.
 fn has_range(
     rt: &impl Abort,
     alloc: Global,
@@ -128,6 +130,7 @@ fn has_range(
     Ok(())
 }
 
+/// Asserts the range of each row's key, and of a needed key that it must not be missing.
 fn have_ranges(
     rt: &impl Abort,
     alloc: Global,

@@ -1,13 +1,13 @@
-//! What the small world and the island are once read, part by part.
-use super::asserts::{are_numbers, are_shown, is_number, row_is};
+//! Tests that the small world and the island are read in full, part by part.
+use super::asserts::{assert_number, assert_numbers, assert_row, assert_shown};
 use atl_tables::{RegionPlan, World, read_world};
 use atl_test_worlds::{ISLE, SMALL};
 use std::alloc::Global;
 use std::process::Abort;
 use std::test::Fail;
 
-/// All of a world: its lists as `Debug` prints them, the numbers of its regions with land, how many regions it has, and some
-/// numbers, each with the region that it is of.
+/// All that a world must hold once read; lists as `Debug` prints them, and regions as `region_text`
+/// prints them.
 struct Shown {
     rules: &'static str,
     terrains: &'static str,
@@ -19,6 +19,7 @@ struct Shown {
     regions: &'static [(u32, &'static str)],
 }
 
+/// What the small world holds.
 static SMALL_SHOWN: Shown = Shown {
     rules: "[Rules { maintenance: 10, tax_per_man: 10, recruit_price: 50, recruit_fraction: 4, growth: 0, income: 1, \
         start_money: 1000, man_weight: 10, man_carry: 5, observation: None, stealth: None, sailing: None }]",
@@ -38,6 +39,7 @@ static SMALL_SHOWN: Shown = Shown {
     ],
 };
 
+/// What the island holds.
 static ISLE_SHOWN: Shown = Shown {
     rules: "[Rules { maintenance: 10, tax_per_man: 10, recruit_price: 50, recruit_fraction: 4, growth: 0, income: 1, \
         start_money: 1000, man_weight: 10, man_carry: 5, observation: Some(5), stealth: Some(4), sailing: Some(3) }]",
@@ -85,12 +87,13 @@ static ISLE_SHOWN: Shown = Shown {
     ],
 };
 
+/// Asserts the rules, terrains, items, skills and kinds of a world.
 fn lists_are(rt: &impl Abort, alloc: Global, world: &World, wanted: &Shown) -> Result<(), Fail> {
-    are_shown(rt, alloc, "rules", &[*world.rules()], wanted.rules)?;
-    are_shown(rt, alloc, "terrains", world.terrains(), wanted.terrains)?;
-    are_shown(rt, alloc, "items", world.items(), wanted.items)?;
-    are_shown(rt, alloc, "skills", world.skills(), wanted.skills)?;
-    are_shown(rt, alloc, "kinds", world.kinds(), wanted.kinds)
+    assert_shown(rt, alloc, "rules", &[*world.rules()], wanted.rules)?;
+    assert_shown(rt, alloc, "terrains", world.terrains(), wanted.terrains)?;
+    assert_shown(rt, alloc, "items", world.items(), wanted.items)?;
+    assert_shown(rt, alloc, "skills", world.skills(), wanted.skills)?;
+    assert_shown(rt, alloc, "kinds", world.kinds(), wanted.kinds)
 }
 
 /// A region's number, name, terrain, peasants and money, and its exits to the north, south, east and west.
@@ -106,7 +109,7 @@ fn plan_text(alloc: Global, plan: &RegionPlan) -> Result<String, Fail> {
     )?)
 }
 
-/// The region of a number, or `none`.
+/// The region with a number as `plan_text` prints it, or `none`.
 fn region_text(alloc: Global, world: &World, number: u32) -> Result<String, Fail> {
     match world.region(number) {
         Some(plan) => plan_text(alloc, plan),
@@ -114,11 +117,12 @@ fn region_text(alloc: Global, world: &World, number: u32) -> Result<String, Fail
     }
 }
 
+/// Asserts the numbers of the regions with land, how many regions there are, and some of them.
 fn regions_are(rt: &impl Abort, alloc: Global, world: &World, wanted: &Shown) -> Result<(), Fail> {
-    are_numbers(rt, world.land(), wanted.land);
-    is_number(rt, world.regions().len(), wanted.region_count);
+    assert_numbers(rt, world.land(), wanted.land);
+    assert_number(rt, world.regions().len(), wanted.region_count);
     for (number, region) in wanted.regions.iter() {
-        row_is(
+        assert_row(
             rt,
             region,
             region_text(alloc, world, *number)?.as_str(),
@@ -128,14 +132,16 @@ fn regions_are(rt: &impl Abort, alloc: Global, world: &World, wanted: &Shown) ->
     Ok(())
 }
 
-fn shows(rt: &impl Abort, alloc: Global, text: &str, wanted: &Shown) -> Result<(), Fail> {
+/// Asserts all that the world of a text holds.
+fn assert_world(rt: &impl Abort, alloc: Global, text: &str, wanted: &Shown) -> Result<(), Fail> {
     let world = read_world(alloc, text)?;
     lists_are(rt, alloc, &world, wanted)?;
     regions_are(rt, alloc, &world, wanted)
 }
 
+/// The small world and the island are read in full.
 #[test]
 fn worlds_are_shown(rt: HostRuntime) -> Result<(), Fail> {
-    shows(&rt, rt.alloc(), SMALL, &SMALL_SHOWN)?;
-    shows(&rt, rt.alloc(), ISLE, &ISLE_SHOWN)
+    assert_world(&rt, rt.alloc(), SMALL, &SMALL_SHOWN)?;
+    assert_world(&rt, rt.alloc(), ISLE, &ISLE_SHOWN)
 }

@@ -1,30 +1,32 @@
-//! Maps that keep which of their numbers changed, step by step.
-use super::asserts::{are_numbers, is_number};
-use super::containers::{filled, maps};
+//! Tests of `MarkedMap`, a map with a dirty set: the numbers whose values changed since the last
+//! `unmark`.
+use super::asserts::{assert_number, assert_numbers};
+use super::containers::{assert_map, filled};
 use atl_tables::MarkedMap;
 use std::alloc::Global;
 use std::process::Abort;
 use std::test::Fail;
 
+/// A call of a `MarkedMap`.
 #[derive(Drop, Clone, Copy)]
 enum Step {
-    /// A value under a number that has none.
+    /// Inserts a value under a number that has none.
     Insert(u32, u32),
     Put(u32, u32),
-    /// Another value where there is one, by what is lent.
+    /// Overwrites a value through `get_mut`, if there is one.
     Change(u32, u32),
     Remove(u32),
-    /// What was inserted is taken out again, and its number is not marked.
+    /// Takes a value out together with its mark.
     TakeOut(u32),
     Mark(u32),
     Unmark,
     Clear,
 }
 
-/// A step, and after it how many values there are, and which numbers are marked.
+/// A call, how many values the map has after it, and which numbers are marked after it.
 type Row = (Step, usize, &'static [u32]);
 
-/// Steps from the map of 1, 20 and 30.
+/// Calls from the map of 1, 20 and 30 on, by which numbers get marked.
 static CHANGES: [Row; 12] = [
     (Step::Remove(2), 3, &[]),
     (Step::Change(2, 5), 3, &[]),
@@ -40,7 +42,8 @@ static CHANGES: [Row; 12] = [
     (Step::TakeOut(8), 4, &[1, 4, 5, 20, 30]),
 ];
 
-/// Steps from the same map, in which marks go, and those of numbers that are gone.
+/// Calls from the same map on, by which marks are set and cleared, also those of numbers without a
+/// value.
 static MARKS: [Row; 13] = [
     (Step::Remove(20), 2, &[20]),
     (Step::Unmark, 2, &[]),
@@ -57,7 +60,8 @@ static MARKS: [Row; 13] = [
     (Step::Unmark, 0, &[]),
 ];
 
-/// Steps from the same map that lead back to it: a value goes and comes again, and a new one comes and goes.
+/// Calls from the same map on that lead back to it: a value is removed and inserted again, and a
+/// new one comes and goes.
 static ROUND: [Row; 5] = [
     (Step::Remove(20), 2, &[20]),
     (Step::Insert(20, 2), 3, &[20]),
@@ -66,6 +70,7 @@ static ROUND: [Row; 5] = [
     (Step::Unmark, 3, &[]),
 ];
 
+/// Inserts a value, if the number has none.
 fn inserts(map: &mut MarkedMap<u32>, number: u32, value: u32) -> Result<(), Fail> {
     if map.get(number).is_none() {
         map.insert(number, value)?;
@@ -73,12 +78,14 @@ fn inserts(map: &mut MarkedMap<u32>, number: u32, value: u32) -> Result<(), Fail
     Ok(())
 }
 
+/// Overwrites the value of a number through `get_mut`, if it has one.
 fn changes_value(map: &mut MarkedMap<u32>, number: u32, value: u32) {
     if let Some(place) = map.get_mut(number) {
         *place = value;
     }
 }
 
+/// Makes the call of a step.
 fn does(map: &mut MarkedMap<u32>, step: Step) -> Result<(), Fail> {
     match step {
         Step::Insert(number, value) => inserts(map, number, value)?,
@@ -93,19 +100,21 @@ fn does(map: &mut MarkedMap<u32>, step: Step) -> Result<(), Fail> {
     Ok(())
 }
 
-fn marks_are(
+/// Asserts which numbers are marked, and how many.
+fn assert_marks(
     rt: &impl Abort,
     alloc: Global,
     map: &MarkedMap<u32>,
     wanted: &[u32],
 ) -> Result<(), Fail> {
     let told: Vec<u32> = map.marked_numbers().collect(alloc)?;
-    are_numbers(rt, told.as_slice(), wanted);
-    is_number(rt, map.marked(), wanted.len());
+    assert_numbers(rt, told.as_slice(), wanted);
+    assert_number(rt, map.marked(), wanted.len());
     Ok(())
 }
 
-fn goes(
+/// Makes the call of each row, and asserts the count of values and the marks after it.
+fn assert_steps(
     rt: &impl Abort,
     alloc: Global,
     map: &mut MarkedMap<u32>,
@@ -113,8 +122,8 @@ fn goes(
 ) -> Result<(), Fail> {
     for (step, values, marks) in rows.iter() {
         does(map, *step)?;
-        is_number(rt, map.len(), *values);
-        marks_are(rt, alloc, map, marks)?;
+        assert_number(rt, map.len(), *values);
+        assert_marks(rt, alloc, map, marks)?;
     }
     Ok(())
 }
@@ -125,36 +134,38 @@ fn is_changed(rt: &impl Abort, alloc: Global, map: &MarkedMap<u32>) -> Result<()
     assert!(rt; map.get(5).is_none());
     assert!(rt; map.is_marked(5));
     assert!(rt; !map.is_marked(8));
-    is_number(rt, map.iter().count(), 4);
-    maps(rt, alloc, map.values(), &[1, 8, 4, 4, 20, 6, 30, 7])
+    assert_number(rt, map.iter().count(), 4);
+    assert_map(rt, alloc, map.values(), &[1, 8, 4, 4, 20, 6, 30, 7])
 }
 
+/// Changes of a map mark the numbers changed.
 #[test]
 fn tracked(rt: HostRuntime) -> Result<(), Fail> {
     let mut map = MarkedMap::of(rt.alloc(), filled(rt.alloc())?)?;
-    marks_are(&rt, rt.alloc(), &map, &[])?;
-    goes(&rt, rt.alloc(), &mut map, &CHANGES)?;
+    assert_marks(&rt, rt.alloc(), &map, &[])?;
+    assert_steps(&rt, rt.alloc(), &mut map, &CHANGES)?;
     is_changed(&rt, rt.alloc(), &map)
 }
 
-/// Many rounds, and then the steps in which marks go.
+/// Makes the calls of `ROUND` 200 times, and then those of `MARKS`.
 fn goes_round(rt: &impl Abort, alloc: Global, map: &mut MarkedMap<u32>) -> Result<(), Fail> {
     for _ in 0..200 {
-        goes(rt, alloc, map, &ROUND)?;
+        assert_steps(rt, alloc, map, &ROUND)?;
     }
-    goes(rt, alloc, map, &MARKS)
+    assert_steps(rt, alloc, map, &MARKS)
 }
 
+/// A removed number stays marked, and `mark` marks only numbers that have a value or are marked.
 #[test]
 fn marks_of_what_is_gone(rt: HostRuntime) -> Result<(), Fail> {
     let mut map = MarkedMap::of(rt.alloc(), filled(rt.alloc())?)?;
     goes_round(&rt, rt.alloc(), &mut map)
 }
 
-/// How many numbers are marked in one test: one fewer than a prime has.
+/// How many numbers the map of the last test has: one less than the prime 1009.
 const MANY: u32 = 1008;
 
-/// Marks the numbers from 1 on, each once, in falling order or in one that neither rises nor falls.
+/// Marks each number from 1 to `MANY` once, in falling order or in a scattered one.
 fn marks_each(map: &mut MarkedMap<u32>, falling: bool) {
     for step in 1..MANY + 1 {
         if falling {
@@ -165,14 +176,14 @@ fn marks_each(map: &mut MarkedMap<u32>, falling: bool) {
     }
 }
 
-/// Takes out each third number, with its mark.
+/// Takes out each third number together with its mark.
 fn takes_thirds(map: &mut MarkedMap<u32>) {
     for third in 1..MANY / 3 + 1 {
         map.take_out(third * 3, false);
     }
 }
 
-/// Puts each third number in again, the highest first, and so marks it.
+/// Inserts each third number again, the highest first, which marks it.
 fn puts_thirds(map: &mut MarkedMap<u32>) -> Result<(), Fail> {
     for step in 0..MANY / 3 {
         inserts(map, MANY - step * 3, step)?;
@@ -180,17 +191,19 @@ fn puts_thirds(map: &mut MarkedMap<u32>) -> Result<(), Fail> {
     Ok(())
 }
 
-/// Asserts that the numbers are those from 1 on, with or without each third one, and how many they are.
+/// Asserts that the marked numbers come in rising order from 1, with or without each third, and how
+/// many there are.
 fn count_up(rt: &impl Abort, map: &MarkedMap<u32>, thirds: bool, count: usize) {
-    is_number(rt, map.marked(), count);
+    assert_number(rt, map.marked(), count);
     let mut wanted = 1;
     for number in map.marked_numbers() {
-        is_number(rt, number as usize, wanted);
+        assert_number(rt, number as usize, wanted);
         wanted = number as usize + if !thirds && number % 3 == 2 { 2 } else { 1 };
     }
 }
 
-/// Marks all numbers of a map that has them in some order, takes thirds out and puts them in again, and clears all marks.
+/// Marks all numbers in one of the two orders, takes out thirds and inserts them again, and clears
+/// all marks.
 fn mixes(rt: &impl Abort, map: &mut MarkedMap<u32>, falling: bool) -> Result<(), Fail> {
     map.unmark();
     marks_each(map, falling);
@@ -200,14 +213,15 @@ fn mixes(rt: &impl Abort, map: &mut MarkedMap<u32>, falling: bool) -> Result<(),
     puts_thirds(map)?;
     count_up(rt, map, true, 1008);
     map.unmark();
-    is_number(rt, map.marked(), 0);
+    assert_number(rt, map.marked(), 0);
     Ok(())
 }
 
+/// The marked numbers come in rising order, in whatever order they were marked.
 #[test]
 fn marks_in_any_order(rt: HostRuntime) -> Result<(), Fail> {
     let mut map = MarkedMap::new(rt.alloc());
-    is_number(&rt, map.len(), 0);
+    assert_number(&rt, map.len(), 0);
     for number in 0..MANY {
         map.put(number + 1, number)?;
     }

@@ -1,10 +1,10 @@
-//! The worlds that the tests read.
+//! World texts for these tests, and what the reader makes of them.
 use atl_tables::{Format, Text, World, WorldFault, read_old_world, read_world};
 use atl_test_worlds::SMALL;
 use std::alloc::Global;
 use std::test::Fail;
 
-/// One item, one skill and one kind.
+/// The text of one item, one skill and one kind.
 pub(crate) const MORE: &str = r#"[[item]]
 name = "wood"
 weight = 5
@@ -21,7 +21,7 @@ skill = "carpentry"
 level = 1
 "#;
 
-/// A market of the region before it.
+/// The text of a market, which belongs to the region above it.
 pub(crate) const MARKET: &str = r#"[[region.market]]
 item = "wood"
 price = 7
@@ -30,7 +30,7 @@ limit = 30
 restock = 20
 "#;
 
-/// What the orders of the tests name.
+/// The text of the items, skills and kinds that the orders of the tests name.
 pub(crate) const THINGS: &str = r#"[[item]]
 name = "wood"
 weight = 5
@@ -54,24 +54,24 @@ skill = "sailing"
 level = 1
 "#;
 
-/// The small world, and more after it.
+/// The text of the small world with `more` appended.
 pub(crate) fn small_with(alloc: Global, more: &str) -> Result<String, Fail> {
     Ok(format!(in alloc; "{SMALL}{more}")?)
 }
 
-/// The small world with so many markets, and with more after it.
+/// The text of the small world with `count` equal markets and `MORE` appended.
 pub(crate) fn with_markets(alloc: Global, count: usize) -> Result<String, Fail> {
     let markets = MARKET.repeat(alloc, count)?;
     Ok(format!(in alloc; "{SMALL}{markets}{MORE}")?)
 }
 
-/// The world that the small one and more after it say.
+/// The world of the small world's text with `more` appended.
 pub(crate) fn world_with(alloc: Global, more: &str) -> Result<World, Fail> {
     let text = small_with(alloc, more)?;
     Ok(read_world(alloc, text.as_str())?)
 }
 
-/// The world of a text in a format.
+/// The world of a text that is read in a format.
 pub(crate) fn read_in(alloc: Global, format: Format, text: &str) -> Result<World, WorldFault> {
     match format {
         Format::First => read_old_world(alloc, text),
@@ -79,13 +79,13 @@ pub(crate) fn read_in(alloc: Global, format: Format, text: &str) -> Result<World
     }
 }
 
-/// The first fault of a text in a format, as a program prints it, and of a world `none`.
+/// The first fault of a text that is read in a format, as a program prints it, or `none`.
 pub(crate) fn fault(alloc: Global, format: Format, text: &str) -> Result<Text, Fail> {
     let fault = read_in(alloc, format, text).err();
     text_of(alloc, fault.as_ref())
 }
 
-/// What a fault is shown as: its number, name and path.
+/// A fault as text: its number, name and path; or `none`.
 fn text_of(alloc: Global, fault: Option<&WorldFault>) -> Result<Text, Fail> {
     match fault {
         None => Ok(Text::from_str(alloc, "none")?),
@@ -93,7 +93,7 @@ fn text_of(alloc: Global, fault: Option<&WorldFault>) -> Result<Text, Fail> {
     }
 }
 
-/// A text with one piece replaced.
+/// A text with the first occurrence of `from` replaced by `to`.
 pub(crate) fn changed(alloc: Global, text: &str, from: &str, to: &str) -> Result<String, Fail> {
     match text.split_once(from) {
         None => Err(Fail::new("no such piece")),

@@ -1,4 +1,4 @@
-//! Closing months, and when that is refused.
+//! Tests of `Close`: closing months, and its refusals.
 use super::commands::AVALON;
 use super::mailings::FAULTY;
 use super::script::{Asked, Course, Step, plays, plays_course};
@@ -10,9 +10,11 @@ use super::unchanged::{EVERY_TABLE, refuses};
 use atl_test_worlds::{BARREN, SMALL};
 use std::test::Fail;
 
+/// The command that closes month 1 of a world with one region.
 pub(crate) const MONTH_ONE: Asked = Asked::Close(1, "gm", &[0]);
 
-/// The unit works for 12 and needs 10, and each of 1,000 peasants brings 1 to the region.
+/// Avalon's report on a month without mail: the unit works for 12 and pays 10, and 1,000 peasants
+/// bring 1 each to the region.
 pub(crate) const AFTER_WORK: &str = "Atlantis report, month 1, faction 1 \"Avalon\".
 Orders:
 Unit 1, line 0, WORK: done 12.
@@ -21,7 +23,8 @@ Exits: none.
 * Unit 1 \"Unit 1\": 1 men, 1002 money.
 ";
 
-/// The unit was told to work, and to attack, which no order is.
+/// Avalon's report on a month with the mailing `FAULTY`: WORK is done, and ATTACK is an unknown
+/// order.
 const AFTER_FAULTY: &str = "Atlantis report, month 1, faction 1 \"Avalon\".
 Orders:
 Line 5: 2 UnknownOrder.
@@ -31,7 +34,8 @@ Exits: none.
 * Unit 1 \"Unit 1\": 1 men, 1002 money.
 ";
 
-/// The money is 2,502 (500 founded, 1,000 joined, 1,000 of income, 12 of wages, 10 spent on upkeep) and the people are 1,001.
+/// What the tables hold after month 1. The money is 2,502 (500 founded, 1,000 joined, 1,000 of
+/// income, 12 of wages, 10 spent on upkeep), and the people are 1,001.
 pub(crate) const AFTER_MONTH_ONE: [(&str, Option<i64>); 12] = [
     (MONTH, Some(1)),
     (NEXT, Some(200002)),
@@ -47,6 +51,7 @@ pub(crate) const AFTER_MONTH_ONE: [(&str, Option<i64>); 12] = [
     (MAIL_BYTES, None),
 ];
 
+/// The text of the books after such a month.
 const BOOKS_AFTER_WORK: &str = "money founding 500
 money joining 1000
 money income 1000
@@ -58,7 +63,7 @@ people joining 1
 people total 1001
 ";
 
-/// First months, without mail and with a faulty mailing.
+/// Courses of a first month: without mail, and with a faulty mailing.
 static FIRST_MONTHS: [Course; 2] = [
     Course {
         world: SMALL,
@@ -95,6 +100,7 @@ fn a_faulty_line_is_told_and_the_mail_is_gone(rt: HostRuntime) -> Result<(), Fai
     plays_course(&rt, rt.alloc(), &FIRST_MONTHS[1])
 }
 
+/// Refused closings: wrong pass text, wrong month, and a wrong number of words of the dice.
 static REFUSED: [Step; 7] = [
     Step::Told(Asked::Close(2, "no", &[]), "wrong pass"),
     Step::Told(Asked::Close(1, "pw", &[0]), "wrong pass"),
@@ -110,7 +116,7 @@ fn a_refused_closing_changes_nothing(rt: HostRuntime) -> Result<(), Fail> {
     refuses(&rt, rt.alloc(), EVERY_TABLE, &REFUSED)
 }
 
-/// What the tables hold where nobody has joined.
+/// What the tables hold after two months in which nobody had joined.
 static AFTER_NOBODY: [(&str, Option<i64>); 5] = [
     (MONTH, Some(2)),
     (FACTIONS, Some(0)),
@@ -119,6 +125,7 @@ static AFTER_NOBODY: [(&str, Option<i64>); 5] = [
     (REGION_MONEY, Some(2500)),
 ];
 
+/// Two closings where nobody has joined.
 static NOBODY: [Step; 2] = [
     Step::Closed(MONTH_ONE, 1),
     Step::Closed(Asked::Close(2, "gm", &[7]), 2),
@@ -129,13 +136,15 @@ fn a_month_without_factions(rt: HostRuntime) -> Result<(), Fail> {
     plays(&rt, rt.alloc(), SMALL, &NOBODY, &AFTER_NOBODY)
 }
 
-/// Nobody finds work, and the unit's 5 money don't keep its one man for a month: he starves, and the faction is gone.
+/// Avalon's report where nobody finds work: 5 money don't keep one man for a month, so he starves
+/// and the faction is gone.
 const AFTER_STARVING: &str = "Atlantis report, month 1, faction 1 \"Avalon\".
 Orders:
 Unit 1, line 0, WORK: done 0.
 Unit 1: 1 starved.
 ";
 
+/// A faction starves; afterwards its mail is refused, and its report stays.
 static STARVED: [Step; 6] = [
     Step::Joined(AVALON, 1, 1),
     Step::Closed(MONTH_ONE, 1),
@@ -145,7 +154,7 @@ static STARVED: [Step; 6] = [
     Step::Told(Asked::Report(1, "pw"), AFTER_STARVING),
 ];
 
-/// The 5 money are spent and the man is dead, but the number of his unit isn't given again.
+/// What the tables hold then. The 5 money are spent, and the unit's number isn't given again.
 static AFTER_ALL_STARVED: [(&str, Option<i64>); 6] = [
     (MONTH, Some(2)),
     (NEXT, Some(200002)),

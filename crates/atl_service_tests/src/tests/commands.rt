@@ -1,11 +1,12 @@
-//! Joinings, reports, and lists of commands.
+//! Tests of `Join` and `Report`, and of lists of commands (`run_all`).
 use super::closing::{AFTER_MONTH_ONE, AFTER_WORK, MONTH_ONE};
-use super::compare::is_count;
+use super::compare::assert_count;
 use super::making::begun_in_memory;
-use super::script::{Asked, Step, commands_of, is_wanted, plays};
+use super::script::{Asked, Step, assert_answer, commands_of, plays};
 use super::serving::Served;
 use super::tables::{
-    AFTER_JOINING, BOOKED, FACTIONS, MAIL_BYTES, MAILINGS, MONEY, NEXT, REPORT_BYTES, UNITS, holds,
+    AFTER_JOINING, BOOKED, FACTIONS, MAIL_BYTES, MAILINGS, MONEY, NEXT, REPORT_BYTES, UNITS,
+    assert_tables,
 };
 use atl_service::{Answer, Command};
 use atl_test_worlds::{ISLE, SMALL};
@@ -13,6 +14,7 @@ use std::alloc::Global;
 use std::process::Abort;
 use std::test::Fail;
 
+/// The first report of a faction that joins the small world.
 pub(crate) const FIRST_REPORT: &str = "Atlantis report, month 0, faction 1 \"Avalon\".
 Orders:
 None.
@@ -21,7 +23,7 @@ Exits: none.
 * Unit 1 \"Unit 1\": 1 men, 1000 money.
 ";
 
-/// What the second faction sees where two have joined.
+/// The first report of a second faction in the small world.
 pub(crate) const SECOND_REPORT: &str = "Atlantis report, month 0, faction 2 \"Bree\".
 Orders:
 None.
@@ -31,7 +33,7 @@ Exits: none.
 * Unit 2 \"Unit 2\": 1 men, 1000 money.
 ";
 
-/// What a faction sees that begins in the second land region.
+/// The first report of a faction that begins in the island's second land region.
 pub(crate) const FAR_REPORT: &str = "Atlantis report, month 0, faction 1 \"Avalon\".
 Orders:
 None.
@@ -40,25 +42,30 @@ Exits: north 4, west 2.
 * Unit 1 \"Unit 1\": 1 men, 1000 money.
 ";
 
+/// The command by which Avalon joins, with 0 as the word of the dice.
 pub(crate) const AVALON: Asked = Asked::Join("Avalon", "pw", 0);
 
+/// One faction joins and asks for its report.
 static ONE_JOINS: [Step; 2] = [
     Step::Joined(AVALON, 1, 1),
     Step::Told(Asked::Report(1, "pw"), FIRST_REPORT),
 ];
 
+/// A faction that joins gets its first report.
 #[test]
 fn first_report(rt: HostRuntime) -> Result<(), Fail> {
-    is_count(&rt, FIRST_REPORT.len(), 161);
+    assert_count(&rt, FIRST_REPORT.len(), 161);
     plays(&rt, rt.alloc(), SMALL, &ONE_JOINS, &AFTER_JOINING)
 }
 
+/// Two factions join, and the second asks for its report.
 static TWO_JOIN: [Step; 3] = [
     Step::Told(AVALON, "joined"),
     Step::Told(Asked::Join("Bree", "pb", 0), "joined"),
     Step::Told(Asked::Report(2, "pb"), SECOND_REPORT),
 ];
 
+/// What the tables hold after two factions have joined.
 static AFTER_TWO: [(&str, Option<i64>); 3] = [
     (NEXT, Some(300003)),
     (FACTIONS, Some(2)),
@@ -70,19 +77,22 @@ fn another_faction_is_seen_without_money(rt: HostRuntime) -> Result<(), Fail> {
     plays(&rt, rt.alloc(), SMALL, &TWO_JOIN, &AFTER_TWO)
 }
 
+/// A faction joins in the second land region, and asks for its report.
 static FAR_JOINS: [Step; 2] = [
     Step::Told(Asked::Join("Avalon", "pw", 1), "joined"),
     Step::Told(Asked::Report(1, "pw"), FAR_REPORT),
 ];
 
+/// What the tables hold then.
 static AFTER_FAR: [(&str, Option<i64>); 2] = [(FACTIONS, Some(1)), (UNITS, Some(1))];
 
+/// The word 1 of the dice places a faction in the second land region.
 #[test]
 fn the_second_land_region(rt: HostRuntime) -> Result<(), Fail> {
     plays(&rt, rt.alloc(), ISLE, &FAR_JOINS, &AFTER_FAR)
 }
 
-/// Commands of all kinds, good ones and refused ones.
+/// Joins, mailings and reports, good ones and refused ones.
 const CLUB: [Step; 12] = [
     Step::Told(Asked::Join(" x", "pw", 0), "bad name"),
     Step::Told(Asked::Join("Avalon", "a b", 0), "bad pass text"),
@@ -101,7 +111,7 @@ const CLUB: [Step; 12] = [
     Step::Told(Asked::Report(1, "no"), "wrong pass"),
 ];
 
-/// Once one faction has joined and sent its second mailing.
+/// What the tables hold after `CLUB`: one faction has joined and sent its second mailing.
 const AFTER_CLUB: [(&str, Option<i64>); 8] = [
     (NEXT, Some(200002)),
     (FACTIONS, Some(1)),
@@ -113,13 +123,15 @@ const AFTER_CLUB: [(&str, Option<i64>); 8] = [
     (MAIL_BYTES, Some(19)),
 ];
 
+/// Asserts the answers of a list of commands.
 fn are_told(rt: &impl Abort, answers: &[Answer], steps: &[Step]) {
-    is_count(rt, answers.len(), steps.len());
+    assert_count(rt, answers.len(), steps.len());
     for (answer, step) in answers.iter().zip(steps.iter()) {
-        is_wanted(rt, answer, step);
+        assert_answer(rt, answer, step);
     }
 }
 
+/// Runs commands as one list, and asserts their answers.
 fn runs_all(rt: &impl Abort, service: &mut impl Served, commands: &[Command], steps: &[Step]) {
     match service.run_all(commands) {
         Ok(answers) => are_told(rt, &answers, steps),
@@ -127,25 +139,27 @@ fn runs_all(rt: &impl Abort, service: &mut impl Served, commands: &[Command], st
     }
 }
 
-/// What is run as one list, what is answered, and what the tables hold then.
+/// Commands to run as one list, with their answers, and what the tables hold afterwards.
 struct AtOnce {
     steps: &'static [Step],
     after: &'static [(&'static str, Option<i64>)],
 }
 
+/// Runs a list of commands in a new campaign, and asserts the answers and the tables.
 fn is_run(rt: &impl Abort, alloc: Global, commands: &[Command], list: &AtOnce) -> Result<(), Fail> {
     let mut service = begun_in_memory(alloc, SMALL)?;
     runs_all(rt, &mut service, commands, list.steps);
-    holds(rt, &mut service.end(), list.after);
+    assert_tables(rt, &mut service.end(), list.after);
     Ok(())
 }
 
+/// The same for an `AtOnce`, whose commands it makes.
 fn at_once(rt: &impl Abort, alloc: Global, list: &AtOnce) -> Result<(), Fail> {
     let commands = commands_of(alloc, list.steps)?;
     is_run(rt, alloc, &commands, list)
 }
 
-/// A month is closed; the same commands one by one stand with the closings.
+/// Commands with a closing; one by one, the same closing is tested in `closing`.
 const A_MONTH: [Step; 4] = [
     Step::Told(AVALON, "joined"),
     Step::Told(MONTH_ONE, "month done"),
@@ -153,6 +167,7 @@ const A_MONTH: [Step; 4] = [
     Step::Told(Asked::Report(1, "pw"), AFTER_WORK),
 ];
 
+/// The lists that are run as a whole.
 static LISTS: [AtOnce; 2] = [
     AtOnce {
         steps: &CLUB,
@@ -164,6 +179,7 @@ static LISTS: [AtOnce; 2] = [
     },
 ];
 
+/// Asserts each list of `LISTS`.
 fn are_run(rt: &impl Abort, alloc: Global) -> Result<(), Fail> {
     for list in LISTS.iter() {
         at_once(rt, alloc, list)?;

@@ -1,29 +1,34 @@
-//! What is told and what is wanted, compared type by type. The assertions stand here alone: each writes out both values,
-//! which is proved once.
+//! Assertions for these tests, one for each type: an `assert_eq!` costs much to prove, so each is
+//! written once.
 use std::process::Abort;
 
-pub(crate) fn is_number(rt: &impl Abort, told: i64, wanted: i64) {
+/// Asserts that a signed number is the wanted one.
+pub(crate) fn assert_number(rt: &impl Abort, told: i64, wanted: i64) {
     assert_eq!(rt; told, wanted);
 }
 
-pub(crate) fn is_count(rt: &impl Abort, told: usize, wanted: usize) {
+/// Asserts that a count is the wanted one.
+pub(crate) fn assert_count(rt: &impl Abort, told: usize, wanted: usize) {
     assert_eq!(rt; told, wanted);
 }
 
-/// Of a row of the tables, which may be missing.
-pub(crate) fn is_amount(rt: &impl Abort, told: Option<i64>, wanted: Option<i64>) {
+/// Asserts that what a query returned, which may be no number, is the wanted one.
+pub(crate) fn assert_amount(rt: &impl Abort, told: Option<i64>, wanted: Option<i64>) {
     assert_eq!(rt; told, wanted);
 }
 
-/// Of a campaign, which may have too much to be counted.
-pub(crate) fn is_total(rt: &impl Abort, told: Option<u64>, wanted: u64) {
+/// Asserts the total of a campaign; None, if it has too many units or regions to be summed, is a
+/// failure.
+pub(crate) fn assert_total(rt: &impl Abort, told: Option<u64>, wanted: u64) {
     assert_eq!(rt; told, Some(wanted));
 }
 
-pub(crate) fn is_text(rt: &impl Abort, told: &str, wanted: &str) {
+/// Asserts that a text is the wanted one.
+pub(crate) fn assert_text(rt: &impl Abort, told: &str, wanted: &str) {
     assert_eq!(rt; told, wanted);
 }
 
-pub(crate) fn are_numbers(rt: &impl Abort, told: &[u32], wanted: &[u32]) {
+/// Asserts that a list of numbers is the wanted one.
+pub(crate) fn assert_numbers(rt: &impl Abort, told: &[u32], wanted: &[u32]) {
     assert_eq!(rt; told, wanted);
 }

@@ -1,4 +1,5 @@
-//! The campaigns that are played while a disk stops: two months with one unit, and a month of two factions' units.
+//! The campaigns that are played while a disk stops: two months of one unit, and a month of two
+//! factions' units.
 use super::closing::MONTH_ONE;
 use super::commands::AVALON;
 use super::script::{Asked, Course, Step, plays_course};
@@ -9,22 +10,26 @@ use atl_test_worlds::month::{OF_AVALON, OF_BREE, ROWS};
 use atl_test_worlds::{ISLE, SMALL};
 use std::test::Fail;
 
-/// Who guards from the first month on takes taxes in the second.
+/// The mailing of the first month: GUARD and NAME. A unit that guards takes taxes from the next
+/// month on.
 const FIRST_MAIL: Asked = Asked::Mail(
     1,
     "pw",
     "#ATLANTIS 1 pw\nUNIT 1\nGUARD 1\nNAME UNIT \"Wardens of Vale\"\n",
 );
 
-/// Of the units that are formed one has a man and a name then, and one has money alone, and is swept.
+/// The mailing of the second month, which forms two units: one gets a man and a name, and one only
+/// money, so it is swept.
 const SECOND_MAIL: Asked = Asked::Mail(
     1,
     "pw",
     "#ATLANTIS 1 pw\nUNIT 1\nFORM 1\nEND\nFORM 2\nRECRUIT 1\nNAME UNIT Scouts\nEND\nPAY NEW 1 100\nPAY NEW 2 70\nTAX\n",
 );
 
+/// The command that closes month 2.
 const MONTH_TWO: Asked = Asked::Close(2, "gm", &[0]);
 
+/// A join, and two mailings with the closing of their months.
 const TWO_MONTHS: [Step; 5] = [
     Step::Joined(AVALON, 1, 1),
     Step::Mailed(FIRST_MAIL, 2, &[]),
@@ -33,9 +38,10 @@ const TWO_MONTHS: [Step; 5] = [
     Step::Closed(MONTH_TWO, 2),
 ];
 
-/// Of 1,000 money unit 1 has 1,002 after its first month, in which it works for 12 and pays 10. It pays 170, takes 10 in tax, works and
-/// pays 10 again, and gets the 100 of unit 2, which is swept: 944. Unit 3 recruits for 50, works and pays 10: 22. The region has 500, gets
-/// 1,000 and, of a peasant less, 999, and gives the tax. The people are 1,001.
+/// What the tables hold after both months. Of 1,000 money unit 1 has 1,002 after its first month,
+/// in which it works for 12 and pays 10. It pays 170, takes 10 in tax, works and pays 10 again, and
+/// gets the 100 of unit 2, which is swept: 944. Unit 3 recruits for 50, works and pays 10: 22. The
+/// region has 500, gets 1,000 and, of a peasant less, 999, and gives the tax. The people are 1,001.
 const AFTER_BOTH: [(&str, Option<i64>); 8] = [
     (MONTH, Some(2)),
     (NEXT, Some(200004)),
@@ -52,8 +58,10 @@ fn both_months_are_closed(rt: HostRuntime) -> Result<(), Fail> {
     plays_course(&rt, rt.alloc(), &COURSES[0])
 }
 
+/// The command by which Cork joins.
 const CORK: Asked = Asked::Join("Cork", "pc", 0);
 
+/// A join, the mailings of two factions, and the closing of the month.
 const MONTH_OF_TWO: [Step; 4] = [
     Step::Joined(CORK, 3, 12),
     Step::Mailed(Asked::Mail(1, "pw", OF_AVALON), 18, &[]),
@@ -61,10 +69,12 @@ const MONTH_OF_TWO: [Step; 4] = [
     Step::Closed(Asked::Close(1, "gm", &[0, 0, 0, 0]), 1),
 ];
 
-/// Unit 13 is formed and stays, 14 is formed and swept, and 11 starves and is swept. The units had 904 money and the 1,000 of Cork. They
-/// take 30 in tax, pay 50 for a recruit and 40 for a study, and earn 48, 24, 250, 20 and 12; of 63 men all but the one who starves cost 10
-/// each, and for him 4 are paid. The regions have 650, give the tax and get a coin of each of 1,299 peasants. With 3 of 21 wood a boat is begun, and
-/// the 4 men who are taught get 240 days beside the 1,440 that were there. The people are 1,361.
+/// What the tables hold after the month. Unit 13 is formed and stays, 14 is formed and swept, and
+/// 11 starves and is swept. The units had 904 money and the 1,000 of Cork. They take 30 in tax, pay
+/// 50 for a recruit and 40 for a study, and earn 48, 24, 250, 20 and 12; of 63 men all but the one
+/// who starves cost 10 each, and for him 4 are paid. The regions have 650, give the tax and get a
+/// coin for each of 1,299 peasants. With 3 of 21 wood a boat is begun, and the 4 men who are taught
+/// get 240 days beside the 1,440 that were there. The people are 1,361.
 const AFTER_MONTH_OF_TWO: [(&str, Option<i64>); 12] = [
     (MONTH, Some(1)),
     (NEXT, Some(400015)),
@@ -85,7 +95,7 @@ fn a_month_of_two_factions_is_closed(rt: HostRuntime) -> Result<(), Fail> {
     plays_course(&rt, rt.alloc(), &COURSES[1])
 }
 
-/// All courses.
+/// Both courses: two months in the small world, and a month on the island.
 pub(crate) static COURSES: [Course; 2] = [
     Course {
         world: SMALL,

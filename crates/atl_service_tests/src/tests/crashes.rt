@@ -1,6 +1,7 @@
-//! A disk that stops at each of its calls, while a campaign is founded, a faction joins, mailings are kept, and months are closed. What
-//! works on the disk takes any disk that can crash.
-use super::compare::is_text;
+//! Tests that a disk that stops at any of its calls leaves the campaign before a write or after it,
+//! never a part.
+//! The writes are those of a founding, a join, mailings and closings.
+use super::compare::assert_text;
 use super::courses::COURSES;
 use super::files::connected;
 use super::founding::told as cause_of;
@@ -16,7 +17,8 @@ use std::alloc::Global;
 use std::process::Abort;
 use std::test::Fail;
 
-/// What is done, and all rows of the campaign behind so many of the writings, the founding among them; behind none there are no rows.
+/// A course, its commands, and all rows of the campaign after each write; before the first there
+/// are none.
 struct Plan {
     course: Course,
     commands: Vec<Command>,
@@ -29,7 +31,8 @@ impl Drop for Plan {
     }
 }
 
-/// The campaign in memory before its commands; its rows are noted behind each writing.
+/// The campaign in memory before the commands of a course; its rows are appended to `stages` after
+/// each write.
 fn set_up(
     alloc: Global,
     course: &Course,
@@ -45,7 +48,7 @@ fn set_up(
     Ok(service)
 }
 
-/// Runs the commands, and notes the rows behind each.
+/// Runs the commands, and appends the rows to `stages` after each.
 fn run_noted(
     alloc: Global,
     service: &mut impl Served,
@@ -59,7 +62,7 @@ fn run_noted(
     Ok(())
 }
 
-/// The rows behind each writing where no disk stops.
+/// Appends the rows after each write of a course to `stages`, if no disk stops.
 fn note_stages(
     alloc: Global,
     course: &Course,
@@ -71,7 +74,7 @@ fn note_stages(
     run_noted(alloc, &mut service, commands, stages)
 }
 
-/// What a course comes to where no disk stops.
+/// The plan of a course: its commands, and the rows after each write if no disk stops.
 fn planned(alloc: Global, course: &Course) -> Result<Plan, Fail> {
     let commands = commands_of(alloc, course.steps)?;
     let mut stages = Vec::new(alloc);
@@ -83,23 +86,24 @@ fn planned(alloc: Global, course: &Course) -> Result<Plan, Fail> {
     })
 }
 
+/// Whether an answer says that a join, a mailing or a closing was done.
 fn is_done(answer: &Answer) -> bool {
     matches!(told(answer), "joined" | "mailed" | "month done")
 }
 
-/// Runs the commands, and tells how many are done. The one at which a disk stops is answered Store, and those behind it Closed; then there
-/// is no campaign, and there are no books.
+/// Runs the commands, and returns how many were done. The one at which the disk stops must be
+/// answered Store, and all later ones Closed; then there is no campaign, and there are no books.
 fn run_each(rt: &impl Abort, service: &mut impl Served, commands: &[Command]) -> usize {
     let mut done = 0usize;
     let mut stopped = false;
     for command in commands {
         let answer = service.run(command);
         if stopped {
-            is_text(rt, told(&answer), "closed");
+            assert_text(rt, told(&answer), "closed");
         } else if is_done(&answer) {
             done = done.saturating_add(1);
         } else {
-            is_text(rt, told(&answer), "store");
+            assert_text(rt, told(&answer), "store");
             stopped = true;
         }
     }
@@ -108,7 +112,7 @@ fn run_each(rt: &impl Abort, service: &mut impl Served, commands: &[Command]) ->
     done
 }
 
-/// A service, or its connection where a disk stopped.
+/// The service, or its connection if the disk stopped.
 fn served<S: Alter>(
     rt: &impl Abort,
     tried: Result<Service<S>, Refused<S>>,
@@ -116,13 +120,14 @@ fn served<S: Alter>(
     match tried {
         Ok(service) => Ok(service),
         Err(Refused { why, conn }) => {
-            is_text(rt, cause_of(&why), "store");
+            assert_text(rt, cause_of(&why), "store");
             Err(conn)
         }
     }
 }
 
-/// Runs the commands behind so many writings.
+/// Runs the commands after `writings` writes; the result is how many writes were done, and the
+/// connection.
 fn runs<S: Alter>(
     rt: &impl Abort,
     service: Service<S>,
@@ -134,7 +139,7 @@ fn runs<S: Alter>(
     (done.saturating_add(writings), service.end())
 }
 
-/// Puts the rows in and opens the campaign again.
+/// Inserts the rows of a course, opens the campaign again, and runs the commands.
 fn goes_on<S: Alter + Drop>(
     rt: &impl Abort,
     alloc: Global,
@@ -151,7 +156,8 @@ fn goes_on<S: Alter + Drop>(
     }
 }
 
-/// Founds a campaign, puts its rows in and runs the commands. Tells how many writings are done.
+/// Founds a campaign, inserts its rows and runs the commands; the result is how many writes were
+/// done, and the connection.
 fn works<S: Alter + Drop>(
     rt: &impl Abort,
     alloc: Global,
@@ -165,13 +171,15 @@ fn works<S: Alter + Drop>(
     }
 }
 
-/// Before each writing the log is copied into the database, whose disk is called in each then.
+/// Options by which the log is copied into the database before each write, so that both disks are
+/// called.
 fn options() -> Options {
     let mut options = Options::new(2);
     options.checkpoint_frames = 1;
     options
 }
 
+/// The files as a crash leaves them.
 fn crashed<D: Crash>(files: Files<D>) -> Files<D> {
     let Files { mut log, mut db } = files;
     log.crash();
@@ -179,7 +187,7 @@ fn crashed<D: Crash>(files: Files<D>) -> Files<D> {
     Files { log, db }
 }
 
-/// Whether these are the rows behind so many writings.
+/// Whether rows are those after `writings` writes.
 fn is_stage(plan: &Plan, writings: usize, rows: &str) -> bool {
     match plan.stages.get(writings) {
         Some(stage) => stage.as_str() == rows,
@@ -187,7 +195,7 @@ fn is_stage(plan: &Plan, writings: usize, rows: &str) -> bool {
     }
 }
 
-/// All rows of the campaign that a database holds, or none where it holds no campaign.
+/// All rows of the campaign in a database, or an empty text if it holds none.
 fn rows_left<S: Alter + Drop>(
     rt: &impl Abort,
     alloc: Global,
@@ -196,14 +204,14 @@ fn rows_left<S: Alter + Drop>(
     match open(alloc, conn) {
         Ok(service) => rows_in(alloc, &service),
         Err(Refused { why, conn: _ }) => {
-            is_text(rt, cause_of(&why), "not a campaign");
+            assert_text(rt, cause_of(&why), "not a campaign");
             Ok(String::new(alloc))
         }
     }
 }
 
-/// Works in these files, and tells how many writings are done: none where they can't be opened. A crash leaves the campaign behind them,
-/// or that behind the next one.
+/// Plays a plan in files, and asserts that a crash leaves the campaign after the writes done, or
+/// after one more. The result is how many writes were done, none if the files can't be opened.
 fn stopped<D: Crash + Drop>(
     rt: &impl Abort,
     alloc: Global,
@@ -227,14 +235,14 @@ fn stopped<D: Crash + Drop>(
     Ok(done)
 }
 
-/// Which of the two disks stops.
+/// Which of the two disks stops: that of the log, or that of the database.
 #[derive(Clone, Copy)]
 enum WhichDisk {
     Log,
     Database,
 }
 
-/// A log and a database, one on a disk that passes so many calls on.
+/// Empty files on two disks, one of which stops after `calls` calls.
 fn stopping(alloc: Global, which: WhichDisk, calls: u64) -> Files<Fuse<Memory>> {
     let (log, db) = match which {
         WhichDisk::Log => (calls, u64::MAX),
@@ -246,10 +254,10 @@ fn stopping(alloc: Global, which: WhichDisk, calls: u64) -> Files<Fuse<Memory>> 
     }
 }
 
-/// More calls than a disk gets.
+/// More calls than a disk gets in any course.
 const MANY_CALLS: u64 = 1_000;
 
-/// A disk stops at each of its calls, the first one too, up to a run in which it doesn't.
+/// Stops one disk at each of its calls, from the first up to a run in which it doesn't stop.
 fn stops(rt: &impl Abort, alloc: Global, plan: &Plan, which: WhichDisk) -> Result<(), Fail> {
     for calls in 0..MANY_CALLS {
         let done = stopped(rt, alloc, stopping(alloc, which, calls), plan)?;
@@ -261,7 +269,7 @@ fn stops(rt: &impl Abort, alloc: Global, plan: &Plan, which: WhichDisk) -> Resul
     Err(Fail::new("stopped each time"))
 }
 
-/// A disk stops in each course.
+/// Stops one disk at each of its calls, in each course.
 fn stops_each(rt: &impl Abort, alloc: Global, which: WhichDisk) -> Result<(), Fail> {
     for course in COURSES.iter() {
         let plan = planned(alloc, course)?;

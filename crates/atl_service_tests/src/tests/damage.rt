@@ -1,4 +1,4 @@
-//! What opening a database returns that was changed by hand.
+//! Tests of what `open` answers on a database that was changed by hand (docs/FORMATS.md, "Tables").
 use super::files::{connected, new_files};
 use super::making::begun;
 use super::script::{Asked, Step, follow};
@@ -11,7 +11,7 @@ use std::alloc::Global;
 use std::process::Abort;
 use std::test::Fail;
 
-/// What an opening is answered.
+/// The outcome of opening a database.
 #[derive(Clone, Copy, PartialEq, Debug)]
 enum Told {
     Opens,
@@ -23,10 +23,11 @@ enum Told {
     Differs,
     World,
     Store,
-    /// Want of memory, or what only a founding is answered.
+    /// Out of memory, or a fault that only a founding has.
     Other,
 }
 
+/// The outcome that a cause of refusal is.
 fn refusal(why: &Cause) -> Told {
     match why {
         Cause::Damaged(rule) => Told::Damaged(rule.number()),
@@ -40,6 +41,7 @@ fn refusal(why: &Cause) -> Told {
     }
 }
 
+/// The outcome of opening a database.
 fn asked<S: Alter + Drop>(alloc: Global, conn: Connection<S>) -> Told {
     match open(alloc, conn) {
         Ok(_) => Told::Opens,
@@ -47,12 +49,13 @@ fn asked<S: Alter + Drop>(alloc: Global, conn: Connection<S>) -> Told {
     }
 }
 
-/// Of a database that these statements changed.
-fn is_told(rt: &impl Abort, told: Told, wanted: Told, sql: &str) {
+/// Asserts the outcome of opening; the message names the statements that changed the database.
+fn assert_opening(rt: &impl Abort, told: Told, wanted: Told, sql: &str) {
     assert_eq!(rt; told, wanted, "after {sql}");
 }
 
-/// Statements, and what opening is answered after them. Avalon and Bree have a unit each in region 3, on land.
+/// SQL statements that change rows, and the outcome of opening afterwards. Avalon and Bree have a
+/// unit each in region 3, on land.
 static ROWS: [(&str, Told); 23] = [
     ("DELETE FROM mail", Told::Opens),
     ("CREATE TABLE notes (words TEXT)", Told::Opens),
@@ -106,7 +109,7 @@ static ROWS: [(&str, Told); 23] = [
     ),
 ];
 
-/// The same of the stocks of a market of wood in the first region, of which there are up to 30.
+/// The same for the stocks of a market of wood in region 1, which has room for 30.
 static STOCKS: [(&str, Told); 9] = [
     (
         "INSERT INTO market VALUES (1, 0, 30); INSERT INTO books VALUES (16, 2, 30)",
@@ -131,7 +134,8 @@ static STOCKS: [(&str, Told); 9] = [
     ),
 ];
 
-/// Makes the table of units anew without STRICT; unit 1 has this for its money. More statements may follow.
+/// SQL that makes the table of units again without STRICT, with a given money of unit 1; more
+/// statements may follow.
 macro_rules! loose_units {
     ($money:literal $(, $more:literal)?) => {
         concat!(
@@ -143,7 +147,8 @@ macro_rules! loose_units {
     };
 }
 
-/// Makes the campaign's own table anew without STRICT; its row has `x` for its format. More statements may follow.
+/// SQL that makes the campaign's table again without STRICT, with `x` as its format; more
+/// statements may follow.
 macro_rules! loose_campaign {
     ($($more:literal)?) => {
         concat!(
@@ -153,7 +158,7 @@ macro_rules! loose_campaign {
     };
 }
 
-/// The same, where tables and indexes are made otherwise.
+/// The same for statements that make tables and indexes differently.
 static SHAPES: [(&str, Told); 10] = [
     ("DROP TABLE campaign", Told::NotACampaign),
     (
@@ -179,8 +184,10 @@ static SHAPES: [(&str, Told); 10] = [
     ),
 ];
 
-/// The same, where two faults meet. In this order are told: the campaign's own row can't be asked for; it breaks the first rule; another
-/// table can't be read; a value of another type; tables made otherwise; rows that break a later rule.
+/// The same for statements that make two faults, of which the first in this order is answered.
+/// The campaign's own row can't be read; it breaks the first rule; another table can't be read; a
+/// value has another type; tables differ;
+/// rows break a later rule.
 static MEETINGS: [(&str, Told); 16] = [
     ("DROP TABLE campaign; DROP TABLE unit", Told::NotACampaign),
     (
@@ -239,13 +246,14 @@ static MEETINGS: [(&str, Told); 16] = [
     ),
 ];
 
-/// Both join the island.
+/// Avalon and Bree join the island.
 static BOTH_JOIN: [Step; 2] = [
     Step::Joined(Asked::Join("Avalon", "pw", 1), 1, 1),
     Step::Joined(Asked::Join("Bree", "pb", 1), 2, 2),
 ];
 
-/// The database of the campaign of an island with a market, in which both have joined, changed by hand.
+/// The database of an island with a market that Avalon and Bree have joined, changed by SQL
+/// statements.
 pub(crate) fn changed<S: Alter + Drop>(
     rt: &impl Abort,
     alloc: Global,
@@ -259,7 +267,7 @@ pub(crate) fn changed<S: Alter + Drop>(
     Ok(conn)
 }
 
-/// Asserts what opening is answered once the files were closed and opened.
+/// Asserts the outcome of opening a changed database after its files were closed and opened.
 fn is_judged<D: Disk + Drop>(
     rt: &impl Abort,
     alloc: Global,
@@ -269,11 +277,12 @@ fn is_judged<D: Disk + Drop>(
 ) -> Result<(), Fail> {
     let conn = changed(rt, alloc, connected(alloc, files)?, sql)?;
     let conn = connected(alloc, conn.into_store().close())?;
-    is_told(rt, asked(alloc, conn), wanted, sql);
+    assert_opening(rt, asked(alloc, conn), wanted, sql);
     Ok(())
 }
 
-fn are_judged(rt: &impl Abort, alloc: Global, cases: &[(&str, Told)]) -> Result<(), Fail> {
+/// Asserts the outcome of each case.
+fn assert_openings(rt: &impl Abort, alloc: Global, cases: &[(&str, Told)]) -> Result<(), Fail> {
     for (sql, wanted) in cases {
         is_judged(rt, alloc, new_files(alloc), sql, *wanted)?;
     }
@@ -282,32 +291,32 @@ fn are_judged(rt: &impl Abort, alloc: Global, cases: &[(&str, Told)]) -> Result<
 
 #[test]
 fn the_first_rule_that_rows_break_is_told(rt: HostRuntime) -> Result<(), Fail> {
-    are_judged(&rt, rt.alloc(), &ROWS)
+    assert_openings(&rt, rt.alloc(), &ROWS)
 }
 
 #[test]
 fn stocks_that_break_a_rule_are_told(rt: HostRuntime) -> Result<(), Fail> {
-    are_judged(&rt, rt.alloc(), &STOCKS)
+    assert_openings(&rt, rt.alloc(), &STOCKS)
 }
 
 #[test]
 fn tables_made_otherwise_are_refused(rt: HostRuntime) -> Result<(), Fail> {
-    are_judged(&rt, rt.alloc(), &SHAPES)
+    assert_openings(&rt, rt.alloc(), &SHAPES)
 }
 
 #[test]
 fn of_two_faults_the_first_is_told(rt: HostRuntime) -> Result<(), Fail> {
-    are_judged(&rt, rt.alloc(), &MEETINGS)
+    assert_openings(&rt, rt.alloc(), &MEETINGS)
 }
 
 #[test]
 fn an_empty_database_is_no_campaign(rt: HostRuntime) -> Result<(), Fail> {
     let conn = Connection::open_in_memory(rt.alloc())?;
-    is_told(&rt, asked(rt.alloc(), conn), Told::NotACampaign, "nothing");
+    assert_opening(&rt, asked(rt.alloc(), conn), Told::NotACampaign, "nothing");
     Ok(())
 }
 
-/// Statements that leave a transaction open, of a good campaign and where other faults meet.
+/// SQL statements that leave a transaction open, alone and together with other faults.
 static BEGUN: [&str; 5] = [
     "BEGIN",
     "BEGIN; DROP TABLE campaign",
@@ -316,13 +325,14 @@ static BEGUN: [&str; 5] = [
     "UPDATE unit SET guard = 1; BEGIN",
 ];
 
-/// Asserts that nothing is opened in the midst of a transaction.
+/// Asserts that opening is answered Store while a transaction is open.
 fn waits_for_the_end(rt: &impl Abort, alloc: Global, sql: &str) -> Result<(), Fail> {
     let conn = changed(rt, alloc, Connection::open_in_memory(alloc)?, sql)?;
-    is_told(rt, asked(alloc, conn), Told::Store, sql);
+    assert_opening(rt, asked(alloc, conn), Told::Store, sql);
     Ok(())
 }
 
+/// The same for each row of `BEGUN`.
 fn wait_for_the_end(rt: &impl Abort, alloc: Global) -> Result<(), Fail> {
     for sql in BEGUN.iter() {
         waits_for_the_end(rt, alloc, sql)?;

@@ -4,7 +4,7 @@ use sqlite_disk::{Disk, Files, Memory};
 use std::alloc::Global;
 use std::test::Fail;
 
-/// Files that hold nothing yet.
+/// Empty files.
 pub(crate) fn new_files(alloc: Global) -> Files<Memory> {
     Files {
         log: Memory::new(alloc),
@@ -12,6 +12,7 @@ pub(crate) fn new_files(alloc: Global) -> Files<Memory> {
     }
 }
 
+/// A connection to files.
 pub(crate) fn connected<D: Disk + Drop>(
     alloc: Global,
     files: Files<D>,

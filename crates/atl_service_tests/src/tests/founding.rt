@@ -1,11 +1,11 @@
-//! Refusals of founding.
+//! Tests of `found`: its refusals, and what it books.
 use super::commands::AVALON;
-use super::compare::is_text;
+use super::compare::assert_text;
 use super::damage::changed;
 use super::script::{Step, plays};
 use super::serving::Tables;
 use super::tables::MONEY;
-use super::unchanged::{EVERY_TABLE, all_rows, has_all_rows};
+use super::unchanged::{EVERY_TABLE, all_rows, assert_all_rows};
 use atl_service::{Cause, Refused, Service, found};
 use atl_test_worlds::{POOR, SMALL};
 use sqlite::{Alter, Connection};
@@ -13,7 +13,7 @@ use std::alloc::Global;
 use std::process::Abort;
 use std::test::Fail;
 
-/// The cause of a refusal in words.
+/// The name of a cause of refusal.
 pub(crate) fn told(cause: &Cause) -> &'static str {
     match cause {
         Cause::World(_) => "world",
@@ -29,8 +29,8 @@ pub(crate) fn told(cause: &Cause) -> &'static str {
     }
 }
 
-/// Asserts why there is no campaign, and hands the database back.
-pub(crate) fn is_refused<S: Alter>(
+/// Asserts that a founding, an opening or an upgrade was refused, and why; returns the connection.
+pub(crate) fn assert_refused<S: Alter>(
     rt: &impl Abort,
     tried: Result<Service<S>, Refused<S>>,
     words: &str,
@@ -41,13 +41,13 @@ pub(crate) fn is_refused<S: Alter>(
             service.end()
         }
         Err(Refused { why, conn }) => {
-            is_text(rt, told(&why), words);
+            assert_text(rt, told(&why), words);
             conn
         }
     }
 }
 
-/// Statements on an empty database, a world text and a pass text, and the first check that fails.
+/// SQL statements on an empty database, a world text, a pass text, and the first check that fails.
 static REFUSED: [(&str, &str, &str, &str); 8] = [
     ("", "a = = b", "a b", "world"),
     ("", SMALL, "a b", "bad pass text"),
@@ -79,8 +79,7 @@ static REFUSED: [(&str, &str, &str, &str); 8] = [
     ("BEGIN", SMALL, "gm", "store"),
 ];
 
-/// Asserts why no campaign is founded by a world text and a pass text, and that the tables have the same rows before and
-/// after.
+/// Asserts why a founding is refused, and that it changes no row.
 fn founds_nothing<S: Alter + Drop>(
     rt: &impl Abort,
     alloc: Global,
@@ -91,10 +90,11 @@ fn founds_nothing<S: Alter + Drop>(
     let (world, pass) = by;
     let mut conn = conn;
     let rows = all_rows(alloc, &mut conn)?;
-    let mut conn = is_refused(rt, found(alloc, conn, world, pass.as_bytes()), words);
-    has_all_rows(rt, alloc, &mut conn, rows.as_str())
+    let mut conn = assert_refused(rt, found(alloc, conn, world, pass.as_bytes()), words);
+    assert_all_rows(rt, alloc, &mut conn, rows.as_str())
 }
 
+/// Asserts one row of `REFUSED`.
 fn is_refused_after(
     rt: &impl Abort,
     alloc: Global,
@@ -106,6 +106,7 @@ fn is_refused_after(
     founds_nothing(rt, alloc, conn, (world, pass), words)
 }
 
+/// Asserts each row of `REFUSED`.
 fn are_refused(rt: &impl Abort, alloc: Global) -> Result<(), Fail> {
     for refused in REFUSED.iter() {
         is_refused_after(rt, alloc, refused)?;
@@ -118,7 +119,7 @@ fn the_first_check_that_fails_is_told(rt: HostRuntime) -> Result<(), Fail> {
     are_refused(&rt, rt.alloc())
 }
 
-/// Asserts that no campaign is founded where one is.
+/// Asserts that no second campaign is founded in a database.
 fn refuses_another(rt: &impl Abort, alloc: Global) -> Result<(), Fail> {
     let conn = changed(rt, alloc, Connection::open_in_memory(alloc)?, EVERY_TABLE)?;
     founds_nothing(rt, alloc, conn, (SMALL, "gm"), "not empty")
@@ -129,13 +130,16 @@ fn a_campaign_is_founded_once(rt: HostRuntime) -> Result<(), Fail> {
     refuses_another(&rt, rt.alloc())
 }
 
+/// Counts the rows of the books for money under Joining.
 const JOINING_MONEY: &str = "SELECT count(*) FROM books WHERE entry = 2 AND thing = 0";
 
+/// Sums the people booked under Joining.
 const JOINING_PEOPLE: &str = "SELECT sum(amount) FROM books WHERE entry = 2 AND thing = 1";
 
+/// Avalon joins.
 static AVALON_JOINS: [Step; 1] = [Step::Told(AVALON, "joined")];
 
-/// A faction has joined without money, and no money is booked under joining.
+/// What the tables hold after a faction joined without money: no money is booked under Joining.
 static AFTER_NO_MONEY: [(&str, Option<i64>); 3] = [
     (JOINING_MONEY, Some(0)),
     (JOINING_PEOPLE, Some(1)),

@@ -1,51 +1,59 @@
-//! Joins of campaigns with many units and factions: with room for one more, and full ones.
+//! Tests of `Join` in campaigns with many units and factions: those with room for one more, and
+//! full ones.
 use super::commands::AVALON;
 use super::making::{begun_in_memory, opened};
 use super::script::{Asked, Step, follow};
 use super::serving::Tables;
-use super::tables::{FACTIONS, NEXT, UNITS, holds};
+use super::tables::{FACTIONS, NEXT, UNITS, assert_tables};
 use atl_test_worlds::SMALL;
 use sqlite::{Connection, MemStore, params};
 use std::alloc::Global;
 use std::process::Abort;
 use std::test::Fail;
 
-/// Each number that is there has one `?1` above it, if that isn't past `?2`.
+/// SQL that adds, for each unit, one with a number higher by `?1`, up to `?2`.
 const MORE_UNITS: &str =
     "INSERT INTO unit SELECT number + ?1, 1, 'Unit', 1, 0, 1, 0, 0 FROM unit WHERE number + ?1 <= ?2";
 
+/// SQL that adds, for each faction, a gone one with a number higher by `?1`, up to `?2`.
 const MORE_FACTIONS: &str =
     "INSERT INTO faction SELECT number + ?1, 'F' || (number + ?1), 'F' || (number + ?1), 'pw', 1 FROM faction WHERE number + ?1 <= ?2";
 
-/// What the rows are doubled by, until there are all.
+/// By how much the numbers are raised in turn: each step doubles the rows.
 static STEPS: [i64; 17] = [
     1, 2, 4, 8, 16, 32, 64, 128, 256, 512, 1024, 2048, 4096, 8192, 16384, 32768, 65536,
 ];
 
-/// Avalon's units are booked.
+/// SQL that makes the books fit 10,000 units, and sets the next unit number.
 const MANY_ARE_BOOKED: &str =
     "UPDATE books SET amount = amount + 9999 WHERE entry = 1 AND thing = 1;
 UPDATE campaign SET next_unit = 10001";
 
+/// SQL that makes the books fit 100,000 units, and sets the next unit number.
 const UNITS_ARE_FULL: &str =
     "UPDATE books SET amount = amount + 99999 WHERE entry = 1 AND thing = 1;
 UPDATE campaign SET next_unit = 100001";
 
-/// The other factions are gone and have reports.
+/// SQL that gives each gone faction a report, and sets the next faction number beyond the last.
 const FACTIONS_ARE_FULL: &str =
     "INSERT INTO report SELECT number, 'Gone.' FROM faction WHERE gone = 1;
 UPDATE campaign SET next_faction = 10000";
 
+/// SQL that sets the next unit number beyond the last.
 const NUMBERS_ARE_FULL: &str = "UPDATE campaign SET next_unit = 1000000000";
 
+/// The command by which Bree joins.
 const BREE: Asked = Asked::Join("Bree", "pb", 0);
 
+/// Bree joins.
 const BREE_JOINS: [Step; 1] = [Step::Told(BREE, "joined")];
 
+/// Bree is refused, as the campaign is full.
 const NOBODY_JOINS: [Step; 1] = [Step::Told(BREE, "full")];
 
-/// A campaign that is filled by hand: what doubles its rows, up to which number, what makes it good again, a joining then, and
-/// what the tables hold behind it.
+/// A campaign filled by hand, a join in it, and what the tables hold afterwards.
+/// The SQL of `more` doubles the rows up to a number, and that of `then` makes the campaign good
+/// again.
 struct Filled {
     more: Option<(&'static str, i64)>,
     then: &'static str,
@@ -53,7 +61,8 @@ struct Filled {
     rows: &'static [(&'static str, Option<i64>)],
 }
 
-/// Avalon has 10,000 units, and 100,000; 9,998 more factions joined, and are gone; the last unit number was given.
+/// Campaigns with 10,000 units, with 100,000, with 9,998 gone factions, and with the last unit
+/// number given.
 static FILLED: [Filled; 4] = [
     Filled {
         more: Some((MORE_UNITS, 10_000)),
@@ -97,16 +106,17 @@ static FILLED: [Filled; 4] = [
     },
 ];
 
+/// Avalon joins.
 static AVALON_JOINS: [Step; 1] = [Step::Told(AVALON, "joined")];
 
-/// The small world's campaign, with Avalon in it.
+/// The database of the small world that Avalon has joined.
 fn joined(rt: &impl Abort, alloc: Global) -> Result<Connection<MemStore>, Fail> {
     let mut service = begun_in_memory(alloc, SMALL)?;
     follow(rt, alloc, &mut service, &AVALON_JOINS)?;
     Ok(service.end())
 }
 
-/// Doubles the rows of a table, up to a number.
+/// Doubles the rows of a table until it has the number `last`.
 fn doubled(conn: &mut Connection<MemStore>, sql: &str, last: i64) -> Result<(), Fail> {
     for step in STEPS.iter() {
         conn.execute(sql, params![*step, last])?;
@@ -114,7 +124,7 @@ fn doubled(conn: &mut Connection<MemStore>, sql: &str, last: i64) -> Result<(), 
     Ok(())
 }
 
-/// Fills a campaign by hand.
+/// Fills a campaign by hand, as a row says.
 fn fill(conn: &mut Connection<MemStore>, filled: &Filled) -> Result<(), Fail> {
     if let Some((sql, last)) = filled.more {
         doubled(conn, sql, last)?;
@@ -122,7 +132,7 @@ fn fill(conn: &mut Connection<MemStore>, filled: &Filled) -> Result<(), Fail> {
     conn.change(filled.then)
 }
 
-/// Asserts what a joining is answered, and what the tables hold behind it.
+/// Asserts the answer to the join, and what the tables hold afterwards.
 fn answers(
     rt: &impl Abort,
     alloc: Global,
@@ -131,16 +141,18 @@ fn answers(
 ) -> Result<(), Fail> {
     let mut service = opened(alloc, conn)?;
     let done = follow(rt, alloc, &mut service, filled.steps);
-    holds(rt, &mut service.end(), filled.rows);
+    assert_tables(rt, &mut service.end(), filled.rows);
     done
 }
 
+/// Fills a campaign, and asserts the answer to a join in it.
 fn is_filled(rt: &impl Abort, alloc: Global, filled: &Filled) -> Result<(), Fail> {
     let mut conn = joined(rt, alloc)?;
     fill(&mut conn, filled)?;
     answers(rt, alloc, conn, filled)
 }
 
+/// Asserts each row of `FILLED`.
 fn are_filled(rt: &impl Abort, alloc: Global) -> Result<(), Fail> {
     for filled in FILLED.iter() {
         is_filled(rt, alloc, filled)?;

@@ -1,10 +1,12 @@
-//! A campaign whose last month was closed.
+//! Tests that no month is closed after the last one, 9,999.
 use super::script::{Asked, Step};
 use super::unchanged::refuses;
 use std::test::Fail;
 
+/// SQL that makes month 9,999 the last closed one.
 const LAST_IS_CLOSED: &str = "UPDATE campaign SET month = 9999";
 
+/// Closings after the last month, all refused.
 static NO_MONTH_MORE: [Step; 3] = [
     Step::Told(Asked::Close(9999, "gm", &[0]), "wrong month"),
     Step::Told(Asked::Close(10000, "gm", &[0]), "month limit"),

@@ -1,4 +1,4 @@
-//! Storing mailings, and their refusals.
+//! Tests of `Mail`: storing mailings, and refusals.
 use super::commands::AVALON;
 use super::script::{Asked, Step, plays};
 use super::tables::{MAIL_BYTES, MAILINGS};
@@ -6,17 +6,21 @@ use super::unchanged::{EVERY_TABLE, refuses};
 use atl_test_worlds::SMALL;
 use std::test::Fail;
 
+/// A mailing with a faulty line (ATTACK) and a good order.
 pub(crate) const FAULTY: &str =
     "From: a club\r\n\r\n#ATLANTIS 1 secret\r\nUNIT 1 ; the first\r\nATTACK 2\r\nwork\r\n";
 
+/// A mailing that forms a unit, with three orders.
 const FORMS: &str = "#ATLANTIS 1\nUNIT 1\nFORM 1\nRECRUIT 2\nEND\nPAY NEW 1 100\n#END\n";
 
+/// A mailing with a faulty line is stored whole.
 static ONE_FAULTY: [Step; 3] = [
     Step::Told(AVALON, "joined"),
     Step::Mailed(Asked::Mail(1, "pw", FAULTY), 1, &[(5, 2)]),
     Step::Keeps(Some(FAULTY)),
 ];
 
+/// What the tables hold after one mailing.
 static AFTER_ONE: [(&str, Option<i64>); 1] = [(MAILINGS, Some(1))];
 
 #[test]
@@ -24,6 +28,7 @@ fn one_faulty_line(rt: HostRuntime) -> Result<(), Fail> {
     plays(&rt, rt.alloc(), SMALL, &ONE_FAULTY, &AFTER_ONE)
 }
 
+/// Two mailings of a faction: the second replaces the first.
 static TWO_SENT: [Step; 4] = [
     Step::Told(AVALON, "joined"),
     Step::Mailed(Asked::Mail(1, "pw", FAULTY), 1, &[(5, 2)]),
@@ -31,6 +36,7 @@ static TWO_SENT: [Step; 4] = [
     Step::Keeps(Some(FORMS)),
 ];
 
+/// What the tables hold after the second mailing.
 static AFTER_TWO: [(&str, Option<i64>); 2] = [(MAILINGS, Some(1)), (MAIL_BYTES, Some(59))];
 
 #[test]
@@ -38,6 +44,7 @@ fn the_last_mailing_is_kept(rt: HostRuntime) -> Result<(), Fail> {
     plays(&rt, rt.alloc(), SMALL, &TWO_SENT, &AFTER_TWO)
 }
 
+/// Refused mailings, one for each refusal.
 static REFUSED: [Step; 7] = [
     Step::Told(Asked::Mail(9, "no", "hello"), "no faction"),
     Step::Told(Asked::Mail(1, "no", "hello"), "wrong pass"),
@@ -53,6 +60,7 @@ fn a_refused_mailing_changes_nothing(rt: HostRuntime) -> Result<(), Fail> {
     refuses(&rt, rt.alloc(), EVERY_TABLE, &REFUSED)
 }
 
+/// A mailing of 65,537 bytes is refused, and one of 65,536 is stored.
 static LIMITS: [Step; 4] = [
     Step::Told(AVALON, "joined"),
     Step::Told(Asked::LongMail("pw", 65_526), "too long"),
@@ -60,6 +68,7 @@ static LIMITS: [Step; 4] = [
     Step::Told(Asked::LongMail("pw", 65_525), "mailed"),
 ];
 
+/// What the tables hold after the long mailing.
 static AFTER_LONG: [(&str, Option<i64>); 2] = [(MAILINGS, Some(1)), (MAIL_BYTES, Some(65_536))];
 
 #[test]

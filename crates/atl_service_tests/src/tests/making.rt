@@ -1,4 +1,4 @@
-//! Commands and services. Of what is large (a service, a connection, a command) each function holds one and lends it.
+//! Makes the commands and services of these tests, and names answers.
 use super::serving::Tables;
 use atl_service::{Answer, Command, Fault, Refusal, Service, found, open};
 use atl_tables::Sequence;
@@ -6,10 +6,12 @@ use sqlite::{Alter, Connection, MemStore};
 use std::alloc::Global;
 use std::test::Fail;
 
+/// The bytes of a text.
 fn bytes(alloc: Global, text: &str) -> Result<Sequence<u8>, Fail> {
     Ok(Sequence::from_slice(alloc, text.as_bytes())?)
 }
 
+/// The command `Join`.
 pub(crate) fn join(alloc: Global, name: &str, pass: &str, word: u32) -> Result<Command, Fail> {
     Ok(Command::Join {
         name: bytes(alloc, name)?,
@@ -18,6 +20,7 @@ pub(crate) fn join(alloc: Global, name: &str, pass: &str, word: u32) -> Result<C
     })
 }
 
+/// The command `Mail`.
 pub(crate) fn mail(alloc: Global, faction: u32, pass: &str, text: &str) -> Result<Command, Fail> {
     Ok(Command::Mail {
         faction,
@@ -26,13 +29,14 @@ pub(crate) fn mail(alloc: Global, faction: u32, pass: &str, text: &str) -> Resul
     })
 }
 
+/// A mailing's header of 11 bytes, followed by `feeds` line feeds.
 fn header_and_feeds(alloc: Global, feeds: usize) -> Result<Sequence<u8>, Fail> {
     let mut text = Vec::from_slice(alloc, b"#ATLANTIS 1")?;
     text.extend_from_slice(&b"\n".repeat(alloc, feeds)?)?;
     Ok(Sequence::from_vec(text))
 }
 
-/// A mailing of the first faction: a header of 11 bytes and so many line feeds.
+/// The command `Mail` of faction 1 with a header of 11 bytes and `feeds` line feeds.
 pub(crate) fn long_mail(alloc: Global, pass: &str, feeds: usize) -> Result<Command, Fail> {
     Ok(Command::Mail {
         faction: 1,
@@ -41,6 +45,7 @@ pub(crate) fn long_mail(alloc: Global, pass: &str, feeds: usize) -> Result<Comma
     })
 }
 
+/// The command `Close`.
 pub(crate) fn close(alloc: Global, month: u32, pass: &str, words: &[u32]) -> Result<Command, Fail> {
     Ok(Command::Close {
         month,
@@ -49,6 +54,7 @@ pub(crate) fn close(alloc: Global, month: u32, pass: &str, words: &[u32]) -> Res
     })
 }
 
+/// The command `Report`.
 pub(crate) fn report(alloc: Global, faction: u32, pass: &str) -> Result<Command, Fail> {
     Ok(Command::Report {
         faction,
@@ -56,7 +62,7 @@ pub(crate) fn report(alloc: Global, faction: u32, pass: &str) -> Result<Command,
     })
 }
 
-/// A campaign of a world, in this database.
+/// The service of a campaign of a world just founded in a database.
 pub(crate) fn begun<S: Alter + Drop>(
     alloc: Global,
     conn: Connection<S>,
@@ -68,12 +74,12 @@ pub(crate) fn begun<S: Alter + Drop>(
     }
 }
 
-/// A campaign of a world, in a database of its own in memory.
+/// The service of a campaign of a world just founded in a new database in memory.
 pub(crate) fn begun_in_memory(alloc: Global, world: &str) -> Result<Service<MemStore>, Fail> {
     begun(alloc, Connection::open_in_memory(alloc)?, world)
 }
 
-/// The campaign that a database holds.
+/// The service of the campaign that a database holds.
 pub(crate) fn opened<S: Alter + Drop>(
     alloc: Global,
     conn: Connection<S>,
@@ -84,7 +90,7 @@ pub(crate) fn opened<S: Alter + Drop>(
     }
 }
 
-/// A campaign in whose tables these statements put rows by hand.
+/// The service of the campaign that a database holds after SQL statements on it.
 pub(crate) fn filled<S: Alter + Drop>(
     alloc: Global,
     conn: Connection<S>,
@@ -95,7 +101,7 @@ pub(crate) fn filled<S: Alter + Drop>(
     opened(alloc, conn)
 }
 
-/// An answer in words.
+/// An answer in words: its kind, the name of its refusal or fault, or its text.
 pub(crate) fn told(answer: &Answer) -> &str {
     match answer {
         Answer::Joined { .. } => "joined",

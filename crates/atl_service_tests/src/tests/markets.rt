@@ -1,4 +1,4 @@
-//! A market over three months: a unit buys of its stock, and then none is wanted.
+//! Tests of a market over three months: it is stocked, a unit buys, and then it wants nothing more.
 use super::closing::MONTH_ONE;
 use super::commands::AVALON;
 use super::script::{Asked, Step, plays};
@@ -6,6 +6,7 @@ use super::tables::{FORMAT, GOODS, MONEY, MONTH, REGION_MONEY, STOCK, STOCKED};
 use atl_test_worlds::MART;
 use std::test::Fail;
 
+/// Avalon's first report, with an empty market.
 const NOTHING_IN_STOCK: &str = "Atlantis report, month 0, faction 1 \"Avalon\".
 Orders:
 None.
@@ -15,9 +16,11 @@ Market wood: 0 in stock at 7, 30 wanted at 5.
 * Unit 1 \"Unit 1\": 1 men, 1000 money.
 ";
 
+/// The mailing by which unit 1 buys 3 wood.
 const BUYS: Asked = Asked::Mail(1, "pw", "#ATLANTIS 1\nUNIT 1\nBUY 3 wood\n");
 
-/// Of 20 in stock 3 are bought for 7 each, and then it is full again.
+/// Avalon's report on month 2: of 20 wood in stock 3 are bought for 7 each, and then it is full
+/// again.
 const AFTER_BUYING: &str = "Atlantis report, month 2, faction 1 \"Avalon\".
 Orders:
 Unit 1, line 3, BUY: done 3.
@@ -28,6 +31,7 @@ Market wood: 30 in stock at 7, 0 wanted at 5.
 * Unit 1 \"Unit 1\": 1 men, 983 money, 3 wood.
 ";
 
+/// The text of the books after month 2.
 const BOOKS_AFTER_BUYING: &str = "money founding 500
 money joining 1000
 money income 2000
@@ -42,8 +46,10 @@ item \"wood\" stocked 33
 item \"wood\" total 33
 ";
 
+/// The mailing by which unit 1 offers 2 wood.
 const SELLS: Asked = Asked::Mail(1, "pw", "#ATLANTIS 1\nUNIT 1\nSELL 2 wood\n");
 
+/// Avalon's report on month 3: the market is full and buys nothing.
 const AFTER_SELLING: &str = "Atlantis report, month 3, faction 1 \"Avalon\".
 Orders:
 Unit 1, line 3, SELL: done 0.
@@ -54,18 +60,21 @@ Market wood: 30 in stock at 7, 0 wanted at 5.
 * Unit 1 \"Unit 1\": 1 men, 985 money, 3 wood.
 ";
 
+/// A month that stocks the market.
 static STOCKED_ONCE: [Step; 3] = [
     Step::Joined(AVALON, 1, 1),
     Step::Told(Asked::Report(1, "pw"), NOTHING_IN_STOCK),
     Step::Closed(MONTH_ONE, 1),
 ];
 
+/// What the tables hold after that month.
 static AFTER_STOCKING: [(&str, Option<i64>); 3] = [
     (FORMAT, Some(2)),
     (STOCKED, Some(1)),
     (STOCK, Some(20)),
 ];
 
+/// What the tables hold before any month.
 static NOBODY_THERE: [(&str, Option<i64>); 2] = [(STOCKED, Some(0)), (STOCK, None)];
 
 #[test]
@@ -74,6 +83,7 @@ fn a_market_is_stocked(rt: HostRuntime) -> Result<(), Fail> {
     plays(&rt, rt.alloc(), MART, &STOCKED_ONCE, &AFTER_STOCKING)
 }
 
+/// Three months: the market is stocked, a unit buys, and it tries to sell.
 static TRADES: [Step; 9] = [
     Step::Joined(AVALON, 1, 1),
     Step::Closed(MONTH_ONE, 1),
@@ -86,6 +96,7 @@ static TRADES: [Step; 9] = [
     Step::Told(Asked::Report(1, "pw"), AFTER_SELLING),
 ];
 
+/// What the tables hold after the three months.
 static AFTER_TRADES: [(&str, Option<i64>); 6] = [
     (MONTH, Some(3)),
     (MONEY, Some(985)),

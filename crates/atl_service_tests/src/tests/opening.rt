@@ -1,13 +1,13 @@
-//! A campaign that is opened again, on its connection and from its files, and goes on.
+//! Tests of `open`: a campaign that is opened again, on its connection and from its files, goes on.
 use super::closing::{AFTER_WORK, MONTH_ONE};
 use super::commands::{AVALON, FIRST_REPORT, SECOND_REPORT};
-use super::compare::is_text;
+use super::compare::assert_text;
 use super::files::{connected, new_files};
-use super::founding::is_refused;
+use super::founding::assert_refused;
 use super::making::{begun, opened};
 use super::script::{Asked, Step, follow};
 use super::serving::{Served, Tables};
-use super::tables::holds;
+use super::tables::assert_tables;
 use atl_service::{Service, found};
 use atl_state::{Campaign, check};
 use atl_tables::World;
@@ -18,8 +18,9 @@ use std::alloc::Global;
 use std::process::Abort;
 use std::test::Fail;
 
-/// What is done with a database before it is opened again: a campaign of this world is founded, or, with none, the one that is there is
-/// opened; then come steps, statements by hand, and what the tables hold.
+/// What is done with a database between two openings: a world to found, steps, SQL statements, and
+/// queries afterwards.
+/// Without a world the campaign that is there is opened.
 pub(crate) struct Session {
     pub(crate) world: Option<&'static str>,
     pub(crate) steps: &'static [Step],
@@ -27,31 +28,31 @@ pub(crate) struct Session {
     pub(crate) after: &'static [(&'static str, Option<i64>)],
 }
 
-/// The first faction joins and sends its orders.
+/// Avalon joins and sends a mailing.
 const AVALON_COMES: [Step; 3] = [
     Step::Joined(AVALON, 1, 1),
     Step::Mailed(Asked::Mail(1, "pw", "#ATLANTIS 1\nUNIT 1\nWORK\n"), 1, &[]),
     Step::Told(Asked::Report(1, "pw"), FIRST_REPORT),
 ];
 
-/// The first faction is as it was, and the second joins.
+/// Avalon's report and mail are unchanged, and Bree joins.
 pub(crate) const BREE_COMES: [Step; 3] = [
     Step::Told(Asked::Report(1, "pw"), FIRST_REPORT),
     Step::Keeps(Some("#ATLANTIS 1\nUNIT 1\nWORK\n")),
     Step::Joined(Asked::Join("Bree", "pb", 0), 2, 2),
 ];
 
-/// Both are as they were.
+/// Both factions and their reports are unchanged.
 pub(crate) const BOTH_ARE_THERE: [Step; 3] = [
     Step::Numbers(3, 3, 2),
     Step::Told(Asked::Report(1, "pw"), FIRST_REPORT),
     Step::Told(Asked::Report(2, "pb"), SECOND_REPORT),
 ];
 
-/// A faction joins, and its first month is closed.
+/// Avalon joins, and month 1 is closed.
 const A_MONTH: [Step; 2] = [Step::Joined(AVALON, 1, 1), Step::Closed(MONTH_ONE, 1)];
 
-/// The closed month is as it was, and isn't closed again.
+/// Month 1 is still closed, and isn't closed again.
 const AFTER_A_MONTH: [Step; 4] = [
     Step::Month(1),
     Step::Told(MONTH_ONE, "wrong month"),
@@ -59,17 +60,18 @@ const AFTER_A_MONTH: [Step; 4] = [
     Step::Keeps(None),
 ];
 
-/// All rows of a campaign, written out.
+/// All rows of a campaign, as `Debug` prints them.
 fn rows_of(alloc: Global, campaign: &Campaign) -> Result<String, Fail> {
     let parts = campaign.parts()?;
     Ok(format!(in alloc; "{parts:?}")?)
 }
 
+/// All rows of a service's campaign, as `Debug` prints them.
 pub(crate) fn rows_in(alloc: Global, service: &impl Served) -> Result<String, Fail> {
     rows_of(alloc, service.campaign().ok_or("closed")?)
 }
 
-/// Takes the steps, and gives the rows then.
+/// All rows of a service's campaign after some steps.
 fn rows_after(
     rt: &impl Abort,
     alloc: Global,
@@ -80,17 +82,19 @@ fn rows_after(
     rows_in(alloc, service)
 }
 
-pub(crate) fn has_rows(
+/// Asserts all rows of a service's campaign.
+pub(crate) fn assert_rows(
     rt: &impl Abort,
     alloc: Global,
     service: &impl Served,
     rows: &str,
 ) -> Result<(), Fail> {
     let told = rows_in(alloc, service)?;
-    is_text(rt, told.as_str(), rows);
+    assert_text(rt, told.as_str(), rows);
     Ok(())
 }
 
+/// The service of a world just founded, or of what the database holds.
 fn served<S: Alter + Drop>(
     alloc: Global,
     conn: Connection<S>,
@@ -102,8 +106,8 @@ fn served<S: Alter + Drop>(
     }
 }
 
-/// One session. The campaign has the rows with which the one before has ended, if there was one, and the database comes back with the
-/// rows then.
+/// Plays a session; the campaign must have the rows of the session before. The result is its rows
+/// at the end, and the connection.
 fn played<S: Alter + Drop>(
     rt: &impl Abort,
     alloc: Global,
@@ -113,17 +117,17 @@ fn played<S: Alter + Drop>(
 ) -> Result<(String, Connection<S>), Fail> {
     let mut service = served(alloc, conn, session.world)?;
     if !rows.is_empty() {
-        has_rows(rt, alloc, &service, rows)?;
+        assert_rows(rt, alloc, &service, rows)?;
     }
     let rows = rows_after(rt, alloc, &mut service, session.steps);
     let mut conn = service.end();
     let rows = rows?;
     conn.change(session.by_hand)?;
-    holds(rt, &mut conn, session.after);
+    assert_tables(rt, &mut conn, session.after);
     Ok((rows, conn))
 }
 
-/// Sessions on one connection.
+/// Plays sessions on one connection.
 fn on_connection(
     rt: &impl Abort,
     alloc: Global,
@@ -137,7 +141,7 @@ fn on_connection(
     Ok((rows, conn))
 }
 
-/// The same, where the files are closed and opened in between.
+/// Plays sessions in files that are closed and opened in between.
 pub(crate) fn in_files<D: Disk + Drop>(
     rt: &impl Abort,
     alloc: Global,
@@ -155,7 +159,7 @@ pub(crate) fn in_files<D: Disk + Drop>(
     Ok(())
 }
 
-/// The campaign that the rules of the tables make of another one's rows.
+/// The campaign that `check` makes of the rows of another.
 fn checked(alloc: Global, world: &World, campaign: &Campaign) -> Result<Campaign, Fail> {
     match check(alloc, world, campaign.parts()?) {
         Ok(again) => Ok(again),
@@ -163,7 +167,7 @@ fn checked(alloc: Global, world: &World, campaign: &Campaign) -> Result<Campaign
     }
 }
 
-/// Asserts that a campaign has these rows, and that they make it again.
+/// Asserts a campaign's rows, and that `check` makes the same campaign of them.
 fn is_made_of(
     rt: &impl Abort,
     alloc: Global,
@@ -171,14 +175,14 @@ fn is_made_of(
     campaign: &Campaign,
     rows: &str,
 ) -> Result<(), Fail> {
-    is_text(rt, rows_of(alloc, campaign)?.as_str(), rows);
+    assert_text(rt, rows_of(alloc, campaign)?.as_str(), rows);
     let again = checked(alloc, world, campaign)?;
-    is_text(rt, rows_of(alloc, &again)?.as_str(), rows);
+    assert_text(rt, rows_of(alloc, &again)?.as_str(), rows);
     Ok(())
 }
 
-/// Opens the campaign, and asserts that it has these rows and is made of them again.
-fn stands(
+/// Opens the campaign, and asserts its rows, and that `check` makes the same campaign of them.
+fn assert_campaign(
     rt: &impl Abort,
     alloc: Global,
     conn: Connection<MemStore>,
@@ -189,6 +193,7 @@ fn stands(
     is_made_of(rt, alloc, service.world(), campaign, rows)
 }
 
+/// A session that closes a month, and one that finds it closed.
 static MONTH_STANDS: [Session; 2] = [
     Session {
         world: Some(SMALL),
@@ -204,11 +209,12 @@ static MONTH_STANDS: [Session; 2] = [
     },
 ];
 
-/// A month is closed, and neither a second closing nor another founding changes a row of the tables.
+/// Asserts that neither a second closing nor another founding changes a row after a month was
+/// closed.
 fn a_month_stands(rt: &impl Abort, alloc: Global) -> Result<(), Fail> {
     let (rows, conn) = on_connection(rt, alloc, &MONTH_STANDS)?;
-    let conn = is_refused(rt, found(alloc, conn, SMALL, b"gm"), "not empty");
-    stands(rt, alloc, conn, rows.as_str())
+    let conn = assert_refused(rt, found(alloc, conn, SMALL, b"gm"), "not empty");
+    assert_campaign(rt, alloc, conn, rows.as_str())
 }
 
 #[test]
@@ -216,6 +222,7 @@ fn a_closed_month_is_opened_again(rt: HostRuntime) -> Result<(), Fail> {
     a_month_stands(&rt, rt.alloc())
 }
 
+/// A campaign is founded, and opened twice.
 static COMES_BACK: [Session; 3] = [
     Session {
         world: Some(SMALL),
@@ -237,10 +244,10 @@ static COMES_BACK: [Session; 3] = [
     },
 ];
 
-/// Opens a campaign twice on its connection, where no other is founded then.
+/// Asserts that a campaign is opened twice on its connection, and that no other is founded there.
 fn comes_back(rt: &impl Abort, alloc: Global) -> Result<(), Fail> {
     let (_, conn) = on_connection(rt, alloc, &COMES_BACK)?;
-    is_refused(rt, found(alloc, conn, SMALL, b"gm"), "not empty");
+    assert_refused(rt, found(alloc, conn, SMALL, b"gm"), "not empty");
     Ok(())
 }
 
@@ -254,11 +261,12 @@ fn a_campaign_is_opened_from_its_files(rt: HostRuntime) -> Result<(), Fail> {
     in_files(&rt, rt.alloc(), new_files(rt.alloc()), &COMES_BACK)
 }
 
+/// SQL that adds a table of notes with an index.
 const NOTES: &str = "CREATE TABLE notes (number INTEGER NOT NULL, words TEXT NOT NULL);
 CREATE INDEX notes_by_words ON notes (words);
 INSERT INTO notes (number, words) VALUES (7, 'pay the printer')";
 
-/// The number of the note that is there.
+/// Queries for the note, and their results.
 pub(crate) const NOTED: [(&str, Option<i64>); 2] = [
     ("SELECT count(*) FROM notes", Some(1)),
     (
@@ -267,7 +275,7 @@ pub(crate) const NOTED: [(&str, Option<i64>); 2] = [
     ),
 ];
 
-/// A table of a person's own, with an index, is carried along.
+/// The sessions of `COMES_BACK`, in a database with a table of a person's own.
 static WITH_NOTES: [Session; 3] = [
     Session {
         world: Some(SMALL),

@@ -1,4 +1,5 @@
-//! Months in which orders are carried out.
+//! Tests of months with orders: one that forms a unit without recruits, and one in which a faction
+//! quits.
 use super::closing::MONTH_ONE;
 use super::commands::AVALON;
 use super::script::{Asked, Step, plays};
@@ -6,7 +7,8 @@ use super::tables::{FACTIONS, MAILINGS, MONEY, MONTH, NEXT, REGION_MONEY, UNITS}
 use atl_test_worlds::{SMALL, THREE_PEASANTS};
 use std::test::Fail;
 
-/// With three peasants nobody can be recruited. The new unit has no men: it is swept, and what it was paid goes back.
+/// The mailing of a unit that forms another, recruits and pays it. Three peasants give no recruit,
+/// so the new unit is swept.
 const FORMED: &str = "#ATLANTIS 1
 UNIT 1
 FORM 1
@@ -16,6 +18,7 @@ PAY NEW 1 100
 #END
 ";
 
+/// Avalon's report on that month; what the new unit was paid comes back.
 const AFTER_FORMING: &str = "Atlantis report, month 1, faction 1 \"Avalon\".
 Orders:
 Unit 1, line 3, FORM: done 2.
@@ -27,6 +30,7 @@ Exits: none.
 * Unit 1 \"Unit 1\": 1 men, 1002 money.
 ";
 
+/// The steps of that month.
 static NOBODY_COMES: [Step; 5] = [
     Step::Joined(AVALON, 1, 1),
     Step::Mailed(Asked::Mail(1, "pw", FORMED), 3, &[]),
@@ -35,6 +39,7 @@ static NOBODY_COMES: [Step; 5] = [
     Step::Numbers(2, 3, 1),
 ];
 
+/// What the tables hold after that month.
 static AFTER_NOBODY_CAME: [(&str, Option<i64>); 4] = [
     (NEXT, Some(200003)),
     (UNITS, Some(1)),
@@ -53,20 +58,21 @@ fn nobody_is_recruited_of_three_peasants(rt: HostRuntime) -> Result<(), Fail> {
     )
 }
 
-/// The second line has the faction's own number.
+/// A mailing with two QUIT orders; the second has the faction's own number.
 const QUITS: &str = "#ATLANTIS 1
 UNIT 1
 QUIT 2
 QUIT 1
 ";
 
+/// The report of the faction that quit.
 const AFTER_QUITTING: &str = "Atlantis report, month 1, faction 1 \"Avalon\".
 Orders:
 Unit 1, line 3, QUIT: fault 11 WrongNumber.
 Unit 1, line 4, QUIT: done 0.
 ";
 
-/// Its one man left, and what he had is lost.
+/// The text of the books then: its one man has left, and what he had is lost.
 const BOOKS_AFTER_QUITTING: &str = "money founding 500
 money joining 1000
 money income 1000
@@ -78,6 +84,7 @@ people left -1
 people total 1000
 ";
 
+/// The steps of a month in which the faction quits, and its refusals afterwards.
 static IT_QUITS: [Step; 6] = [
     Step::Joined(AVALON, 1, 1),
     Step::Mailed(Asked::Mail(1, "pw", QUITS), 2, &[]),
@@ -87,6 +94,7 @@ static IT_QUITS: [Step; 6] = [
     Step::Books(BOOKS_AFTER_QUITTING),
 ];
 
+/// What the tables hold after that month.
 static AFTER_IT_QUIT: [(&str, Option<i64>); 4] = [
     (MONTH, Some(1)),
     (FACTIONS, Some(1)),

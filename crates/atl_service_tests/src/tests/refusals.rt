@@ -1,6 +1,6 @@
-//! Refused commands change nothing.
+//! Tests of refused joins and reports, which change nothing, and of the numbers of refusals.
 use super::commands::{AVALON, FIRST_REPORT};
-use super::compare::is_number;
+use super::compare::assert_number;
 use super::script::{Asked, Step, plays};
 use super::tables::AFTER_JOINING;
 use super::unchanged::{EVERY_TABLE, refuses};
@@ -8,8 +8,10 @@ use atl_service::Refusal;
 use atl_test_worlds::SMALL;
 use std::test::Fail;
 
+/// Avalon joins.
 static JOINS_ONCE: [Step; 1] = [Step::Told(AVALON, "joined")];
 
+/// Avalon joins, and is refused the second time.
 static JOINS_TWICE: [Step; 5] = [
     Step::Told(AVALON, "joined"),
     Step::Numbers(2, 2, 1),
@@ -24,6 +26,7 @@ fn a_name_is_taken_once(rt: HostRuntime) -> Result<(), Fail> {
     plays(&rt, rt.alloc(), SMALL, &JOINS_TWICE, &AFTER_JOINING)
 }
 
+/// Refused joins and reports.
 static REFUSED: [Step; 6] = [
     Step::Told(Asked::Join(" x", "a b", 0), "bad name"),
     Step::Told(Asked::Join("Avalon", "a b", 0), "bad pass text"),
@@ -38,6 +41,7 @@ fn refused_joinings_and_reports_change_nothing(rt: HostRuntime) -> Result<(), Fa
     refuses(&rt, rt.alloc(), EVERY_TABLE, &REFUSED)
 }
 
+/// Each refusal and its number.
 static NUMBERS: [(Refusal, u8); 14] = [
     (Refusal::BadName, 1),
     (Refusal::BadPassText, 2),
@@ -58,6 +62,6 @@ static NUMBERS: [(Refusal, u8); 14] = [
 #[test]
 fn refusals_have_their_numbers(rt: HostRuntime) {
     for (refusal, number) in NUMBERS.iter() {
-        is_number(&rt, i64::from(refusal.number()), i64::from(*number));
+        assert_number(&rt, i64::from(refusal.number()), i64::from(*number));
     }
 }

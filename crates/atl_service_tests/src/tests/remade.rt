@@ -1,4 +1,5 @@
-//! A database that sqlite3 wrote, after ANALYZE, REINDEX and VACUUM and with a table and an index of a person's own.
+//! Tests that a file that sqlite3 wrote, after ANALYZE, REINDEX and VACUUM and with a table and an
+//! index of one's own, is opened.
 use super::files::new_files;
 use super::opening::{BOTH_ARE_THERE, BREE_COMES, NOTED, Session, in_files};
 use super::script::Step;
@@ -6,11 +7,11 @@ use sqlite_disk::{Disk, Files, Memory};
 use std::alloc::Global;
 use std::test::Fail;
 
-/// The length of the file.
+/// The length of the file in bytes.
 const LENGTH: usize = 11776;
 
-/// The bytes of the file that are not 0, with their places. It holds the small world, in which Avalon has joined and sent
-/// its orders.
+/// The bytes of the file that aren't 0, each run with its offset. It holds the small world, with
+/// Avalon and its mailing.
 static PIECES: [(usize, &[u8]); 28] = [
     (
         0,
@@ -102,6 +103,7 @@ static PIECES: [(usize, &[u8]); 28] = [
     (11757, b"\x12\x03+\x09pay the printer"),
 ];
 
+/// Writes bytes at an offset of a disk.
 fn put<D: Disk>(disk: &mut D, place: usize, piece: &[u8]) -> Result<(), Fail> {
     if !disk.may_be_used() {
         return Err(Fail::new("the disk can't be used"));
@@ -112,6 +114,7 @@ fn put<D: Disk>(disk: &mut D, place: usize, piece: &[u8]) -> Result<(), Fail> {
     }
 }
 
+/// Writes the whole file to a disk.
 fn fill<D: Disk>(disk: &mut D) -> Result<(), Fail> {
     put(disk, LENGTH - 1, &[0])?;
     for (place, piece) in PIECES.iter() {
@@ -120,17 +123,17 @@ fn fill<D: Disk>(disk: &mut D) -> Result<(), Fail> {
     Ok(())
 }
 
-/// The file, with no log.
+/// The file, with an empty log.
 fn remade(alloc: Global) -> Result<Files<Memory>, Fail> {
     let mut files = new_files(alloc);
     fill(&mut files.db)?;
     Ok(files)
 }
 
-/// The first faction is as it was.
+/// Avalon and its unit are there.
 const AVALON_IS_THERE: [Step; 1] = [Step::Numbers(2, 2, 1)];
 
-/// The campaign is opened, goes on, and is opened once more.
+/// The campaign is opened, played on, and opened once more.
 static GOES_ON: [Session; 3] = [
     Session {
         world: None,

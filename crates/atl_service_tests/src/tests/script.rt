@@ -1,14 +1,15 @@
-//! A test as a table of steps: the command, and the answer that is wanted.
-use super::compare::{is_count, is_number, is_text};
+//! Tables of steps: commands with their wanted answers, and what the campaign must then be. Plays
+//! them and asserts each.
+use super::compare::{assert_count, assert_number, assert_text};
 use super::making::{begun_in_memory, close, filled, join, long_mail, mail, report, told};
 use super::serving::Served;
-use super::tables::holds;
+use super::tables::assert_tables;
 use atl_service::{Answer, Command};
 use std::alloc::Global;
 use std::process::Abort;
 use std::test::Fail;
 
-/// A command.
+/// A command to run.
 pub(crate) enum Asked {
     /// A name, a pass text and a dice word.
     Join(&'static str, &'static str, u32),
@@ -22,15 +23,16 @@ pub(crate) enum Asked {
     Report(u32, &'static str),
 }
 
-/// What is asked and what is wanted.
+/// A command with its wanted answer, or something to assert of the campaign.
 pub(crate) enum Step {
-    /// A command, and its answer in words.
+    /// A command, and its answer in words (`told` of `making`).
     Told(Asked, &'static str),
-    /// A joining, and the numbers of the faction and the unit that it is answered.
+    /// A join, and the numbers of the faction and the unit in its answer.
     Joined(Asked, u32, u32),
-    /// A mailing that is kept, how many orders it has, and its faulty lines with the numbers of their faults.
+    /// A mailing that is stored: how many orders it has, and its faulty lines with the numbers of
+    /// their faults.
     Mailed(Asked, usize, &'static [(u32, u32)]),
-    /// A month that is closed: its number is answered, and it is the campaign's.
+    /// A closing, and the month that it answers and that the campaign then has.
     Closed(Asked, u32),
     /// The month last closed.
     Month(u32),
@@ -42,6 +44,7 @@ pub(crate) enum Step {
     Books(&'static str),
 }
 
+/// The command of an `Asked`.
 fn command_of(alloc: Global, asked: &Asked) -> Result<Command, Fail> {
     match asked {
         Asked::Join(name, pass, word) => join(alloc, name, pass, *word),
@@ -52,7 +55,7 @@ fn command_of(alloc: Global, asked: &Asked) -> Result<Command, Fail> {
     }
 }
 
-/// What a step asks of a service.
+/// The command of a step, if it has one.
 fn asked_by(step: &Step) -> Option<&Asked> {
     match step {
         Step::Told(asked, _)
@@ -63,6 +66,7 @@ fn asked_by(step: &Step) -> Option<&Asked> {
     }
 }
 
+/// Appends the commands of some steps.
 fn fill(alloc: Global, commands: &mut Vec<Command>, steps: &[Step]) -> Result<(), Fail> {
     for step in steps {
         if let Some(asked) = asked_by(step) {
@@ -79,61 +83,67 @@ pub(crate) fn commands_of(alloc: Global, steps: &[Step]) -> Result<Vec<Command>,
     Ok(commands)
 }
 
-/// The answer to a command.
+/// Runs a command, and returns its answer.
 fn answered(alloc: Global, service: &mut impl Served, asked: &Asked) -> Result<Answer, Fail> {
     let command = command_of(alloc, asked)?;
     Ok(service.run(&command))
 }
 
+/// Asserts the faction and the unit in the answer to a join.
 fn has_joined(rt: &impl Abort, answer: &Answer, first: u32, member: u32) {
     match answer {
         Answer::Joined { faction, unit } => {
-            is_number(rt, i64::from(*faction), i64::from(first));
-            is_number(rt, i64::from(*unit), i64::from(member));
+            assert_number(rt, i64::from(*faction), i64::from(first));
+            assert_number(rt, i64::from(*unit), i64::from(member));
         }
         _ => assert!(rt; false),
     }
 }
 
+/// Asserts the orders and the faulty lines in the answer to a mailing.
 fn is_kept(rt: &impl Abort, answer: &Answer, wanted: usize, faulty: &[(u32, u32)]) {
     match answer {
         Answer::Mailed { orders, faults } => {
-            is_count(rt, *orders, wanted);
-            is_count(rt, faults.len(), faulty.len());
+            assert_count(rt, *orders, wanted);
+            assert_count(rt, faults.len(), faulty.len());
             for (told, (line, fault)) in faults.as_slice().iter().zip(faulty.iter()) {
-                is_number(rt, i64::from(told.line), i64::from(*line));
-                is_number(rt, i64::from(told.fault.number()), i64::from(*fault));
+                assert_number(rt, i64::from(told.line), i64::from(*line));
+                assert_number(rt, i64::from(told.fault.number()), i64::from(*fault));
             }
         }
         _ => assert!(rt; false),
     }
 }
 
+/// Asserts the month in the answer to a closing.
 fn is_closed(rt: &impl Abort, answer: &Answer, wanted: u32) {
     match answer {
-        Answer::MonthDone { month } => is_number(rt, i64::from(*month), i64::from(wanted)),
+        Answer::MonthDone { month } => assert_number(rt, i64::from(*month), i64::from(wanted)),
         _ => assert!(rt; false),
     }
 }
 
+/// Asserts the last closed month of the campaign.
 fn has_month(rt: &impl Abort, service: &impl Served, month: u32) {
     match service.campaign() {
-        Some(campaign) => is_number(rt, i64::from(campaign.month()), i64::from(month)),
+        Some(campaign) => assert_number(rt, i64::from(campaign.month()), i64::from(month)),
         None => assert!(rt; false),
     }
 }
 
+/// Asserts the next numbers of a faction and a unit, and how many units there are.
 fn has_numbers(rt: &impl Abort, service: &impl Served, faction: u32, unit: u32, units: usize) {
     match service.campaign() {
         Some(campaign) => {
-            is_number(rt, i64::from(campaign.next_faction()), i64::from(faction));
-            is_number(rt, i64::from(campaign.next_unit()), i64::from(unit));
-            is_count(rt, campaign.unit_count(), units);
+            assert_number(rt, i64::from(campaign.next_faction()), i64::from(faction));
+            assert_number(rt, i64::from(campaign.next_unit()), i64::from(unit));
+            assert_count(rt, campaign.unit_count(), units);
         }
         None => assert!(rt; false),
     }
 }
 
+/// Asserts the mail of faction 1 that the campaign keeps.
 fn keeps(rt: &impl Abort, service: &impl Served, text: &Option<&str>) {
     match service.campaign() {
         Some(campaign) => match (campaign.mail_of(1), text) {
@@ -145,18 +155,19 @@ fn keeps(rt: &impl Abort, service: &impl Served, text: &Option<&str>) {
     }
 }
 
+/// Asserts the text of the books.
 fn has_books(rt: &impl Abort, service: &impl Served, wanted: &str) -> Result<(), Fail> {
     match service.books() {
-        Some(text) => is_text(rt, text?.as_str(), wanted),
+        Some(text) => assert_text(rt, text?.as_str(), wanted),
         None => assert!(rt; false),
     }
     Ok(())
 }
 
-/// Asserts what a step wants of the answer to its command.
-pub(crate) fn is_wanted(rt: &impl Abort, answer: &Answer, step: &Step) {
+/// Asserts the answer to the command of a step.
+pub(crate) fn assert_answer(rt: &impl Abort, answer: &Answer, step: &Step) {
     match step {
-        Step::Told(_, words) => is_text(rt, told(answer), words),
+        Step::Told(_, words) => assert_text(rt, told(answer), words),
         Step::Joined(_, faction, unit) => has_joined(rt, answer, *faction, *unit),
         Step::Mailed(_, orders, faulty) => is_kept(rt, answer, *orders, faulty),
         Step::Closed(_, month) => is_closed(rt, answer, *month),
@@ -164,8 +175,8 @@ pub(crate) fn is_wanted(rt: &impl Abort, answer: &Answer, step: &Step) {
     }
 }
 
-/// Asserts what a step wants of the campaign.
-fn stands(rt: &impl Abort, service: &impl Served, step: &Step) -> Result<(), Fail> {
+/// Asserts what a step says of the campaign.
+fn assert_campaign(rt: &impl Abort, service: &impl Served, step: &Step) -> Result<(), Fail> {
     match step {
         Step::Closed(_, month) | Step::Month(month) => has_month(rt, service, *month),
         Step::Numbers(faction, unit, units) => has_numbers(rt, service, *faction, *unit, *units),
@@ -176,6 +187,7 @@ fn stands(rt: &impl Abort, service: &impl Served, step: &Step) -> Result<(), Fai
     Ok(())
 }
 
+/// Runs the command of a step, and asserts its answer and the campaign.
 fn take(
     rt: &impl Abort,
     alloc: Global,
@@ -184,12 +196,12 @@ fn take(
 ) -> Result<(), Fail> {
     if let Some(asked) = asked_by(step) {
         let answer = answered(alloc, service, asked)?;
-        is_wanted(rt, &answer, step);
+        assert_answer(rt, &answer, step);
     }
-    stands(rt, service, step)
+    assert_campaign(rt, service, step)
 }
 
-/// Takes the steps one after another.
+/// Takes the steps in turn, and asserts each.
 pub(crate) fn follow(
     rt: &impl Abort,
     alloc: Global,
@@ -202,7 +214,7 @@ pub(crate) fn follow(
     Ok(())
 }
 
-/// Founds a campaign in memory, takes the steps, and asserts what the tables hold then.
+/// Founds a campaign in memory, takes the steps, and asserts what the tables hold at the end.
 pub(crate) fn plays(
     rt: &impl Abort,
     alloc: Global,
@@ -212,11 +224,11 @@ pub(crate) fn plays(
 ) -> Result<(), Fail> {
     let mut service = begun_in_memory(alloc, world)?;
     let done = follow(rt, alloc, &mut service, steps);
-    holds(rt, &mut service.end(), rows);
+    assert_tables(rt, &mut service.end(), rows);
     done
 }
 
-/// A campaign of a world: statements that put rows in by hand once it is founded, the steps behind them, and what the tables hold then.
+/// A world, SQL that adds rows after the founding, steps, and what the tables hold at the end.
 #[derive(Clone, Copy)]
 pub(crate) struct Course {
     pub(crate) world: &'static str,
@@ -225,11 +237,11 @@ pub(crate) struct Course {
     pub(crate) after: &'static [(&'static str, Option<i64>)],
 }
 
-/// Plays the campaign in memory. It is opened again once the rows are in.
+/// Plays a course in memory; the campaign is opened again after the rows are added.
 pub(crate) fn plays_course(rt: &impl Abort, alloc: Global, course: &Course) -> Result<(), Fail> {
     let conn = begun_in_memory(alloc, course.world)?.end();
     let mut service = filled(alloc, conn, course.rows)?;
     let done = follow(rt, alloc, &mut service, course.steps);
-    holds(rt, &mut service.end(), course.after);
+    assert_tables(rt, &mut service.end(), course.after);
     done
 }

@@ -1,5 +1,5 @@
-//! What tests ask of a service and of the tables beneath it, whatever store these stand in. What takes them by these calls
-//! is proved without what a contract knows of a store.
+//! The calls of services and databases as traits, so that what tests them is proved without the
+//! contract of a store.
 use atl_service::{Answer, Command, Service};
 use atl_state::Campaign;
 use sqlite::{Alter, Connection};
@@ -35,9 +35,9 @@ impl<S: Alter> Served for Service<S> {
     }
 }
 
-/// Tables that a query counts and statements change.
+/// A database that answers queries with a number, and takes statements.
 pub(crate) trait Tables {
-    /// The number that a query answers, if it answers one.
+    /// The number that a query returns, if it returns one.
     fn number(&mut self, sql: &str) -> Option<i64>;
 
     /// Runs statements.

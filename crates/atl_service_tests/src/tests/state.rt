@@ -1,9 +1,10 @@
-//! The calls on a campaign, once each. Of what is large (a world, a campaign) each function holds one and lends it.
+//! Tests of the calls on a campaign that a service makes: founding, joining, lending a unit, and
+//! storing a report.
 ghost use Rattle.std.specs.Prelude.{IfOk};
 ghost use Rattle.atl_state.specs.Good.{IsGood};
 
 use super::commands::FIRST_REPORT;
-use super::compare::{are_numbers, is_count, is_number, is_text, is_total};
+use super::compare::{assert_count, assert_number, assert_numbers, assert_text, assert_total};
 use atl_report::{report_text, view};
 use atl_state::{Campaign, Entry, MOST_UNITS, Thing, founded};
 use atl_tables::limits::MOST_REGIONS;
@@ -13,16 +14,19 @@ use std::alloc::{AllocError, Global};
 use std::process::Abort;
 use std::test::Fail;
 
+/// The small world.
 fn small_world(alloc: Global) -> Result<World, Fail> {
     Ok(read_world(alloc, SMALL)?)
 }
 
+/// The campaign of the small world just after its founding.
 fn small_campaign(alloc: Global, world: &World) -> Result<Campaign, Fail>
     ensures { IfOk result (λ campaign. IsGood world.now campaign.value) }
 {
     Ok(founded(alloc, world, b"gm")?)
 }
 
+/// Avalon joins, with 5 as the word of the dice.
 fn avalon_joins(rt: &impl Abort, world: &World, campaign: &mut Campaign)
     requires { IsGood world.now campaign.old.value }
 {
@@ -30,6 +34,7 @@ fn avalon_joins(rt: &impl Abort, world: &World, campaign: &mut Campaign)
     assert!(rt; done.is_ok());
 }
 
+/// The total of a thing, or None if there are too many units or regions to sum.
 fn total(campaign: &Campaign, thing: Thing) -> Option<u64> {
     if campaign.unit_count() > MOST_UNITS || campaign.region_count() > MOST_REGIONS {
         return None;
@@ -37,71 +42,79 @@ fn total(campaign: &Campaign, thing: Thing) -> Option<u64> {
     Some(campaign.total(thing))
 }
 
+/// Asserts what a campaign just founded holds.
 fn is_founded(rt: &impl Abort, campaign: &Campaign) {
-    is_number(rt, i64::from(campaign.month()), 0);
-    is_text(rt, campaign.pass().as_str(), "gm");
-    is_number(rt, i64::from(campaign.next_faction()), 1);
-    is_number(rt, i64::from(campaign.next_unit()), 1);
-    is_number(rt, i64::from(campaign.next_structure()), 1);
-    is_total(rt, total(campaign, Thing::Money), 500);
-    is_total(rt, total(campaign, Thing::People), 1000);
+    assert_number(rt, i64::from(campaign.month()), 0);
+    assert_text(rt, campaign.pass().as_str(), "gm");
+    assert_number(rt, i64::from(campaign.next_faction()), 1);
+    assert_number(rt, i64::from(campaign.next_unit()), 1);
+    assert_number(rt, i64::from(campaign.next_structure()), 1);
+    assert_total(rt, total(campaign, Thing::Money), 500);
+    assert_total(rt, total(campaign, Thing::People), 1000);
 }
 
+/// Asserts a founding.
 fn founds(rt: &impl Abort, alloc: Global, world: &World) -> Result<(), Fail> {
     let campaign = small_campaign(alloc, world)?;
     is_founded(rt, &campaign);
     Ok(())
 }
 
+/// A campaign just founded holds what its world says.
 #[test]
 fn founding(rt: HostRuntime) -> Result<(), Fail> {
     let world = small_world(rt.alloc())?;
     founds(&rt, rt.alloc(), &world)
 }
 
+/// Asserts the books after a join.
 fn has_entries(rt: &impl Abort, campaign: &Campaign) {
-    is_count(rt, campaign.things(), 2);
+    assert_count(rt, campaign.things(), 2);
     if campaign.things() >= 2 {
-        is_number(rt, campaign.booked(Entry::Founding, Thing::Money), 500);
-        is_number(rt, campaign.booked(Entry::Founding, Thing::People), 1000);
-        is_number(rt, campaign.booked(Entry::Joining, Thing::Money), 1000);
-        is_number(rt, campaign.booked(Entry::Joining, Thing::People), 1);
+        assert_number(rt, campaign.booked(Entry::Founding, Thing::Money), 500);
+        assert_number(rt, campaign.booked(Entry::Founding, Thing::People), 1000);
+        assert_number(rt, campaign.booked(Entry::Joining, Thing::Money), 1000);
+        assert_number(rt, campaign.booked(Entry::Joining, Thing::People), 1);
     }
 }
 
+/// Asserts the totals after a join.
 fn has_totals(rt: &impl Abort, campaign: &Campaign) {
-    is_total(rt, total(campaign, Thing::Money), 1500);
-    is_total(rt, total(campaign, Thing::People), 1001);
-    is_total(rt, total(campaign, Thing::Item(0)), 0);
+    assert_total(rt, total(campaign, Thing::Money), 1500);
+    assert_total(rt, total(campaign, Thing::People), 1001);
+    assert_total(rt, total(campaign, Thing::Item(0)), 0);
 }
 
+/// Asserts the faction that joined.
 fn has_faction(rt: &impl Abort, campaign: &Campaign) {
     match campaign.faction(1) {
         Some(faction) => {
-            is_number(rt, i64::from(faction.number), 1);
-            is_text(rt, faction.joined_as.as_str(), "Avalon");
+            assert_number(rt, i64::from(faction.number), 1);
+            assert_text(rt, faction.joined_as.as_str(), "Avalon");
             assert!(rt; !faction.gone);
         }
         None => assert!(rt; false),
     }
 }
 
+/// Asserts the unit of the faction that joined.
 fn has_unit(rt: &impl Abort, campaign: &Campaign) {
     match campaign.unit(1) {
         Some(unit) => {
-            is_text(rt, unit.holding.name().as_str(), "Unit 1");
-            is_number(rt, i64::from(unit.holding.men()), 1);
-            is_number(rt, i64::from(unit.region), 1);
+            assert_text(rt, unit.holding.name().as_str(), "Unit 1");
+            assert_number(rt, i64::from(unit.holding.men()), 1);
+            assert_number(rt, i64::from(unit.region), 1);
         }
         None => assert!(rt; false),
     }
-    are_numbers(rt, campaign.in_region(1), &[1]);
-    are_numbers(rt, campaign.in_region(2), &[]);
-    are_numbers(rt, campaign.of_faction(1), &[1]);
-    are_numbers(rt, campaign.of_faction(2), &[]);
-    is_count(rt, campaign.unit_count(), 1);
+    assert_numbers(rt, campaign.in_region(1), &[1]);
+    assert_numbers(rt, campaign.in_region(2), &[]);
+    assert_numbers(rt, campaign.of_faction(1), &[1]);
+    assert_numbers(rt, campaign.of_faction(2), &[]);
+    assert_count(rt, campaign.unit_count(), 1);
 }
 
+/// Asserts a join.
 fn joins(rt: &impl Abort, alloc: Global, world: &World) -> Result<(), Fail> {
     let mut campaign = small_campaign(alloc, world)?;
     avalon_joins(rt, world, &mut campaign);
@@ -112,28 +125,32 @@ fn joins(rt: &impl Abort, alloc: Global, world: &World) -> Result<(), Fail> {
     Ok(())
 }
 
+/// A join adds a faction, a unit, and entries of the books.
 #[test]
 fn joining(rt: HostRuntime) -> Result<(), Fail> {
     let world = small_world(rt.alloc())?;
     joins(&rt, rt.alloc(), &world)
 }
 
+/// Sets the money of a unit through the holding that is lent, and asserts the total.
 fn lends(rt: &impl Abort, campaign: &mut Campaign) {
     if let Some(holding) = campaign.unit_mut(1) {
         holding.set_money(7);
     }
-    is_total(rt, total(campaign, Thing::Money), 507);
+    assert_total(rt, total(campaign, Thing::Money), 507);
 }
 
+/// The report of what faction 1 sees.
 fn report_of(alloc: Global, world: &World, campaign: &Campaign) -> Result<Text, AllocError> {
     let seen = view(alloc, world, campaign, 1)?;
     let text = report_text(alloc, world, &seen, &[], &[])?;
     Ok(Text::from_string(text))
 }
 
+/// Asserts the stored report of faction 1.
 fn has_report(rt: &impl Abort, campaign: &Campaign) {
     match campaign.report(1) {
-        Some(stored) => is_text(rt, stored.as_str(), FIRST_REPORT),
+        Some(stored) => assert_text(rt, stored.as_str(), FIRST_REPORT),
         None => assert!(rt; false),
     }
 }
@@ -151,6 +168,7 @@ fn stores(
     Ok(())
 }
 
+/// Asserts a stored report and a lent unit.
 fn lends_and_stores(rt: &impl Abort, alloc: Global, world: &World) -> Result<(), Fail> {
     let mut campaign = small_campaign(alloc, world)?;
     avalon_joins(rt, world, &mut campaign);
@@ -159,6 +177,7 @@ fn lends_and_stores(rt: &impl Abort, alloc: Global, world: &World) -> Result<(),
     done
 }
 
+/// A lent unit changes the total of money, and a stored report is found.
 #[test]
 fn lending_and_reporting(rt: HostRuntime) -> Result<(), Fail> {
     let world = small_world(rt.alloc())?;

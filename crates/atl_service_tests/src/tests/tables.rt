@@ -1,9 +1,9 @@
-//! What the tables of a campaign hold, in numbers.
-use super::compare::is_amount;
+//! SELECTs for numbers of a campaign's tables, and what they return after a join.
+use super::compare::assert_amount;
 use super::serving::Tables;
 use std::process::Abort;
 
-/// The faction and the unit that come next.
+/// Selects the next faction's number times 100,000, plus the next unit's.
 pub(crate) const NEXT: &str = "SELECT next_faction * 100000 + next_unit FROM campaign";
 
 pub(crate) const FACTIONS: &str = "SELECT count(*) FROM faction";
@@ -24,39 +24,47 @@ pub(crate) const MONTH: &str = "SELECT month FROM campaign";
 
 pub(crate) const REGION_MONEY: &str = "SELECT sum(money) FROM region";
 
-/// What all units have of items, and their days of skills.
+/// Sums what all units have of items.
 pub(crate) const GOODS: &str = "SELECT sum(amount) FROM has WHERE sort = 0";
 
+/// Sums the days of all units' skills.
 pub(crate) const DAYS: &str = "SELECT sum(amount) FROM has WHERE sort = 1";
 
-/// What is done of all structures.
+/// Sums how much is built of all structures.
 pub(crate) const DONE: &str = "SELECT sum(done) FROM structure";
 
-/// What is booked of people who starved.
+/// Selects the people booked as starved.
 pub(crate) const STARVED: &str = "SELECT amount FROM books WHERE entry = 10 AND thing = 1";
 
-/// What is booked of money: income, wages and upkeep.
+/// Selects the money booked as income.
 pub(crate) const INCOME: &str = "SELECT amount FROM books WHERE entry = 3 AND thing = 0";
 
+/// Selects the money booked as wages.
 pub(crate) const WAGES: &str = "SELECT amount FROM books WHERE entry = 4 AND thing = 0";
 
+/// Selects the money booked as upkeep.
 pub(crate) const UPKEEP: &str = "SELECT amount FROM books WHERE entry = 7 AND thing = 0";
 
 pub(crate) const FORMAT: &str = "SELECT format FROM campaign";
 
-/// How many markets have a stock, and what all of them have.
+/// Counts the rows of stocks.
 pub(crate) const STOCKED: &str = "SELECT count(*) FROM market";
 
+/// Sums all stocks.
 pub(crate) const STOCK: &str = "SELECT sum(stock) FROM market";
 
-/// Asserts what queries answer.
-pub(crate) fn holds(rt: &impl Abort, tables: &mut impl Tables, wanted: &[(&str, Option<i64>)]) {
+/// Asserts what each SELECT returns.
+pub(crate) fn assert_tables(
+    rt: &impl Abort,
+    tables: &mut impl Tables,
+    wanted: &[(&str, Option<i64>)],
+) {
     for (sql, amount) in wanted {
-        is_amount(rt, tables.number(sql), *amount);
+        assert_amount(rt, tables.number(sql), *amount);
     }
 }
 
-/// Once Avalon has joined the small world.
+/// What the tables hold after Avalon has joined the small world.
 pub(crate) static AFTER_JOINING: [(&str, Option<i64>); 8] = [
     (NEXT, Some(200002)),
     (FACTIONS, Some(1)),

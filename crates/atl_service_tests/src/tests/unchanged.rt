@@ -1,8 +1,8 @@
-//! Refused commands change no row: neither of the service's campaign nor of its tables.
-use super::compare::is_text;
+//! Tests that refused commands change no row, neither of the service's campaign nor of its tables.
+use super::compare::assert_text;
 use super::damage::changed;
 use super::making::opened;
-use super::opening::{has_rows, rows_in};
+use super::opening::{assert_rows, rows_in};
 use super::script::{Step, follow};
 use super::serving::Served;
 use sqlite::{Alter, Connection, Row};
@@ -11,8 +11,8 @@ use std::process::Abort;
 use std::slice;
 use std::test::Fail;
 
-/// Statements on the island with a market that both have joined, behind which each of the ten tables has rows. The last
-/// unit number was given, Avalon has sent orders, and Bree is gone.
+/// SQL on the island with a market that both have joined, after which each of the ten tables has
+/// rows. The last unit number was given, Avalon has sent a mailing, and Bree is gone.
 pub(crate) const EVERY_TABLE: &str = "INSERT INTO mail VALUES (1, x'2341544C414E5449532031');
 INSERT INTO has VALUES (1, 1, 0, 450);
 INSERT INTO structure VALUES (1, 0, 'Ship 1', 3, 10, 0);
@@ -22,10 +22,10 @@ UPDATE faction SET gone = 1 WHERE number = 2;
 INSERT INTO books VALUES (8, 0, -1000), (11, 1, -1), (16, 2, 30);
 UPDATE campaign SET next_unit = 1000000000, next_structure = 2";
 
-/// Asks for all rows of each table.
+/// Selects a SELECT of all rows for each table.
 const QUERIES: &str = "SELECT 'SELECT * FROM ' || name FROM sqlite_schema WHERE type = 'table'";
 
-/// Adds the rows of a table.
+/// Appends the rows of a table.
 fn add_rows<S: Alter>(
     alloc: Global,
     conn: &mut Connection<S>,
@@ -38,7 +38,7 @@ fn add_rows<S: Alter>(
     Ok(())
 }
 
-/// All rows of all tables, written out.
+/// All rows of all tables, as `Debug` prints them.
 pub(crate) fn all_rows<S: Alter>(alloc: Global, conn: &mut Connection<S>) -> Result<String, Fail> {
     let mut text = String::new(alloc);
     for query in conn.query_all(QUERIES, &[])?.iter() {
@@ -47,18 +47,18 @@ pub(crate) fn all_rows<S: Alter>(alloc: Global, conn: &mut Connection<S>) -> Res
     Ok(text)
 }
 
-/// Asserts that the tables have these rows.
-pub(crate) fn has_all_rows<S: Alter>(
+/// Asserts all rows of all tables.
+pub(crate) fn assert_all_rows<S: Alter>(
     rt: &impl Abort,
     alloc: Global,
     conn: &mut Connection<S>,
     rows: &str,
 ) -> Result<(), Fail> {
-    is_text(rt, all_rows(alloc, conn)?.as_str(), rows);
+    assert_text(rt, all_rows(alloc, conn)?.as_str(), rows);
     Ok(())
 }
 
-/// Asserts what a command is answered, and that the campaign has the same rows before and after.
+/// Asserts the answer to a step, and that the campaign has the same rows before and after.
 fn leaves_rows(
     rt: &impl Abort,
     alloc: Global,
@@ -67,10 +67,11 @@ fn leaves_rows(
 ) -> Result<(), Fail> {
     let rows = rows_in(alloc, service)?;
     follow(rt, alloc, service, slice::from_ref(step))?;
-    has_rows(rt, alloc, service, rows.as_str())
+    assert_rows(rt, alloc, service, rows.as_str())
 }
 
-/// The same, and that so have the tables.
+/// Asserts the answer to a step, and that the campaign and the tables have the same rows before and
+/// after.
 fn leaves_all_rows<S: Alter + Drop>(
     rt: &impl Abort,
     alloc: Global,
@@ -83,11 +84,11 @@ fn leaves_all_rows<S: Alter + Drop>(
     let done = leaves_rows(rt, alloc, &mut service, step);
     let mut conn = service.end();
     done?;
-    has_all_rows(rt, alloc, &mut conn, rows.as_str())?;
+    assert_all_rows(rt, alloc, &mut conn, rows.as_str())?;
     Ok(conn)
 }
 
-/// Asserts what each of these commands is answered, and that none changes a row.
+/// Asserts the answer to each step, and that none changes a row of the campaign or of the tables.
 fn leave_all_rows<S: Alter + Drop>(
     rt: &impl Abort,
     alloc: Global,
@@ -101,7 +102,7 @@ fn leave_all_rows<S: Alter + Drop>(
     Ok(())
 }
 
-/// The same on the island with a market, whose tables are changed by hand.
+/// Asserts the same on the island with a market that both have joined, after SQL statements.
 pub(crate) fn refuses(
     rt: &impl Abort,
     alloc: Global,

@@ -1,11 +1,12 @@
-//! Files of the first format: they aren't opened, and are upgraded once.
+//! Tests of `upgrade`: a file of the first format is not opened, and is upgraded once
+//! (docs/FORMATS.md, "Upgrading a file").
 use super::commands::{AVALON, FAR_REPORT};
-use super::founding::is_refused;
+use super::founding::assert_refused;
 use super::making::{begun_in_memory, filled, opened};
-use super::opening::{has_rows, rows_in};
+use super::opening::{assert_rows, rows_in};
 use super::script::{Asked, Step, follow};
 use super::serving::{Served, Tables};
-use super::tables::{FORMAT, STOCK, STOCKED, holds};
+use super::tables::{FORMAT, STOCK, STOCKED, assert_tables};
 use atl_service::{open, upgrade};
 use atl_test_files::old_file;
 use atl_test_worlds::{ISLE, ISLE_WITH_MARKET, SMALL};
@@ -14,7 +15,9 @@ use std::alloc::Global;
 use std::process::Abort;
 use std::test::Fail;
 
-/// A file of the first format: the island's campaign behind these steps, changed by hand, and what the upgraded one comes to.
+/// A file of the first format, what came before it, and what comes after its upgrade.
+/// There are steps on the island before it was written, SQL statements on it, steps after the
+/// upgrade, and queries at the end.
 struct Story {
     before: &'static [Step],
     by_hand: &'static str,
@@ -22,7 +25,7 @@ struct Story {
     after: &'static [(&'static str, Option<i64>)],
 }
 
-/// A file of the first format with the rows of a campaign, changed by hand.
+/// A file of the first format with the rows of a service's campaign, changed by SQL.
 fn written_old(
     alloc: Global,
     service: &impl Served,
@@ -34,31 +37,31 @@ fn written_old(
     Ok(conn)
 }
 
-/// The file of a story, made by a campaign that is played in a database of its own.
+/// The file of a story, written from a campaign that was played in a database of its own.
 fn old(rt: &impl Abort, alloc: Global, story: &Story) -> Result<Connection<MemStore>, Fail> {
     let mut service = begun_in_memory(alloc, ISLE)?;
     follow(rt, alloc, &mut service, story.before)?;
     written_old(alloc, &service, story.by_hand)
 }
 
-/// The rows of the same campaign in the second format.
+/// The rows of the same campaign, played in the second format.
 fn rows_wanted(rt: &impl Abort, alloc: Global, story: &Story) -> Result<String, Fail> {
     let mut service = begun_in_memory(alloc, ISLE)?;
     follow(rt, alloc, &mut service, story.before)?;
     rows_in(alloc, &filled(alloc, service.end(), story.by_hand)?)
 }
 
-/// Asserts why a database isn't opened, and hands it back.
+/// Asserts why a database isn't opened; returns the connection.
 fn stays_shut(
     rt: &impl Abort,
     alloc: Global,
     conn: Connection<MemStore>,
     words: &str,
 ) -> Connection<MemStore> {
-    is_refused(rt, open(alloc, conn), words)
+    assert_refused(rt, open(alloc, conn), words)
 }
 
-/// Asserts why a file isn't upgraded, and hands it back.
+/// Asserts why a file isn't upgraded; returns the connection.
 fn refuses(
     rt: &impl Abort,
     alloc: Global,
@@ -66,10 +69,10 @@ fn refuses(
     world: &str,
     words: &str,
 ) -> Connection<MemStore> {
-    is_refused(rt, upgrade(alloc, conn, world), words)
+    assert_refused(rt, upgrade(alloc, conn, world), words)
 }
 
-/// Upgrades a file that was refused before, and asserts that the campaign has these rows.
+/// Upgrades a file after refused attempts, and asserts the campaign's rows.
 fn upgraded(
     rt: &impl Abort,
     alloc: Global,
@@ -81,14 +84,14 @@ fn upgraded(
     let conn = refuses(rt, alloc, conn, "a = = b", "world");
     match upgrade(alloc, conn, ISLE_WITH_MARKET) {
         Ok(service) => {
-            has_rows(rt, alloc, &service, rows)?;
+            assert_rows(rt, alloc, &service, rows)?;
             Ok(service.end())
         }
         Err(_) => Err(Fail::new("upgrade")),
     }
 }
 
-/// Opens the upgraded file, asserts that the campaign has these rows, and plays on.
+/// Opens the upgraded file, asserts the campaign's rows, and takes the later steps.
 fn goes_on(
     rt: &impl Abort,
     alloc: Global,
@@ -98,12 +101,13 @@ fn goes_on(
 ) -> Result<(), Fail> {
     let conn = refuses(rt, alloc, conn, ISLE_WITH_MARKET, "not old");
     let mut service = opened(alloc, conn)?;
-    has_rows(rt, alloc, &service, rows)?;
+    assert_rows(rt, alloc, &service, rows)?;
     let done = follow(rt, alloc, &mut service, story.behind);
-    holds(rt, &mut service.end(), story.after);
+    assert_tables(rt, &mut service.end(), story.after);
     done
 }
 
+/// Asserts all of a story.
 fn is_upgraded(rt: &impl Abort, alloc: Global, story: &Story) -> Result<(), Fail> {
     let conn = old(rt, alloc, story)?;
     let rows = rows_wanted(rt, alloc, story)?;
@@ -111,9 +115,11 @@ fn is_upgraded(rt: &impl Abort, alloc: Global, story: &Story) -> Result<(), Fail
     goes_on(rt, alloc, conn, story, rows.as_str())
 }
 
+/// Avalon joins in the island's third region.
 const FAR_JOINS: [Step; 1] = [Step::Joined(Asked::Join("Avalon", "pw", 1), 1, 1)];
 
-/// The unit stands in the third region, and the market is in the first one.
+/// Avalon's report: its unit is in the third region, and the market in the first, so BUY has a
+/// fault.
 const AFTER_BUYING: &str = "Atlantis report, month 1, faction 1 \"Avalon\".
 Orders:
 Unit 1, line 3, BUY: fault 24 NoMarket.
@@ -123,9 +129,11 @@ Exits: north 4, west 2.
 * Unit 1 \"Unit 1\": 1 men, 1000 money.
 ";
 
+/// The command that closes month 1 of the island.
 const MONTH_ONE: Asked = Asked::Close(1, "gm", &[0, 0, 0, 0]);
 
-/// The report that was stored before is given still.
+/// The report stored before the upgrade is still answered; then a unit tries to buy, and a month is
+/// closed.
 const BUYS_NOTHING: [Step; 4] = [
     Step::Told(Asked::Report(1, "pw"), FAR_REPORT),
     Step::Mailed(
@@ -137,12 +145,14 @@ const BUYS_NOTHING: [Step; 4] = [
     Step::Told(Asked::Report(1, "pw"), AFTER_BUYING),
 ];
 
+/// What the tables hold afterwards.
 const AFTER_NOTHING: [(&str, Option<i64>); 3] = [
     (FORMAT, Some(2)),
     (STOCKED, Some(1)),
     (STOCK, Some(20)),
 ];
 
+/// A story in which nobody reaches the market.
 static FAR_FROM_MARKET: Story = Story {
     before: &FAR_JOINS,
     by_hand: "",
@@ -150,17 +160,19 @@ static FAR_FROM_MARKET: Story = Story {
     after: &AFTER_NOTHING,
 };
 
+/// The mailing by which unit 1 sells 3 wood.
 const SELLS: &str = "#ATLANTIS 1\nUNIT 1\nSELL 3 wood\n";
 
-/// The mail is kept from before the upgrade.
+/// Avalon joins, and sends a mailing with SELL before the upgrade.
 const SENDS_EARLY: [Step; 2] = [
     Step::Joined(AVALON, 1, 1),
     Step::Mailed(Asked::Mail(1, "pw", SELLS), 1, &[]),
 ];
 
+/// SQL that gives unit 1 4 wood, booked under Joining.
 const HAS_WOOD: &str = "INSERT INTO has VALUES (1, 0, 0, 4); INSERT INTO books VALUES (2, 2, 4)";
 
-/// To the 3 that are sold come 20 in stock.
+/// Avalon's report: 3 wood are sold, and 20 more come into stock.
 const AFTER_SELLING: &str = "Atlantis report, month 1, faction 1 \"Avalon\".
 Orders:
 Unit 1, line 3, SELL: done 3.
@@ -171,6 +183,7 @@ Market wood: 23 in stock at 7, 7 wanted at 5.
 * Unit 1 \"Unit 1\": 1 men, 1017 money, 1 wood.
 ";
 
+/// The text of the books after that month.
 const BOOKS_AFTER_SELLING: &str = "money founding 650
 money joining 1000
 money income 1300
@@ -187,6 +200,7 @@ item \"wood\" total 24
 item \"cart\" total 0
 ";
 
+/// The mail is still there after the upgrade, and is carried out.
 const SELLS_THREE: [Step; 4] = [
     Step::Keeps(Some(SELLS)),
     Step::Closed(MONTH_ONE, 1),
@@ -194,8 +208,10 @@ const SELLS_THREE: [Step; 4] = [
     Step::Books(BOOKS_AFTER_SELLING),
 ];
 
+/// What the tables hold afterwards.
 const AFTER_THREE: [(&str, Option<i64>); 2] = [(STOCKED, Some(1)), (STOCK, Some(23))];
 
+/// A story with mail from before the upgrade.
 static WITH_EARLY_MAIL: Story = Story {
     before: &SENDS_EARLY,
     by_hand: HAS_WOOD,
@@ -213,7 +229,7 @@ fn early_mail_is_carried_out(rt: HostRuntime) -> Result<(), Fail> {
     is_upgraded(&rt, rt.alloc(), &WITH_EARLY_MAIL)
 }
 
-/// Statements on the file, why it isn't opened then, and why it isn't upgraded.
+/// SQL statements on an old file, and why it is then neither opened nor upgraded.
 static REFUSED: [(&str, &str, &str); 8] = [
     ("UPDATE campaign SET month = 10000", "old format", "damaged"),
     ("UPDATE campaign SET world = 'x'", "old format", "damaged"),
@@ -225,6 +241,7 @@ static REFUSED: [(&str, &str, &str); 8] = [
     ("BEGIN", "store", "store"),
 ];
 
+/// Asserts one row of `REFUSED`.
 fn is_shut(rt: &impl Abort, alloc: Global, refused: &(&str, &str, &str)) -> Result<(), Fail> {
     let (sql, opening, upgrade) = *refused;
     let mut conn = old(rt, alloc, &FAR_FROM_MARKET)?;
@@ -235,6 +252,7 @@ fn is_shut(rt: &impl Abort, alloc: Global, refused: &(&str, &str, &str)) -> Resu
     Ok(())
 }
 
+/// Asserts each row of `REFUSED`.
 fn are_shut(rt: &impl Abort, alloc: Global) -> Result<(), Fail> {
     for refused in REFUSED.iter() {
         is_shut(rt, alloc, refused)?;

@@ -1,10 +1,12 @@
-//! A month in which ten units of two factions have orders of every sort, beside what the rules make of it by hand.
+//! A test of a whole month, worked out by hand: ten units of two factions with every kind of order
+//! but SELL and BUY.
 use super::script::{Asked, Course, Step, plays_course};
 use super::tables::{MAILINGS, MONTH, NEXT, UNITS};
 use atl_test_worlds::ISLE;
 use std::test::Fail;
 
-/// Two factions, ten units, and a boat with a unit of each; all that they hold is booked as brought by joining.
+/// SQL that adds two factions, ten units, and a boat with a unit of each; all that they hold is
+/// booked under Joining.
 const BEFORE: &str =
     "INSERT INTO faction VALUES (1, 'Avalon', 'Avalon', 'pw', 0), (2, 'Bree', 'Bree', 'pb', 0);
 INSERT INTO report VALUES (1, 'A report.'), (2, 'A report.');
@@ -17,7 +19,7 @@ INSERT INTO structure VALUES (1, 0, 'Ship 1', 1, 10, 4);
 INSERT INTO books VALUES (2, 0, 914), (2, 1, 60), (2, 2, 6);
 UPDATE campaign SET next_faction = 3, next_unit = 11, next_structure = 2";
 
-/// Sixteen orders. Unit 5 has no wood to give away yet.
+/// Avalon's mailing of sixteen orders; unit 5 has no wood to give yet.
 const OF_AVALON: &str = "#ATLANTIS 1 pw
 UNIT 1
 NAME UNIT Watch
@@ -46,7 +48,8 @@ MOVE SOUTH
 #END
 ";
 
-/// Seven orders. Unit 8 doesn't own the boat, unit 10 hasn't learnt to make wood, and it is of faction 2.
+/// Bree's mailing of seven orders: unit 8 doesn't own the boat, and unit 10 lacks the skill; Bree
+/// is faction 2, not 1.
 const OF_BREE: &str = "#ATLANTIS 2 pb
 UNIT 8
 LEAVE
@@ -60,8 +63,9 @@ PRODUCE wood
 QUIT 1
 ";
 
-/// Of 100 money unit 1 pays 40, and sends 2 of its 5 men to the unit that it forms. With 3 men it takes 30 of 500 money in tax, so
-/// it can pay for one recruit, and 4 men earn 48. Unit 2 pays 10 for each of its 4 men and gets 30 days for each and 30 more, as all
+/// Avalon's report on the month. Of 100 money unit 1 pays 40, and sends 2 of its 5 men to the unit
+/// that it forms. With 3 men it takes 30 of 500 money in tax, so it can pay for one recruit, and 4
+/// men earn 48. Unit 2 pays 10 for each of its 4 men and gets 30 days for each and 30 more, as all
 /// are taught. The 40 men of two factions who can make wood share 20. Each man costs 10 of upkeep.
 const TOLD_AVALON: &str = "Atlantis report, month 1, faction 1 \"Avalon\".
 Orders:
@@ -102,7 +106,8 @@ Structure 2 \"Ship 2\", boat, 3 of 10, owner 6.
 - Unit 9 \"Unit 9\" of faction 2 \"Bree\": 25 men.
 ";
 
-/// There is nowhere to work at sea. Unit 10 has 14 money for two men, so one of them starves.
+/// Bree's report on the month. There are no jobs at sea. Unit 10 has 14 money for two men, so one
+/// of them starves.
 const TOLD_BREE: &str = "Atlantis report, month 1, faction 2 \"Bree\".
 Orders:
 Unit 8, line 3, LEAVE: done 0.
@@ -131,6 +136,7 @@ Exits: south 3.
 * Unit 10 \"Unit 10\": 1 men, 0 money, guard.
 ";
 
+/// The text of the books after the month.
 const BOOKED: &str = "money founding 650
 money joining 914
 money income 1299
@@ -150,6 +156,7 @@ item \"wood\" total 23
 item \"cart\" total 0
 ";
 
+/// Both mailings, the closing, both reports and the books.
 const MONTH_OF_ORDERS: [Step; 6] = [
     Step::Mailed(Asked::Mail(2, "pb", OF_BREE), 7, &[]),
     Step::Mailed(Asked::Mail(1, "pw", OF_AVALON), 16, &[]),
@@ -159,6 +166,7 @@ const MONTH_OF_ORDERS: [Step; 6] = [
     Step::Books(BOOKED),
 ];
 
+/// What the tables hold after the month.
 const BEHIND: [(&str, Option<i64>); 4] = [
     (MONTH, Some(1)),
     (NEXT, Some(300012)),
@@ -166,6 +174,7 @@ const BEHIND: [(&str, Option<i64>); 4] = [
     (MAILINGS, Some(0)),
 ];
 
+/// The course of this month.
 static MONTH_OF_TEN: Course = Course {
     world: ISLE,
     rows: BEFORE,

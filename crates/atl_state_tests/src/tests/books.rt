@@ -1,14 +1,15 @@
-//! Books by themselves, and those of a campaign.
-use super::compare::{is_count, is_number};
+//! Tests of `Books` alone, and of the books of a campaign (docs/RULES.md, "Books").
+use super::compare::{assert_count, assert_number};
 use super::making::founded_by;
 use atl_state::{Books, Campaign, Entry, Thing};
 use atl_test_worlds::ISLE;
 use std::process::Abort;
 use std::test::Fail;
 
-/// Money, people, wood and carts.
+/// How many things the books count: money, people, wood and carts.
 const THINGS: usize = 4;
 
+/// Books some money and carts in empty books.
 fn books_some(books: &mut Books) -> Result<(), Fail> {
     if books.len() != THINGS || books.amount(Entry::Wages, Thing::Money) != 0 {
         return Err(Fail::new("empty books"));
@@ -17,14 +18,15 @@ fn books_some(books: &mut Books) -> Result<(), Fail> {
     Ok(())
 }
 
+/// Asserts the amounts that `books_some` booked, and that others are 0.
 fn has_some(rt: &impl Abort, books: &Books) -> Result<(), Fail> {
     if books.len() != THINGS {
         return Err(Fail::new("four things"));
     }
-    is_number(rt, books.amount(Entry::Wages, Thing::Money), -7);
-    is_number(rt, books.amount(Entry::Study, Thing::Money), 0);
-    is_number(rt, books.amount(Entry::Wages, Thing::People), 0);
-    is_number(rt, books.amount(Entry::Wages, Thing::Item(1)), 0);
+    assert_number(rt, books.amount(Entry::Wages, Thing::Money), -7);
+    assert_number(rt, books.amount(Entry::Study, Thing::Money), 0);
+    assert_number(rt, books.amount(Entry::Wages, Thing::People), 0);
+    assert_number(rt, books.amount(Entry::Wages, Thing::Item(1)), 0);
     Ok(())
 }
 
@@ -35,7 +37,7 @@ fn books_of_four_things(rt: HostRuntime) -> Result<(), Fail> {
     has_some(&rt, &books)
 }
 
-/// Amounts of carts by their entries; of income two after each other.
+/// Entries and the amounts of carts booked under them; Income comes twice and adds up.
 static BOOKED: [(Entry, i64); 6] = [
     (Entry::Income, 5),
     (Entry::Income, 6),
@@ -45,6 +47,7 @@ static BOOKED: [(Entry, i64); 6] = [
     (Entry::Used, -11),
 ];
 
+/// Books an amount of carts in a campaign.
 fn books_carts(campaign: &mut Campaign, entry: Entry, amount: i64) -> Result<(), Fail> {
     if campaign.things() != THINGS {
         return Err(Fail::new("four things"));
@@ -57,6 +60,7 @@ fn books_carts(campaign: &mut Campaign, entry: Entry, amount: i64) -> Result<(),
     Ok(())
 }
 
+/// Books every row of `BOOKED` in a campaign.
 fn books_all(campaign: &mut Campaign) -> Result<(), Fail> {
     for (entry, amount) in BOOKED.iter() {
         books_carts(campaign, *entry, *amount)?;
@@ -64,18 +68,18 @@ fn books_all(campaign: &mut Campaign) -> Result<(), Fail> {
     Ok(())
 }
 
-/// What each amount is then; those that changed are marked.
+/// Asserts the amounts booked after `books_all`, and that exactly those are marked.
 fn has_all(rt: &impl Abort, campaign: &Campaign) -> Result<(), Fail> {
     if campaign.things() != THINGS {
         return Err(Fail::new("four things"));
     }
-    is_number(rt, campaign.booked(Entry::Income, Thing::Item(1)), 11);
-    is_number(rt, campaign.booked(Entry::Lost, Thing::Item(1)), -8);
-    is_number(rt, campaign.booked(Entry::Used, Thing::Item(1)), -11);
-    is_number(rt, campaign.booked(Entry::Income, Thing::Item(0)), 0);
-    is_number(rt, campaign.booked(Entry::Founding, Thing::Money), 650);
-    is_number(rt, campaign.booked(Entry::Founding, Thing::People), 1300);
-    is_count(rt, campaign.marks(), 5);
+    assert_number(rt, campaign.booked(Entry::Income, Thing::Item(1)), 11);
+    assert_number(rt, campaign.booked(Entry::Lost, Thing::Item(1)), -8);
+    assert_number(rt, campaign.booked(Entry::Used, Thing::Item(1)), -11);
+    assert_number(rt, campaign.booked(Entry::Income, Thing::Item(0)), 0);
+    assert_number(rt, campaign.booked(Entry::Founding, Thing::Money), 650);
+    assert_number(rt, campaign.booked(Entry::Founding, Thing::People), 1300);
+    assert_count(rt, campaign.marks(), 5);
     Ok(())
 }
 

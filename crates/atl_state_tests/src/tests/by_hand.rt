@@ -1,4 +1,5 @@
-//! Rows of a campaign that are made by hand, put into tables one by one.
+//! Builds the rows of the tables of a campaign by hand, so that tests of `check` can put one wrong
+//! value in.
 use atl_state::parts::{
     Parts, StoredBooks, StoredCampaignRow, StoredFaction, StoredHas, StoredMarket, StoredRegion,
     StoredReport, StoredStructure, StoredUnit,
@@ -7,8 +8,8 @@ use atl_tables::{Format, Sequence, Text};
 use std::alloc::Global;
 use std::test::Fail;
 
-/// What may be wrong with the rows of the island's campaign, in which Avalon and Bree have a unit each in region 3, and region 1 a
-/// market with room for 30 wood.
+/// The values of the island campaign's rows that tests vary. Avalon and Bree have a unit each in
+/// region 3. Region 1 has a market with room for 30 wood.
 #[derive(Clone, Copy)]
 pub(crate) struct Rows {
     /// The format that is asked for, and the number that the campaign's own row has of it.
@@ -32,18 +33,18 @@ pub(crate) struct Rows {
     pub(crate) days: i64,
     /// The owner of a lodge in region 3, or 0 where there is no lodge.
     pub(crate) lodge: i64,
-    /// The entry of what joining brought of money.
+    /// The entry under which the money of the joins is booked.
     pub(crate) entry: i64,
     /// How many reports there are.
     pub(crate) reports: i64,
-    /// Region, item and stock of the market's row, and how often the row stands there.
+    /// Region, item and stock of the market's row, and how often the row is there.
     pub(crate) market: i64,
     pub(crate) item: i64,
     pub(crate) stock: i64,
     pub(crate) times: i64,
-    /// The entry under which 20 wood are booked, where the market's row is there.
+    /// The entry under which 20 wood are booked, if the market's row is there.
     pub(crate) stocked: i64,
-    /// What is booked of money as bought.
+    /// The money booked as bought.
     pub(crate) bought: i64,
 }
 
@@ -63,6 +64,7 @@ fn no_rows(alloc: Global) -> Parts {
     }
 }
 
+/// Adds the campaign's own row.
 fn add_head(
     alloc: Global,
     heads: &mut Sequence<StoredCampaignRow>,
@@ -80,7 +82,7 @@ fn add_head(
     Ok(())
 }
 
-/// A region's row: number, peasants and money.
+/// Adds a row of a region for each: number, peasants and money.
 fn add_regions(regions: &mut Sequence<StoredRegion>, rows: &[[i64; 3]]) -> Result<(), Fail> {
     for [number, peasants, money] in rows.iter() {
         regions.push(StoredRegion {
@@ -92,7 +94,7 @@ fn add_regions(regions: &mut Sequence<StoredRegion>, rows: &[[i64; 3]]) -> Resul
     Ok(())
 }
 
-/// Rows of the books: entry, thing and amount.
+/// Adds a row of the books for each: entry, thing and amount.
 fn add_books(books: &mut Sequence<StoredBooks>, rows: &[[i64; 3]]) -> Result<(), Fail> {
     for [entry, thing, amount] in rows.iter() {
         books.push(StoredBooks {
@@ -104,6 +106,7 @@ fn add_books(books: &mut Sequence<StoredBooks>, rows: &[[i64; 3]]) -> Result<(),
     Ok(())
 }
 
+/// The row of a faction with the pass text `pw`.
 fn faction(alloc: Global, number: i64, name: &str, gone: i64) -> Result<StoredFaction, Fail> {
     Ok(StoredFaction {
         number,
@@ -114,7 +117,7 @@ fn faction(alloc: Global, number: i64, name: &str, gone: i64) -> Result<StoredFa
     })
 }
 
-/// The second faction's row comes first, as in any order.
+/// Adds the rows of both factions, the second first: tables may come in any order.
 fn add_factions(
     alloc: Global,
     factions: &mut Sequence<StoredFaction>,
@@ -125,6 +128,7 @@ fn add_factions(
     Ok(())
 }
 
+/// Adds the rows of both units.
 fn add_units(alloc: Global, units: &mut Sequence<StoredUnit>, rows: &Rows) -> Result<(), Fail> {
     units.push(StoredUnit {
         number: 2,
@@ -149,6 +153,7 @@ fn add_units(alloc: Global, units: &mut Sequence<StoredUnit>, rows: &Rows) -> Re
     Ok(())
 }
 
+/// Adds unit 1's days of lumberjack, if any.
 fn add_days(has: &mut Sequence<StoredHas>, rows: &Rows) -> Result<(), Fail> {
     if rows.days != 0 {
         has.push(StoredHas {
@@ -161,6 +166,7 @@ fn add_days(has: &mut Sequence<StoredHas>, rows: &Rows) -> Result<(), Fail> {
     Ok(())
 }
 
+/// Adds the row of the lodge, if it has an owner.
 fn add_lodge(
     alloc: Global,
     structures: &mut Sequence<StoredStructure>,
@@ -179,6 +185,7 @@ fn add_lodge(
     Ok(())
 }
 
+/// Adds a report for each of the first `rows.reports` factions.
 fn add_reports(
     alloc: Global,
     reports: &mut Sequence<StoredReport>,
@@ -193,6 +200,7 @@ fn add_reports(
     Ok(())
 }
 
+/// Adds the market's row `rows.times` times.
 fn add_markets(markets: &mut Sequence<StoredMarket>, rows: &Rows) -> Result<(), Fail> {
     for _ in 0..rows.times {
         markets.push(StoredMarket {
@@ -204,7 +212,7 @@ fn add_markets(markets: &mut Sequence<StoredMarket>, rows: &Rows) -> Result<(), 
     Ok(())
 }
 
-/// What is booked beside the founding.
+/// Adds the rows of the books for the stock and for what was bought.
 fn add_trade(books: &mut Sequence<StoredBooks>, rows: &Rows) -> Result<(), Fail> {
     if rows.times != 0 {
         add_books(books, &[[rows.stocked, 2, 20]])?;
@@ -215,6 +223,7 @@ fn add_trade(books: &mut Sequence<StoredBooks>, rows: &Rows) -> Result<(), Fail>
     Ok(())
 }
 
+/// Adds the rows of the campaign, the factions, their units and their reports.
 fn add_people(alloc: Global, parts: &mut Parts, rows: &Rows) -> Result<(), Fail> {
     add_head(alloc, &mut parts.campaign, rows)?;
     add_factions(alloc, &mut parts.factions, rows)?;
@@ -223,6 +232,7 @@ fn add_people(alloc: Global, parts: &mut Parts, rows: &Rows) -> Result<(), Fail>
     add_reports(alloc, &mut parts.reports, rows)
 }
 
+/// Adds the rows of the regions, the lodge, the market and the books.
 fn add_places(alloc: Global, parts: &mut Parts, rows: &Rows) -> Result<(), Fail> {
     add_regions(
         &mut parts.regions,
@@ -242,7 +252,7 @@ fn add_places(alloc: Global, parts: &mut Parts, rows: &Rows) -> Result<(), Fail>
     )
 }
 
-/// All rows, in any order.
+/// All rows of the campaign that `rows` says, in no particular order.
 pub(crate) fn parts(alloc: Global, rows: &Rows) -> Result<Parts, Fail> {
     let mut parts = no_rows(alloc);
     add_people(alloc, &mut parts, rows)?;

@@ -1,6 +1,7 @@
-//! Rows that are checked: those of a good campaign, in any order, and rows that break one of the twelve rules.
+//! Tests of `check`: rows of a good campaign are accepted, and others get the number of the first
+//! rule that they break.
 use super::by_hand::{Rows, parts};
-use super::compare::{are_rows, is_amount, is_count, row_is};
+use super::compare::{assert_amount, assert_count, assert_row, assert_rows};
 use atl_state::parts::Parts;
 use atl_state::{Campaign, CheckFault, check, check_as};
 use atl_tables::{Format, World, read_world};
@@ -9,6 +10,7 @@ use std::alloc::Global;
 use std::process::Abort;
 use std::test::Fail;
 
+/// The rows of a good campaign in the second format.
 const GOOD: Rows = Rows {
     asked: Format::Second,
     format: 2,
@@ -41,7 +43,7 @@ const OLD: Rows = Rows {
     ..GOOD
 };
 
-/// Rows, and the number of the rule that they break, 0 where they keep them all.
+/// Rows, and the number of the first rule that they break, or 0.
 static CASES: [(Rows, u64); 15] = [
     (GOOD, 0),
     (Rows { days: 450, ..GOOD }, 0),
@@ -84,7 +86,7 @@ static CASES: [(Rows, u64); 15] = [
     (Rows { reports: 1, ..GOOD }, 12),
 ];
 
-/// The same for what is said of the market.
+/// The same for the rows of the market and its books.
 static MARKET_CASES: [(Rows, u64); 14] = [
     (GOOD, 0),
     (
@@ -122,7 +124,7 @@ static MARKET_CASES: [(Rows, u64); 14] = [
     ),
 ];
 
-/// The number of the rule that is told, or 0. Want of memory is no rule.
+/// The number of the broken rule that a check reports, 0 if it accepts, and 99 if memory ran out.
 fn rule_of(checked: Result<Campaign, CheckFault>) -> u64 {
     match checked {
         Ok(_) => 0,
@@ -131,10 +133,16 @@ fn rule_of(checked: Result<Campaign, CheckFault>) -> u64 {
     }
 }
 
-fn tells(rt: &impl Abort, alloc: Global, world: &World, cases: &[(Rows, u64)]) -> Result<(), Fail> {
+/// Asserts the broken rule that each case reports.
+fn assert_rules(
+    rt: &impl Abort,
+    alloc: Global,
+    world: &World,
+    cases: &[(Rows, u64)],
+) -> Result<(), Fail> {
     for (at, (rows, wanted)) in cases.iter().enumerate() {
         let told = rule_of(check_as(alloc, world, parts(alloc, rows)?, rows.asked));
-        row_is(rt, at, told, *wanted);
+        assert_row(rt, at, told, *wanted);
     }
     Ok(())
 }
@@ -147,37 +155,43 @@ pub(crate) fn checked(alloc: Global, world: &World, rows: Parts) -> Result<Campa
     }
 }
 
-fn is_the_island(rt: &impl Abort, campaign: &Campaign) {
-    is_count(rt, campaign.unit_count(), 2);
-    is_count(rt, campaign.faction_count(), 2);
-    is_count(rt, campaign.region_count(), 4);
-    is_count(rt, campaign.in_region(3).len(), 2);
-    is_amount(rt, campaign.stock(1, 0), 20);
-    is_count(rt, campaign.marks(), 0);
+/// Asserts the counts and the stock of the campaign that `GOOD` makes, and that nothing of it is
+/// marked.
+fn assert_island(rt: &impl Abort, campaign: &Campaign) {
+    assert_count(rt, campaign.unit_count(), 2);
+    assert_count(rt, campaign.faction_count(), 2);
+    assert_count(rt, campaign.region_count(), 4);
+    assert_count(rt, campaign.in_region(3).len(), 2);
+    assert_amount(rt, campaign.stock(1, 0), 20);
+    assert_count(rt, campaign.marks(), 0);
 }
 
+/// The wanted row of the stock, as `Debug` prints it.
 const STOCK: &str = "[StoredMarket { region: 1, item: 0, stock: 20 }]";
 
-/// The rows of the campaign in the second format are checked in their turn; those of the first leave the stock out.
+/// Asserts that a campaign's rows in the second format are accepted again, and that those of the
+/// first leave out the stock.
 fn comes_back(rt: &impl Abort, alloc: Global, world: &World, first: &Campaign) -> Result<(), Fail> {
     let old = first.parts_as(Format::First)?;
-    are_rows(rt, alloc, old.markets.as_slice(), "[]")?;
+    assert_rows(rt, alloc, old.markets.as_slice(), "[]")?;
     let rows = first.parts_as(Format::Second)?;
-    are_rows(rt, alloc, rows.markets.as_slice(), STOCK)?;
+    assert_rows(rt, alloc, rows.markets.as_slice(), STOCK)?;
     let again = checked(alloc, world, rows)?;
-    is_the_island(rt, &again);
+    assert_island(rt, &again);
     Ok(())
 }
 
+/// Asserts that the rows of `GOOD` give the campaign, whose own rows give it again.
 fn is_checked(rt: &impl Abort, alloc: Global, world: &World) -> Result<(), Fail> {
     let campaign = checked(alloc, world, parts(alloc, &GOOD)?)?;
-    is_the_island(rt, &campaign);
+    assert_island(rt, &campaign);
     comes_back(rt, alloc, world, &campaign)
 }
 
+/// Asserts all of this module on a world.
 fn rows_tell(rt: &impl Abort, alloc: Global, world: &World) -> Result<(), Fail> {
-    tells(rt, alloc, world, &CASES)?;
-    tells(rt, alloc, world, &MARKET_CASES)?;
+    assert_rules(rt, alloc, world, &CASES)?;
+    assert_rules(rt, alloc, world, &MARKET_CASES)?;
     is_checked(rt, alloc, world)
 }
 

@@ -1,7 +1,8 @@
-//! Joins, and adding, lending and removing units and structures: what of it is marked.
-use super::compare::{is_amount, is_count};
+//! Tests of which parts are marked when a faction joins, and when units and structures are added,
+//! lent or removed.
+use super::compare::{assert_amount, assert_count};
 use super::making::{BOAT, avalon_joins, founded_in};
-use super::shown::{Ask, Row, goes};
+use super::shown::{Ask, Row, assert_steps};
 use super::steps::{OfRegion, OfUnit, Step};
 use atl_tables::{World, read_world};
 use atl_test_worlds::ISLE;
@@ -80,14 +81,14 @@ static CALLS: [Row; 14] = [
     (Step::Unmark, Ask::Unit(1), "none", "0"),
 ];
 
-/// Avalon joins as the first faction, with the first unit; then the calls are made.
+/// Asserts the numbers that Avalon gets on joining, and then every row of `CALLS`.
 fn comes_and_goes(rt: &impl Abort, alloc: Global, world: &World) -> Result<(), Fail> {
     let mut campaign = founded_in(alloc, world)?;
-    is_count(rt, campaign.marks(), 0);
+    assert_count(rt, campaign.marks(), 0);
     let (faction, unit) = avalon_joins(world, &mut campaign)?;
-    is_amount(rt, faction, 1);
-    is_amount(rt, unit, 1);
-    goes(rt, alloc, &mut campaign, &CALLS)
+    assert_amount(rt, faction, 1);
+    assert_amount(rt, unit, 1);
+    assert_steps(rt, alloc, &mut campaign, &CALLS)
 }
 
 #[test]

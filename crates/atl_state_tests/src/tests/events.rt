@@ -1,9 +1,9 @@
-//! The numbers and names of the faults of events.
-use super::compare::{is_so, is_text, row_is};
+//! Tests of the numbers and names of the faults of orders (docs/RULES.md, "Events").
+use super::compare::{assert_row, assert_text, assert_true};
 use atl_state::EventFault;
 use std::process::Abort;
 
-/// Numbers, and the names of their faults.
+/// Each fault's number and its name.
 static FAULTS: [(u8, &str); 24] = [
     (1, "NotYours"),
     (2, "NotHere"),
@@ -31,22 +31,23 @@ static FAULTS: [(u8, &str); 24] = [
     (24, "NoMarket"),
 ];
 
-fn is_named(rt: &impl Abort, row: usize, number: u8, name: &str) {
+/// Asserts the name and the number of the fault that has a number.
+fn assert_name(rt: &impl Abort, row: usize, number: u8, name: &str) {
     match EventFault::of_number(number) {
         Some(fault) => {
-            row_is(rt, row, u64::from(fault.number()), u64::from(number));
-            is_text(rt, fault.name(), name);
+            assert_row(rt, row, u64::from(fault.number()), u64::from(number));
+            assert_text(rt, fault.name(), name);
         }
-        None => is_so(rt, false),
+        None => assert_true(rt, false),
     }
 }
 
 #[test]
 fn event_faults(rt: HostRuntime) {
     for (row, (number, name)) in FAULTS.iter().enumerate() {
-        is_named(&rt, row, *number, name);
+        assert_name(&rt, row, *number, name);
     }
-    is_so(&rt, EventFault::of_number(0).is_none());
-    is_so(&rt, EventFault::of_number(25).is_none());
-    is_so(&rt, EventFault::of_number(255).is_none());
+    assert_true(&rt, EventFault::of_number(0).is_none());
+    assert_true(&rt, EventFault::of_number(25).is_none());
+    assert_true(&rt, EventFault::of_number(255).is_none());
 }

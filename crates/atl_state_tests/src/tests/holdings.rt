@@ -1,5 +1,5 @@
-//! Setting and reading a holding.
-use super::compare::{is_amount, row_is_text};
+//! Tests of `Holding` (what a unit has): each call that sets a part, and the reads after it.
+use super::compare::{assert_amount, assert_row_text};
 use super::making::one_man;
 use atl_state::Holding;
 use atl_tables::{Entries, Text};
@@ -21,8 +21,7 @@ enum Part {
     Days(u32, u32),
 }
 
-/// Calls, and after each the holding: its name, men, money and guard flag, its items and its days of skills, each behind its
-/// number.
+/// Calls, and the holding after each as `text_of` prints it.
 static CALLS: [(Part, &str); 15] = [
     (
         Part::Nothing,
@@ -87,6 +86,7 @@ static CALLS: [(Part, &str); 15] = [
     ),
 ];
 
+/// Makes the call that sets a part of a holding.
 fn sets(alloc: Global, holding: &mut Holding, part: Part) -> Result<(), Fail> {
     match part {
         Part::Nothing => (),
@@ -103,7 +103,7 @@ fn sets(alloc: Global, holding: &mut Holding, part: Part) -> Result<(), Fail> {
     Ok(())
 }
 
-/// Each number, followed by how much there is of it.
+/// A list of items or days, flattened: each number, followed by its amount.
 fn listed(alloc: Global, goods: Entries<'_, u32>) -> Result<Vec<u32>, Fail> {
     let mut numbers = Vec::new(alloc);
     for (number, amount) in goods {
@@ -113,6 +113,7 @@ fn listed(alloc: Global, goods: Entries<'_, u32>) -> Result<Vec<u32>, Fail> {
     Ok(numbers)
 }
 
+/// A holding as text: name, men, money, guard flag, items and days.
 fn text_of(alloc: Global, holding: &Holding) -> Result<String, Fail> {
     let (name, guard) = (holding.name().as_str(), holding.guard());
     let (men, money) = (holding.men(), holding.money());
@@ -124,22 +125,22 @@ fn text_of(alloc: Global, holding: &Holding) -> Result<String, Fail> {
     )?)
 }
 
-/// Sets each part in its turn.
+/// Makes each call of `CALLS`, and asserts the holding after it.
 fn sets_all(rt: &impl Abort, alloc: Global, holding: &mut Holding) -> Result<(), Fail> {
     for (row, (part, wanted)) in CALLS.iter().enumerate() {
         sets(alloc, holding, *part)?;
-        row_is_text(rt, row, text_of(alloc, holding)?.as_str(), wanted);
+        assert_row_text(rt, row, text_of(alloc, holding)?.as_str(), wanted);
     }
     Ok(())
 }
 
-/// Asserts single amounts, of what is there and what isn't.
+/// Asserts single amounts after `CALLS`, of items and skills that are there and that aren't.
 fn has_amounts(rt: &impl Abort, holding: &Holding) {
-    is_amount(rt, holding.amount(7), 1);
-    is_amount(rt, holding.amount(2), 0);
-    is_amount(rt, holding.amount(9), 0);
-    is_amount(rt, holding.days_of(5), 0);
-    is_amount(rt, holding.days_of(1), 30);
+    assert_amount(rt, holding.amount(7), 1);
+    assert_amount(rt, holding.amount(2), 0);
+    assert_amount(rt, holding.amount(9), 0);
+    assert_amount(rt, holding.days_of(5), 0);
+    assert_amount(rt, holding.days_of(1), 30);
 }
 
 #[test]

@@ -1,6 +1,8 @@
-//! Calls each law of the crates under test once. A law does nothing and its clause is proved, so nothing is asserted.
+//! Calls each law of the crates under test once and asserts nothing: a law does nothing, and its
+//! clause is proved.
 use atl_state::good_campaigns_are_early;
 
+/// Asserts nothing: the clause of the law is proved.
 #[test]
 fn states_that_good_campaigns_are_early() {
     good_campaigns_are_early();

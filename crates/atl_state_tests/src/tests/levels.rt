@@ -1,5 +1,5 @@
-//! Levels, and what units weigh and carry.
-use super::compare::row_is;
+//! Tests of levels, and of what units weigh and carry (docs/RULES.md, "Levels and loads").
+use super::compare::assert_row;
 use super::making::one_man;
 use atl_state::{Holding, carry, goods, level, load};
 use atl_tables::{World, read_world};
@@ -8,7 +8,7 @@ use std::alloc::Global;
 use std::process::Abort;
 use std::test::Fail;
 
-/// Days, men, and their level.
+/// Days of study, men, and the level that they give.
 static LEVELS: [(u32, u32, u32); 22] = [
     (0, 1, 0),
     (29, 1, 0),
@@ -37,10 +37,11 @@ static LEVELS: [(u32, u32, u32); 22] = [
 #[test]
 fn levels_at_their_bounds(rt: HostRuntime) {
     for (row, (days, men, wanted)) in LEVELS.iter().enumerate() {
-        row_is(&rt, row, u64::from(level(*days, *men)), u64::from(*wanted));
+        assert_row(&rt, row, u64::from(level(*days, *men)), u64::from(*wanted));
     }
 }
 
+/// A unit's men, wood and carts, and its wanted weight of goods, load, and what it carries.
 struct Load {
     men: u32,
     wood: u32,
@@ -102,12 +103,13 @@ static LOADS: [Load; 6] = [
     },
 ];
 
-/// The numbers of wood and carts.
+/// The number of the item wood.
 const WOOD: u32 = 0;
 
+/// The number of the item cart.
 const CART: u32 = 1;
 
-/// People get what a row says.
+/// Sets the men, wood and carts of a holding to those of a row.
 fn takes(holding: &mut Holding, row: &Load) -> Result<(), Fail> {
     if row.men > 999_999 || row.wood > 999_999_999 || row.carts > 999_999_999 {
         return Err(Fail::new("within the limits"));
@@ -118,12 +120,14 @@ fn takes(holding: &mut Holding, row: &Load) -> Result<(), Fail> {
     Ok(())
 }
 
+/// Asserts the weights of a holding; `place` is the index of the row.
 fn weighs(rt: &impl Abort, world: &World, place: usize, holding: &Holding, row: &Load) {
-    row_is(rt, place, goods(world, holding), row.goods);
-    row_is(rt, place, load(world, holding), row.load);
-    row_is(rt, place, carry(world, holding), row.carry);
+    assert_row(rt, place, goods(world, holding), row.goods);
+    assert_row(rt, place, load(world, holding), row.load);
+    assert_row(rt, place, carry(world, holding), row.carry);
 }
 
+/// Asserts the weights of each row.
 fn weighs_all(rt: &impl Abort, alloc: Global, world: &World) -> Result<(), Fail> {
     let mut holding = one_man(alloc)?;
     for (place, row) in LOADS.iter().enumerate() {

@@ -1,4 +1,4 @@
-//! Builds campaigns, people and structures.
+//! Makes the campaigns, units and structures that the tests start from.
 ghost use Rattle.std.specs.Prelude.{IfOk};
 ghost use Rattle.atl_state.specs.Good.{IsGood};
 
@@ -7,7 +7,7 @@ use atl_tables::{Numbered, Text, World, read_world};
 use std::alloc::Global;
 use std::test::Fail;
 
-/// The region of the island's forest by the sea.
+/// The number of the island's region Far, a forest by the sea.
 pub(crate) const FAR: u32 = 3;
 
 /// The number of the kind `boat`.
@@ -16,34 +16,34 @@ pub(crate) const BOAT: u16 = 0;
 /// The number of the kind `lodge`.
 pub(crate) const LODGE: u16 = 1;
 
-/// The campaign as it is founded.
+/// The campaign of a world just after its founding.
 pub(crate) fn founded_in(alloc: Global, world: &World) -> Result<Campaign, Fail>
     ensures { IfOk result (λ campaign. IsGood world.now campaign.value) }
 {
     Ok(founded(alloc, world, b"gm")?)
 }
 
-/// Avalon joins, in the region that the word 1 names.
+/// Avalon joins, with 1 as the word of the dice; the answer is its number and its unit's.
 pub(crate) fn avalon_joins(world: &World, campaign: &mut Campaign) -> Result<(u32, u32), Fail>
     requires { IsGood world.now campaign.old.value }
 {
     Ok(campaign.join(world, b"Avalon", b"pw", 1)?)
 }
 
-/// The campaign once Avalon has joined.
+/// The campaign of a world just after Avalon has joined.
 pub(crate) fn joined_in(alloc: Global, world: &World) -> Result<Campaign, Fail> {
     let mut campaign = founded_in(alloc, world)?;
     avalon_joins(world, &mut campaign)?;
     Ok(campaign)
 }
 
-/// The campaign of a world text as it is founded.
+/// The campaign of a world text just after its founding.
 pub(crate) fn founded_by(alloc: Global, text: &str) -> Result<Campaign, Fail> {
     let world = read_world(alloc, text)?;
     founded_in(alloc, &world)
 }
 
-/// The campaign of a world text once Avalon has joined.
+/// The campaign of a world text just after Avalon has joined.
 pub(crate) fn joined_by(alloc: Global, text: &str) -> Result<Campaign, Fail> {
     let world = read_world(alloc, text)?;
     joined_in(alloc, &world)
@@ -55,7 +55,7 @@ pub(crate) fn one_man(alloc: Global) -> Result<Holding, Fail> {
     Ok(Holding::new(name, 1, 0, Numbered::new(alloc), Numbered::new(alloc)))
 }
 
-/// One man of a faction comes, in the forest by the sea and inside no structure.
+/// Adds a unit of one man of a faction to region Far, in no structure; the answer is its number.
 pub(crate) fn man_comes(alloc: Global, campaign: &mut Campaign, faction: u32) -> Result<u32, Fail> {
     if campaign.next_unit() > LAST_UNIT || campaign.unit(campaign.next_unit()).is_some() {
         return Err(Fail::new("a free number"));
@@ -69,8 +69,13 @@ pub(crate) fn man_comes(alloc: Global, campaign: &mut Campaign, faction: u32) ->
     })?)
 }
 
-/// A structure of a kind is begun in the forest by the sea, of size 2 and without an owner.
-pub(crate) fn is_begun(alloc: Global, campaign: &mut Campaign, kind: u16) -> Result<u32, Fail> {
+/// Adds a structure of a kind to region Far, of size 2 and without an owner; the answer is its
+/// number.
+pub(crate) fn structure_begins(
+    alloc: Global,
+    campaign: &mut Campaign,
+    kind: u16,
+) -> Result<u32, Fail> {
     if campaign.next_structure() > MOST_STRUCTURES
         || campaign.structure(campaign.next_structure()).is_some()
     {

@@ -1,5 +1,5 @@
-//! Where units are, and who owns the structures that they enter and leave, step by step.
-use super::compare::{are_numbers, row_is};
+//! Tests of where units are, and of who owns the structures that they enter and leave.
+use super::compare::{assert_numbers, assert_row};
 use super::making::{BOAT, LODGE, founded_by};
 use super::steps::{OfStructure, OfUnit, Step, does, does_all};
 use atl_state::Campaign;
@@ -8,8 +8,9 @@ use std::alloc::Global;
 use std::process::Abort;
 use std::test::Fail;
 
-/// A step, and after it: the owners of both structures, the units inside each, those of region 3 and of faction 1, and
-/// how many things the step marked.
+/// A step, and who owns both structures and which units are where after it.
+/// It lists the units inside each, in region 3 and of faction 1, and how many parts the step
+/// marked.
 struct Case {
     step: Step,
     owners: (u32, u32),
@@ -19,8 +20,8 @@ struct Case {
     marks: usize,
 }
 
-/// Steps from units 1 and 3 of faction 1 and unit 2 of faction 2, all in region 3, where a boat 1 and a lodge 2 stand
-/// without owners.
+/// Steps from units 1 and 3 of faction 1 and unit 2 of faction 2, all in region 3.
+/// A boat 1 and a lodge 2 are there, without owners.
 static CASES: [Case; 13] = [
     // Who enters an ownerless structure owns it.
     Case {
@@ -134,7 +135,7 @@ static CASES: [Case; 13] = [
     },
 ];
 
-/// The owner of a structure; of none 99.
+/// The owner of a structure, or 99 if there is no such structure.
 fn owner(campaign: &Campaign, structure: u32) -> u64 {
     match campaign.structure(structure) {
         Some(found) => u64::from(found.owner),
@@ -142,19 +143,22 @@ fn owner(campaign: &Campaign, structure: u32) -> u64 {
     }
 }
 
+/// Asserts the owners of both structures, and how many parts are marked.
 fn has_owners(rt: &impl Abort, row: usize, campaign: &Campaign, case: &Case) {
-    row_is(rt, row, owner(campaign, 1), u64::from(case.owners.0));
-    row_is(rt, row, owner(campaign, 2), u64::from(case.owners.1));
-    row_is(rt, row, campaign.marks() as u64, case.marks as u64);
+    assert_row(rt, row, owner(campaign, 1), u64::from(case.owners.0));
+    assert_row(rt, row, owner(campaign, 2), u64::from(case.owners.1));
+    assert_row(rt, row, campaign.marks() as u64, case.marks as u64);
 }
 
+/// Asserts the units inside each structure, in region 3 and of faction 1.
 fn has_lists(rt: &impl Abort, row: usize, campaign: &Campaign, case: &Case) {
-    are_numbers(rt, row, campaign.inside(1), case.inside.0);
-    are_numbers(rt, row, campaign.inside(2), case.inside.1);
-    are_numbers(rt, row, campaign.in_region(3), case.region);
-    are_numbers(rt, row, campaign.of_faction(1), case.faction);
+    assert_numbers(rt, row, campaign.inside(1), case.inside.0);
+    assert_numbers(rt, row, campaign.inside(2), case.inside.1);
+    assert_numbers(rt, row, campaign.in_region(3), case.region);
+    assert_numbers(rt, row, campaign.of_faction(1), case.faction);
 }
 
+/// Clears the marks, makes the step of a case, and asserts all of the case.
 fn case_holds(
     rt: &impl Abort,
     alloc: Global,
@@ -169,6 +173,7 @@ fn case_holds(
     Ok(())
 }
 
+/// Asserts each case, one step after the other.
 fn cases_hold(
     rt: &impl Abort,
     alloc: Global,
@@ -181,7 +186,7 @@ fn cases_hold(
     Ok(())
 }
 
-/// The units and the structures come.
+/// Steps that add the three units and the two structures.
 static COMING: [Step; 5] = [
     Step::Comes(1, 1),
     Step::Comes(2, 2),
@@ -190,7 +195,7 @@ static COMING: [Step; 5] = [
     Step::Begins(LODGE, 2),
 ];
 
-/// The campaign once they have come.
+/// The campaign with the three units and the two structures.
 fn peopled(alloc: Global) -> Result<Campaign, Fail> {
     let mut campaign = founded_by(alloc, ISLE)?;
     does_all(alloc, &mut campaign, &COMING)?;
@@ -203,24 +208,26 @@ fn placing_and_removing(rt: HostRuntime) -> Result<(), Fail> {
     cases_hold(&rt, rt.alloc(), &mut campaign, &CASES)
 }
 
-/// All three enter the boat, the second one first.
+/// All three units enter the boat, unit 2 first, which so owns it.
 static ENTERING: [Step; 3] = [
     Step::Unit(2, OfUnit::Place(3, 1)),
     Step::Unit(1, OfUnit::Place(3, 1)),
     Step::Unit(3, OfUnit::Place(3, 1)),
 ];
 
-/// Structure, who leaves it, and who owns it then, where unit 2 owns the boat with units 1 and 3 inside.
+/// A structure, a unit that leaves it, and who owns it then. Unit 2 owns the boat, with units 1 and
+/// 3 inside.
 static AFTER: [(u32, u32, u32); 5] = [(1, 2, 1), (1, 1, 2), (1, 3, 2), (2, 1, 0), (9, 1, 0)];
 
+/// Asserts for each row of `AFTER` who would own the structure.
 fn knows_owners(rt: &impl Abort, campaign: &Campaign) {
     for (row, (structure, leaving, wanted)) in AFTER.iter().enumerate() {
         let told = campaign.owner_after(*structure, *leaving);
-        row_is(rt, row, u64::from(told), u64::from(*wanted));
+        assert_row(rt, row, u64::from(told), u64::from(*wanted));
     }
 }
 
-/// The boat goes to region 2 with the units inside: their owner stays.
+/// The boat is moved to region 2 with the units inside, and its owner stays.
 static SAILING: [Case; 4] = [
     Case {
         step: Step::Structure(1, OfStructure::Region(2)),
@@ -256,11 +263,12 @@ static SAILING: [Case; 4] = [
     },
 ];
 
+/// Asserts `AFTER` and `SAILING`, after all units entered the boat.
 fn sails(rt: &impl Abort, alloc: Global, campaign: &mut Campaign) -> Result<(), Fail> {
     does_all(alloc, campaign, &ENTERING)?;
     knows_owners(rt, campaign);
     cases_hold(rt, alloc, campaign, &SAILING)?;
-    are_numbers(rt, 0, campaign.in_region(2), &[1, 2, 3]);
+    assert_numbers(rt, 0, campaign.in_region(2), &[1, 2, 3]);
     Ok(())
 }
 

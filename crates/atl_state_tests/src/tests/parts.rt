@@ -1,5 +1,5 @@
-//! The rows of a campaign, table by table.
-use super::compare::are_rows;
+//! Tests of `Campaign::parts`: the rows that a campaign gives to each table.
+use super::compare::assert_rows;
 use super::making::{LODGE, joined_by};
 use super::steps::{OfFaction, OfStructure, OfUnit, Step, does_all};
 use atl_state::parts::Parts;
@@ -8,7 +8,7 @@ use std::alloc::Global;
 use std::process::Abort;
 use std::test::Fail;
 
-/// Avalon's unit owns a lodge, gets 12 wood and 60 days of sailing, and guards. There are orders and a report.
+/// Steps that give Avalon a lodge, 12 wood, 60 days of sailing, a guard, a mailing and a report.
 static SETTLING: [Step; 7] = [
     Step::Begins(LODGE, 1),
     Step::Structure(1, OfStructure::Owner(1)),
@@ -19,67 +19,71 @@ static SETTLING: [Step; 7] = [
     Step::Faction(1, OfFaction::Report("A report.\n")),
 ];
 
-/// The rows once Avalon has joined and settled.
+/// The rows of the campaign after Avalon has joined and `SETTLING`.
 fn rows(alloc: Global) -> Result<Parts, Fail> {
     let mut campaign = joined_by(alloc, ISLE)?;
     does_all(alloc, &mut campaign, &SETTLING)?;
     Ok(campaign.parts()?)
 }
 
-/// The pass text is gm.
+/// The wanted row of the campaign; the pass text is `gm`.
 const HEAD: &str =
     "[StoredCampaignRow { id: 1, format: 2, month: 0, next_faction: 2, next_unit: 2, next_structure: 2, \
     pass: Sequence { items: [103, 109] } }]";
 
-/// Both names are Avalon, the pass text is pw.
+/// The wanted row of Avalon; both names are `Avalon`, the pass text is `pw`.
 const FACTIONS: &str =
     "[StoredFaction { number: 1, joined_as: Sequence { items: [65, 118, 97, 108, 111, 110] }, \
     name: Sequence { items: [65, 118, 97, 108, 111, 110] }, pass: Sequence { items: [112, 119] }, gone: 0 }]";
 
+/// The wanted rows of the regions.
 const REGIONS: &str = "[StoredRegion { number: 1, peasants: 1000, money: 500 }, \
     StoredRegion { number: 2, peasants: 0, money: 0 }, \
     StoredRegion { number: 3, peasants: 200, money: 100 }, \
     StoredRegion { number: 4, peasants: 100, money: 50 }]";
 
-/// The name is Unit 1.
+/// The wanted row of the unit; the name is `Unit 1`.
 const UNITS: &str =
     "[StoredUnit { number: 1, faction: 1, name: Sequence { items: [85, 110, 105, 116, 32, 49] }, \
     region: 3, structure: 0, men: 1, money: 1000, guard: 1 }]";
 
-/// 12 wood, and 60 days of sailing.
+/// The wanted rows of goods and skills: 12 wood, and 60 days of sailing.
 const HAS: &str = "[StoredHas { unit: 1, sort: 0, thing: 0, amount: 12 }, \
     StoredHas { unit: 1, sort: 1, thing: 3, amount: 60 }]";
 
-/// The name is A structure.
+/// The wanted row of the lodge; the name is `A structure`.
 const STRUCTURES: &str = "[StoredStructure { number: 1, kind: 1, \
     name: Sequence { items: [65, 32, 115, 116, 114, 117, 99, 116, 117, 114, 101] }, region: 3, done: 2, owner: 1 }]";
 
-/// The text is #ATLANTIS 1.
+/// The wanted row of the mailing; the text is `#ATLANTIS 1`.
 const MAIL: &str =
     "[StoredMail { faction: 1, text: Sequence { items: [35, 65, 84, 76, 65, 78, 84, 73, 83, 32, 49] } }]";
 
+/// The wanted row of the report.
 const REPORTS: &str = "[StoredReport { faction: 1, text: Text { string: \"A report.\\n\" } }]";
 
-/// What the regions held at founding, and what joining brought.
+/// The wanted rows of the books: what the regions held at the founding, and what joining brought.
 const BOOKS: &str = "[StoredBooks { entry: 1, thing: 0, amount: 650 }, \
     StoredBooks { entry: 1, thing: 1, amount: 1300 }, \
     StoredBooks { entry: 2, thing: 0, amount: 1000 }, \
     StoredBooks { entry: 2, thing: 1, amount: 1 }]";
 
+/// Asserts the rows of the campaign, factions, units, their goods, and structures.
 fn shows_people(rt: &impl Abort, alloc: Global, parts: &Parts) -> Result<(), Fail> {
-    are_rows(rt, alloc, parts.campaign.as_slice(), HEAD)?;
-    are_rows(rt, alloc, parts.factions.as_slice(), FACTIONS)?;
-    are_rows(rt, alloc, parts.units.as_slice(), UNITS)?;
-    are_rows(rt, alloc, parts.has.as_slice(), HAS)?;
-    are_rows(rt, alloc, parts.structures.as_slice(), STRUCTURES)
+    assert_rows(rt, alloc, parts.campaign.as_slice(), HEAD)?;
+    assert_rows(rt, alloc, parts.factions.as_slice(), FACTIONS)?;
+    assert_rows(rt, alloc, parts.units.as_slice(), UNITS)?;
+    assert_rows(rt, alloc, parts.has.as_slice(), HAS)?;
+    assert_rows(rt, alloc, parts.structures.as_slice(), STRUCTURES)
 }
 
+/// Asserts the rows of the regions, mailings, reports, books and markets.
 fn shows_others(rt: &impl Abort, alloc: Global, parts: &Parts) -> Result<(), Fail> {
-    are_rows(rt, alloc, parts.regions.as_slice(), REGIONS)?;
-    are_rows(rt, alloc, parts.mail.as_slice(), MAIL)?;
-    are_rows(rt, alloc, parts.reports.as_slice(), REPORTS)?;
-    are_rows(rt, alloc, parts.books.as_slice(), BOOKS)?;
-    are_rows(rt, alloc, parts.markets.as_slice(), "[]")
+    assert_rows(rt, alloc, parts.regions.as_slice(), REGIONS)?;
+    assert_rows(rt, alloc, parts.mail.as_slice(), MAIL)?;
+    assert_rows(rt, alloc, parts.reports.as_slice(), REPORTS)?;
+    assert_rows(rt, alloc, parts.books.as_slice(), BOOKS)?;
+    assert_rows(rt, alloc, parts.markets.as_slice(), "[]")
 }
 
 #[test]

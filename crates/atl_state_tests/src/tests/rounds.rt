@@ -1,8 +1,8 @@
-//! Units that are removed and added in turn: who is there, what is marked, and the rows.
+//! Tests of units removed and added in turn: who is there, what is marked, and the campaign's rows.
 use super::checks::checked;
-use super::compare::is_count;
+use super::compare::assert_count;
 use super::making::{FAR, joined_in};
-use super::shown::{Ask, Row, goes};
+use super::shown::{Ask, Row, assert_steps};
 use super::steps::{OfFaction, OfRegion, OfUnit, Step, does_all};
 use atl_state::Campaign;
 use atl_tables::{World, read_world};
@@ -11,7 +11,8 @@ use std::alloc::Global;
 use std::process::Abort;
 use std::test::Fail;
 
-/// Avalon gets its report. Three men come out of the peasants; as each of ten goes another comes.
+/// Avalon gets its report and three men, who leave the peasants; then ten times a unit goes and
+/// another comes.
 static COMING: [Step; 25] = [
     Step::Faction(1, OfFaction::Report("A report.\n")),
     Step::Comes(1, 2),
@@ -40,7 +41,8 @@ static COMING: [Step; 25] = [
     Step::Comes(1, 14),
 ];
 
-/// Those who came are marked, and those who went. Once nothing is, who goes and who comes after them are marked alone.
+/// Units that came and units that went are marked. After the marks are cleared, only those of the
+/// next change are.
 static MARKS: [Row; 6] = [
     (
         Step::Nothing,
@@ -72,19 +74,21 @@ static MARKS: [Row; 6] = [
     (Step::Unmark, Ask::Units, "[1, 12, 14, 15]", "0"),
 ];
 
-/// The rows of those who are there give them again, and nobody else.
+/// The campaign made again from its rows has exactly the units of the first.
 static AGAIN: [Row; 1] = [(Step::Nothing, Ask::Units, "[1, 12, 14, 15]", "0")];
 
+/// Asserts `AGAIN` on the campaign made from the rows of `first`.
 fn come_back(rt: &impl Abort, alloc: Global, world: &World, first: &Campaign) -> Result<(), Fail> {
     let mut again = checked(alloc, world, first.parts()?)?;
-    is_count(rt, again.in_region(FAR).len(), 4);
-    goes(rt, alloc, &mut again, &AGAIN)
+    assert_count(rt, again.in_region(FAR).len(), 4);
+    assert_steps(rt, alloc, &mut again, &AGAIN)
 }
 
+/// Asserts `MARKS` after `COMING`, and then `AGAIN`.
 fn go_round(rt: &impl Abort, alloc: Global, world: &World) -> Result<(), Fail> {
     let mut campaign = joined_in(alloc, world)?;
     does_all(alloc, &mut campaign, &COMING)?;
-    goes(rt, alloc, &mut campaign, &MARKS)?;
+    assert_steps(rt, alloc, &mut campaign, &MARKS)?;
     come_back(rt, alloc, world, &campaign)
 }
 

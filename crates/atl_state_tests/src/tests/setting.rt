@@ -1,6 +1,7 @@
-//! The calls that set one entry of a campaign: what each sets, and that it marks that entry alone.
+//! Tests of the calls that set one part of a campaign: what each sets, and that it marks that part
+//! alone.
 use super::making::{FAR, LODGE, joined_by};
-use super::shown::{Ask, Row, goes_unmarked};
+use super::shown::{Ask, Row, assert_unmarked_steps};
 use super::steps::{OfFaction, OfRegion, OfStructure, OfUnit, Step, does};
 use atl_state::Campaign;
 use atl_test_worlds::ISLE;
@@ -106,7 +107,7 @@ static CALLS: [Row; 18] = [
     ),
 ];
 
-/// Where nothing has the number 9 nothing changes, and nothing is marked.
+/// Calls with the number 9, which nothing has: they change nothing and mark nothing.
 static NOBODY: [Row; 12] = [
     (
         Step::Faction(9, OfFaction::Name("Bree")),
@@ -172,10 +173,11 @@ static NOBODY: [Row; 12] = [
     ),
 ];
 
+/// Asserts each row of `CALLS` and `NOBODY`, after a lodge was begun.
 fn sets_all(rt: &impl Abort, alloc: Global, campaign: &mut Campaign) -> Result<(), Fail> {
     does(alloc, campaign, Step::Begins(LODGE, 1))?;
-    goes_unmarked(rt, alloc, campaign, &CALLS)?;
-    goes_unmarked(rt, alloc, campaign, &NOBODY)
+    assert_unmarked_steps(rt, alloc, campaign, &CALLS)?;
+    assert_unmarked_steps(rt, alloc, campaign, &NOBODY)
 }
 
 #[test]

@@ -1,5 +1,5 @@
-//! Prints a campaign and its marks, for tables of steps with both.
-use super::compare::row_is_text;
+//! Prints parts of a campaign and its marks as text, and runs tables of steps with both.
+use super::compare::assert_row_text;
 use super::steps::{Step, does};
 use atl_state::{Campaign, Entry, MOST_UNITS, Thing};
 use atl_tables::limits::MOST_REGIONS;
@@ -9,11 +9,12 @@ use std::process::Abort;
 use std::str;
 use std::test::Fail;
 
-/// What is asked of a campaign.
+/// A question to a campaign, answered as text by `text_of`.
 #[derive(Drop, Clone, Copy)]
 pub(crate) enum Ask {
     Month,
-    /// How many factions, regions, units and structures there are, and the next numbers of the latter two.
+    /// How many factions, regions, units and structures there are, and the next numbers of a unit
+    /// and a structure.
     Counts,
     Faction(u32),
     /// The mail of a faction, and how many mails there are.
@@ -33,11 +34,12 @@ pub(crate) enum Ask {
     Total(Thing),
 }
 
-/// Where nothing has the number.
+/// The answer where nothing has the number.
 fn none(alloc: Global) -> Result<String, Fail> {
     Ok(String::from_str(alloc, "none")?)
 }
 
+/// The answer to `Ask::Counts`.
 fn counts_text(alloc: Global, campaign: &Campaign) -> Result<String, Fail> {
     let counts = [
         campaign.faction_count(),
@@ -49,6 +51,7 @@ fn counts_text(alloc: Global, campaign: &Campaign) -> Result<String, Fail> {
     Ok(format!(in alloc; "{counts:?}, next {next:?}")?)
 }
 
+/// A faction's names and pass text, and whether it is gone.
 fn faction_text(alloc: Global, campaign: &Campaign, number: u32) -> Result<String, Fail> {
     match campaign.faction(number) {
         Some(faction) => {
@@ -60,6 +63,7 @@ fn faction_text(alloc: Global, campaign: &Campaign, number: u32) -> Result<Strin
     }
 }
 
+/// The mail of a faction, or `none`, and how many mails there are.
 fn mail_text(alloc: Global, campaign: &Campaign, faction: u32) -> Result<String, Fail> {
     let text = match campaign.mail_of(faction) {
         Some(mail) => str::from_utf8(mail.as_slice()).unwrap_or("no text"),
@@ -69,6 +73,7 @@ fn mail_text(alloc: Global, campaign: &Campaign, faction: u32) -> Result<String,
     Ok(format!(in alloc; "{text} of {count}")?)
 }
 
+/// The report of a faction, or `none`, and how many reports there are.
 fn report_text(alloc: Global, campaign: &Campaign, faction: u32) -> Result<String, Fail> {
     let text = match campaign.report(faction) {
         Some(report) => report.as_str(),
@@ -78,6 +83,7 @@ fn report_text(alloc: Global, campaign: &Campaign, faction: u32) -> Result<Strin
     Ok(format!(in alloc; "{text} of {count}")?)
 }
 
+/// A region's peasants and money.
 fn region_text(alloc: Global, campaign: &Campaign, number: u32) -> Result<String, Fail> {
     match campaign.region(number) {
         Some(region) => {
@@ -88,6 +94,7 @@ fn region_text(alloc: Global, campaign: &Campaign, number: u32) -> Result<String
     }
 }
 
+/// A region's stock of an item, and how many stocks it lists.
 fn stock_text(alloc: Global, campaign: &Campaign, number: u32, item: u32) -> Result<String, Fail> {
     let stock = campaign.stock(number, item);
     match campaign.region(number) {
@@ -99,6 +106,7 @@ fn stock_text(alloc: Global, campaign: &Campaign, number: u32, item: u32) -> Res
     }
 }
 
+/// The numbers of all units.
 fn units_text(alloc: Global, campaign: &Campaign) -> Result<String, Fail> {
     let mut numbers = Vec::new(alloc);
     for (number, _) in campaign.units() {
@@ -120,6 +128,7 @@ fn unit_text(alloc: Global, campaign: &Campaign, number: u32) -> Result<String, 
     Ok(format!(in alloc; "{name}: {men} men, {money} money, guard: {guard}, {places:?}")?)
 }
 
+/// How much a unit has of an item, and its days of a skill.
 fn goods_text(
     alloc: Global,
     campaign: &Campaign,
@@ -146,6 +155,7 @@ fn structure_text(alloc: Global, campaign: &Campaign, number: u32) -> Result<Str
     Ok(format!(in alloc; "{name}: kind {kind}, region {region}, {done} done, owner {owner}")?)
 }
 
+/// The total of a thing; too many units or regions to sum are a failure.
 fn total_text(alloc: Global, campaign: &Campaign, thing: Thing) -> Result<String, Fail> {
     if campaign.unit_count() > MOST_UNITS || campaign.region_count() > MOST_REGIONS {
         return Err(Fail::new("few units and regions"));
@@ -154,12 +164,13 @@ fn total_text(alloc: Global, campaign: &Campaign, thing: Thing) -> Result<String
     Ok(format!(in alloc; "{total}")?)
 }
 
+/// The last closed month.
 fn month_text(alloc: Global, campaign: &Campaign) -> Result<String, Fail> {
     let month = campaign.month();
     Ok(format!(in alloc; "{month}")?)
 }
 
-/// What is asked.
+/// The answer to a question.
 fn text_of(alloc: Global, campaign: &Campaign, ask: Ask) -> Result<String, Fail> {
     match ask {
         Ask::Month => month_text(alloc, campaign),
@@ -177,7 +188,7 @@ fn text_of(alloc: Global, campaign: &Campaign, ask: Ask) -> Result<String, Fail>
     }
 }
 
-/// The lists of marked numbers, each at its place in `marked`.
+/// The names of the lists of marked numbers, in the order of the index of `marked`.
 static LISTS: [&str; 9] = [
     "factions",
     "regions",
@@ -190,7 +201,7 @@ static LISTS: [&str; 9] = [
     "reports",
 ];
 
-/// What is marked, by its place.
+/// The list of marked numbers with an index in `LISTS`.
 fn marked(campaign: &Campaign, place: usize) -> MarkedNumbers<'_> {
     match place {
         0 => campaign.marked_factions(),
@@ -205,7 +216,7 @@ fn marked(campaign: &Campaign, place: usize) -> MarkedNumbers<'_> {
     }
 }
 
-/// Adds each list that has a number.
+/// Appends each list of marked numbers that isn't empty.
 fn add_lists(alloc: Global, text: &mut String, campaign: &Campaign) -> Result<(), Fail> {
     for (place, name) in LISTS.iter().enumerate() {
         let numbers: Vec<u32> = marked(campaign, place).collect(alloc)?;
@@ -217,7 +228,7 @@ fn add_lists(alloc: Global, text: &mut String, campaign: &Campaign) -> Result<()
     Ok(())
 }
 
-/// Adds the marked items, or skills, of a unit.
+/// Appends the marked items, or skills, of a unit.
 fn add_goods(
     alloc: Global,
     text: &mut String,
@@ -231,6 +242,7 @@ fn add_goods(
     Ok(())
 }
 
+/// Appends the marked items, or skills, of all units.
 fn add_all_goods(
     alloc: Global,
     text: &mut String,
@@ -243,7 +255,7 @@ fn add_all_goods(
     Ok(())
 }
 
-/// Adds the campaign's own row, and what is booked of a joining.
+/// Appends whether the campaign's own row, and the books' amounts of a joining, are marked.
 fn add_own(text: &mut String, campaign: &Campaign) -> Result<(), Fail> {
     if campaign.is_row_marked() {
         text.push_str(", the campaign")?;
@@ -260,7 +272,7 @@ fn add_own(text: &mut String, campaign: &Campaign) -> Result<(), Fail> {
     Ok(())
 }
 
-/// How many things are marked, and which.
+/// How many parts are marked, and which.
 fn marks_text(alloc: Global, campaign: &Campaign) -> Result<String, Fail> {
     let count = campaign.marks();
     let mut text = format!(in alloc; "{count}")?;
@@ -271,9 +283,10 @@ fn marks_text(alloc: Global, campaign: &Campaign) -> Result<String, Fail> {
     Ok(text)
 }
 
-/// A step, what is asked after it, the answer, and what is marked then.
+/// A step, a question after it, the answer, and what is marked then (`marks_text`).
 pub(crate) type Row = (Step, Ask, &'static str, &'static str);
 
+/// Makes the step of a row, and asserts its answer and its marks; `place` is the index of the row.
 fn is_so_after(
     rt: &impl Abort,
     alloc: Global,
@@ -283,13 +296,13 @@ fn is_so_after(
 ) -> Result<(), Fail> {
     let (step, ask, answer, marks) = *row;
     does(alloc, campaign, step)?;
-    row_is_text(rt, place, text_of(alloc, campaign, ask)?.as_str(), answer);
-    row_is_text(rt, place, marks_text(alloc, campaign)?.as_str(), marks);
+    assert_row_text(rt, place, text_of(alloc, campaign, ask)?.as_str(), answer);
+    assert_row_text(rt, place, marks_text(alloc, campaign)?.as_str(), marks);
     Ok(())
 }
 
-/// Makes the calls of a table one after another.
-pub(crate) fn goes(
+/// Makes the steps of a table in turn, and asserts each row.
+pub(crate) fn assert_steps(
     rt: &impl Abort,
     alloc: Global,
     campaign: &mut Campaign,
@@ -301,8 +314,8 @@ pub(crate) fn goes(
     Ok(())
 }
 
-/// The same, where before each call nothing is marked.
-pub(crate) fn goes_unmarked(
+/// The same, with all marks cleared before each step.
+pub(crate) fn assert_unmarked_steps(
     rt: &impl Abort,
     alloc: Global,
     campaign: &mut Campaign,

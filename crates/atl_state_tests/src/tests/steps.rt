@@ -1,11 +1,11 @@
-//! The steps of the tables: calls that change a campaign.
-use super::making::{is_begun, man_comes};
+//! The steps of the tables of these tests: calls that change a campaign, as values.
+use super::making::{man_comes, structure_begins};
 use atl_state::{Campaign, Holding};
 use atl_tables::{Sequence, Text};
 use std::alloc::Global;
 use std::test::Fail;
 
-/// A call on a campaign; the numbers are those of a faction, a region, a unit and a structure.
+/// A call on a campaign. The number next to a change is that of the faction, region, unit or structure changed.
 #[derive(Drop, Clone, Copy)]
 pub(crate) enum Step {
     Nothing,
@@ -16,12 +16,15 @@ pub(crate) enum Step {
     Region(u32, OfRegion),
     Unit(u32, OfUnit),
     Structure(u32, OfStructure),
-    /// A man of a faction comes, in the forest by the sea, and gets this number.
+    /// A unit of one man of a faction is added in region Far; the second number is the one it must
+    /// get.
     Comes(u32, u32),
-    /// A structure of a kind is begun there, without an owner, and gets this number.
+    /// A structure of a kind is begun there, without an owner; the second number is the one it must
+    /// get.
     Begins(u16, u32),
 }
 
+/// A change of a faction.
 #[derive(Drop, Clone, Copy)]
 pub(crate) enum OfFaction {
     Name(&'static str),
@@ -30,6 +33,7 @@ pub(crate) enum OfFaction {
     Report(&'static str),
 }
 
+/// A change of a region.
 #[derive(Drop, Clone, Copy)]
 pub(crate) enum OfRegion {
     Peasants(u32),
@@ -38,6 +42,7 @@ pub(crate) enum OfRegion {
     Stock(u32, u32),
 }
 
+/// A change of a unit.
 #[derive(Drop, Clone, Copy)]
 pub(crate) enum OfUnit {
     Name(&'static str),
@@ -48,15 +53,16 @@ pub(crate) enum OfUnit {
     Item(u32, u32),
     /// A skill and its days.
     Days(u32, u32),
-    /// Money, by what is lent.
+    /// Money, set through the holding that is lent.
     LentMoney(u32),
-    /// An item and its amount, by what is lent.
+    /// An item and its amount, set through the holding that is lent.
     LentItem(u32, u32),
     /// A region and a structure.
     Place(u32, u32),
     Remove,
 }
 
+/// A change of a structure.
 #[derive(Drop, Clone, Copy)]
 pub(crate) enum OfStructure {
     Name(&'static str),
@@ -65,6 +71,7 @@ pub(crate) enum OfStructure {
     Owner(u32),
 }
 
+/// Makes a change of a faction.
 fn changes_faction(
     alloc: Global,
     campaign: &mut Campaign,
@@ -82,6 +89,7 @@ fn changes_faction(
     Ok(())
 }
 
+/// Makes a change of a region.
 fn changes_region(campaign: &mut Campaign, region: u32, change: OfRegion) -> Result<(), Fail> {
     match change {
         OfRegion::Peasants(peasants) => campaign.set_peasants(region, peasants),
@@ -91,7 +99,7 @@ fn changes_region(campaign: &mut Campaign, region: u32, change: OfRegion) -> Res
     Ok(())
 }
 
-/// Changes what is lent of a unit, where it is there.
+/// Makes a change through the holding that is lent, if the unit is there.
 fn changes_lent(lent: Option<&mut Holding>, change: OfUnit) -> Result<(), Fail> {
     let Some(holding) = lent else {
         return Ok(());
@@ -106,6 +114,7 @@ fn changes_lent(lent: Option<&mut Holding>, change: OfUnit) -> Result<(), Fail> 
     Ok(())
 }
 
+/// Makes a change of a unit.
 fn changes_unit(
     alloc: Global,
     campaign: &mut Campaign,
@@ -128,6 +137,7 @@ fn changes_unit(
     Ok(())
 }
 
+/// Makes a change of a structure.
 fn changes_structure(
     alloc: Global,
     campaign: &mut Campaign,
@@ -145,7 +155,7 @@ fn changes_structure(
     Ok(())
 }
 
-/// Whether what comes gets the number that a step names.
+/// Fails unless the number that was given is the one that the step says.
 fn gets(told: u32, number: u32) -> Result<(), Fail> {
     if told == number {
         Ok(())
@@ -168,7 +178,7 @@ pub(crate) fn does(alloc: Global, campaign: &mut Campaign, step: Step) -> Result
             changes_structure(alloc, campaign, structure, change)?;
         }
         Step::Comes(faction, number) => gets(man_comes(alloc, campaign, faction)?, number)?,
-        Step::Begins(kind, number) => gets(is_begun(alloc, campaign, kind)?, number)?,
+        Step::Begins(kind, number) => gets(structure_begins(alloc, campaign, kind)?, number)?,
     }
     Ok(())
 }

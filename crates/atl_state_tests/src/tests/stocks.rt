@@ -1,19 +1,19 @@
-//! The stocks of a region's market.
+//! Tests of the stocks of a region's market.
 use super::making::joined_by;
-use super::shown::{Ask, Row, goes};
+use super::shown::{Ask, Row, assert_steps};
 use super::steps::{OfRegion, OfUnit, Step};
 use atl_state::Thing;
 use atl_test_worlds::MART;
 use std::test::Fail;
 
-/// What all units and regions hold of wood.
+/// The question how much wood all units and regions hold.
 const ALL_WOOD: Ask = Ask::Total(Thing::Item(0));
 
-/// What region 1 has in stock of wood.
+/// The question how much wood region 1 has in stock.
 const STOCK: Ask = Ask::Stock(1, 0);
 
-/// The unit has three wood, and the market 25 of its own. Another amount stands in the place of the first; the same amount marks
-/// nothing, and none is listed no more. Where there is no region nothing changes.
+/// Steps that set stocks. Setting the same amount marks nothing, an amount of 0 is not listed, and
+/// without a region nothing changes.
 static WOOD: [Row; 11] = [
     (Step::Unmark, ALL_WOOD, "0", "0"),
     (
@@ -61,5 +61,5 @@ static WOOD: [Row; 11] = [
 #[test]
 fn stocks_are_counted(rt: HostRuntime) -> Result<(), Fail> {
     let mut campaign = joined_by(rt.alloc(), MART)?;
-    goes(&rt, rt.alloc(), &mut campaign, &WOOD)
+    assert_steps(&rt, rt.alloc(), &mut campaign, &WOOD)
 }

@@ -1,15 +1,15 @@
-//! Single items and skills of units, set and marked one by one.
+//! Tests of setting single items and skills of units: each is marked by itself.
 use super::making::joined_by;
-use super::shown::{Ask, Row, goes};
+use super::shown::{Ask, Row, assert_steps};
 use super::steps::{OfUnit, Step};
 use atl_test_worlds::ISLE;
 use std::test::Fail;
 
-/// What unit 1 has of item 7, and its days of skill 3.
+/// The question how much unit 1 has of item 7, and its days of skill 3.
 const GOODS: Ask = Ask::Goods(1, 7, 3);
 
-/// A step, what is asked then, the answer, and how many things are marked. A unit counts once, however many of its items
-/// and skills are marked; one that is set to 0 is marked as well.
+/// Steps with the count of parts marked. A unit counts once, however many of its items and skills
+/// are marked. An item or skill set to 0 is marked too.
 static ONE_BY_ONE: [Row; 11] = [
     (Step::Unmark, GOODS, "0, 0 days", "0"),
     (
@@ -59,10 +59,10 @@ static ONE_BY_ONE: [Row; 11] = [
     ),
 ];
 
-/// All that is marked of a unit that is lent, or is gone, and of which an item and a skill were marked.
+/// The marks of a unit that was lent or removed after one item and one skill of it were marked.
 const WHOLE: &str = "1, units [1], rows [1], goods [1], item 7 of unit 1, skill 3 of unit 1";
 
-/// A unit that is lent, and one that goes, is marked whole beside what was marked of it.
+/// Steps that lend or remove the unit, which marks it as a whole besides what was marked of it.
 static AS_A_WHOLE: [Row; 8] = [
     (
         Step::Unit(1, OfUnit::Item(7, 4)),
@@ -102,6 +102,6 @@ static AS_A_WHOLE: [Row; 8] = [
 #[test]
 fn goods_are_marked(rt: HostRuntime) -> Result<(), Fail> {
     let mut campaign = joined_by(rt.alloc(), ISLE)?;
-    goes(&rt, rt.alloc(), &mut campaign, &ONE_BY_ONE)?;
-    goes(&rt, rt.alloc(), &mut campaign, &AS_A_WHOLE)
+    assert_steps(&rt, rt.alloc(), &mut campaign, &ONE_BY_ONE)?;
+    assert_steps(&rt, rt.alloc(), &mut campaign, &AS_A_WHOLE)
 }

@@ -1,7 +1,8 @@
-//! Walks over all factions, regions, units and structures of a campaign, and its totals.
-use super::compare::{is_amount, is_count, is_text};
+//! Tests of the walks over all factions, regions, units and structures of a campaign, and of its
+//! totals.
+use super::compare::{assert_amount, assert_count, assert_text};
 use super::making::{LODGE, joined_by};
-use super::shown::{Ask, Row, goes};
+use super::shown::{Ask, Row, assert_steps};
 use super::steps::{OfUnit, Step, does_all};
 use atl_state::{Campaign, Thing};
 use atl_test_worlds::ISLE;
@@ -9,38 +10,41 @@ use std::alloc::Global;
 use std::process::Abort;
 use std::test::Fail;
 
+/// Asserts the only faction of the campaign.
 fn walks_factions(rt: &impl Abort, campaign: &Campaign) -> Result<(), Fail> {
-    is_count(rt, campaign.factions().count(), 1);
+    assert_count(rt, campaign.factions().count(), 1);
     let (number, faction) = campaign.factions().next().ok_or("a faction")?;
-    is_amount(rt, number, 1);
-    is_text(rt, faction.pass.as_str(), "pw");
+    assert_amount(rt, number, 1);
+    assert_text(rt, faction.pass.as_str(), "pw");
     Ok(())
 }
 
+/// Asserts the first of the four regions.
 fn walks_regions(rt: &impl Abort, campaign: &Campaign) -> Result<(), Fail> {
-    is_count(rt, campaign.regions().count(), 4);
+    assert_count(rt, campaign.regions().count(), 4);
     let (number, region) = campaign.regions().next().ok_or("a region")?;
-    is_amount(rt, number, 1);
-    is_amount(rt, region.peasants, 1000);
+    assert_amount(rt, number, 1);
+    assert_amount(rt, region.peasants, 1000);
     Ok(())
 }
 
+/// Asserts the only structure.
 fn walks_structures(rt: &impl Abort, campaign: &Campaign) -> Result<(), Fail> {
-    is_count(rt, campaign.structures().count(), 1);
+    assert_count(rt, campaign.structures().count(), 1);
     let (number, structure) = campaign.structures().next().ok_or("a structure")?;
-    is_amount(rt, number, 1);
-    is_amount(rt, structure.kind.into(), LODGE.into());
+    assert_amount(rt, number, 1);
+    assert_amount(rt, structure.kind.into(), LODGE.into());
     Ok(())
 }
 
-/// A lodge is begun, and unit 1 gets 12 wood.
+/// Steps that begin a lodge, give unit 1 12 wood, and clear the marks.
 static MAKING: [Step; 3] = [
     Step::Begins(LODGE, 1),
     Step::Unit(1, OfUnit::LentItem(0, 12)),
     Step::Unmark,
 ];
 
-/// The only unit; and money, people and items of four regions and of this unit.
+/// The only unit, and the totals of money, people and items over four regions and this unit.
 static TOTALS: [Row; 6] = [
     (Step::Nothing, Ask::Units, "[1]", "0"),
     (
@@ -57,12 +61,13 @@ static TOTALS: [Row; 6] = [
     (Step::Nothing, Ask::Total(Thing::Item(1)), "0", "0"),
 ];
 
+/// Asserts each walk, and `TOTALS`.
 fn walks(rt: &impl Abort, alloc: Global, campaign: &mut Campaign) -> Result<(), Fail> {
     does_all(alloc, campaign, &MAKING)?;
     walks_factions(rt, campaign)?;
     walks_regions(rt, campaign)?;
     walks_structures(rt, campaign)?;
-    goes(rt, alloc, campaign, &TOTALS)
+    assert_steps(rt, alloc, campaign, &TOTALS)
 }
 
 #[test]

@@ -1,5 +1,5 @@
-//! The calls of the store, and what each answers: `Done`, or its fault. Each is made at one place alone, since a proof ties
-//! its clauses anew at each place.
+//! The calls of the store as steps of a script, each with its answer: `Done`, or the fault. Each
+//! call is made at one location alone, since a proof ties its clauses anew at each.
 use super::campaigns::{founded_by, has_arrived, has_few_things, joined};
 use super::words::{done, done_or_fault, text_of};
 use atl_state::Campaign;
@@ -9,7 +9,7 @@ use sqlite::{Alter, Connection};
 use std::alloc::Global;
 use std::test::Fail;
 
-/// The campaign of a world as it is founded is created.
+/// The answer of `create` for the campaign of a world just founded.
 pub(crate) fn create_answer<S: Alter>(
     alloc: Global,
     conn: &mut Connection<S>,
@@ -22,7 +22,8 @@ pub(crate) fn create_answer<S: Alter>(
     done_or_fault(alloc, create(conn, world, &mut campaign))
 }
 
-/// A file of the first format is made, with the campaign of a world as it is founded.
+/// Makes a file of the first format with the campaign of a world just founded; the answer is
+/// `Done`.
 pub(crate) fn create_old_answer<S: Alter>(
     alloc: Global,
     conn: &mut Connection<S>,
@@ -33,7 +34,7 @@ pub(crate) fn create_old_answer<S: Alter>(
     done(alloc)
 }
 
-/// Avalon joins the campaign of the small world.
+/// The answer of `write_join` after Avalon has joined the campaign of the small world.
 pub(crate) fn join_answer<S: Alter>(
     alloc: Global,
     conn: &mut Connection<S>,
@@ -45,7 +46,7 @@ pub(crate) fn join_answer<S: Alter>(
     done_or_fault(alloc, write_join(conn, &campaign, 1))
 }
 
-/// Faction 1 sends a mail.
+/// The answer of `write_mail` with a mailing of faction 1.
 pub(crate) fn mail_answer<S: Alter>(
     alloc: Global,
     conn: &mut Connection<S>,
@@ -56,7 +57,7 @@ pub(crate) fn mail_answer<S: Alter>(
     done_or_fault(alloc, write_mail(conn, 1, b"#ATLANTIS 1"))
 }
 
-/// What is marked of a campaign is written.
+/// The answer of `write_changes`, which writes what is marked of the campaign.
 pub(crate) fn write_answer<S: Alter>(
     alloc: Global,
     conn: &mut Connection<S>,
@@ -68,7 +69,7 @@ pub(crate) fn write_answer<S: Alter>(
     done_or_fault(alloc, write_changes(conn, campaign))
 }
 
-/// The campaign is replaced by the one that the tables hold.
+/// The answer of `load`; if it is `Done`, the campaign is replaced by the loaded one.
 pub(crate) fn load_answer<S: Alter>(
     alloc: Global,
     conn: &mut Connection<S>,
@@ -83,8 +84,8 @@ pub(crate) fn load_answer<S: Alter>(
     }
 }
 
-/// A file of the first format is upgraded to a world text, and the campaign replaced by the one that it holds. Of a text
-/// that is no world the answer is World alone.
+/// The answer of `upgrade` to a world text; if it is `Done`, the campaign is replaced by the
+/// upgraded one. For a text that is no world the answer is `World`, without its fault.
 pub(crate) fn upgrade_answer<S: Alter>(
     alloc: Global,
     conn: &mut Connection<S>,

@@ -1,4 +1,4 @@
-//! Worlds by their names, and campaigns of them.
+//! World texts by the names that scripts give them, and campaigns of these worlds.
 ghost use Rattle.std.specs.Prelude.{◌≤◌, IsTrue, IfOk};
 ghost use Rattle.atl_state.specs.Good.{IsGood};
 ghost use Rattle.atl_records.specs.Limits.{most_things};
@@ -10,7 +10,7 @@ use atl_test_worlds::{ISLE, ISLE_WITH_MARKET, ISLE_WITH_MARKETS, SMALL};
 use std::alloc::Global;
 use std::test::Fail;
 
-/// The text of a world, by the name that scripts give it; else a text that is no world.
+/// The world text that has a name in scripts; any other name gives a text that is no world.
 pub(crate) fn world_text(name: &str) -> &'static str {
     match name {
         "small" => SMALL,
@@ -21,14 +21,14 @@ pub(crate) fn world_text(name: &str) -> &'static str {
     }
 }
 
-/// The campaign of a world as it is founded.
+/// The campaign of a world just after its founding.
 fn founded_in(alloc: Global, world: &World) -> Result<Campaign, Fail>
     ensures { IfOk result (λ campaign. IsGood world.now campaign.value) }
 {
     Ok(founded(alloc, world, b"gm")?)
 }
 
-/// The campaign of a world text as it is founded.
+/// The campaign of a world text just after its founding.
 pub(crate) fn founded_by(alloc: Global, text: &str) -> Result<Campaign, Fail> {
     let world = read_world(alloc, text)?;
     founded_in(alloc, &world)
@@ -44,26 +44,27 @@ fn welcome(alloc: Global, world: &World, campaign: &mut Campaign) -> Result<(), 
     Ok(())
 }
 
+/// The campaign of a world after Avalon has joined and got its first report.
 fn joined_in(alloc: Global, world: &World) -> Result<Campaign, Fail> {
     let mut campaign = founded_in(alloc, world)?;
     welcome(alloc, world, &mut campaign)?;
     Ok(campaign)
 }
 
-/// The campaign of the small world once Avalon has joined and has its first report.
+/// The campaign of the small world after Avalon has joined and got its first report.
 pub(crate) fn joined(alloc: Global) -> Result<Campaign, Fail> {
     let world = read_world(alloc, SMALL)?;
     joined_in(alloc, &world)
 }
 
-/// Whether the books have no more things than a world can have, as a creation and a write ask.
+/// Whether the books have at most 202 things, as `create` and `write_changes` require.
 pub(crate) fn has_few_things(campaign: &Campaign) -> bool
     ensures { IsTrue result → campaign.now.value.books.things ≤ most_things }
 {
     campaign.things() <= 202
 }
 
-/// Whether the first faction is there with its unit and its report, as the write of a join asks.
+/// Whether faction 1 has a unit, the last one numbered, and a report, as `write_join` requires.
 pub(crate) fn has_arrived(campaign: &Campaign) -> bool
     ensures { IsTrue result → HasArrival campaign.now.value 1 }
 {

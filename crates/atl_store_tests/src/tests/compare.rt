@@ -1,13 +1,13 @@
-//! What is answered and what is wanted, compared. The assertions are here alone: each writes out both values, which is
-//! proved once.
+//! Assertions for these tests, one for each type: an `assert_eq!` costs much to prove, so each is
+//! written once.
 use std::process::Abort;
 
-/// Compares the number of a fault, which may have none.
-pub(crate) fn is_fault_number(rt: &impl Abort, answer: Option<u8>, wanted: Option<u8>) {
+/// Asserts that the number of a fault, which may have none, is the wanted one.
+pub(crate) fn assert_fault_number(rt: &impl Abort, answer: Option<u8>, wanted: Option<u8>) {
     assert_eq!(rt; answer, wanted);
 }
 
-/// Compares an answer, for instance to a step of a script.
-pub(crate) fn is_text(rt: &impl Abort, answer: &str, wanted: &str, step: &str) {
+/// Asserts that an answer is the wanted one; the message names the step.
+pub(crate) fn assert_text(rt: &impl Abort, answer: &str, wanted: &str, step: &str) {
     assert_eq!(rt; answer, wanted, "{step}");
 }

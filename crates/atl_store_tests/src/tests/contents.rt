@@ -1,11 +1,11 @@
-//! Reads and changes what a database holds, by statements written by hand.
+//! Reads and changes a database by statements written by hand, past the store.
 use super::words::{done, text_of};
 use atl_test_worlds::month::ROWS;
 use sqlite::{Alter, Connection, params};
 use std::alloc::Global;
 use std::test::Fail;
 
-/// Statements are run by hand.
+/// Runs SQL statements; the answer is `Done`.
 pub(crate) fn run_statements<S: Alter>(
     alloc: Global,
     conn: &mut Connection<S>,
@@ -15,12 +15,12 @@ pub(crate) fn run_statements<S: Alter>(
     done(alloc)
 }
 
-/// The isle gets two factions, eleven units and a boat.
+/// Adds two factions, eleven units and a boat to the tables of the isle.
 pub(crate) fn settle<S: Alter>(alloc: Global, conn: &mut Connection<S>) -> Result<String, Fail> {
     run_statements(alloc, conn, ROWS)
 }
 
-/// The campaign's row gets another world text.
+/// Overwrites the world text in the campaign's row.
 pub(crate) fn set_world_text<S: Alter>(
     alloc: Global,
     conn: &mut Connection<S>,
@@ -30,7 +30,7 @@ pub(crate) fn set_world_text<S: Alter>(
     done(alloc)
 }
 
-/// A statement may take no more than so many steps.
+/// Limits how many steps of the database one statement may take, or removes the limit.
 pub(crate) fn limit_steps<S: Alter>(
     alloc: Global,
     conn: &mut Connection<S>,
@@ -40,7 +40,7 @@ pub(crate) fn limit_steps<S: Alter>(
     done(alloc)
 }
 
-/// The number that a query answers.
+/// The number that a SELECT returns, as text.
 pub(crate) fn query_number<S: Alter>(
     alloc: Global,
     conn: &mut Connection<S>,
@@ -51,7 +51,7 @@ pub(crate) fn query_number<S: Alter>(
     text_of(alloc, number)
 }
 
-/// All rows of each table.
+/// A SELECT for all rows of each table.
 static ALL_ROWS: [&str; 10] = [
     "SELECT * FROM campaign ORDER BY id",
     "SELECT * FROM faction ORDER BY number",
@@ -65,7 +65,7 @@ static ALL_ROWS: [&str; 10] = [
     "SELECT * FROM market ORDER BY region, item",
 ];
 
-/// How many tables there are, and all rows of each table of a campaign, or that there is no such table.
+/// How many tables there are, and all rows of each table of a campaign, or the error of reading it.
 pub(crate) fn contents<S: Alter>(alloc: Global, conn: &mut Connection<S>) -> Result<String, Fail> {
     let mut text = text_of(alloc, conn.schema().tables.len())?;
     for select in ALL_ROWS.iter() {

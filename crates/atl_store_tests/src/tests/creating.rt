@@ -1,4 +1,4 @@
-//! The tables of a campaign as it is founded, once a faction has joined, and once it has sent a mail.
+//! Tests of the tables after a founding, a join and a mailing.
 use super::script::play_new;
 use std::test::Fail;
 
@@ -41,7 +41,7 @@ read mail -> 1 "#ATLANTIS 1""##;
     play_new(&rt, rt.alloc(), script)
 }
 
-/// A person's own table and index are carried along.
+/// A table and an index that a person added stay as they are.
 #[test]
 fn other_tables_are_carried_along(rt: HostRuntime) -> Result<(), Fail> {
     let script = r##"create small

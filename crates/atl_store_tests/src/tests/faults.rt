@@ -1,5 +1,6 @@
-//! The numbers of the faults of an opening and of an upgrade, as docs/FORMATS.md has them under "Tables", and their texts.
-use super::compare::{is_fault_number, is_text};
+//! Tests of the numbers and texts of the faults of `load` and of `upgrade` (docs/FORMATS.md,
+//! "Tables", "Upgrading a file").
+use super::compare::{assert_fault_number, assert_text};
 use super::words::text_of;
 use atl_state::Rule;
 use atl_store::{StoreFault, UpgradeFault};
@@ -8,6 +9,7 @@ use std::alloc::Global;
 use std::process::Abort;
 use std::test::Fail;
 
+/// Faults of `load`, with the number of each (Memory has none) and its text.
 static OPENINGS: [(StoreFault, Option<u8>, &str); 5] = [
     (StoreFault::Store, Some(1), "Store"),
     (StoreFault::Damaged(Rule::Books), Some(2), "Damaged 11"),
@@ -16,25 +18,27 @@ static OPENINGS: [(StoreFault, Option<u8>, &str); 5] = [
     (StoreFault::Memory, None, "Memory"),
 ];
 
-fn opening_is_told(
+/// Asserts the number and the text of a fault of `load`.
+fn assert_opening_fault(
     rt: &impl Abort,
     alloc: Global,
     case: &(StoreFault, Option<u8>, &str),
 ) -> Result<(), Fail> {
     let (fault, number, text) = *case;
-    is_fault_number(rt, fault.number(), number);
-    is_text(rt, text_of(alloc, fault)?.as_str(), text, text);
+    assert_fault_number(rt, fault.number(), number);
+    assert_text(rt, text_of(alloc, fault)?.as_str(), text, text);
     Ok(())
 }
 
 #[test]
 fn faults_of_an_opening_have_their_numbers(rt: HostRuntime) -> Result<(), Fail> {
     for case in OPENINGS.iter() {
-        opening_is_told(&rt, rt.alloc(), case)?;
+        assert_opening_fault(&rt, rt.alloc(), case)?;
     }
     Ok(())
 }
 
+/// The numbers of the faults of `upgrade` (Memory has none), and the text of each.
 static UPGRADES: [(Option<u8>, &str); 7] = [
     (Some(1), "Store"),
     (Some(2), "Damaged 11"),
@@ -58,18 +62,23 @@ fn upgrade_fault(number: Option<u8>) -> UpgradeFault {
     }
 }
 
-fn upgrade_is_told(rt: &impl Abort, alloc: Global, case: &(Option<u8>, &str)) -> Result<(), Fail> {
+/// Asserts the number and the text of a fault of `upgrade`.
+fn assert_upgrade_fault(
+    rt: &impl Abort,
+    alloc: Global,
+    case: &(Option<u8>, &str),
+) -> Result<(), Fail> {
     let (number, text) = *case;
     let fault = upgrade_fault(number);
-    is_fault_number(rt, fault.number(), number);
-    is_text(rt, text_of(alloc, fault)?.as_str(), text, text);
+    assert_fault_number(rt, fault.number(), number);
+    assert_text(rt, text_of(alloc, fault)?.as_str(), text, text);
     Ok(())
 }
 
 #[test]
 fn faults_of_an_upgrade_have_their_numbers(rt: HostRuntime) -> Result<(), Fail> {
     for case in UPGRADES.iter() {
-        upgrade_is_told(&rt, rt.alloc(), case)?;
+        assert_upgrade_fault(&rt, rt.alloc(), case)?;
     }
     Ok(())
 }

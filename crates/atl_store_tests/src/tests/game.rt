@@ -1,4 +1,5 @@
-//! The campaign that the steps of a script share, and a text that one step keeps for a later one.
+//! What the steps of a script share: a campaign, and a text that one step keeps for a later one to
+//! compare.
 use super::campaigns::founded_by;
 use super::words::{done, yes_or_no};
 use atl_state::Campaign;
@@ -19,7 +20,7 @@ impl Drop for Game {
     }
 }
 
-/// The campaign of the small world as it is founded, and no text.
+/// The campaign of the small world just after its founding, and an empty text.
 pub(crate) fn new_game(alloc: Global) -> Result<Game, Fail> {
     let campaign = founded_by(alloc, SMALL)?;
     Ok(Game {
@@ -28,7 +29,7 @@ pub(crate) fn new_game(alloc: Global) -> Result<Game, Fail> {
     })
 }
 
-/// All rows of the campaign, written out.
+/// All rows of the campaign, as `Debug` prints them.
 fn rows_of(alloc: Global, campaign: &Campaign) -> Result<String, Fail> {
     let parts = campaign.parts()?;
     Ok(format!(in alloc; "{parts:?}")?)

@@ -1,4 +1,4 @@
-//! Reading tables that a person changed by hand.
+//! Tests of reading tables that a person changed by hand.
 use super::script::play_new;
 use std::test::Fail;
 

@@ -1,4 +1,4 @@
-//! Opening a campaign again after a crash.
+//! Tests that a founded campaign is still there after a crash of the disk.
 use super::game::new_game;
 use super::script::play;
 use super::stopped::{new_files, open};
@@ -9,7 +9,7 @@ use std::alloc::Global;
 use std::process::Abort;
 use std::test::Fail;
 
-/// Opens again what a crash leaves of a connection's database.
+/// A new connection to what a crash leaves of a connection's database.
 fn opened_again<D: Crash + Drop>(
     alloc: Global,
     conn: Connection<FileStore<D>>,
@@ -17,7 +17,7 @@ fn opened_again<D: Crash + Drop>(
     Ok(reopen_connection(alloc, conn)?)
 }
 
-/// Asserts that what a crash leaves of a campaign as it is founded is this campaign.
+/// Asserts that a campaign just founded is loaded unchanged after a crash.
 fn comes_back<D: Crash + Drop>(
     rt: &impl Abort,
     alloc: Global,

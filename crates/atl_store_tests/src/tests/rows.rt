@@ -1,5 +1,5 @@
-//! The rows of each table, as the store reads them, as a line: the columns of a row with blanks between them, and commas
-//! between the rows.
+//! Prints the rows of each table as the store reads them: columns separated by blanks, rows by
+//! commas.
 use super::campaigns::world_text;
 use super::words::text_of;
 use atl_state::parts::{
@@ -12,7 +12,7 @@ use sqlite::{Alter, Connection};
 use std::alloc::{AllocError, Global};
 use std::test::Fail;
 
-/// A text in quotation marks, or the bytes of what is no UTF-8.
+/// A text in quotation marks, or the bytes if they aren't UTF-8.
 fn quote(alloc: Global, bytes: &[u8]) -> Result<String, AllocError> {
     match str::from_utf8(bytes) {
         Ok(text) => format!(in alloc; "{text:?}"),
@@ -20,7 +20,7 @@ fn quote(alloc: Global, bytes: &[u8]) -> Result<String, AllocError> {
     }
 }
 
-/// A row that has a line.
+/// A row that can be printed.
 trait Line {
     /// The columns with blanks between them, texts in quotation marks.
     fn line(&self, alloc: Global) -> Result<String, AllocError>;
@@ -114,7 +114,7 @@ impl<T: Line> Line for RowWithId<T> {
     }
 }
 
-/// The lines of all rows, or `nothing` where there is none.
+/// All rows, separated by commas, or `nothing` if there is none.
 fn lines<T: Line>(alloc: Global, rows: &[T]) -> Result<String, AllocError> {
     if rows.is_empty() {
         return String::from_str(alloc, "nothing");

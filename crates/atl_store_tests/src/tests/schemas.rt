@@ -1,10 +1,11 @@
-//! Whether a schema is that of a campaign, and what a person may add to it.
+//! Tests of `has_all_tables`: whether a schema is that of a campaign, after a person changed it.
 use super::script::play_new;
 use std::alloc::Global;
 use std::process::Abort;
 use std::test::Fail;
 
-/// Statements, and whether the tables of a campaign still come first after them.
+/// SQL statements, and whether the schema is still accepted after each: the tables of a campaign,
+/// unchanged, come first.
 static CHANGES: [(&str, &str); 8] = [
     ("DELETE FROM mail", "yes"),
     ("CREATE TABLE notes (words TEXT)", "yes"),
@@ -22,7 +23,8 @@ static CHANGES: [(&str, &str); 8] = [
     ),
 ];
 
-fn is_answered(rt: &impl Abort, alloc: Global, change: &(&str, &str)) -> Result<(), Fail> {
+/// Asserts the answer of `has_all_tables` after a statement.
+fn assert_answer(rt: &impl Abort, alloc: Global, change: &(&str, &str)) -> Result<(), Fail> {
     let (sql, wanted) = *change;
     let script = format!(in alloc; "create small\nsql {sql}\nhas_all_tables -> {wanted}")?;
     play_new(rt, alloc, script.as_str())
@@ -31,7 +33,7 @@ fn is_answered(rt: &impl Abort, alloc: Global, change: &(&str, &str)) -> Result<
 #[test]
 fn a_schema_is_that_of_a_campaign(rt: HostRuntime) -> Result<(), Fail> {
     for change in CHANGES.iter() {
-        is_answered(&rt, rt.alloc(), change)?;
+        assert_answer(&rt, rt.alloc(), change)?;
     }
     Ok(())
 }

@@ -1,13 +1,12 @@
-//! Scripts. Each line is a step, and after ` -> ` what it is answered; without that the answer is `Done`.
+//! Plays scripts. A line is a step, followed by ` -> ` and the wanted answer; without one `Done` is
+//! wanted.
 use super::calls::{
     create_answer, create_old_answer, join_answer, load_answer, mail_answer, upgrade_answer,
     write_answer,
 };
 use super::campaigns::world_text;
-use super::compare::is_text;
-use super::contents::{
-    contents, limit_steps, query_number, run_statements, set_world_text, settle,
-};
+use super::compare::assert_text;
+use super::contents::{contents, limit_steps, query_number, run_statements, set_world_text, settle};
 use super::game::{Game, is_kept, is_kept_campaign, keep, keep_campaign, new_game};
 use super::rows::read;
 use super::setting::{begin, book, lend, numbers, remove, rename, report, set};
@@ -19,7 +18,7 @@ use std::alloc::Global;
 use std::process::Abort;
 use std::test::Fail;
 
-/// Changes the campaign.
+/// Carries out a step that changes the campaign in memory.
 fn change(alloc: Global, campaign: &mut Campaign, word: &str, rest: &str) -> Result<(), Fail> {
     match word {
         "set" => set(campaign, rest),
@@ -37,13 +36,13 @@ fn change(alloc: Global, campaign: &mut Campaign, word: &str, rest: &str) -> Res
     }
 }
 
-/// The stock of an item in a region.
+/// The stock of an item in a region, as text.
 fn stock(alloc: Global, campaign: &Campaign, text: &str) -> Result<String, Fail> {
     let [region, item, _] = numbers(text)?;
     text_of(alloc, campaign.stock(region, item))
 }
 
-/// The answer to a step that works on the campaign alone.
+/// The answer of a step that works on the campaign in memory alone.
 fn campaign_answer(alloc: Global, game: &mut Game, step: &str) -> Result<String, Fail> {
     let (word, rest) = step.split_once(' ').unwrap_or((step, ""));
     match word {
@@ -58,7 +57,7 @@ fn campaign_answer(alloc: Global, game: &mut Game, step: &str) -> Result<String,
     }
 }
 
-/// The answer to a step on the database, by hand.
+/// The answer of a step by which a person reads or changes the database by hand.
 fn person_answer<S: Alter>(
     alloc: Global,
     conn: &mut Connection<S>,
@@ -82,7 +81,7 @@ fn person_answer<S: Alter>(
     }
 }
 
-/// The answer to a step.
+/// The answer of any step.
 pub(crate) fn answer<S: Alter>(
     alloc: Global,
     conn: &mut Connection<S>,
@@ -104,7 +103,7 @@ pub(crate) fn answer<S: Alter>(
     }
 }
 
-/// Plays a line.
+/// Carries out the step of a line, and asserts its answer.
 fn play_line<S: Alter>(
     rt: &impl Abort,
     alloc: Global,
@@ -114,7 +113,7 @@ fn play_line<S: Alter>(
 ) -> Result<(), Fail> {
     let (step, wanted) = line.split_once(" -> ").unwrap_or((line, "Done"));
     let answer = answer(alloc, conn, game, step)?;
-    is_text(rt, answer.as_str(), wanted, line);
+    assert_text(rt, answer.as_str(), wanted, line);
     Ok(())
 }
 

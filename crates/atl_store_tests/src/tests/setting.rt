@@ -1,10 +1,10 @@
-//! Changes of a campaign, one for each step.
+//! Steps that change the campaign in memory, a function for each.
 use atl_state::{Campaign, Entry, HOLDING_LIMIT, Holding, Structure, Thing};
 use atl_tables::Text;
 use std::alloc::Global;
 use std::test::Fail;
 
-/// Up to three numbers with blanks between them; a number that isn't there is 0.
+/// The up to three numbers of a text, separated by blanks; a missing one is 0.
 pub(crate) fn numbers(text: &str) -> Result<[u32; 3], Fail> {
     let mut all = [0; 3];
     let mut words = text.split_whitespace();
@@ -16,7 +16,7 @@ pub(crate) fn numbers(text: &str) -> Result<[u32; 3], Fail> {
     Ok(all)
 }
 
-/// Sets an amount that a unit has: `money 1 8` gives unit 1 the money 8, and `item 1 2 5` five of item 2.
+/// Sets what a unit has: `money 1 8` sets unit 1's money to 8, and `item 1 2 5` its item 2 to 5.
 fn set_amount(
     campaign: &mut Campaign,
     what: &str,
@@ -34,7 +34,7 @@ fn set_amount(
     Ok(())
 }
 
-/// Sets a number of the campaign: `peasants 1 77` gives region 1 so many peasants.
+/// Sets a number of the campaign: `peasants 1 77` sets the peasants of region 1 to 77.
 pub(crate) fn set(campaign: &mut Campaign, text: &str) -> Result<(), Fail> {
     let (what, rest) = text.split_once(' ').ok_or("what is set")?;
     let [of, first, second] = numbers(rest)?;
@@ -47,6 +47,7 @@ pub(crate) fn set(campaign: &mut Campaign, text: &str) -> Result<(), Fail> {
     Ok(())
 }
 
+/// Sets the money, the days of a skill or another part of a holding that is lent.
 fn set_lent(holding: &mut Holding, what: &str, first: u32, second: u32) -> Result<(), Fail> {
     if first > HOLDING_LIMIT {
         return Err(Fail::new("an amount that fits"));
@@ -61,7 +62,8 @@ fn set_lent(holding: &mut Holding, what: &str, first: u32, second: u32) -> Resul
     Ok(())
 }
 
-/// Lends a unit, which is then written whole, and changes it: `days 3 1 30` gives unit 3 so many days of skill 1.
+/// Changes a unit through the holding that is lent, which marks all of it: `days 3 1 30` sets unit
+/// 3's days of skill 1.
 pub(crate) fn lend(campaign: &mut Campaign, text: &str) -> Result<(), Fail> {
     let (what, rest) = text.split_once(' ').ok_or("what is lent")?;
     let [unit, first, second] = numbers(rest)?;
@@ -71,26 +73,26 @@ pub(crate) fn lend(campaign: &mut Campaign, text: &str) -> Result<(), Fail> {
     set_lent(holding, what, first, second)
 }
 
-/// Takes a unit away.
+/// Removes a unit.
 pub(crate) fn remove(campaign: &mut Campaign, text: &str) -> Result<(), Fail> {
     campaign.remove_unit(text.parse::<u32>()?);
     Ok(())
 }
 
-/// Faction 1 gets another name.
+/// Gives faction 1 another name.
 pub(crate) fn rename(alloc: Global, campaign: &mut Campaign, name: &str) -> Result<(), Fail> {
     campaign.set_faction_name(1, Text::from_str(alloc, name)?);
     Ok(())
 }
 
-/// Faction 1 gets another report of one line.
+/// Gives faction 1 another report of one line.
 pub(crate) fn report(alloc: Global, campaign: &mut Campaign, line: &str) -> Result<(), Fail> {
     let text = Text::from_string(format!(in alloc; "{line}\n")?);
     campaign.set_report(1, text)?;
     Ok(())
 }
 
-/// A structure of the first kind is begun in region 1, of which 2 are done; unit 1 owns it.
+/// Begins a structure of the first kind in region 1, of size 2, which unit 1 owns.
 pub(crate) fn begin(alloc: Global, campaign: &mut Campaign, name: &str) -> Result<(), Fail> {
     let name = Text::from_str(alloc, name)?;
     if campaign.next_structure() != 1 || campaign.structure(1).is_some() {

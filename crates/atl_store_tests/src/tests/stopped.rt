@@ -1,4 +1,5 @@
-//! A disk that stops at each of its calls. What works on the disk takes any disk that can crash.
+//! Tests that a disk that stops at any of its calls leaves the campaign before a step or after it,
+//! never a part.
 use super::calls::load_answer;
 use super::contents::contents;
 use super::game::{Game, new_game};
@@ -9,8 +10,8 @@ use std::alloc::Global;
 use std::process::Abort;
 use std::test::Fail;
 
-/// What a load is answered, and what the database holds.
-fn remains<S: Alter>(
+/// What is left in a database, as text: the answer of a load, and the rows of all tables.
+fn contents_left<S: Alter>(
     alloc: Global,
     conn: &mut Connection<S>,
     game: &mut Game,
@@ -20,7 +21,8 @@ fn remains<S: Alter>(
     Ok(format!(in alloc; "{} {}", answer.as_str(), contents.as_str())?)
 }
 
-/// Plays the steps of a script up to the one that answers Store. How many answered Done before; another answer is a failure.
+/// Plays the steps of a script up to one that answers Store; the result is how many answered Done.
+/// Any other answer is a failure.
 fn steps_done<S: Alter>(
     alloc: Global,
     conn: &mut Connection<S>,
@@ -38,26 +40,27 @@ fn steps_done<S: Alter>(
     Ok(done)
 }
 
-/// What is left before the first step of a script and after each, where no disk stops.
-fn stages<S: Alter>(
+/// What the database holds before the first step of a script and after each, if no disk stops.
+fn contents_after_steps<S: Alter>(
     alloc: Global,
     conn: &mut Connection<S>,
     game: &mut Game,
     script: &str,
 ) -> Result<Vec<String>, Fail> {
     let mut all = Vec::new(alloc);
-    all.push(remains(alloc, conn, game)?)?;
+    all.push(contents_left(alloc, conn, game)?)?;
     for step in script.lines() {
         if steps_done(alloc, conn, game, step)? == 0 {
             return Err(Fail::new(step));
         }
-        all.push(remains(alloc, conn, game)?)?;
+        all.push(contents_left(alloc, conn, game)?)?;
     }
     Ok(all)
 }
 
-/// The stages of a script on a database in memory that an earlier script made.
-fn stages_in_memory(
+/// What a database in memory holds before and after each step of `script`, after `earlier` was
+/// played.
+fn contents_in_memory(
     alloc: Global,
     game: &mut Game,
     earlier: &str,
@@ -65,10 +68,10 @@ fn stages_in_memory(
 ) -> Result<Vec<String>, Fail> {
     let mut conn = Connection::open_in_memory(alloc)?;
     steps_done(alloc, &mut conn, game, earlier)?;
-    stages(alloc, &mut conn, game, script)
+    contents_after_steps(alloc, &mut conn, game, script)
 }
 
-/// A connection to files, unless the disk stops.
+/// A connection to files, or None if the disk stops.
 pub(crate) fn open<D: Disk + Drop>(
     alloc: Global,
     files: Files<D>,
@@ -79,7 +82,8 @@ pub(crate) fn open<D: Disk + Drop>(
     Connection::open_files(alloc, files, Options::new(1)).ok()
 }
 
-/// Plays a script on files. How many of its steps are done, and the files then; of files that can't be opened none is.
+/// Plays a script on files; the result is how many steps were done, and the files. If they can't be
+/// opened, none is done.
 fn play_on_files<D: Disk + Drop>(
     alloc: Global,
     files: Files<D>,
@@ -98,7 +102,7 @@ fn play_on_files<D: Disk + Drop>(
     }
 }
 
-/// Files as a crash leaves them.
+/// The files as a crash leaves them.
 fn crash<D: Crash>(files: Files<D>) -> Files<D> {
     let Files { mut log, mut db } = files;
     log.crash();
@@ -106,7 +110,8 @@ fn crash<D: Crash>(files: Files<D>) -> Files<D> {
     Files { log, db }
 }
 
-/// How many steps of a script are done on these files, and what is left once they are opened again after a crash.
+/// Plays a script on files and lets them crash; the result is how many steps were done, and what is
+/// left.
 fn stop_and_reopen<D: Crash + Drop>(
     alloc: Global,
     files: Files<D>,
@@ -115,12 +120,12 @@ fn stop_and_reopen<D: Crash + Drop>(
 ) -> Result<(usize, String), Fail> {
     let (done, files) = play_on_files(alloc, files, game, script)?;
     let mut conn = open(alloc, crash(files)).ok_or("reopen")?;
-    let left = remains(alloc, &mut conn, game);
+    let left = contents_left(alloc, &mut conn, game);
     let _files = conn.into_store().close();
     Ok((done, left?))
 }
 
-/// Files that hold nothing yet.
+/// Empty files.
 pub(crate) fn new_files(alloc: Global) -> Files<Memory> {
     Files {
         log: Memory::new(alloc),
@@ -128,7 +133,8 @@ pub(crate) fn new_files(alloc: Global) -> Files<Memory> {
     }
 }
 
-/// The files that an earlier script made; without one they hold nothing yet, so that a disk stops while they are opened too.
+/// The files that an earlier script made; without one they are empty, so that the disk may stop
+/// while they are opened too.
 fn files_of(alloc: Global, game: &mut Game, earlier: &str) -> Result<Files<Memory>, Fail> {
     if earlier.is_empty() {
         return Ok(new_files(alloc));
@@ -137,14 +143,14 @@ fn files_of(alloc: Global, game: &mut Game, earlier: &str) -> Result<Files<Memor
     Ok(files)
 }
 
-/// Which of the two disks stops.
+/// Which of the two disks stops: that of the log, or that of the database.
 #[derive(Clone, Copy, Drop)]
 enum WhichDisk {
     Log,
     Database,
 }
 
-/// The files on disks, one of which passes so many calls on.
+/// The files on disks, one of which stops after `calls` calls.
 fn stopping_files(files: Files<Memory>, which: WhichDisk, calls: u64) -> Files<Fuse<Memory>> {
     let Files { log, db } = files;
     let (of_log, of_db) = match which {
@@ -157,15 +163,15 @@ fn stopping_files(files: Files<Memory>, which: WhichDisk, calls: u64) -> Files<F
     }
 }
 
-/// Whether a text is the stage of this number.
+/// Whether a text is the stage with an index: the contents after that many steps.
 fn is_stage(text: &str, stages: &[String], number: usize) -> bool {
     stages
         .get(number)
         .is_some_and(|stage| stage.as_str() == text)
 }
 
-/// Asserts that what is left is the stage after the steps that are done, or the next one.
-fn is_whole(rt: &impl Abort, done: usize, left: &str, stages: &[String]) {
+/// Asserts that what is left is the contents after the `done` steps, or after one more.
+fn assert_whole_steps(rt: &impl Abort, done: usize, left: &str, stages: &[String]) {
     let next = done.wrapping_add(1);
     assert!(rt;
         is_stage(left, stages, done) || is_stage(left, stages, next),
@@ -173,7 +179,7 @@ fn is_whole(rt: &impl Abort, done: usize, left: &str, stages: &[String]) {
     );
 }
 
-/// A script that is played while a disk stops: on the files that an earlier script made.
+/// A script, the script that made its files, and which disk stops while it is played.
 #[derive(Clone, Copy, Drop)]
 struct Stop<'a> {
     earlier: &'a str,
@@ -181,7 +187,8 @@ struct Stop<'a> {
     which: WhichDisk,
 }
 
-/// Plays the scripts while the disk passes so many calls on. How many steps are done, and what is left after a crash.
+/// Plays the script while the disk stops after `calls` calls; the result is the steps done, and
+/// what is left after a crash.
 fn play_stopped(
     alloc: Global,
     game: &mut Game,
@@ -192,8 +199,9 @@ fn play_stopped(
     stop_and_reopen(alloc, files, game, stop.script)
 }
 
-/// The disk stops at each of its calls, up to a run in which it doesn't stop.
-fn stops(
+/// Stops the disk at each of its calls, up to a run in which it doesn't stop, and asserts what is
+/// left each time.
+fn stop_at_each_call(
     rt: &impl Abort,
     alloc: Global,
     game: &mut Game,
@@ -202,7 +210,7 @@ fn stops(
 ) -> Result<(), Fail> {
     for calls in 0..1_000u64 {
         let (done, left) = play_stopped(alloc, game, scripts, calls)?;
-        is_whole(rt, done, left.as_str(), stages);
+        assert_whole_steps(rt, done, left.as_str(), stages);
         if done.wrapping_add(1) == stages.len() {
             assert!(rt; calls > 0);
             return Ok(());
@@ -211,31 +219,31 @@ fn stops(
     Err(Fail::new("stopped each time"))
 }
 
-/// Each of the two disks stops while a script is played on the files that an earlier script made.
-fn stops_each(rt: &impl Abort, alloc: Global, earlier: &str, script: &str) -> Result<(), Fail> {
+/// Stops each of the two disks in turn at each of its calls, and asserts what is left.
+fn stop_each_disk(rt: &impl Abort, alloc: Global, earlier: &str, script: &str) -> Result<(), Fail> {
     let mut game = new_game(alloc)?;
-    let stages = stages_in_memory(alloc, &mut game, earlier, script)?;
+    let stages = contents_in_memory(alloc, &mut game, earlier, script)?;
     let log = Stop {
         earlier,
         script,
         which: WhichDisk::Log,
     };
-    stops(rt, alloc, &mut game, log, &stages)?;
+    stop_at_each_call(rt, alloc, &mut game, log, &stages)?;
     let database = Stop {
         which: WhichDisk::Database,
         ..log
     };
-    stops(rt, alloc, &mut game, database, &stages)
+    stop_at_each_call(rt, alloc, &mut game, database, &stages)
 }
 
 #[test]
 fn a_stopped_disk_leaves_no_part(rt: HostRuntime) -> Result<(), Fail> {
-    stops_each(&rt, rt.alloc(), "", "create small\njoin")
+    stop_each_disk(&rt, rt.alloc(), "", "create small\njoin")
 }
 
 #[test]
 fn a_stopped_disk_leaves_the_old_file_or_the_upgraded_one(rt: HostRuntime) -> Result<(), Fail> {
-    stops_each(
+    stop_each_disk(
         &rt,
         rt.alloc(),
         "create_old isle\nsettle",

@@ -1,10 +1,10 @@
-//! Files of the first format: they are recognized, and upgraded.
+//! Tests of `upgrade` on files of the first format (docs/FORMATS.md, "Upgrading a file").
 use super::script::play_new;
 use std::alloc::Global;
 use std::process::Abort;
 use std::test::Fail;
 
-/// The upgraded campaign is the one that a file of the second format holds, by the upgrade and by a load after it.
+/// The upgrade gives the same campaign as a file of the second format, and so does a load after it.
 #[test]
 fn the_campaign_is_the_old_one(rt: HostRuntime) -> Result<(), Fail> {
     let script = "create isle
@@ -27,7 +27,8 @@ SELECT next_unit FROM campaign -> 12";
     play_new(&rt, rt.alloc(), script)
 }
 
-/// The tables are those that the statements of docs/FORMATS.md, "Upgrading a file", make by hand.
+/// The upgrade makes the same tables as the statements of docs/FORMATS.md, "Upgrading a file", run
+/// by hand.
 #[test]
 fn the_tables_are_those_made_by_hand(rt: HostRuntime) -> Result<(), Fail> {
     let script = "create_old isle
@@ -46,14 +47,15 @@ is_kept_tables -> yes";
     play_new(&rt, rt.alloc(), script)
 }
 
-/// Statements on a file, a world, and what the file is answered then by a load, and by an upgrade with this world.
+/// SQL statements on an old file, a world text's name, and the answers then of a load, and of an
+/// upgrade to that world.
 type Case = (&'static str, &'static str, &'static str, &'static str);
 
-/// The campaign's own table anew without STRICT; its month is a word.
+/// Statements that make the campaign's table again without STRICT, with a word as its month.
 const LOOSE: &str =
     "DROP TABLE campaign; CREATE TABLE campaign (id INTEGER NOT NULL PRIMARY KEY CHECK (id = 1), format INTEGER NOT NULL, month INTEGER NOT NULL, next_faction INTEGER NOT NULL, next_unit INTEGER NOT NULL, next_structure INTEGER NOT NULL, pass TEXT NOT NULL, world TEXT NOT NULL); INSERT INTO campaign VALUES (1, 1, 'x', 3, 12, 2, 'gm', 'no world')";
 
-/// Files that are as they are to be but for these statements, and worlds.
+/// Old files with one thing changed, and worlds, with the answer of each check.
 static CASES: [Case; 18] = [
     ("", "small", "OldFormat", "Differs"),
     ("", "no world", "OldFormat", "World"),
@@ -120,7 +122,8 @@ static CASES: [Case; 18] = [
     ),
 ];
 
-/// What comes after the upgrade: where it is done, another load is too; else nothing has changed.
+/// The steps after the upgrade: if it was done, another load is; otherwise the tables are
+/// unchanged.
 fn rest_of(alloc: Global, load: &str, upgrade: &str) -> Result<String, Fail> {
     if upgrade == "Done" {
         Ok(String::from_str(alloc, "load")?)
@@ -129,7 +132,8 @@ fn rest_of(alloc: Global, load: &str, upgrade: &str) -> Result<String, Fail> {
     }
 }
 
-fn is_answered(rt: &impl Abort, alloc: Global, case: &Case) -> Result<(), Fail> {
+/// Asserts both answers of a case, and what comes after.
+fn assert_answer(rt: &impl Abort, alloc: Global, case: &Case) -> Result<(), Fail> {
     let (sql, world, load, upgrade) = *case;
     let before = format!(in alloc;
         "create_old isle\nsettle\nsql {sql}\nkeep_tables\nload -> {load}"
@@ -146,7 +150,7 @@ fn is_answered(rt: &impl Abort, alloc: Global, case: &Case) -> Result<(), Fail> 
 #[test]
 fn the_first_check_that_fails_is_told(rt: HostRuntime) -> Result<(), Fail> {
     for case in CASES.iter() {
-        is_answered(&rt, rt.alloc(), case)?;
+        assert_answer(&rt, rt.alloc(), case)?;
     }
     Ok(())
 }

@@ -1,25 +1,25 @@
-//! Turns answers into words.
+//! Turns answers into the words that scripts compare.
 use std::alloc::Global;
 use std::fmt::Display;
 use std::test::Fail;
 
-/// The answer of a call that was done.
+/// The answer `Done`.
 pub(crate) fn done(alloc: Global) -> Result<String, Fail> {
     Ok(String::from_str(alloc, "Done")?)
 }
 
-/// `yes` or `no`.
+/// The answer `yes` or `no`.
 pub(crate) fn yes_or_no(alloc: Global, is_so: bool) -> Result<String, Fail> {
     let word = if is_so { "yes" } else { "no" };
     Ok(String::from_str(alloc, word)?)
 }
 
-/// The text of a number, or of a fault.
+/// A number or a fault as text.
 pub(crate) fn text_of<D: Display + Drop>(alloc: Global, value: D) -> Result<String, Fail> {
     Ok(format!(in alloc; "{value}")?)
 }
 
-/// `Done`, or the fault.
+/// The answer `Done`, or the text of the fault.
 pub(crate) fn done_or_fault<E: Display + Drop>(
     alloc: Global,
     outcome: Result<(), E>,

@@ -1,4 +1,5 @@
-//! What changed of a campaign is written, and nothing else: rows that a person changed by hand show what is left alone.
+//! Tests of `write_changes`: what is marked is written and nothing else, as rows changed by hand
+//! past the store show.
 use super::script::play_new;
 use std::test::Fail;
 
@@ -30,7 +31,7 @@ SELECT count(*) FROM mail -> 1";
     play_new(&rt, rt.alloc(), script)
 }
 
-/// A table is gone: nothing is written, and the marks stay.
+/// If a table is missing, nothing is written, and the marks stay.
 #[test]
 fn nothing_is_written_in_part(rt: HostRuntime) -> Result<(), Fail> {
     let script = "create small
@@ -131,7 +132,8 @@ SELECT count(*) FROM books -> 4";
     play_new(&rt, rt.alloc(), script)
 }
 
-/// A unit that is lent out is one mark. Money comes in, and the mail is gone.
+/// A campaign with a lent unit, which is one mark, new money and no mail is written, and loaded
+/// again unchanged.
 #[test]
 fn a_written_campaign_comes_back(rt: HostRuntime) -> Result<(), Fail> {
     let script = "create small

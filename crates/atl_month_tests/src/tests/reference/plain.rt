@@ -1,4 +1,4 @@
-//! The reference's campaign: lists of numbers.
+//! The campaign of the reference calculation: lists of numbers.
 use atl_state::{Campaign, Entry, Event, Region, Thing, Unit};
 use atl_tables::let_go;
 use std::alloc::{AllocError, Global};
@@ -14,7 +14,7 @@ pub(crate) struct Person {
     pub money: u64,
 }
 
-/// Pieces of an item, or days of a skill, that a unit has.
+/// An amount of an item, or days of a skill, that a unit has.
 #[derive(Clone, Copy, Drop, PartialEq, Eq)]
 pub(crate) struct Good {
     pub unit: u32,
@@ -23,7 +23,7 @@ pub(crate) struct Good {
     pub amount: u64,
 }
 
-/// What a region has.
+/// A region's peasants and money.
 #[derive(Clone, Copy, Drop, PartialEq, Eq)]
 pub(crate) struct Land {
     pub number: u32,
@@ -31,7 +31,7 @@ pub(crate) struct Land {
     pub money: u64,
 }
 
-/// Pieces of an item that a region has in stock.
+/// How much a region has in stock of an item.
 #[derive(Clone, Copy, Drop, PartialEq, Eq)]
 pub(crate) struct Stock {
     pub region: u32,
@@ -39,7 +39,7 @@ pub(crate) struct Stock {
     pub amount: u64,
 }
 
-/// What is booked of a thing under an entry, both by their numbers.
+/// The amount booked of a thing under an entry, both by their numbers.
 #[derive(Clone, Copy, Drop, PartialEq, Eq)]
 pub(crate) struct Booked {
     pub entry: u32,
@@ -47,7 +47,7 @@ pub(crate) struct Booked {
     pub amount: i64,
 }
 
-/// A campaign, and what came of its orders.
+/// A campaign as lists, and the outcomes of its orders.
 pub(crate) struct Plain {
     pub people: Vec<Person>,
     pub goods: Vec<Good>,
@@ -63,6 +63,7 @@ impl Drop for Plain {
     }
 }
 
+/// A unit without its goods.
 fn person_of(number: u32, unit: &Unit) -> Person {
     Person {
         number,
@@ -74,6 +75,7 @@ fn person_of(number: u32, unit: &Unit) -> Person {
     }
 }
 
+/// All units of a campaign without their goods.
 fn people_of(alloc: Global, campaign: &Campaign) -> Result<Vec<Person>, AllocError> {
     let mut people = Vec::new(alloc);
     for (number, unit) in campaign.units() {
@@ -108,6 +110,7 @@ fn add_days(number: u32, unit: &Unit, goods: &mut Vec<Good>) -> Result<(), Alloc
     Ok(())
 }
 
+/// The items and days of all units.
 fn goods_of(alloc: Global, campaign: &Campaign) -> Result<Vec<Good>, AllocError> {
     let mut goods = Vec::new(alloc);
     for (number, unit) in campaign.units() {
@@ -117,6 +120,7 @@ fn goods_of(alloc: Global, campaign: &Campaign) -> Result<Vec<Good>, AllocError>
     Ok(goods)
 }
 
+/// All regions of a campaign.
 fn lands_of(alloc: Global, campaign: &Campaign) -> Result<Vec<Land>, AllocError> {
     let mut lands = Vec::new(alloc);
     for (number, region) in campaign.regions() {
@@ -141,6 +145,7 @@ fn add_stocks(number: u32, region: &Region, stocks: &mut Vec<Stock>) -> Result<(
     Ok(())
 }
 
+/// All stocks of a campaign.
 fn stocks_of(alloc: Global, campaign: &Campaign) -> Result<Vec<Stock>, AllocError> {
     let mut stocks = Vec::new(alloc);
     for (number, region) in campaign.regions() {
@@ -163,7 +168,7 @@ fn books_of(alloc: Global, campaign: &Campaign) -> Result<Vec<Booked>, AllocErro
     Ok(books)
 }
 
-/// By how much an amount rises; below 0 where it falls.
+/// The difference from `before` to `after`, negative if it falls.
 fn rise(before: u64, after: u64) -> i64 {
     let before = i64::try_from(before).unwrap_or(0);
     let after = i64::try_from(after).unwrap_or(0);
@@ -171,7 +176,7 @@ fn rise(before: u64, after: u64) -> i64 {
 }
 
 impl Plain {
-    /// A campaign, of whose orders nothing came yet.
+    /// The lists of a campaign, without outcomes of orders.
     pub fn of(alloc: Global, campaign: &Campaign) -> Result<Plain, AllocError> {
         let people = people_of(alloc, campaign)?;
         let goods = goods_of(alloc, campaign)?;
@@ -188,7 +193,7 @@ impl Plain {
         })
     }
 
-    /// A unit that is there.
+    /// The unit with a number, if it is there.
     pub fn person(&self, number: u32) -> Option<Person> {
         for person in self.people.iter() {
             if person.number == number {
@@ -198,7 +203,7 @@ impl Plain {
         None
     }
 
-    /// A region.
+    /// The region with a number, if it is there.
     pub fn land(&self, number: u32) -> Option<Land> {
         for land in self.lands.iter() {
             if land.number == number {
@@ -208,7 +213,7 @@ impl Plain {
         None
     }
 
-    /// How much a unit has of a thing.
+    /// How much a unit has of an item, or its days of a skill.
     pub fn amount(&self, unit: u32, is_skill: bool, thing: u32) -> u64 {
         for good in self.goods.iter() {
             if good.unit == unit && good.is_skill == is_skill && good.thing == thing {
@@ -218,7 +223,7 @@ impl Plain {
         0
     }
 
-    /// How much a region has of an item in stock.
+    /// How much a region has in stock of an item.
     pub fn stock(&self, region: u32, item: u32) -> u64 {
         for stock in self.stocks.iter() {
             if stock.region == region && stock.item == item {
@@ -228,7 +233,7 @@ impl Plain {
         0
     }
 
-    /// A unit has so many men and so much money.
+    /// Sets the men and the money of a unit.
     pub fn set_person(&mut self, number: u32, men: u64, money: u64) {
         for person in self.people.iter_mut() {
             if person.number == number {
@@ -238,7 +243,7 @@ impl Plain {
         }
     }
 
-    /// A region has so many peasants and so much money.
+    /// Sets the peasants and the money of a region.
     pub fn set_land(&mut self, number: u32, peasants: u64, money: u64) {
         for land in self.lands.iter_mut() {
             if land.number == number {
@@ -248,7 +253,7 @@ impl Plain {
         }
     }
 
-    /// A unit has so much of a thing that it has some of; a thing that is new to it comes last.
+    /// Sets how much a unit has of a thing; a new thing is added at the end.
     pub fn set_amount(&mut self, new: Good) -> Result<(), AllocError> {
         let mut is_new = true;
         for good in self.goods.iter_mut() {
@@ -263,7 +268,7 @@ impl Plain {
         Ok(())
     }
 
-    /// A region has so much of an item in stock; one that is new to it comes last.
+    /// Sets how much a region has in stock of an item; a new one is added at the end.
     pub fn set_stock(&mut self, new: Stock) -> Result<(), AllocError> {
         let mut is_new = true;
         for stock in self.stocks.iter_mut() {
@@ -278,7 +283,7 @@ impl Plain {
         Ok(())
     }
 
-    /// Books under an entry by how much an amount of a thing rises.
+    /// Books the difference of two amounts of a thing under an entry.
     pub fn book(
         &mut self,
         entry: Entry,
@@ -304,7 +309,7 @@ impl Plain {
         Ok(())
     }
 
-    /// The amounts of the books that aren't 0, by entry and thing.
+    /// The booked amounts that aren't 0, sorted by entry and thing.
     pub fn sorted_books(&self, alloc: Global) -> Result<Vec<Booked>, AllocError> {
         let mut books = Vec::new(alloc);
         for booked in self.books.iter() {
@@ -316,7 +321,7 @@ impl Plain {
         Ok(books)
     }
 
-    /// The stocks that are there, by region and item.
+    /// The stocks that aren't 0, sorted by region and item.
     pub fn sorted_stocks(&self, alloc: Global) -> Result<Vec<Stock>, AllocError> {
         let mut stocks = Vec::new(alloc);
         for stock in self.stocks.iter() {
@@ -328,7 +333,7 @@ impl Plain {
         Ok(stocks)
     }
 
-    /// The goods that are there, by unit, items before skills, and by their numbers.
+    /// The goods that aren't 0, sorted by unit, items before skills, and thing.
     pub fn sorted_goods(&self, alloc: Global) -> Result<Vec<Good>, AllocError> {
         let mut goods = Vec::new(alloc);
         for good in self.goods.iter() {

@@ -1,11 +1,11 @@
-//! The reference's pots: all units are looked at for each pot.
+//! The pots of the reference calculation, shared with a look at all units for each pot.
 use super::plain::{Person, Plain};
 use super::shares::share;
 use atl_instant::PhaseOrder;
 use atl_state::{EventFault, Outcome};
 use std::alloc::{AllocError, Global};
 
-/// What there is to share of a thing in a region.
+/// How much of a thing there is to share in a region.
 #[derive(Clone, Copy, Drop)]
 pub(crate) struct Pot {
     pub region: u32,
@@ -13,14 +13,14 @@ pub(crate) struct Pot {
     pub size: u64,
 }
 
-/// What an order comes to: a fault, or so much of a thing is wanted.
+/// What an order comes to: a fault, or a thing and how much of it the unit wants.
 #[derive(Clone, Copy, Drop)]
 pub(crate) enum Claim {
     Fault(EventFault),
     Want(u32, u64),
 }
 
-/// An order with what it comes to.
+/// An order, and what it comes to.
 #[derive(Clone, Copy, Drop)]
 pub(crate) struct Claimed<'m> {
     pub order: PhaseOrder<'m>,
@@ -59,7 +59,7 @@ fn want_of(claims: &[Claimed<'_>], unit: u32, thing: u32) -> Option<u64> {
     wanted
 }
 
-/// Notes the taker of a pot and what it wants.
+/// Appends a unit and its want to the lists, if it wants some of the pot.
 fn note_taker(
     claims: &[Claimed<'_>],
     pot: Pot,
@@ -76,7 +76,7 @@ fn note_taker(
     Ok(())
 }
 
-/// Adds what the units get of a pot.
+/// Appends what each unit gets of a pot.
 fn add_shares(
     alloc: Global,
     plain: &Plain,
@@ -92,6 +92,7 @@ fn add_shares(
     add_given(pot, &takers, &share(alloc, pot.size, &wants)?, given)
 }
 
+/// Appends the shares of the takers of a pot.
 fn add_given(
     pot: Pot,
     takers: &[u32],
@@ -132,7 +133,7 @@ pub(crate) fn given_to(given: &[Given], unit: u32) -> u64 {
     0
 }
 
-/// What came of an order that is told so much.
+/// The outcome of an order that got `told`: its fault, or done with that number.
 pub(crate) fn outcome(claim: Claim, told: u64) -> Outcome {
     match claim {
         Claim::Fault(fault) => Outcome::Fault(fault.number()),

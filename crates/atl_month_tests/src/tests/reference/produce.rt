@@ -1,4 +1,5 @@
-//! The reference's PRODUCE: units make items, of raw items or of what the terrain gives.
+//! PRODUCE in the reference calculation: units make items out of raw items or of what the terrain
+//! gives.
 use super::plain::{Good, Person, Plain};
 use super::pots::{Claim, Given, Pot, own};
 use super::tax::MOST_MONEY;
@@ -8,15 +9,16 @@ use atl_state::{Entry, EventFault, Thing};
 use atl_tables::{Item, World};
 use std::alloc::AllocError;
 
-/// The most pieces of an item that a unit has.
+/// The most that a unit may have of an item.
 const MOST_PIECES: u64 = MOST_MONEY;
 
+/// The highest level.
 const MOST_LEVEL: u64 = 5;
 
-/// A level takes so many days of each man for each step up to it: 15 times itself and one more.
+/// A level n takes this many days, times n times n + 1, for each man.
 const LEVEL_DAYS: u64 = 15;
 
-/// The greatest level that so many men have by their days.
+/// The highest level that this many men have by their days together; 0 without men.
 fn level(days: u64, men: u64) -> u64 {
     let mut level = 0;
     for next in 1..=MOST_LEVEL {
@@ -28,6 +30,7 @@ fn level(days: u64, men: u64) -> u64 {
     level
 }
 
+/// The level of a unit in the skill that an item needs; 0 if no skill makes it.
 fn level_of(plain: &Plain, person: Person, item: &Item) -> u64 {
     match item.skill {
         Some(skill) => level(
@@ -38,7 +41,7 @@ fn level_of(plain: &Plain, person: Person, item: &Item) -> u64 {
     }
 }
 
-/// For how many the raw items are enough; None of an item that is made of none.
+/// For how many of an item the unit's raw items are enough; None if the item takes none.
 fn raw_for(plain: &Plain, person: Person, item: &Item) -> Option<u64> {
     let raw = item.raw?;
     let held = plain.amount(person.number, false, u32::from(raw));
@@ -53,6 +56,7 @@ fn item_of(order: PhaseOrder<'_>) -> u32 {
     }
 }
 
+/// How many of an item a unit wants: its men times its level, as far as raw items and room allow.
 fn want(plain: &Plain, person: Person, number: u32, item: &Item) -> u64 {
     let skilled = person.men.wrapping_mul(level_of(plain, person, item));
     let room = MOST_PIECES.saturating_sub(plain.amount(person.number, false, number));
@@ -63,6 +67,7 @@ fn want(plain: &Plain, person: Person, number: u32, item: &Item) -> u64 {
     }
 }
 
+/// Why a unit can't produce an item, if it can't.
 fn fault(plain: &Plain, person: Person, item: &Item) -> Option<EventFault> {
     if person.men == 0 {
         Some(EventFault::NoMen)
@@ -98,7 +103,8 @@ fn output(world: &World, region: u32, item: u32) -> u64 {
     }
 }
 
-/// Adds what a region gives of the items that aren't made of others. Of the others there is enough for all.
+/// Adds a pot for each item of a region: what the terrain gives, or without bound for items made of
+/// raw ones.
 pub(crate) fn add_pots(world: &World, region: u32, pots: &mut Vec<Pot>) -> Result<(), AllocError> {
     let mut thing: u32 = 0;
     for item in world.items() {
@@ -116,7 +122,7 @@ pub(crate) fn add_pots(world: &World, region: u32, pots: &mut Vec<Pot>) -> Resul
     Ok(())
 }
 
-/// A unit has so much of an item, which it had less or more of.
+/// Sets how much a unit has of an item, and books the difference.
 fn set_item(
     plain: &mut Plain,
     unit: u32,
@@ -135,7 +141,7 @@ fn set_item(
     })
 }
 
-/// A unit has what it made, and no more the raw items.
+/// Gives a unit what it made, and takes the raw items used.
 pub(crate) fn pay(world: &World, plain: &mut Plain, given: Given) -> Result<(), AllocError> {
     let Some(item) = world.items().get(given.thing as usize) else {
         return Ok(());

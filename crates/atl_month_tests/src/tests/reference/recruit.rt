@@ -1,4 +1,4 @@
-//! The reference's RECRUIT: peasants join, at a price.
+//! RECRUIT in the reference calculation: peasants join units, at a price.
 use super::plain::{Land, Person, Plain};
 use super::pots::{Claim, Given, Pot, own};
 use atl_instant::PhaseOrder;
@@ -10,14 +10,15 @@ use std::alloc::AllocError;
 /// The most men of a unit.
 const MOST_MEN: u64 = 999_999;
 
-/// People are the one thing to share.
+/// The number of the only thing to share here.
 const PEOPLE: u32 = 0;
 
+/// The price of a recruit.
 fn price(world: &World) -> u64 {
     u64::from(world.rules().recruit_price)
 }
 
-/// How many an order asks for.
+/// How many men an order asks for.
 fn asked(order: PhaseOrder<'_>) -> u64 {
     match &order.order.operands {
         Operands::Number(men) => u64::from(*men),
@@ -25,6 +26,7 @@ fn asked(order: PhaseOrder<'_>) -> u64 {
     }
 }
 
+/// How many men a unit wants: what it asks for, as far as its money and its room allow.
 fn want(world: &World, person: Person, order: PhaseOrder<'_>) -> u64 {
     let payable = person.money.checked_div(price(world)).unwrap_or(0);
     let room = MOST_MEN.saturating_sub(person.men);
@@ -42,7 +44,7 @@ pub(crate) fn claim(world: &World, plain: &Plain, order: PhaseOrder<'_>) -> Clai
     Claim::Want(PEOPLE, want(world, person, order))
 }
 
-/// Those who can be recruited in a region.
+/// The pot of a region: how many of its peasants can be recruited.
 pub(crate) fn pot(world: &World, land: Land) -> Pot {
     let fraction = u64::from(world.rules().recruit_fraction);
     Pot {
@@ -52,7 +54,7 @@ pub(crate) fn pot(world: &World, land: Land) -> Pot {
     }
 }
 
-/// A unit's recruits leave the region, and are paid for.
+/// Moves a unit's recruits out of the region, and takes their price.
 pub(crate) fn pay(world: &World, plain: &mut Plain, given: Given) -> Result<(), AllocError> {
     let Some(person) = plain.person(given.unit) else {
         return Ok(());

@@ -1,4 +1,4 @@
-//! The reference's shares, by prefix sums.
+//! Shares of a pot in the reference calculation, by prefix sums (docs/RULES.md, "Shares").
 use std::alloc::{AllocError, Global};
 
 /// The sum of wants.
@@ -10,21 +10,22 @@ fn sum_of(wants: &[u64]) -> u128 {
     total
 }
 
-/// What the first so many of these wants get together, of a pot that is less than what all want.
+/// What the first `count` wants get together of a pot that is less than `total`, the sum of all
+/// wants.
 fn given_to_first(pot: u64, wants: &[u64], count: usize, total: u128) -> u128 {
     let wanted = sum_of(wants.get(..count).unwrap_or(wants));
     let due = u128::from(pot).wrapping_mul(wanted);
     due.checked_div(total).unwrap_or(0)
 }
 
-/// What the want at a place gets.
+/// What the want with the index `place` gets.
 fn share_at(pot: u64, wants: &[u64], place: usize, total: u128) -> u64 {
     let with = given_to_first(pot, wants, place.wrapping_add(1), total);
     let before = given_to_first(pot, wants, place, total);
     u64::try_from(with.wrapping_sub(before)).unwrap_or(0)
 }
 
-/// What each of these wants gets of a pot.
+/// What each want gets of a pot.
 pub(crate) fn share(alloc: Global, pot: u64, wants: &[u64]) -> Result<Vec<u64>, AllocError> {
     let total = sum_of(wants);
     let mut given = Vec::new(alloc);

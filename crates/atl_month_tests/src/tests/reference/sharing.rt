@@ -1,4 +1,4 @@
-//! The reference's phases that share pots.
+//! Plays the phases that share pots by the reference calculation.
 use super::plain::{Land, Plain};
 use super::pots::{Claim, Claimed, Given, Pot, given_to, outcome, shared};
 use super::trade::Trade;
@@ -19,7 +19,7 @@ pub(crate) enum Sharing {
     Work,
 }
 
-/// The orders of a phase.
+/// The orders of a phase, by unit.
 fn orders<'m>(
     alloc: Global,
     sharing: Sharing,
@@ -41,6 +41,7 @@ fn orders<'m>(
     }
 }
 
+/// What an order comes to.
 fn claim(sharing: Sharing, world: &World, plain: &Plain, order: PhaseOrder<'_>) -> Claim {
     match sharing {
         Sharing::Trade(trade) => trade::claim(trade, world, plain, order),
@@ -51,7 +52,7 @@ fn claim(sharing: Sharing, world: &World, plain: &Plain, order: PhaseOrder<'_>) 
     }
 }
 
-/// What the orders come to.
+/// What each order of a phase comes to.
 fn claims<'m>(
     alloc: Global,
     sharing: Sharing,
@@ -89,6 +90,7 @@ fn add_pots(
     Ok(())
 }
 
+/// The pots of all regions.
 fn pots(
     alloc: Global,
     sharing: Sharing,
@@ -102,7 +104,7 @@ fn pots(
     Ok(pots)
 }
 
-/// What is told of the order of a unit that can be carried out.
+/// The number in the outcome of a unit's order that was carried out.
 fn told_of(sharing: Sharing, world: &World, plain: &Plain, given: &[Given], unit: u32) -> u64 {
     match sharing {
         Sharing::Work => work::earned(world, plain, given, unit),
@@ -110,6 +112,7 @@ fn told_of(sharing: Sharing, world: &World, plain: &Plain, given: &[Given], unit
     }
 }
 
+/// Adds the outcome of each order.
 fn tell(
     sharing: Sharing,
     world: &World,
@@ -126,7 +129,7 @@ fn tell(
     Ok(())
 }
 
-/// A unit has its share.
+/// Gives a unit its share, and takes what it costs.
 fn pay(sharing: Sharing, world: &World, plain: &mut Plain, given: Given) -> Result<(), AllocError> {
     match sharing {
         Sharing::Trade(trade) => trade::pay(trade, world, plain, given)?,
@@ -138,6 +141,7 @@ fn pay(sharing: Sharing, world: &World, plain: &mut Plain, given: Given) -> Resu
     Ok(())
 }
 
+/// Gives each unit its share.
 fn pay_all(
     sharing: Sharing,
     world: &World,
@@ -150,7 +154,7 @@ fn pay_all(
     Ok(())
 }
 
-/// Plays a phase.
+/// Plays a phase on the reference's campaign.
 pub(crate) fn play(
     alloc: Global,
     sharing: Sharing,

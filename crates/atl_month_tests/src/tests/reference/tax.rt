@@ -1,4 +1,4 @@
-//! The reference's TAX: who guards shares the money of the region.
+//! TAX in the reference calculation: units that guard share the money of their region.
 use super::plain::{Land, Plain};
 use super::pots::{Claim, Given, Pot, own};
 use atl_instant::PhaseOrder;
@@ -8,7 +8,7 @@ use atl_tables::World;
 /// The most money of a unit.
 pub(crate) const MOST_MONEY: u64 = 999_999_999;
 
-/// Money is the one thing to share.
+/// The number of the only thing to share here.
 const MONEY: u32 = 0;
 
 /// What an order asks of its pot, or its fault.
@@ -28,7 +28,7 @@ pub(crate) fn claim(world: &World, plain: &Plain, order: PhaseOrder<'_>) -> Clai
     Claim::Want(MONEY, due.min(MOST_MONEY.saturating_sub(person.money)))
 }
 
-/// The money of a region.
+/// The pot of a region: its money.
 pub(crate) fn pot(land: Land) -> Pot {
     Pot {
         region: land.number,
@@ -37,7 +37,7 @@ pub(crate) fn pot(land: Land) -> Pot {
     }
 }
 
-/// A unit takes its share out of its region.
+/// Moves a unit's share out of the region.
 pub(crate) fn pay(plain: &mut Plain, given: Given) {
     let Some(person) = plain.person(given.unit) else {
         return;

@@ -1,4 +1,5 @@
-//! The reference's SELL and BUY: units sell to the markets of their regions, and buy of them.
+//! SELL and BUY in the reference calculation: units sell to the markets of their regions, and buy
+//! from them.
 use super::plain::{Good, Person, Plain, Stock};
 use super::pots::{Claim, Given, Pot, own};
 use super::tax::MOST_MONEY;
@@ -8,10 +9,10 @@ use atl_state::{Entry, EventFault, Thing};
 use atl_tables::{Market, World};
 use std::alloc::AllocError;
 
-/// The most pieces of an item that a unit has.
+/// The most that a unit may have of an item.
 const MOST_PIECES: u64 = MOST_MONEY;
 
-/// What is done with a market.
+/// Which of the two phases.
 #[derive(Clone, Copy, Drop)]
 pub(crate) enum Trade {
     Sell,
@@ -26,14 +27,14 @@ fn asked(order: PhaseOrder<'_>) -> (u64, u16) {
     }
 }
 
-/// How many a unit can sell: of those that it has, and as it has room for money.
+/// How many of a market's item a unit can sell: what it has, as far as it has room for the money.
 fn most_sold(plain: &Plain, person: Person, market: &Market) -> u64 {
     let held = plain.amount(person.number, false, u32::from(market.item));
     let room = MOST_MONEY.saturating_sub(person.money);
     held.min(room.checked_div(u64::from(market.pays)).unwrap_or(0))
 }
 
-/// How many a unit can buy: as it has money, and room for the item.
+/// How many of a market's item a unit can buy, as far as its money and its room allow.
 fn most_bought(plain: &Plain, person: Person, market: &Market) -> u64 {
     let held = plain.amount(person.number, false, u32::from(market.item));
     let payable = person
@@ -43,6 +44,7 @@ fn most_bought(plain: &Plain, person: Person, market: &Market) -> u64 {
     payable.min(MOST_PIECES.saturating_sub(held))
 }
 
+/// Whether a unit has nothing to sell, or no money for one.
 fn is_short(trade: Trade, plain: &Plain, person: Person, market: &Market) -> bool {
     match trade {
         Trade::Sell => plain.amount(person.number, false, u32::from(market.item)) == 0,
@@ -69,7 +71,7 @@ pub(crate) fn claim(trade: Trade, world: &World, plain: &Plain, order: PhaseOrde
     Claim::Want(u32::from(item), amount.min(most))
 }
 
-/// What a market takes or gives.
+/// The pot of a market: its room for more (SELL), or its stock (BUY).
 fn pot(trade: Trade, plain: &Plain, region: u32, market: &Market) -> Pot {
     let thing = u32::from(market.item);
     let stock = plain.stock(region, thing);
@@ -99,7 +101,8 @@ pub(crate) fn add_pots(
     Ok(())
 }
 
-/// So many pieces go from one who has them to one who gets them, who had so many.
+/// What a unit and a market have of an item after `pieces` changed hands; `held` and `stock` are
+/// what they had.
 fn moved(trade: Trade, held: u64, stock: u64, pieces: u64) -> (u64, u64) {
     match trade {
         Trade::Sell => (held.wrapping_sub(pieces), stock.wrapping_add(pieces)),
@@ -107,7 +110,7 @@ fn moved(trade: Trade, held: u64, stock: u64, pieces: u64) -> (u64, u64) {
     }
 }
 
-/// The money of a unit behind its trade.
+/// The money of a unit after its trade.
 fn money_behind(trade: Trade, person: Person, market: &Market, pieces: u64) -> u64 {
     match trade {
         Trade::Sell => person
@@ -119,7 +122,7 @@ fn money_behind(trade: Trade, person: Person, market: &Market, pieces: u64) -> u
     }
 }
 
-/// What the money of units is booked under.
+/// The entry of the books for the money of a trade.
 fn entry_of(trade: Trade) -> Entry {
     match trade {
         Trade::Sell => Entry::Sold,
@@ -127,7 +130,7 @@ fn entry_of(trade: Trade) -> Entry {
     }
 }
 
-/// A unit trades its share.
+/// Carries out a unit's trade: pieces and money.
 pub(crate) fn pay(
     trade: Trade,
     world: &World,

@@ -1,11 +1,13 @@
-//! The reference's upkeep: all units are looked at for each unit.
+//! Upkeep in the reference calculation, with a look at all units for each unit (docs/RULES.md,
+//! "Upkeep").
 use super::plain::{Person, Plain};
 use atl_state::{Entry, Event, EventVerb, Outcome, Thing};
 use atl_tables::World;
 use std::alloc::{AllocError, Global};
 
-/// What is left of the money of a faction's units in a region behind their own upkeep and what they are short of: all together, and
-/// those alone that come before one of them.
+/// Sums over a faction's units in a region: money left after their own upkeep, and money that they
+/// are short of.
+/// There are sums over all of them, and sums over those before one unit.
 #[derive(Clone, Copy, Drop)]
 struct Purse {
     left: u64,
@@ -14,7 +16,7 @@ struct Purse {
     short_before: u64,
 }
 
-/// What upkeep takes from a unit.
+/// What upkeep takes from a unit: money, and men who starve.
 #[derive(Clone, Copy, Drop)]
 struct Taken {
     person: Person,
@@ -22,19 +24,20 @@ struct Taken {
     starved: u64,
 }
 
-/// What a unit has left behind its own upkeep.
+/// The money that a unit has left after its own upkeep.
 fn left_of(maintenance: u64, person: Person) -> u64 {
     let due = maintenance.wrapping_mul(person.men);
     person.money.saturating_sub(due)
 }
 
-/// What a unit is short of.
+/// The money that a unit lacks for its own upkeep.
 fn short_of(maintenance: u64, person: Person) -> u64 {
     let due = maintenance.wrapping_mul(person.men);
     due.saturating_sub(person.money)
 }
 
-/// Adds what a unit has left and is short of, as one of those before another one or not.
+/// Adds what a unit has left and is short of to the sums, and if `is_before` also to those before
+/// one unit.
 fn add(maintenance: u64, purse: Purse, person: Person, is_before: bool) -> Purse {
     let (left, short) = (left_of(maintenance, person), short_of(maintenance, person));
     let (left_before, short_before) = if is_before { (left, short) } else { (0, 0) };
@@ -46,7 +49,7 @@ fn add(maintenance: u64, purse: Purse, person: Person, is_before: bool) -> Purse
     }
 }
 
-/// The purse of a unit's faction in its region.
+/// The sums of a unit's faction in its region.
 fn purse_of(maintenance: u64, plain: &Plain, one: Person) -> Purse {
     let mut purse = Purse {
         left: 0,
@@ -62,7 +65,8 @@ fn purse_of(maintenance: u64, plain: &Plain, one: Person) -> Purse {
     purse
 }
 
-/// How much of an amount falls to one that has so much, behind those that have so much before it.
+/// How much of an amount, handed out in order, goes to one that can take `own` after others that
+/// take `before`.
 fn part(amount: u64, before: u64, own: u64) -> u64 {
     let with = before.wrapping_add(own);
     amount.min(with).wrapping_sub(amount.min(before))
@@ -85,7 +89,7 @@ fn taken_from(maintenance: u64, plain: &Plain, person: Person) -> Taken {
     }
 }
 
-/// What upkeep takes from all units.
+/// What upkeep takes from each unit.
 fn all_taken(alloc: Global, maintenance: u64, plain: &Plain) -> Result<Vec<Taken>, AllocError> {
     let mut all = Vec::new(alloc);
     for person in plain.people.iter() {
@@ -94,7 +98,7 @@ fn all_taken(alloc: Global, maintenance: u64, plain: &Plain) -> Result<Vec<Taken
     Ok(all)
 }
 
-/// A unit keeps the part of its days that falls to the men who are left.
+/// Reduces the days of a unit's skills to the part of the men who are left.
 fn keep_days(plain: &mut Plain, one: Taken) {
     let men = one.person.men;
     let left = men.wrapping_sub(one.starved);
@@ -106,7 +110,7 @@ fn keep_days(plain: &mut Plain, one: Taken) {
     }
 }
 
-/// A unit pays, and those who starve are gone.
+/// Takes the upkeep of a unit, and removes those who starve.
 fn take(plain: &mut Plain, one: Taken) -> Result<(), AllocError> {
     let person = one.person;
     let men = person.men.wrapping_sub(one.starved);
@@ -117,6 +121,7 @@ fn take(plain: &mut Plain, one: Taken) -> Result<(), AllocError> {
     plain.book(Entry::Starved, Thing::People, person.men, men)
 }
 
+/// Takes the upkeep of each unit.
 fn take_all(plain: &mut Plain, all: &[Taken]) -> Result<(), AllocError> {
     for one in all {
         take(plain, *one)?;
@@ -124,6 +129,7 @@ fn take_all(plain: &mut Plain, all: &[Taken]) -> Result<(), AllocError> {
     Ok(())
 }
 
+/// Adds an event for each unit of which men starve.
 fn tell(plain: &mut Plain, all: &[Taken]) -> Result<(), AllocError> {
     for one in all {
         if one.starved != 0 {
@@ -139,7 +145,7 @@ fn tell(plain: &mut Plain, all: &[Taken]) -> Result<(), AllocError> {
     Ok(())
 }
 
-/// Pays the upkeep of all.
+/// Plays upkeep on the reference's campaign.
 pub(crate) fn play(alloc: Global, world: &World, plain: &mut Plain) -> Result<(), AllocError> {
     let maintenance = u64::from(world.rules().maintenance);
     let all = all_taken(alloc, maintenance, plain)?;

@@ -1,4 +1,4 @@
-//! The reference's WORK: units share the places of their region.
+//! WORK in the reference calculation: units share the jobs (`places`) of their region.
 use super::plain::{Person, Plain};
 use super::pots::{Claim, Given, Pot, given_to, own};
 use super::tax::MOST_MONEY;
@@ -8,10 +8,10 @@ use atl_state::{Entry, EventFault, Thing};
 use atl_tables::World;
 use std::alloc::{AllocError, Global};
 
-/// Places are the one thing to share.
+/// The number of the only thing to share here: jobs.
 const PLACES: u32 = 0;
 
-/// What a place in a region pays.
+/// What a job in a region pays.
 fn wage(world: &World, region: u32) -> u64 {
     match world.terrain_of(region) {
         Some(terrain) => u64::from(terrain.wage),
@@ -19,7 +19,7 @@ fn wage(world: &World, region: u32) -> u64 {
     }
 }
 
-/// How many places a region has.
+/// How many jobs a region has.
 fn places(world: &World, region: u32) -> u64 {
     match world.terrain_of(region) {
         Some(terrain) => u64::from(terrain.places),
@@ -50,7 +50,7 @@ fn is_idle(person: Person, orders: &[PhaseOrder<'_>]) -> bool {
     person.men != 0
 }
 
-/// Adds the work of the units that have no order, each as another order of WORK.
+/// Appends an order of WORK for each unit with men that has no month-long order.
 fn add_idle<'m>(
     plain: &Plain,
     orders: &[PhaseOrder<'m>],
@@ -72,7 +72,7 @@ fn add_idle<'m>(
     Ok(())
 }
 
-/// Who works, by unit, line and faction.
+/// All orders of WORK, those of idle units too, by unit, line and faction.
 pub(crate) fn tasks<'m>(
     alloc: Global,
     plain: &Plain,
@@ -96,7 +96,7 @@ pub(crate) fn tasks<'m>(
     Ok(tasks)
 }
 
-/// The places of a region.
+/// The pot of a region: its jobs.
 pub(crate) fn pot(world: &World, region: u32) -> Pot {
     Pot {
         region,
@@ -105,7 +105,7 @@ pub(crate) fn pot(world: &World, region: u32) -> Pot {
     }
 }
 
-/// What a unit earns.
+/// What a unit earns by its share.
 pub(crate) fn earned(world: &World, plain: &Plain, given: &[Given], unit: u32) -> u64 {
     match plain.person(unit) {
         Some(person) => given_to(given, unit).wrapping_mul(wage(world, person.region)),
@@ -113,7 +113,7 @@ pub(crate) fn earned(world: &World, plain: &Plain, given: &[Given], unit: u32) -
     }
 }
 
-/// A unit is paid what it earns.
+/// Pays a unit what it earns.
 pub(crate) fn pay(world: &World, plain: &mut Plain, given: Given) -> Result<(), AllocError> {
     let Some(person) = plain.person(given.unit) else {
         return Ok(());

@@ -1,7 +1,7 @@
-//! The text of the books, worked out by hand.
+//! Tests of the text of the books, worked out by hand.
 ghost use Rattle.atl_state.specs.Good.{IsGood};
 
-use super::compare::is_text;
+use super::compare::assert_text;
 use super::scenes::{CART, MAN, NOBODY, Person, Scene, WOOD, campaign_of};
 use atl_report::books_text;
 use atl_state::Campaign;
@@ -11,7 +11,8 @@ use std::alloc::Global;
 use std::process::Abort;
 use std::test::Fail;
 
-/// A month after the first faction joined: its man worked for 12, 10 were spent on upkeep, and the region's income is 1,000.
+/// A month after Avalon joined: its man worked for 12, 10 were spent on upkeep, and the region's
+/// income was 1,000.
 const FIRST_MONTH: Scene = Scene {
     people: &[Person { money: 1002, ..MAN }],
     regions: &[(1, 1000, 1500)],
@@ -27,6 +28,7 @@ const FIRST_MONTH: Scene = Scene {
     ..NOBODY
 };
 
+/// The text of the books of `FIRST_MONTH`.
 const OF_FIRST_MONTH: &str = "money founding 500
 money joining 1000
 money income 1000
@@ -38,7 +40,7 @@ people joining 1
 people total 1001
 ";
 
-/// The same month, in which the faction left.
+/// The same month, in which the faction quit.
 const QUITTING: Scene = Scene {
     regions: &[(1, 1000, 1500)],
     books: &[
@@ -53,6 +55,7 @@ const QUITTING: Scene = Scene {
     ..NOBODY
 };
 
+/// The text of the books of `QUITTING`.
 const OF_QUITTING: &str = "money founding 500
 money joining 1000
 money income 1000
@@ -64,7 +67,7 @@ people left -1
 people total 1000
 ";
 
-/// Every entry has an amount, and many are negative.
+/// Books with an amount under every entry, many of them negative.
 const EVERY_ENTRY: Scene = Scene {
     regions: &[(1, 1000, 489)],
     books: &[
@@ -89,6 +92,7 @@ const EVERY_ENTRY: Scene = Scene {
     ..NOBODY
 };
 
+/// The text of the books of `EVERY_ENTRY`.
 const OF_EVERY_ENTRY: &str = "money founding 500
 money joining 1
 money income 199999999999999
@@ -110,7 +114,7 @@ people founding 1000
 people total 1000
 ";
 
-/// Two units made 7 and 13 wood, and a third one 2 carts of 10 of its 12 wood.
+/// Units that made 7 and 13 wood, and one that made 2 carts out of 10 of its 12 wood.
 const PRODUCTION: Scene = Scene {
     people: &[
         Person {
@@ -144,6 +148,7 @@ const PRODUCTION: Scene = Scene {
     ..NOBODY
 };
 
+/// The text of the books of `PRODUCTION`.
 const OF_PRODUCTION: &str = "money founding 650
 money total 650
 people founding 1300
@@ -157,7 +162,7 @@ item \"cart\" made 2
 item \"cart\" total 2
 ";
 
-/// Nobody has joined, and there are no items.
+/// The text of the books of the island without units and items.
 const OF_THE_ISLE: &str = "money founding 650
 money total 650
 people founding 1300
@@ -166,14 +171,17 @@ item \"wood\" total 0
 item \"cart\" total 0
 ";
 
+/// Scenes of the small world, and the text of their books.
 static OF_SMALL: [(Scene, &str); 3] = [
     (FIRST_MONTH, OF_FIRST_MONTH),
     (QUITTING, OF_QUITTING),
     (EVERY_ENTRY, OF_EVERY_ENTRY),
 ];
 
+/// Scenes of the island, and the text of their books.
 static OF_ISLE: [(Scene, &str); 2] = [(PRODUCTION, OF_PRODUCTION), (NOBODY, OF_THE_ISLE)];
 
+/// Asserts the text of a campaign's books.
 fn tell(
     rt: &impl Abort,
     alloc: Global,
@@ -184,11 +192,12 @@ fn tell(
     requires { IsGood world.now campaign.now.value }
 {
     let text = books_text(alloc, world, campaign)?;
-    is_text(rt, text.as_str(), wanted);
+    assert_text(rt, text.as_str(), wanted);
     Ok(())
 }
 
-fn tells(
+/// Asserts the text of a scene's books.
+fn assert_case(
     rt: &impl Abort,
     alloc: Global,
     world: &World,
@@ -199,14 +208,15 @@ fn tells(
     tell(rt, alloc, world, &campaign, wanted)
 }
 
-fn tells_all(
+/// Asserts the text of each scene's books.
+fn assert_cases(
     rt: &impl Abort,
     alloc: Global,
     world: &World,
     cases: &[(Scene, &str)],
 ) -> Result<(), Fail> {
     for (scene, wanted) in cases {
-        tells(rt, alloc, world, scene, wanted)?;
+        assert_case(rt, alloc, world, scene, wanted)?;
     }
     Ok(())
 }
@@ -214,11 +224,11 @@ fn tells_all(
 #[test]
 fn books_of_money_and_people(rt: HostRuntime) -> Result<(), Fail> {
     let world = read_world(rt.alloc(), SMALL)?;
-    tells_all(&rt, rt.alloc(), &world, &OF_SMALL)
+    assert_cases(&rt, rt.alloc(), &world, &OF_SMALL)
 }
 
 #[test]
 fn books_of_items(rt: HostRuntime) -> Result<(), Fail> {
     let world = read_world(rt.alloc(), ISLE)?;
-    tells_all(&rt, rt.alloc(), &world, &OF_ISLE)
+    assert_cases(&rt, rt.alloc(), &world, &OF_ISLE)
 }

@@ -1,6 +1,7 @@
-//! What is told and what is wanted. The assertion stands here alone: it writes out both values, which is proved once.
+//! The assertion of these tests: an `assert_eq!` costs much to prove, so it is written once.
 use std::process::Abort;
 
-pub(crate) fn is_text(rt: &impl Abort, told: &str, wanted: &str) {
+/// Asserts that a text is the wanted one.
+pub(crate) fn assert_text(rt: &impl Abort, told: &str, wanted: &str) {
     assert_eq!(rt; told, wanted);
 }

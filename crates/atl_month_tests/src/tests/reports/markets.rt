@@ -1,5 +1,6 @@
-//! Reports of regions with markets. The world is the island with two markets in the wood, of which the file has the cart's first.
-use super::compare::is_text;
+//! Tests of reports of regions with markets. The world is the island with two markets in region 4;
+//! its text has the cart's first.
+use super::compare::assert_text;
 use super::scenes::{Built, LODGE, MAN, NOBODY, Person, Scene, campaign_of};
 use atl_report::{report_text, view};
 use atl_tables::{World, read_world};
@@ -8,7 +9,7 @@ use std::alloc::Global;
 use std::process::Abort;
 use std::test::Fail;
 
-/// The markets of the wood, which is the last region of the island.
+/// The text of the markets of region 4, the last of the island.
 const MARKETS: &str = r#"[[region.market]]
 item = "cart"
 price = 500
@@ -23,16 +24,17 @@ limit = 30
 restock = 20
 "#;
 
-/// A man in the wood.
+/// One man in region 4.
 const MERCHANT: Person = Person { region: 4, ..MAN };
 
-/// What there is, and the report of the first faction.
+/// A scene, and the wanted report of faction 1.
 #[derive(Clone, Copy)]
 struct Case {
     scene: Scene,
     wanted: &'static str,
 }
 
+/// Scenes with markets, and their reports.
 static CASES: [Case; 4] = [
     // Nothing is in stock.
     Case {
@@ -112,17 +114,19 @@ Exits: east 2.
     },
 ];
 
-fn tells(rt: &impl Abort, alloc: Global, world: &World, case: &Case) -> Result<(), Fail> {
+/// Asserts the report of a case.
+fn assert_case(rt: &impl Abort, alloc: Global, world: &World, case: &Case) -> Result<(), Fail> {
     let campaign = campaign_of(alloc, world, &case.scene)?;
     let seen = view(alloc, world, &campaign, 1)?;
     let text = report_text(alloc, world, &seen, &[], &[])?;
-    is_text(rt, text.as_str(), case.wanted);
+    assert_text(rt, text.as_str(), case.wanted);
     Ok(())
 }
 
-fn tells_all(rt: &impl Abort, alloc: Global, world: &World) -> Result<(), Fail> {
+/// Asserts the report of each case.
+fn assert_cases(rt: &impl Abort, alloc: Global, world: &World) -> Result<(), Fail> {
     for case in CASES.iter() {
-        tells(rt, alloc, world, case)?;
+        assert_case(rt, alloc, world, case)?;
     }
     Ok(())
 }
@@ -131,5 +135,5 @@ fn tells_all(rt: &impl Abort, alloc: Global, world: &World) -> Result<(), Fail> 
 fn markets(rt: HostRuntime) -> Result<(), Fail> {
     let text = format!(in rt.alloc(); "{ISLE}{MARKETS}")?;
     let world = read_world(rt.alloc(), text.as_str())?;
-    tells_all(&rt, rt.alloc(), &world)
+    assert_cases(&rt, rt.alloc(), &world)
 }

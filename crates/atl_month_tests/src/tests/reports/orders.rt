@@ -1,5 +1,5 @@
-//! What a report tells of orders, without any region.
-use super::compare::is_text;
+//! Tests of what a report says of orders, without any region.
+use super::compare::assert_text;
 use atl_orders::{FaultyLine, LineFault, Verb};
 use atl_report::{View, report_text};
 use atl_state::{Event, EventFault, EventVerb, JoinFault, Outcome};
@@ -9,23 +9,26 @@ use std::alloc::Global;
 use std::process::Abort;
 use std::test::Fail;
 
-/// What the first faction's mailing and month had, and its report.
+/// The faulty lines and the events of a month, and the wanted report of faction 1.
 struct Case {
     faults: &'static [FaultyLine],
     events: &'static [Event],
     wanted: &'static str,
 }
 
+/// A faulty line with an unknown order.
 const UNKNOWN_ORDER: FaultyLine = FaultyLine {
     line: 5,
     fault: LineFault::UnknownOrder,
 };
 
+/// A faulty line with a bad name.
 const BAD_NAME: FaultyLine = FaultyLine {
     line: 65,
     fault: LineFault::BadName,
 };
 
+/// A unit worked for 12.
 const WORKED: Event = Event {
     faction: 1,
     unit: 1,
@@ -34,6 +37,7 @@ const WORKED: Event = Event {
     outcome: Outcome::Done(12),
 };
 
+/// A QUIT with the wrong number.
 const QUIT: Event = Event {
     faction: 1,
     unit: 1,
@@ -42,6 +46,7 @@ const QUIT: Event = Event {
     outcome: Outcome::Fault(11),
 };
 
+/// Three men of a unit starved.
 const STARVED: Event = Event {
     faction: 1,
     unit: 2,
@@ -50,6 +55,7 @@ const STARVED: Event = Event {
     outcome: Outcome::Starved(3),
 };
 
+/// An event of upkeep that no month has: done, with a number beyond 32 bits.
 const UPKEEP: Event = Event {
     faction: 1,
     unit: 2,
@@ -58,7 +64,7 @@ const UPKEEP: Event = Event {
     outcome: Outcome::Done(4_294_967_300),
 };
 
-/// For an alias that no unit has.
+/// An order for an alias that no unit has.
 const FORMED_BY_NOBODY: Event = Event {
     faction: 1,
     unit: 0,
@@ -67,7 +73,7 @@ const FORMED_BY_NOBODY: Event = Event {
     outcome: Outcome::Fault(1),
 };
 
-/// Of a number that no fault has.
+/// An event with a fault number that no fault has.
 const NAMELESS: Event = Event {
     faction: 1,
     unit: 1,
@@ -76,6 +82,7 @@ const NAMELESS: Event = Event {
     outcome: Outcome::Fault(99),
 };
 
+/// An event of another faction.
 const OF_ANOTHER: Event = Event {
     faction: 2,
     unit: 7,
@@ -84,6 +91,7 @@ const OF_ANOTHER: Event = Event {
     outcome: Outcome::Done(50),
 };
 
+/// Months, and the report of faction 1 on each.
 static CASES: [Case; 9] = [
     Case {
         faults: &[],
@@ -165,7 +173,7 @@ Unit 2: 3 starved.
     },
 ];
 
-/// What a faction sees that has no unit with men.
+/// The view of a faction that has no unit with men.
 fn nowhere(alloc: Global) -> Result<View, Fail> {
     Ok(View {
         month: 3,
@@ -175,7 +183,8 @@ fn nowhere(alloc: Global) -> Result<View, Fail> {
     })
 }
 
-fn tells(
+/// Asserts the report of a case.
+fn assert_case(
     rt: &impl Abort,
     alloc: Global,
     world: &World,
@@ -183,14 +192,15 @@ fn tells(
     case: &Case,
 ) -> Result<(), Fail> {
     let text = report_text(alloc, world, view, case.faults, case.events)?;
-    is_text(rt, text.as_str(), case.wanted);
+    assert_text(rt, text.as_str(), case.wanted);
     Ok(())
 }
 
-fn tells_all(rt: &impl Abort, alloc: Global, world: &World) -> Result<(), Fail> {
+/// Asserts the report of each case.
+fn assert_cases(rt: &impl Abort, alloc: Global, world: &World) -> Result<(), Fail> {
     let view = nowhere(alloc)?;
     for case in CASES.iter() {
-        tells(rt, alloc, world, &view, case)?;
+        assert_case(rt, alloc, world, &view, case)?;
     }
     Ok(())
 }
@@ -198,15 +208,15 @@ fn tells_all(rt: &impl Abort, alloc: Global, world: &World) -> Result<(), Fail> 
 #[test]
 fn faults_and_events(rt: HostRuntime) -> Result<(), Fail> {
     let world = read_world(rt.alloc(), SMALL)?;
-    tells_all(&rt, rt.alloc(), &world)
+    assert_cases(&rt, rt.alloc(), &world)
 }
 
-/// A fault of an order is printed with its number, one of a joining without.
+/// The fault of an order is printed with its number, that of a join without.
 #[test]
 fn printed_faults(rt: HostRuntime) -> Result<(), Fail> {
     let of_order = format!(in rt.alloc(); "{}", EventFault::NoWay)?;
     let of_joining = format!(in rt.alloc(); "{}", JoinFault::NameTaken)?;
-    is_text(&rt, of_order.as_str(), "17 NoWay");
-    is_text(&rt, of_joining.as_str(), "NameTaken");
+    assert_text(&rt, of_order.as_str(), "17 NoWay");
+    assert_text(&rt, of_joining.as_str(), "NameTaken");
     Ok(())
 }

@@ -1,4 +1,4 @@
-//! Campaigns for the reports. Each is made of rows that are checked, so commands can reach it.
+//! Campaigns for the tests of reports, made of rows that `check` accepts.
 ghost use Rattle.std.specs.Prelude.{IfOk};
 ghost use Rattle.atl_state.specs.Good.{IsGood};
 
@@ -14,36 +14,46 @@ use std::test::Fail;
 /// The number of the second format.
 const SECOND_FORMAT: i64 = 2;
 
-/// In rows of the books the numbers of joining and of restocking among the entries, and of the first item among the things.
+/// The number of Joining among the entries of the books.
 const JOINING: i64 = 2;
 
+/// The number of Stocked among the entries of the books.
 const STOCKED: i64 = 16;
 
+/// The number of the first item among the things of the books.
 const FIRST_ITEM: i64 = 2;
 
-/// The sort of an item and of a skill in `has`.
+/// The kind of an item in the table `has`.
 const ITEM: i64 = 0;
 
+/// The kind of a skill in the table `has`.
 const SKILL: i64 = 1;
 
+/// The item wood, as kind and number.
 pub(crate) const WOOD: (i64, i64) = (ITEM, 0);
 
+/// The item cart, as kind and number.
 pub(crate) const CART: (i64, i64) = (ITEM, 1);
 
+/// The skill lumberjack, as kind and number.
 pub(crate) const LUMBERJACK: (i64, i64) = (SKILL, 0);
 
+/// The skill sailing, as kind and number.
 pub(crate) const SAILING: (i64, i64) = (SKILL, 3);
 
+/// The skill stealth, as kind and number.
 pub(crate) const STEALTH: (i64, i64) = (SKILL, 4);
 
+/// The skill observation, as kind and number.
 pub(crate) const OBSERVATION: (i64, i64) = (SKILL, 5);
 
-/// The kinds of structures.
+/// The number of the kind boat.
 pub(crate) const BOAT: i64 = 0;
 
+/// The number of the kind lodge.
 pub(crate) const LODGE: i64 = 1;
 
-/// A unit of faction 1 or 2, of the name that a new unit has.
+/// A unit of faction 1 or 2, with the name of a new unit.
 #[derive(Clone, Copy)]
 pub(crate) struct Person {
     pub faction: i64,
@@ -52,11 +62,11 @@ pub(crate) struct Person {
     pub men: i64,
     pub money: i64,
     pub guard: i64,
-    /// How much of an item, or how many days of a skill.
+    /// Amounts of items, and days of skills.
     pub has: &'static [((i64, i64), i64)],
 }
 
-/// One man of the first faction in the first region, and nothing else.
+/// One man of faction 1 in region 1, with nothing.
 pub(crate) const MAN: Person = Person {
     faction: 1,
     region: 1,
@@ -67,6 +77,7 @@ pub(crate) const MAN: Person = Person {
     has: &[],
 };
 
+/// A structure, and how much of it is built.
 #[derive(Clone, Copy)]
 pub(crate) struct Built {
     pub kind: i64,
@@ -76,22 +87,23 @@ pub(crate) struct Built {
     pub owner: i64,
 }
 
-/// What there is in a world, behind its founding and the joining of factions 1 and 2.
+/// The units, structures and amounts of a campaign that factions 1 and 2 have joined.
 #[derive(Clone, Copy)]
 pub(crate) struct Scene {
     /// The units, numbered from 1.
     pub people: &'static [Person],
     /// The structures, numbered from 1.
     pub built: &'static [Built],
-    /// The regions with peasants and money; none where they are as they were founded.
+    /// The regions with peasants and money; if there are none, all are as at the founding.
     pub regions: &'static [(i64, i64, i64)],
-    /// The stocks: by region and item an amount.
+    /// The stocks: region, item and amount.
     pub stocks: &'static [(i64, i64, i64)],
-    /// What is booked: by entry and thing an amount. Where nothing is, all that units have is booked under joining, and all that is in stock
-    /// under restocking.
+    /// What is booked: entry, thing and amount. If nothing is, all that units have is booked under
+    /// Joining, and all stocks under Stocked.
     pub books: &'static [(i64, i64, i64)],
 }
 
+/// A campaign without units and structures; both factions are gone.
 pub(crate) const NOBODY: Scene = Scene {
     people: &[],
     built: &[],
@@ -100,6 +112,7 @@ pub(crate) const NOBODY: Scene = Scene {
     books: &[],
 };
 
+/// The campaign's own row.
 fn heads(alloc: Global, scene: &Scene) -> Result<Sequence<StoredCampaignRow>, Fail> {
     let mut all = Sequence::new(alloc);
     all.push(StoredCampaignRow {
@@ -114,6 +127,7 @@ fn heads(alloc: Global, scene: &Scene) -> Result<Sequence<StoredCampaignRow>, Fa
     Ok(all)
 }
 
+/// The row of a faction, which is gone if it has no unit.
 fn faction(alloc: Global, number: i64, name: &str, scene: &Scene) -> Result<StoredFaction, Fail> {
     let there = scene.people.iter().any(|unit| unit.faction == number);
     Ok(StoredFaction {
@@ -125,6 +139,7 @@ fn faction(alloc: Global, number: i64, name: &str, scene: &Scene) -> Result<Stor
     })
 }
 
+/// The rows of both factions.
 fn factions(alloc: Global, scene: &Scene) -> Result<Sequence<StoredFaction>, Fail> {
     let mut all = Sequence::new(alloc);
     all.push(faction(alloc, 1, "Avalon", scene)?)?;
@@ -132,6 +147,7 @@ fn factions(alloc: Global, scene: &Scene) -> Result<Sequence<StoredFaction>, Fai
     Ok(all)
 }
 
+/// The rows of the reports.
 fn reports(alloc: Global) -> Result<Sequence<StoredReport>, Fail> {
     let mut all = Sequence::new(alloc);
     for faction in 1..=2i64 {
@@ -143,6 +159,7 @@ fn reports(alloc: Global) -> Result<Sequence<StoredReport>, Fail> {
     Ok(all)
 }
 
+/// The row of a unit.
 fn unit(alloc: Global, number: i64, person: &Person) -> Result<StoredUnit, Fail> {
     let name = format!(in alloc; "Unit {number}")?;
     Ok(StoredUnit {
@@ -157,6 +174,7 @@ fn unit(alloc: Global, number: i64, person: &Person) -> Result<StoredUnit, Fail>
     })
 }
 
+/// The rows of the units, numbered from 1.
 fn units(alloc: Global, people: &[Person]) -> Result<Sequence<StoredUnit>, Fail> {
     let mut all = Sequence::new(alloc);
     let mut number: i64 = 0;
@@ -167,6 +185,7 @@ fn units(alloc: Global, people: &[Person]) -> Result<Sequence<StoredUnit>, Fail>
     Ok(all)
 }
 
+/// Adds the rows of what a unit has.
 fn has_of(all: &mut Sequence<StoredHas>, unit: i64, has: &[((i64, i64), i64)]) -> Result<(), Fail> {
     for ((sort, thing), amount) in has {
         all.push(StoredHas {
@@ -179,6 +198,7 @@ fn has_of(all: &mut Sequence<StoredHas>, unit: i64, has: &[((i64, i64), i64)]) -
     Ok(())
 }
 
+/// The rows of what the units have.
 fn has(alloc: Global, people: &[Person]) -> Result<Sequence<StoredHas>, Fail> {
     let mut all = Sequence::new(alloc);
     let mut number: i64 = 0;
@@ -189,6 +209,7 @@ fn has(alloc: Global, people: &[Person]) -> Result<Sequence<StoredHas>, Fail> {
     Ok(all)
 }
 
+/// The row of a structure.
 fn structure(alloc: Global, number: i64, built: &Built) -> Result<StoredStructure, Fail> {
     Ok(StoredStructure {
         number,
@@ -200,6 +221,7 @@ fn structure(alloc: Global, number: i64, built: &Built) -> Result<StoredStructur
     })
 }
 
+/// The rows of the structures, numbered from 1.
 fn structures(alloc: Global, built: &[Built]) -> Result<Sequence<StoredStructure>, Fail> {
     let mut all = Sequence::new(alloc);
     let mut number: i64 = 0;
@@ -210,6 +232,7 @@ fn structures(alloc: Global, built: &[Built]) -> Result<Sequence<StoredStructure
     Ok(all)
 }
 
+/// The rows of the regions.
 fn regions(alloc: Global, rows: &[(i64, i64, i64)]) -> Result<Sequence<StoredRegion>, Fail> {
     let mut all = Sequence::new(alloc);
     for (number, peasants, money) in rows {
@@ -222,6 +245,7 @@ fn regions(alloc: Global, rows: &[(i64, i64, i64)]) -> Result<Sequence<StoredReg
     Ok(all)
 }
 
+/// The rows of the stocks.
 fn markets(alloc: Global, rows: &[(i64, i64, i64)]) -> Result<Sequence<StoredMarket>, Fail> {
     let mut all = Sequence::new(alloc);
     for (region, item, stock) in rows {
@@ -234,6 +258,7 @@ fn markets(alloc: Global, rows: &[(i64, i64, i64)]) -> Result<Sequence<StoredMar
     Ok(all)
 }
 
+/// The rows of the books.
 fn books(alloc: Global, rows: &[(i64, i64, i64)]) -> Result<Sequence<StoredBooks>, Fail> {
     let mut all = Sequence::new(alloc);
     for (entry, thing, amount) in rows {
@@ -257,7 +282,7 @@ fn held(person: &Person, item: i64) -> i64 {
     sum
 }
 
-/// How much the units have of a thing: 0 is money, 1 people, and 2 the first item.
+/// The sum of a thing over the units: 0 is money, 1 people, and 2 the first item.
 fn brought(people: &[Person], thing: i64) -> i64 {
     let mut sum: i64 = 0;
     for person in people {
@@ -271,7 +296,7 @@ fn brought(people: &[Person], thing: i64) -> i64 {
     sum
 }
 
-/// Books all that the units have under joining.
+/// Books all that the units have under Joining.
 fn book_joining(people: &[Person], all: &mut Sequence<StoredBooks>) -> Result<(), Fail> {
     for thing in 0..=3i64 {
         let amount = brought(people, thing);
@@ -286,7 +311,7 @@ fn book_joining(people: &[Person], all: &mut Sequence<StoredBooks>) -> Result<()
     Ok(())
 }
 
-/// Books what is in stock under restocking. No two stocks are of one item.
+/// Books the stocks under Stocked; no two stocks may be of one item.
 fn book_stocks(stocks: &[(i64, i64, i64)], all: &mut Sequence<StoredBooks>) -> Result<(), Fail> {
     for (_, item, stock) in stocks {
         all.push(StoredBooks {
@@ -298,6 +323,7 @@ fn book_stocks(stocks: &[(i64, i64, i64)], all: &mut Sequence<StoredBooks>) -> R
     Ok(())
 }
 
+/// All rows of a scene's campaign.
 fn rows_of(alloc: Global, world: &World, scene: &Scene) -> Result<Parts, Fail> {
     let mut parts = founded(alloc, world, b"gm")?.parts()?;
     book_joining(scene.people, &mut parts.books)?;
@@ -318,6 +344,7 @@ fn rows_of(alloc: Global, world: &World, scene: &Scene) -> Result<Parts, Fail> {
     Ok(parts)
 }
 
+/// The campaign of a scene; rows that `check` refuses are a failure.
 pub(crate) fn campaign_of(alloc: Global, world: &World, scene: &Scene) -> Result<Campaign, Fail>
     ensures { IfOk result (λ c. IsGood world.now c.value) }
 {

@@ -1,5 +1,6 @@
-//! Who sees whom, and whole reports of what is seen, worked out by hand. The world is the island.
-use super::compare::is_text;
+//! Tests of who sees whom, by whole reports worked out by hand (docs/RULES.md, "Sight"). The world
+//! is the island.
+use super::compare::assert_text;
 use super::scenes::{
     BOAT, Built, CART, LODGE, LUMBERJACK, MAN, NOBODY, OBSERVATION, Person, SAILING, STEALTH,
     Scene, WOOD, campaign_of,
@@ -13,7 +14,7 @@ use std::alloc::Global;
 use std::process::Abort;
 use std::test::Fail;
 
-/// What is to be seen, and the report of a faction.
+/// A scene, and the wanted report of a faction.
 #[derive(Clone, Copy)]
 struct Case {
     scene: Scene,
@@ -25,6 +26,7 @@ struct Case {
     wanted: &'static str,
 }
 
+/// A case without units; the cases set what differs.
 const PLAIN: Case = Case {
     scene: NOBODY,
     empty: &[],
@@ -34,21 +36,21 @@ const PLAIN: Case = Case {
     wanted: "",
 };
 
-/// One man in the wood, in the north of the island, with 30 days of observation: level 1.
+/// One man in region 4 with 30 days of observation: level 1.
 const WATCHER: Person = Person {
     region: 4,
     has: &[(OBSERVATION, 30)],
     ..MAN
 };
 
-/// One with 90 days: level 2.
+/// One man in region 4 with 90 days of observation: level 2.
 const KEEN_WATCHER: Person = Person {
     region: 4,
     has: &[(OBSERVATION, 90)],
     ..MAN
 };
 
-/// One man of the other faction there, with 90 days of stealth: level 2.
+/// One man of faction 2 in region 4 with 90 days of stealth: level 2.
 const HIDER: Person = Person {
     faction: 2,
     region: 4,
@@ -56,7 +58,7 @@ const HIDER: Person = Person {
     ..MAN
 };
 
-/// Units that hide, and what the first faction sees of them.
+/// Units that hide, and the report of faction 1 or 2.
 static HIDDEN: [Case; 9] = [
     // A unit of level 2 is hidden from level 1.
     Case {
@@ -254,7 +256,7 @@ None.
     },
 ];
 
-/// One man of the other faction with 450 days of stealth: level 5.
+/// One man of faction 2 in region 4 with 450 days of stealth: level 5.
 const KEEN_HIDER: Person = Person {
     faction: 2,
     region: 4,
@@ -262,7 +264,7 @@ const KEEN_HIDER: Person = Person {
     ..MAN
 };
 
-/// Units without men, as there are some within a month.
+/// Units without men, which there are only within a month.
 static EMPTY: [Case; 3] = [
     // Such a unit has no level, so that another's is seen, and it doesn't guard.
     Case {
@@ -334,11 +336,13 @@ Exits: north 4, west 2.
     },
 ];
 
+/// A faulty line of a mailing.
 const FAULTS: [FaultyLine; 1] = [FaultyLine {
     line: 5,
     fault: LineFault::UnknownOrder,
 }];
 
+/// Events of a month, of several factions.
 const EVENTS: [Event; 4] = [
     Event {
         faction: 1,
@@ -370,7 +374,7 @@ const EVENTS: [Event; 4] = [
     },
 ];
 
-/// All sorts of lines.
+/// Reports with all kinds of lines.
 static WHOLE: [Case; 2] = [
     Case {
         scene: Scene {
@@ -521,19 +525,21 @@ Structure 3 \"Ship 1\", boat, 10 of 10, owner 5.
     },
 ];
 
-/// Takes a unit's men away.
+/// Takes all men from a unit.
 fn empty(campaign: &mut Campaign, number: u32) {
     if let Some(holding) = campaign.unit_mut(number) {
         holding.set_men(0);
     }
 }
 
+/// Takes all men from each of some units.
 fn empty_all(campaign: &mut Campaign, numbers: &[u32]) {
     for number in numbers {
         empty(campaign, *number);
     }
 }
 
+/// Asserts the report on a campaign.
 fn tell(
     rt: &impl Abort,
     alloc: Global,
@@ -543,35 +549,37 @@ fn tell(
 ) -> Result<(), Fail> {
     let seen = view(alloc, world, campaign, case.faction)?;
     let text = report_text(alloc, world, &seen, case.faults, case.events)?;
-    is_text(rt, text.as_str(), case.wanted);
+    assert_text(rt, text.as_str(), case.wanted);
     Ok(())
 }
 
-fn tells(rt: &impl Abort, alloc: Global, world: &World, case: &Case) -> Result<(), Fail> {
+/// Asserts the report of a case.
+fn assert_case(rt: &impl Abort, alloc: Global, world: &World, case: &Case) -> Result<(), Fail> {
     let mut campaign = campaign_of(alloc, world, &case.scene)?;
     empty_all(&mut campaign, case.empty);
     tell(rt, alloc, world, &campaign, case)
 }
 
-fn tells_all(rt: &impl Abort, alloc: Global, cases: &[Case]) -> Result<(), Fail> {
+/// Asserts the report of each case.
+fn assert_cases(rt: &impl Abort, alloc: Global, cases: &[Case]) -> Result<(), Fail> {
     let world = read_world(alloc, ISLE)?;
     for case in cases {
-        tells(rt, alloc, &world, case)?;
+        assert_case(rt, alloc, &world, case)?;
     }
     Ok(())
 }
 
 #[test]
 fn hidden_units(rt: HostRuntime) -> Result<(), Fail> {
-    tells_all(&rt, rt.alloc(), &HIDDEN)
+    assert_cases(&rt, rt.alloc(), &HIDDEN)
 }
 
 #[test]
 fn units_without_men(rt: HostRuntime) -> Result<(), Fail> {
-    tells_all(&rt, rt.alloc(), &EMPTY)
+    assert_cases(&rt, rt.alloc(), &EMPTY)
 }
 
 #[test]
 fn all_sorts_of_lines(rt: HostRuntime) -> Result<(), Fail> {
-    tells_all(&rt, rt.alloc(), &WHOLE)
+    assert_cases(&rt, rt.alloc(), &WHOLE)
 }

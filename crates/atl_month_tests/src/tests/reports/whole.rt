@@ -1,8 +1,8 @@
-//! A whole report, of a campaign that a faction has joined.
+//! A test of a whole report, of the small world that a faction has joined.
 ghost use Rattle.std.specs.Prelude.{IfOk};
 ghost use Rattle.atl_state.specs.Good.{IsGood};
 
-use super::compare::is_text;
+use super::compare::assert_text;
 use atl_orders::{FaultyLine, LineFault, Verb};
 use atl_report::{report_text, view};
 use atl_state::{Campaign, Event, EventVerb, Outcome, founded};
@@ -12,11 +12,13 @@ use std::alloc::Global;
 use std::process::Abort;
 use std::test::Fail;
 
+/// A faulty line of a mailing.
 static FAULTS: [FaultyLine; 1] = [FaultyLine {
     line: 5,
     fault: LineFault::UnknownOrder,
 }];
 
+/// Events of a month.
 static EVENTS: [Event; 2] = [
     Event {
         faction: 1,
@@ -34,6 +36,7 @@ static EVENTS: [Event; 2] = [
     },
 ];
 
+/// The wanted report.
 const WHOLE: &str = "Atlantis report, month 0, faction 1 \"Avalon\".
 Orders:
 Line 5: 2 UnknownOrder.
@@ -43,29 +46,38 @@ Exits: none.
 * Unit 1 \"Unit 1\": 1 men, 1000 money.
 ";
 
+/// The campaign of a world just after its founding.
 fn founded_in(alloc: Global, world: &World) -> Result<Campaign, Fail>
     ensures { IfOk result (λ campaign. IsGood world.now campaign.value) }
 {
     Ok(founded(alloc, world, b"gm")?)
 }
 
+/// Avalon joins, with 0 as the word of the dice; the answer is its number and its unit's.
 fn avalon_joins(world: &World, campaign: &mut Campaign) -> Result<(u32, u32), Fail>
     requires { IsGood world.now campaign.old.value }
 {
     Ok(campaign.join(world, b"Avalon", b"pw", 0)?)
 }
 
-fn is_told(rt: &impl Abort, alloc: Global, world: &World, campaign: &Campaign) -> Result<(), Fail> {
+/// Asserts the report of faction 1.
+fn assert_report(
+    rt: &impl Abort,
+    alloc: Global,
+    world: &World,
+    campaign: &Campaign,
+) -> Result<(), Fail> {
     let seen = view(alloc, world, campaign, 1)?;
     let text = report_text(alloc, world, &seen, &FAULTS, &EVENTS)?;
-    is_text(rt, text.as_str(), WHOLE);
+    assert_text(rt, text.as_str(), WHOLE);
     Ok(())
 }
 
+/// Asserts the report of a faction that has just joined.
 fn joins_and_reads(rt: &impl Abort, alloc: Global, world: &World) -> Result<(), Fail> {
     let mut campaign = founded_in(alloc, world)?;
     avalon_joins(world, &mut campaign)?;
-    is_told(rt, alloc, world, &campaign)
+    assert_report(rt, alloc, world, &campaign)
 }
 
 #[test]
