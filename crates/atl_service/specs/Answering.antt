@@ -43,7 +43,7 @@ pub record Answers {S : Type 0} (g : Ghosts S) (w : WorldValue) (before : Campai
   pub good : IsGood w after
   pub tables : HasCleanDisk (state g new) → (text : List ℕ) → Keeps (state g old) text before → Keeps (state g new) text after
 
--- A command failed with a fault: tables that held the campaign before the command still do (`Stops`); a crash leaves that one or the one after `step`.
+-- A command failed with a fault: tables that held the campaign before the command still do (`LeavesAfterFault`); a crash leaves that one or the one after `step`.
 abbrev pub GivesUp : {S : Type 0} → Ghosts S → WorldValue → CampaignValue → Held S → Command → Held S → Type 0
 GivesUp g w before old command new = HasCleanDisk (state g new) → (text : List ℕ) → Keeps (state g old) text before → LeavesAfterFault (state g old).faults (state g new) text before (step w before command).0
 

@@ -54,7 +54,7 @@ pub record FailsToFound {S : Type 0} (g : Ghosts S) (old : Held S) (text pass : 
   pub unfounded : (¬ IsWorldText text) ⊎ (pass_ok pass ≡ false) → new ≡ old
   pub crash : HasCleanDisk (state g new) → (w : WorldValue) → world_of text ≡ Ok w → MayFound (state g old) text (founded_of w pass) (state g new)
 
--- Why a founding fails with Store: the connection isn't ready (`IsReady`) and nothing is changed, or it is, and a call of the write gave an error other than out of memory.
+-- Why a founding fails with Store: the connection isn't ready (`IsReadyToCreate`) and nothing is changed, or it is, and a call of the write gave an error other than out of memory.
 abbrev pub RefusesToWrite : {S : Type 0} → Ghosts S → Statements → Held S → Held S → Type 0
 RefusesToWrite g own old new = ((¬ IsReadyToCreate (state g old)) × (new ≡ old)) ⊎ (IsReadyToCreate (state g old) × GivesOtherError g own old new)
 

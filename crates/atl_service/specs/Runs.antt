@@ -27,7 +27,7 @@ pub record Accepts {S : Type 0} (g : Ghosts S) (c : CampaignValue) (old : Servic
 abbrev pub Refuses : {S : Type 0} → CampaignValue → ServiceValue S → Command → Answer → ServiceValue S → Type 0
 Refuses c old command answer new = (step old.world c command ≡ (c, answer)) × (new ≡ old)
 
--- A fault closed the service: the tables hold the campaign before the command; a crash leaves that one or the one after `step` (`Stops`).
+-- A fault closed the service: the tables hold the campaign before the command; a crash leaves that one or the one after `step` (`LeavesAfterFault`).
 pub record Closes {S : Type 0} (g : Ghosts S) (c : CampaignValue) (old : ServiceValue S) (command : Command) (new : ServiceValue S) : Type 0 where
   pub same : new ≡ record old { conn = new.conn; campaign = None }
   pub tables : HasCleanDisk (state g new.conn) → LeavesAfterFault (state g old.conn).faults (state g new.conn) (text_in g old.conn) c (step old.world c command).0
@@ -62,7 +62,7 @@ AreClosed [] (a ∷ rs) = ⊥
 AreClosed (c ∷ cs) [] = ⊥
 
 -- The answers from campaign `c` on are those of `step` up to the first fault, and Closed after it. Without a fault the tables end with the rows of the last campaign.
--- With one they stay at the campaign of the commands before it (`Stops`), and the fault has its cause. `faults` is how often the disk had failed before.
+-- With one they stay at the campaign of the commands before it (`LeavesAfterFault`), and the fault has its cause. `faults` is how often the disk had failed before.
 abbrev pub Follows : {S : Type 0} → Ghosts S → List ℕ → ℕ → WorldValue → CampaignValue → List Command → List Answer → ServiceValue S → Type 0
 Follows g text faults w c [] [] new = (new.campaign ≡ Some c) × HoldsCampaign g new.conn text c
 Follows g text faults w c (command ∷ cs) (Joined faction unit ∷ rs) new = ((step w c command).1 ≡ Joined faction unit) × Follows g text faults w (step w c command).0 cs rs new
@@ -92,7 +92,7 @@ pub record Headline {S : Type 0} (g : Ghosts S) (text : List ℕ) (w : WorldValu
   pub tables : HoldsCampaign g new.conn text (run_of w c commands).0
 
 -- A command ended in a fault that has its cause: the answers before it are those of `run_of`, and all later answers are Closed.
--- The tables stay at the campaign of the commands before it (`Stops`).
+-- The tables stay at the campaign of the commands before it (`LeavesAfterFault`).
 pub record Interrupted {S : Type 0} (g : Ghosts S) (text : List ℕ) (faults : ℕ) (w : WorldValue) (c : CampaignValue) (commands : List Command) (answers : List Answer) (new : ServiceValue S) : Type 0 where
   pub count : ℕ
   pub command : Command
