@@ -387,6 +387,18 @@ module _ (c : MarkedCampaign) (n item amount : ℕ) where
         | _ ↦ λ k free. refl
       ])
 
+  abbrev after_regions : FinMap nat_cmp Region → Marks → Type 0
+  after_regions regions marks = MarksChanges c (record { value = with_regions regions; marks = marks })
+
+  abbrev item_alone : Option Region → Marks
+  item_alone o = record c.marks { markets = marked_with c.marks.markets n o; stock_items = thing_marked c.marks.stock_items n item o }
+
+  abbrev all_of_region : Option Region → Marks
+  all_of_region o = record c.marks { markets = marked_with c.marks.markets n o; stocks = marked_with c.marks.stocks n o }
+
+  abbrev to_restock : Bool → Option Region
+  to_restock b = if b then None else get c.value.regions n
+
   pub marks-stock : (m : Marks) → MarksStock c n item amount m → MarksChanges c (record { value = with_stock c.value n item amount; marks = m })
   marks-stock m how = by_amount (stock_of c.value n item == amount) refl
     where
@@ -396,31 +408,19 @@ module _ (c : MarkedCampaign) (n item amount : ℕ) where
       was : (v : Region) → get c.value.regions n ≡ Some v → (stock_of c.value n item == amount) ≡ true → amount_of v.stocks item ≡ amount
       was v is same = sym (ap (in_stock item) is) ∙ equal (stock_of c.value n item) amount same
 
-      abbrev after : FinMap nat_cmp Region → Marks → Type 0
-      after regions marks = MarksChanges c (record { value = with_regions regions; marks = marks })
-
-      abbrev alone : Option Region → Marks
-      alone o = record c.marks { markets = marked_with c.marks.markets n o; stock_items = thing_marked c.marks.stock_items n item o }
-
-      abbrev all : Option Region → Marks
-      all o = record c.marks { markets = marked_with c.marks.markets n o; stocks = marked_with c.marks.stocks n o }
-
-      abbrev to_restock : Bool → Option Region
-      to_restock b = if b then None else get c.value.regions n
-
-      either : (b : Bool) → (stock_of c.value n item == amount) ≡ b → after (changed stocked c.value.regions n) (alone (to_restock b)) × after (changed stocked c.value.regions n) (all (to_restock b))
+      either : (b : Bool) → (stock_of c.value n item == amount) ≡ b → after_regions (changed stocked c.value.regions n) (item_alone (to_restock b)) × after_regions (changed stocked c.value.regions n) (all_of_region (to_restock b))
       either true same =
-          let still = changed_there (λ regions o. after regions c.marks) stocked c.value.regions n (marks-refl c) (λ v is. stock_stays v is (was v is same)) in
+          let still = changed_there (λ regions o. after_regions regions c.marks) stocked c.value.regions n (marks-refl c) (λ v is. stock_stays v is (was v is same)) in
           (still, still)
       either false other = (
-        changed_there (λ regions o. after regions (alone o)) stocked c.value.regions n (marks-refl c) item_changes,
-        changed_there (λ regions o. after regions (all o)) stocked c.value.regions n (marks-refl c) stocks_change,
+        changed_there (λ regions o. after_regions regions (item_alone o)) stocked c.value.regions n (marks-refl c) item_changes,
+        changed_there (λ regions o. after_regions regions (all_of_region o)) stocked c.value.regions n (marks-refl c) stocks_change,
       )
 
-      by_amount : (b : Bool) → (stock_of c.value n item == amount) ≡ b → after (changed stocked c.value.regions n) m
+      by_amount : (b : Bool) → (stock_of c.value n item == amount) ≡ b → after_regions (changed stocked c.value.regions n) m
       by_amount b is = elim how [
-        | inl e ↦ subst (after (changed stocked c.value.regions n)) (sym (e ∙ ap (λ k. alone (to_restock k)) is)) (either b is).0
-        | inr e ↦ subst (after (changed stocked c.value.regions n)) (sym (e ∙ ap (λ k. all (to_restock k)) is)) (either b is).1
+        | inl e ↦ subst (after_regions (changed stocked c.value.regions n)) (sym (e ∙ ap (λ k. item_alone (to_restock k)) is)) (either b is).0
+        | inr e ↦ subst (after_regions (changed stocked c.value.regions n)) (sym (e ∙ ap (λ k. all_of_region (to_restock k)) is)) (either b is).1
       ]
 
 -- units that are as they were but for one number, which is marked with its goods

@@ -172,11 +172,12 @@ impl Regions {
             Some(_) => {}
             None => return,
         }
-        match self.items.insert_under(alloc, number, item, ()) {
-            Ok(()) => {}
-            Err(_) => self.stocks.mark_present(&self.values, number),
-        }
         self.markets.mark_present(&self.values, number);
+        match self.items.insert_under(alloc, number, item, ()) {
+            Ok(()) => return,
+            Err(_) => {}
+        }
+        self.stocks.mark_present(&self.values, number);
     }
 
     /// Marks one stock of a region, if it has another amount of the item than this, or all of them where there is no memory for

@@ -36,16 +36,25 @@ abbrev pub of_kind : ThingKind → (ℕ → ℕ → Bool) → Row → Bool
 of_kind sort is_so (Int (pos unit) ∷ Int (pos number) ∷ Int (pos thing) ∷ row) = number == sort_number sort && is_so unit thing
 of_kind sort is_so row = false
 
+-- whether this is so of the region and the item of a row of the table of stocks
+abbrev pub of_stock : (ℕ → ℕ → Bool) → Row → Bool
+of_stock is_so (Int (pos region) ∷ Int (pos item) ∷ row) = is_so region item
+of_stock is_so row = false
+
 abbrev pub begins_marked : FinSet nat_cmp → Row → Bool
 begins_marked marks r = begins (contains marks) r
 
--- whether a thing of a unit is one of these
+-- whether a thing of a unit, or an item of a region, is one of these
 abbrev pub has_thing : Things → ℕ → ℕ → Bool
 has_thing things unit thing = is_some (get (group_of things unit) thing)
 
 -- whether all that a row's unit has is marked, or the row's item or skill alone
 abbrev pub goods_marked : Marks → Row → Bool
 goods_marked marks r = begins_marked marks.goods r || of_kind Item (has_thing marks.items) r || of_kind Skill (has_thing marks.skills) r
+
+-- whether all stocks of a row's region are marked, or the row's alone
+abbrev pub stocks_marked : Marks → Row → Bool
+stocks_marked marks r = begins_marked marks.stocks r || of_stock (has_thing marks.stock_items) r
 
 -- whether the amount of an entry, of which there are so many, and a thing is marked
 abbrev pub is_marked_amount : FinSet nat_cmp → ℕ → ℕ → Bool
@@ -86,7 +95,7 @@ is_marked marks Structures = begins_marked marks.structures
 is_marked marks Mail = begins_marked marks.mail
 is_marked marks Reports = begins_marked marks.reports
 is_marked marks Books = amount_marked marks.books
-is_marked marks Markets = begins_marked marks.stocks
+is_marked marks Markets = stocks_marked marks
 
 -- Tables whose own row of a campaign said this, with this world text, have what is marked written.
 pub record WritesMarked (c : MarkedCampaign) (before : CampaignRowValue) (text : List ℕ) (old new : Database) : Type 0 where

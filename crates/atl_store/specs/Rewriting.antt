@@ -1,5 +1,5 @@
 -- For proofs and for private functions: what the steps of writing a campaign's changes do.
-use Rattle.std.specs.Prelude.{◌≡◌, ◌+◌, ◌*◌, ◌&&◌, ℕ, Bool, List, [], ◌∷◌, is_some}
+use Rattle.std.specs.Prelude.{◌≡◌, ◌+◌, ◌*◌, ◌&&◌, ◌||◌, ℕ, Bool, false, List, [], ◌∷◌, is_some}
 use Rattle.std.specs.List.{list_any}
 use Rattle.std.specs.Ordering.{nat_cmp, eq_by_cmp}
 use Rattle.std.specs.FinSet.{FinSet, contains}
@@ -15,10 +15,10 @@ use Rattle.atl_store.specs.declared.rows.has.ThingKind.{ThingKind}
 use Rattle.atl_store.specs.declared.rows.has.ThingKind.TheVariants.{Item, Skill}
 use Rattle.atl_store.specs.Sets.{Set, Is, rows_in}
 use Rattle.atl_store.specs.Inside.{Alters, Changes}
-use Rattle.atl_store.specs.Tables.{Part, campaign_table, has_table, books_table}
+use Rattle.atl_store.specs.Tables.{Part, campaign_table, has_table, books_table, market_table}
 use Rattle.atl_store.specs.Shown.{CampaignRowValue, campaign_row}
-use Rattle.atl_store.specs.Rows.{RowsOf, HasRowsOf, BooksRowsOf, rows_for}
-use Rattle.atl_store.specs.Changing.{begins, accounts, of_kind, begins_marked, goods_marked, amount_marked, is_marked, rows_after_rewrite, own_after}
+use Rattle.atl_store.specs.Rows.{RowsOf, HasRowsOf, BooksRowsOf, MarketRowsOf, rows_for}
+use Rattle.atl_store.specs.Changing.{begins, accounts, of_kind, of_stock, begins_marked, goods_marked, stocks_marked, amount_marked, is_marked, rows_after_rewrite, own_after}
 
 -- the table's rows with a chosen key are those that are wanted, its others are as they were, and so is every other table
 abbrev pub Rewrites : Table → (Row → Bool) → Set → Database → Database → Type 0
@@ -36,12 +36,17 @@ is_among ns k = list_any (eq_by_cmp nat_cmp k) ns
 abbrev pub of_amounts : FinSet nat_cmp → (ℕ → Bool) → (ℕ → Bool) → Row → Bool
 of_amounts marks entries things r = accounts (λ entry thing. entries entry && (things thing && contains marks (entry_count * thing + entry))) r
 
--- whether a thing of a unit is this one, and whether it is one of these of this unit
-abbrev pub is_thing : (unit thing : ℕ) → ℕ → ℕ → Bool
-is_thing unit thing n t = is_number unit n && is_number thing t
+-- whether a thing of a unit, or an item of a region, is this one, and whether it is one of these of this unit or region
+abbrev pub is_thing : (owner thing : ℕ) → ℕ → ℕ → Bool
+is_thing owner thing n t = is_number owner n && is_number thing t
 
-abbrev pub is_of : {V : Type 0} → (unit : ℕ) → FinMap nat_cmp V → ℕ → ℕ → Bool
-is_of unit things n t = is_number unit n && is_some (get things t)
+abbrev pub is_of : {V : Type 0} → (owner : ℕ) → FinMap nat_cmp V → ℕ → ℕ → Bool
+is_of owner things n t = is_number owner n && is_some (get things t)
+
+-- A test of rows by two of their numbers finds by one of two what it finds by either, and nothing by none.
+pub record FindsByNumbers (finds : (ℕ → ℕ → Bool) → Row → Bool) : Type 0 where
+  pub either : (f g : ℕ → ℕ → Bool) (r : Row) → finds (λ n t. f n t || g n t) r ≡ (finds f r || finds g r)
+  pub none : (r : Row) → finds (λ n t. false) r ≡ false
 
 -- the one row that has this number, or none
 abbrev pub RewritesNumber : {V : Type 0} → Table → (ℕ → V → Row) → FinMap nat_cmp V → ℕ → Database → Database → Type 0
@@ -58,6 +63,14 @@ RewritesGroup table Wanted n old new = Rewrites table (begins (is_number n)) Wan
 -- the rows that belong to all that is marked
 abbrev pub RewritesGroups : Table → Set → FinSet nat_cmp → Database → Database → Type 0
 RewritesGroups table Wanted marks old new = Rewrites table (begins_marked marks) Wanted old new
+
+-- the rows of the stocks of these regions and items
+abbrev pub RewritesStock : CampaignValue → (ℕ → ℕ → Bool) → Database → Database → Type 0
+RewritesStock c stocks old new = Rewrites market_table (of_stock stocks) (MarketRowsOf c.regions) old new
+
+-- the rows of all stocks that are marked
+abbrev pub RewritesStocks : MarkedCampaign → Database → Database → Type 0
+RewritesStocks c old new = Rewrites market_table (stocks_marked c.marks) (MarketRowsOf c.value.regions) old new
 
 -- the rows of these things of a sort
 abbrev pub RewritesThings : CampaignValue → ThingKind → (ℕ → ℕ → Bool) → Database → Database → Type 0

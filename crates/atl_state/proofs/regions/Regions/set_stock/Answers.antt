@@ -1,4 +1,4 @@
-use Rattle.std.proofs.Common.{◌⊎◌, ap, ◌∙◌, inl, inr}
+use Rattle.std.proofs.Common.{ap, ◌∙◌, inl, inr}
 use Rattle.atl_state.specs.Regions.{MarkedRegions}
 use Rattle.atl_state.proofs.regions.Regions.set_stock.Goals as goal
 
