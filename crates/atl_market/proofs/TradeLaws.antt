@@ -28,7 +28,7 @@ use Rattle.atl_state.specs.Good.{IsEarly}
 use Rattle.atl_records.specs.Holdings.{HoldingValue, IsHolding, amount_of, with_amount_of}
 use Rattle.atl_state.specs.Lending.{with_held, with_holding}
 use Rattle.atl_records.specs.Limits.{holding_limit, most_units}
-use Rattle.atl_state.specs.Marking.{mark_stock}
+use Rattle.atl_state.specs.Marking.{MarksStock}
 use Rattle.atl_state.specs.Stocks.{stock_limit, stock_of}
 use Rattle.atl_state.specs.Campaign.{MarkedCampaign, CampaignValue, region_changed, with_amount, with_stock}
 use Rattle.atl_state.proofs.BackLaws.{entries_rise}
@@ -536,8 +536,8 @@ module _ (c d e : MarkedCampaign) (n region item stock : ℕ) (f : HoldingValue 
   settled_books = ap (λ (s : CampaignValue). s.books) put ∙ ap (λ (s : CampaignValue). s.books) set.value
 
   -- setting a unit's goods and then a stock sets the dirty flags of all that changes
-  pub settled_marks : e.marks ≡ mark_stock d region item stock → MarksChanges c e
-  settled_marks put_marks = marks-trans c d e set.marks (marks_by d e _ put put_marks (marks-stock d region item stock))
+  pub settled_marks : MarksStock d region item stock e.marks → MarksChanges c e
+  settled_marks how = marks-trans c d e set.marks (marks_by d e _ put refl (marks-stock d region item stock e.marks how))
 
   -- the campaign after a unit's goods and a stock were set
   pub settled_what : (u : Unit) → get c.value.units n ≡ Some u → e.value ≡ with_stock (with_holding c.value n (f u.holding)) region item stock

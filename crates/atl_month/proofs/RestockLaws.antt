@@ -27,7 +27,7 @@ use Rattle.atl_records.specs.Every.{EachOf, IsThere}
 use Rattle.atl_state.specs.Founding.{things_of}
 use Rattle.atl_state.specs.Good.{IsSteady}
 use Rattle.atl_records.specs.Holdings.{amount_of}
-use Rattle.atl_state.specs.Marking.{mark_amount, mark_stock}
+use Rattle.atl_state.specs.Marking.{MarksStock, mark_amount}
 use Rattle.atl_state.specs.Stocks.{stock_limit, stock_of}
 use Rattle.atl_state.specs.Totals.{Balances, total}
 use Rattle.atl_records.proofs.AccountLaws.{at_place}
@@ -308,8 +308,8 @@ pub room_behind_market : (w : WorldValue) (n : ℕ) → IsThere w.regions n → 
 room_behind_market w n there x xs c of steady room = room_behind (moves_only most_amount Stocked (Item x.0)) (stocking xs) w c (after_market_restock n c x) (one_leaves_well w n there c x of steady) room
 
 -- setting a stock and booking the new goods sets the dirty flags of all that changes
-pub market_marks : (stock more n i : ℕ) (c d e : MarkedCampaign) → d.value ≡ with_stock c.value n i (stock + more) → d.marks ≡ mark_stock c n i (stock + more)
+pub market_marks : (stock more n i : ℕ) (c d e : MarkedCampaign) → d.value ≡ with_stock c.value n i (stock + more) → MarksStock c n i (stock + more) d.marks
     → e.value ≡ with_amount d.value Stocked (Item i) (pos more) → e.marks ≡ mark_amount d Stocked (Item i) → MarksChanges c e
 market_marks stock more n i c d e d_is d_marks e_is e_marks =
-    marks-trans c d e (marks_by c d _ d_is d_marks (marks-stock c n i (stock + more)))
+    marks-trans c d e (marks_by c d _ d_is refl (marks-stock c n i (stock + more) d.marks d_marks))
     (marks_by d e _ e_is e_marks (marks-amount d Stocked (Item i) (pos more)))

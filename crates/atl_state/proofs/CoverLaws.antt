@@ -1,5 +1,5 @@
 -- Laws of dirty flags: they cover what changes, over one change after another and part by part.
-use Rattle.std.proofs.Common.{◌≡◌, ◌≢◌, ◌==◌, ◌||◌, ℕ, Bool, true, false, if◌then◌else◌, Option, Some, None, refl, sym, ap, ◌∙◌, arith, true≢false}
+use Rattle.std.proofs.Common.{◌≡◌, ◌≢◌, ◌==◌, ◌||◌, ℕ, Bool, true, false, if◌then◌else◌, Option, Some, None, refl, sym, ap, ◌∙◌, subst, inl, inr, arith, true≢false}
 use Rattle.std.specs.Prelude.{ℤ, List, cond, is_some, option_map, unwrap_or}
 use Rattle.std.proofs.lemmas.Bool.Decides.{nat_tests}
 use Rattle.std.specs.Cmp.{nat_cmp_total, unsigned_ties}
@@ -21,12 +21,12 @@ use Rattle.atl_records.specs.declared.records.Unit.{Unit}
 use Rattle.atl_records.specs.Books.{amount_in, amount_number}
 use Rattle.atl_records.specs.Holdings.{amount_of, with_amount_of}
 use Rattle.atl_state.specs.Covers.{Covers, ThingsStayMarked, StaysMarked, StayMarked, MarksChanges, bare, days_under, items_under, own_row, unstocked}
-use Rattle.atl_state.specs.Marking.{mark_amount, mark_faction, mark_region, mark_stock, mark_unit_added}
-use Rattle.atl_state.specs.Marks.{Marks, Things, is_thing_marked, with_thing}
+use Rattle.atl_state.specs.Marking.{MarksStock, mark_amount, mark_faction, mark_region, mark_unit_added}
+use Rattle.atl_state.specs.Marks.{Marks, Things, is_thing_marked, thing_marked, with_thing}
 use Rattle.atl_state.specs.Stocks.{stock_of}
 use Rattle.atl_state.specs.Campaign.{CampaignValue, MarkedCampaign, faction_changed, region_changed, with_amount, with_stock}
 use Rattle.atl_records.proofs.EveryLaws.{get-insert_other}
-use Rattle.atl_records.proofs.HoldingLaws.{set_amount}
+use Rattle.atl_records.proofs.HoldingLaws.{set_amount, set_other}
 use Rattle.atl_state.proofs.RegionLaws.{amount-other}
 
 -- what is not marked after, where marks stay, was not marked before
@@ -43,7 +43,8 @@ pub stay-trans : {a b c : Marks} → StayMarked a b → StayMarked b c → StayM
 stay-trans one two = record {
   factions = λ n h. two.factions n (one.factions n h);
   regions = λ n h. two.regions n (one.regions n h);
-  stocks = λ n h. two.stocks n (one.stocks n h);
+  markets = λ n h. two.markets n (one.markets n h);
+  stocks = λ n t h. two.stocks n t (one.stocks n t h);
   structures = λ n h. two.structures n (one.structures n h);
   mail = λ n h. two.mail n (one.mail n h);
   reports = λ n h. two.reports n (one.reports n h);
@@ -61,7 +62,7 @@ pub covers-trans : {m n : Marks} (a b c : CampaignValue) → StayMarked m n → 
 covers-trans {m} {n} a b c stay one two = record {
   factions = λ k free. two.factions k free ∙ one.factions k (was_unmarked m.factions n.factions stay.factions k free);
   regions = λ k free. two.regions k free ∙ one.regions k (was_unmarked m.regions n.regions stay.regions k free);
-  stocks = λ k item free. two.stocks k item free ∙ one.stocks k item (was_unmarked m.stocks n.stocks stay.stocks k free);
+  stocks = λ k t free. two.stocks k t free ∙ one.stocks k t (without_marks (is_thing_marked m.stocks m.stock_items k t) (is_thing_marked n.stocks n.stock_items k t) (stay.stocks k t) free);
   structures = λ k free. two.structures k free ∙ one.structures k (was_unmarked m.structures n.structures stay.structures k free);
   mail = λ k free. two.mail k free ∙ one.mail k (was_unmarked m.mail n.mail stay.mail k free);
   reports = λ k free. two.reports k free ∙ one.reports k (was_unmarked m.reports n.reports stay.reports k free);
@@ -156,6 +157,7 @@ module _ (goods : FinSet nat_cmp) (things : Things) (n thing : ℕ) where
 pub data Part : Type 0 where
   Factions : Part
   Regions : Part
+  Markets : Part
   Stocks : Part
   Structures : Part
   Mail : Part
@@ -168,8 +170,9 @@ pub data Part : Type 0 where
   Books : Part
   Row : Part
 
--- what a dirty set of a part holds: numbers, of items and skills the unit's number and their own
+-- what a dirty set of a part holds: numbers; of stocks the region's number and the item's, of items and skills the unit's and their own
 abbrev pub Mark : Part → Type 0
+Mark Stocks = ℕ × ℕ
 Mark Items = ℕ × ℕ
 Mark Skills = ℕ × ℕ
 Mark Row = Prim.Unit {0}
@@ -179,7 +182,8 @@ Mark _ = ℕ
 abbrev pub is_marked : (p : Part) → Marks → Mark p → Bool
 is_marked Factions m k = contains m.factions k
 is_marked Regions m k = contains m.regions k
-is_marked Stocks m k = contains m.stocks k
+is_marked Markets m k = contains m.markets k
+is_marked Stocks m k = is_thing_marked m.stocks m.stock_items k.0 k.1
 is_marked Structures m k = contains m.structures k
 is_marked Mail m k = contains m.mail k
 is_marked Reports m k = contains m.reports k
@@ -202,14 +206,14 @@ IndexEntry _ = ℕ
 
 -- the mark that covers a value: of a stock its region's number, of an amount its own
 abbrev pub mark_at : (p : Part) → IndexEntry p → Mark p
-mark_at Stocks k = k.0
 mark_at Books k = amount_number k.0 k.1
 mark_at _ k = k
 
--- the type of a part's values that its marks cover; nothing for Units and Goods, which other parts cover
+-- the type of a part's values that its marks cover; nothing for Units, Goods and Markets, which other parts cover
 abbrev pub Shown : Part → Type 0
 Shown Factions = Option Faction
 Shown Regions = Option Region
+Shown Markets = Prim.Unit {0}
 Shown Stocks = ℕ
 Shown Structures = Option Structure
 Shown Mail = Option (List ℕ)
@@ -226,6 +230,7 @@ Shown Row = ℕ × (List ℕ × (ℕ × (ℕ × ℕ)))
 abbrev pub shown : (p : Part) → CampaignValue → IndexEntry p → Shown p
 shown Factions c k = get c.factions k
 shown Regions c k = option_map unstocked (get c.regions k)
+shown Markets c k = tt
 shown Stocks c k = stock_of c k.0 k.1
 shown Structures c k = get c.structures k
 shown Mail c k = get c.mail k
@@ -252,7 +257,8 @@ part_by_part a b stays tells = record {
   stay = record {
     factions = stays Factions;
     regions = stays Regions;
-    stocks = stays Stocks;
+    markets = stays Markets;
+    stocks = λ n t. stays Stocks (n, t);
     structures = stays Structures;
     mail = stays Mail;
     reports = stays Reports;
@@ -328,19 +334,27 @@ marks-region f same c n =
       | _ ↦ λ k free. refl
     ]))
 
--- the stock of an item that is set in a region, whose stocks are marked if it was another amount
+-- the stock of an item that is set in a region and, if it was another amount, is marked alone or with all stocks of the region
 module _ (c : MarkedCampaign) (n item amount : ℕ) where
   -- the region with the stock of the item set
   abbrev stocked : Region → Region
   stocked r = record r { stocks = with_amount_of r.stocks item amount }
 
-  -- the campaign with these regions, and the region's stocks marked unless the stock was the same
-  abbrev after_stock : (was_same : Bool) → FinMap nat_cmp Region → Option Region → MarkedCampaign
-  after_stock was_same m o = record { value = record c.value { regions = m }; marks = record c.marks { stocks = if was_same then c.marks.stocks else marked_with c.marks.stocks n o } }
+  -- the campaign with these regions
+  abbrev with_regions : FinMap nat_cmp Region → CampaignValue
+  with_regions m = record c.value { regions = m }
 
   -- the campaign with the stock set in a region that is there
-  abbrev there_after : Bool → Region → MarkedCampaign
-  there_after was_same v = after_stock was_same (map.insert c.value.regions n (stocked v)) (Some v)
+  abbrev there_after : Region → CampaignValue
+  there_after v = with_regions (map.insert c.value.regions n (stocked v))
+
+  -- of a region whose stock is set all but its stocks is the same
+  unstocked_stays : (v : Region) → get c.value.regions n ≡ Some v → (k : ℕ) → option_map unstocked (get (there_after v).regions k) ≡ option_map unstocked (get c.value.regions k)
+  unstocked_stays v is k = shown_still (option_map unstocked) c.value.regions n k v (stocked v) is (λ _. refl)
+
+  -- a stock of another item, or of another region, is the same
+  other_stays : (v : Region) → get c.value.regions n ≡ Some v → (k i : ℕ) → (k ≡ n → i ≢ item) → stock_of (there_after v) k i ≡ stock_of c.value k i
+  other_stays v is k i other = shown_still (in_stock i) c.value.regions n k v (stocked v) is (λ here. set_other v.stocks item amount i (other here))
 
   -- setting a stock to what it is changes no stock
   set_again : (stocks : FinMap nat_cmp ℕ) (i : ℕ) → amount_of stocks item ≡ amount → amount_of (with_amount_of stocks item amount) i ≡ amount_of stocks i
@@ -351,27 +365,69 @@ module _ (c : MarkedCampaign) (n item amount : ℕ) where
       by_item false e = refl
 
   -- setting a stock to what it is needs no mark
-  stock_stays : (v : Region) → get c.value.regions n ≡ Some v → amount_of v.stocks item ≡ amount → MarksChanges c (there_after true v)
-  stock_stays v is was = part_by_part c (there_after true v) (λ p k h. h)
-      (λ p. elim p as (Tells (there_after true v).marks c.value (there_after true v).value) [
-        | Regions ↦ λ k free. shown_still (option_map unstocked) c.value.regions n k v (stocked v) is (λ _. refl)
+  stock_stays : (v : Region) → get c.value.regions n ≡ Some v → amount_of v.stocks item ≡ amount → MarksChanges c (record c { value = there_after v })
+  stock_stays v is was =
+      let next : MarkedCampaign = record c { value = there_after v } in
+      part_by_part c next (λ p k h. h)
+      (λ p. elim p as (Tells next.marks c.value next.value) [
+        | Regions ↦ λ k free. unstocked_stays v is k
         | Stocks ↦ λ k free. shown_still (in_stock k.1) c.value.regions n k.0 v (stocked v) is (λ _. set_again v.stocks k.1 was)
         | _ ↦ λ k free. refl
       ])
 
-  -- setting a stock, with the mark of the region's stocks, satisfies MarksChanges
-  stock_changes : (v : Region) → get c.value.regions n ≡ Some v → MarksChanges c (there_after false v)
-  stock_changes v is = part_by_part c (there_after false v)
-      (λ p. elim p as (Stays c.marks (there_after false v).marks) [ Stocks ↦ put_stays c.marks.stocks n | _ ↦ λ k h. h ])
-      (λ p. elim p as (Tells (there_after false v).marks c.value (there_after false v).value) [
-        | Regions ↦ λ k free. shown_still (option_map unstocked) c.value.regions n k v (stocked v) is (λ _. refl)
-        | Stocks ↦ λ k free. ap (in_stock k.1) (get-insert_other c.value.regions n k.0 (stocked v) (apart_by c.marks.stocks n k.0 free))
+  -- setting a stock, with the mark of that stock alone, satisfies MarksChanges
+  item_changes : (v : Region) → get c.value.regions n ≡ Some v
+      → MarksChanges c (record { value = there_after v; marks = record c.marks { markets = insert c.marks.markets n; stock_items = with_thing c.marks.stock_items n item } })
+  item_changes v is =
+      let next : MarkedCampaign = record { value = there_after v; marks = record c.marks { markets = insert c.marks.markets n; stock_items = with_thing c.marks.stock_items n item } } in
+      part_by_part c next
+      (λ p. elim p as (Stays c.marks next.marks) [
+        | Markets ↦ put_stays c.marks.markets n
+        | Stocks ↦ λ k h. thing_stays c.marks.stocks c.marks.stock_items n item k.0 k.1 h
+        | _ ↦ λ k h. h
+      ])
+      (λ p. elim p as (Tells next.marks c.value next.value) [
+        | Regions ↦ λ k free. unstocked_stays v is k
+        | Stocks ↦ λ k free. other_stays v is k.0 k.1 (apart_by_thing c.marks.stocks c.marks.stock_items n item k.0 k.1 free)
         | _ ↦ λ k free. refl
       ])
 
+  -- setting a stock, with the mark of all stocks of its region, satisfies MarksChanges
+  stocks_change : (v : Region) → get c.value.regions n ≡ Some v
+      → MarksChanges c (record { value = there_after v; marks = record c.marks { markets = insert c.marks.markets n; stocks = insert c.marks.stocks n } })
+  stocks_change v is =
+      let next : MarkedCampaign = record { value = there_after v; marks = record c.marks { markets = insert c.marks.markets n; stocks = insert c.marks.stocks n } } in
+      part_by_part c next
+      (λ p. elim p as (Stays c.marks next.marks) [
+        | Markets ↦ put_stays c.marks.markets n
+        | Stocks ↦ λ k h. whole_stays c.marks.stocks c.marks.stock_items n k.0 k.1 h
+        | _ ↦ λ k h. h
+      ])
+      (λ p. elim p as (Tells next.marks c.value next.value) [
+        | Regions ↦ λ k free. unstocked_stays v is k
+        | Stocks ↦ λ k free. other_stays v is k.0 k.1 (λ here. absurd (apart_by_whole c.marks.stocks c.marks.stock_items n k.0 k.1 free here))
+        | _ ↦ λ k free. refl
+      ])
+
+  -- that the campaign with these regions and marks has each change marked
+  abbrev after_regions : FinMap nat_cmp Region → Marks → Type 0
+  after_regions regions marks = MarksChanges c (record { value = with_regions regions; marks = marks })
+
+  -- the marks with that of the stock alone, if there is a region
+  abbrev item_alone : Option Region → Marks
+  item_alone o = record c.marks { markets = marked_with c.marks.markets n o; stock_items = thing_marked c.marks.stock_items n item o }
+
+  -- the marks with that of all stocks of the region, if there is one
+  abbrev all_of_region : Option Region → Marks
+  all_of_region o = record c.marks { markets = marked_with c.marks.markets n o; stocks = marked_with c.marks.stocks n o }
+
+  -- the region to mark, which is none if the stock is the same
+  abbrev to_restock : Bool → Option Region
+  to_restock b = if b then None else get c.value.regions n
+
   -- setting a stock, with its mark, satisfies MarksChanges
-  pub marks-stock : MarksChanges c (record { value = with_stock c.value n item amount; marks = mark_stock c n item amount })
-  marks-stock = by_amount (stock_of c.value n item == amount) refl
+  pub marks-stock : (m : Marks) → MarksStock c n item amount m → MarksChanges c (record { value = with_stock c.value n item amount; marks = m })
+  marks-stock m how = by_amount (stock_of c.value n item == amount) refl
     where
       equal : (a b : ℕ) → (a == b) ≡ true → a ≡ b
       equal a b same = grind (arith, nat_tests)
@@ -379,9 +435,20 @@ module _ (c : MarkedCampaign) (n item amount : ℕ) where
       was : (v : Region) → get c.value.regions n ≡ Some v → (stock_of c.value n item == amount) ≡ true → amount_of v.stocks item ≡ amount
       was v is same = sym (ap (in_stock item) is) ∙ equal (stock_of c.value n item) amount same
 
-      by_amount : (b : Bool) → (stock_of c.value n item == amount) ≡ b → MarksChanges c (after_stock b (changed stocked c.value.regions n) (get c.value.regions n))
-      by_amount true same = changed_there (λ m o. MarksChanges c (after_stock true m o)) stocked c.value.regions n (marks-refl c) (λ v is. stock_stays v is (was v is same))
-      by_amount false other = changed_there (λ m o. MarksChanges c (after_stock false m o)) stocked c.value.regions n (marks-refl c) stock_changes
+      either : (b : Bool) → (stock_of c.value n item == amount) ≡ b → after_regions (changed stocked c.value.regions n) (item_alone (to_restock b)) × after_regions (changed stocked c.value.regions n) (all_of_region (to_restock b))
+      either true same =
+          let still = changed_there (λ regions o. after_regions regions c.marks) stocked c.value.regions n (marks-refl c) (λ v is. stock_stays v is (was v is same)) in
+          (still, still)
+      either false other = (
+        changed_there (λ regions o. after_regions regions (item_alone o)) stocked c.value.regions n (marks-refl c) item_changes,
+        changed_there (λ regions o. after_regions regions (all_of_region o)) stocked c.value.regions n (marks-refl c) stocks_change,
+      )
+
+      by_amount : (b : Bool) → (stock_of c.value n item == amount) ≡ b → after_regions (changed stocked c.value.regions n) m
+      by_amount b is = elim how [
+        | inl e ↦ subst (after_regions (changed stocked c.value.regions n)) (sym (e ∙ ap (λ k. item_alone (to_restock k)) is)) (either b is).0
+        | inr e ↦ subst (after_regions (changed stocked c.value.regions n)) (sym (e ∙ ap (λ k. all_of_region (to_restock k)) is)) (either b is).1
+      ]
 
 -- a change of unit n alone, with the marks of its row and goods, satisfies MarksChanges
 pub marks-unit : (c : MarkedCampaign) (units : FinMap nat_cmp Unit) (n : ℕ) → ((k : ℕ) → k ≢ n → get units k ≡ get c.value.units k)

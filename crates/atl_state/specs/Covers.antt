@@ -45,8 +45,8 @@ pub record Covers (m : Marks) (before after : CampaignValue) : Type 0 where
   pub factions : SameBut m.factions before.factions after.factions
   -- Of a region whose row is not marked all but its stocks is the same, and there is none where there was none.
   pub regions : (n : ℕ) → contains m.regions n ≡ false → option_map unstocked (get after.regions n) ≡ option_map unstocked (get before.regions n)
-  -- Where the stocks of a region are not marked each of them is the same.
-  pub stocks : (n item : ℕ) → contains m.stocks n ≡ false → stock_of after n item ≡ stock_of before n item
+  -- A stock that is not marked is the same.
+  pub stocks : (n item : ℕ) → is_thing_marked m.stocks m.stock_items n item ≡ false → stock_of after n item ≡ stock_of before n item
   pub structures : SameBut m.structures before.structures after.structures
   pub mail : SameBut m.mail before.mail after.mail
   pub reports : SameBut m.reports before.reports after.reports
@@ -61,14 +61,15 @@ pub record Covers (m : Marks) (before after : CampaignValue) : Type 0 where
 abbrev pub StaysMarked : FinSet nat_cmp → FinSet nat_cmp → Type 0
 StaysMarked before after = (n : ℕ) → contains before n ≡ true → contains after n ≡ true
 
--- likewise of things, whether alone or with all goods of their unit
+-- likewise of things, whether alone or with all that their unit or region has
 abbrev pub ThingsStayMarked : (goods : FinSet nat_cmp) (things : Things) (goods_after : FinSet nat_cmp) (things_after : Things) → Type 0
 ThingsStayMarked goods things goods_after things_after = (n thing : ℕ) → is_thing_marked goods things n thing ≡ true → is_thing_marked goods_after things_after n thing ≡ true
 
 pub record StayMarked (before after : Marks) : Type 0 where
   pub factions : StaysMarked before.factions after.factions
   pub regions : StaysMarked before.regions after.regions
-  pub stocks : StaysMarked before.stocks after.stocks
+  pub markets : StaysMarked before.markets after.markets
+  pub stocks : ThingsStayMarked before.stocks before.stock_items after.stocks after.stock_items
   pub structures : StaysMarked before.structures after.structures
   pub mail : StaysMarked before.mail after.mail
   pub reports : StaysMarked before.reports after.reports

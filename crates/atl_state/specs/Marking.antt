@@ -1,5 +1,5 @@
 -- What is marked, as rows to be written, after each change of a campaign.
-use Rattle.std.specs.Prelude.{◌==◌, ℕ, true, Option, Some, None, if◌then◌else◌}
+use Rattle.std.specs.Prelude.{◌≡◌, ◌⊎◌, ◌==◌, ℕ, true, Option, Some, None, if◌then◌else◌}
 use Rattle.std.specs.FinMap.{get, remove, keys}
 use Rattle.std.specs.FinSet.{insert, union, from_list}
 use Rattle.atl_tables.specs.Tracking.{marked_with}
@@ -11,7 +11,7 @@ use Rattle.atl_records.specs.declared.records.Unit.{Unit}
 use Rattle.atl_state.specs.Marks.{Marks, amount_marked, thing_marked}
 use Rattle.atl_state.specs.Owners.{heir, is_owned_by, placed}
 use Rattle.atl_state.specs.Campaign.{MarkedCampaign, with_owner}
-use Rattle.atl_state.specs.Stocks.{stock_of}
+use Rattle.atl_state.specs.Regions.{region_to_restock}
 
 -- the marks with unit n, its row and all its goods marked too, where the unit u is there
 abbrev pub whole_marked : Marks → ℕ → Option Unit → Marks
@@ -57,9 +57,21 @@ mark_faction c n = record c.marks { factions = marked_with c.marks.factions n (g
 abbrev pub mark_region : MarkedCampaign → ℕ → Marks
 mark_region c n = record c.marks { regions = marked_with c.marks.regions n (get c.value.regions n) }
 
--- the marks after a stock of region n was set: its stocks, where that stock was another amount
+-- a stock, and no other of its region, where it becomes another amount
 abbrev pub mark_stock : MarkedCampaign → (region item : ℕ) → ℕ → Marks
-mark_stock c n item amount = record c.marks { stocks = if stock_of c.value n item == amount then c.marks.stocks else marked_with c.marks.stocks n (get c.value.regions n) }
+mark_stock c n item amount =
+    let region = region_to_restock c.value.regions n item amount in
+    record c.marks { markets = marked_with c.marks.markets n region; stock_items = thing_marked c.marks.stock_items n item region }
+
+-- all stocks of a region, where this one becomes another amount
+abbrev pub mark_all_stocks : MarkedCampaign → (region item : ℕ) → ℕ → Marks
+mark_all_stocks c n item amount =
+    let region = region_to_restock c.value.regions n item amount in
+    record c.marks { markets = marked_with c.marks.markets n region; stocks = marked_with c.marks.stocks n region }
+
+-- what setting a stock marks: it alone or, where there is no memory for that mark, all stocks of its region
+abbrev pub MarksStock : MarkedCampaign → (region item : ℕ) → ℕ → Marks → Type 0
+MarksStock c n item amount m = (m ≡ mark_stock c n item amount) ⊎ (m ≡ mark_all_stocks c n item amount)
 
 -- the marks after structure n changed, where it is there
 abbrev pub mark_structure : MarkedCampaign → ℕ → Marks

@@ -1,5 +1,5 @@
--- What a campaign sees of its regions: by their numbers, with the regions whose rows are marked, and those whose stocks are.
-use Rattle.std.specs.Prelude.{◌==◌, ℕ, refl, if◌then◌else◌}
+-- What a campaign sees of its regions: by their numbers, with the regions whose rows are marked, and with marks on their stocks.
+use Rattle.std.specs.Prelude.{◌≡◌, ◌⊎◌, ◌==◌, ℕ, Option, None, refl, if◌then◌else◌}
 use Rattle.std.specs.Ordering.{nat_cmp}
 use Rattle.std.specs.Coded.{Coded, code_by, coded×, coded_ℕ}
 use Rattle.std.specs.FinMap as map
@@ -10,25 +10,29 @@ use Rattle.atl_tables.specs.Tracking.{marked_with}
 use Rattle.atl_records.specs.Holdings.{with_amount_of}
 use Rattle.atl_records.specs.declared.records.Region.{Region}
 use Rattle.atl_records.specs.contracts.records.Region as region
+use Rattle.atl_state.specs.Marks.{AreStocksWithin, Things, thing_marked, things_code}
 use Rattle.atl_state.specs.Stocks.{stock_in}
 
+-- The regions; those whose rows are marked; those of which a stock is, all of whose stocks are, and single stocks by region and item.
 pub record MarkedRegions : Type 0 where
   pub values : map.FinMap nat_cmp Region
   pub rows : set.FinSet nat_cmp
+  pub markets : set.FinSet nat_cmp
   pub stocks : set.FinSet nat_cmp
+  pub items : Things
 
 abbrev pub regions_code : Coded MarkedRegions
 regions_code =
     let numbers = set.code coded_ℕ in
-    code_by (map.FinMap nat_cmp Region × (set.FinSet nat_cmp × set.FinSet nat_cmp))
-    (coded× (map.code coded_ℕ region.the_row.coded) (coded× numbers numbers))
-    (λ r. (r.values, (r.rows, r.stocks)))
-    (λ p. record { values = p.0; rows = p.1.0; stocks = p.1.1 })
+    code_by (map.FinMap nat_cmp Region × (set.FinSet nat_cmp × (set.FinSet nat_cmp × (set.FinSet nat_cmp × Things))))
+    (coded× (map.code coded_ℕ region.the_row.coded) (coded× numbers (coded× numbers (coded× numbers things_code))))
+    (λ r. (r.values, (r.rows, (r.markets, (r.stocks, r.items)))))
+    (λ p. record { values = p.0; rows = p.1.0; markets = p.1.1.0; stocks = p.1.1.1.0; items = p.1.1.1.1 })
     (λ _. refl)
 
 -- regions of which nothing is marked
 abbrev pub unmarked_regions : map.FinMap nat_cmp Region → MarkedRegions
-unmarked_regions values = record { values = values; rows = set.empty; stocks = set.empty }
+unmarked_regions values = record { values = values; rows = set.empty; markets = set.empty; stocks = set.empty; items = map.empty }
 
 -- a region whose row changed, and none of its stocks
 abbrev pub with_region_row : (Region → Region) → MarkedRegions → ℕ → MarkedRegions
@@ -38,11 +42,30 @@ with_region_row f r n = record r { values = changed f r.values n; rows = marked_
 abbrev pub with_stock_at : map.FinMap nat_cmp Region → (region item : ℕ) → ℕ → map.FinMap nat_cmp Region
 with_stock_at values n item amount = changed (λ r. record r { stocks = with_amount_of r.stocks item amount }) values n
 
--- the regions whose stocks are marked once a stock was set: that region too, if it had another amount
-abbrev pub stock_marked : MarkedRegions → (region item : ℕ) → ℕ → set.FinSet nat_cmp
-stock_marked r n item amount = if stock_in r.values n item == amount then r.stocks else marked_with r.stocks n (map.get r.values n)
+-- the region under a number, if it has another amount of an item than this
+abbrev pub region_to_restock : map.FinMap nat_cmp Region → (region item : ℕ) → ℕ → Option Region
+region_to_restock values n item amount = if stock_in values n item == amount then None else map.get values n
 
--- For proofs alone: there is room to mark each region's row, and its stocks.
-pub record AreRegions (regions : map.FinMap nat_cmp Region) (rows stocks : RoomySet) : Type 0 where
+-- the regions with the mark of one stock, if it is to become another amount
+abbrev pub with_stock_marked : MarkedRegions → (region item : ℕ) → ℕ → MarkedRegions
+with_stock_marked r n item amount =
+    let region = region_to_restock r.values n item amount in
+    record r { markets = marked_with r.markets n region; items = thing_marked r.items n item region }
+
+-- the regions with the mark of all stocks of a region, if this one is to become another amount
+abbrev pub with_stocks_marked : MarkedRegions → (region item : ℕ) → ℕ → MarkedRegions
+with_stocks_marked r n item amount =
+    let region = region_to_restock r.values n item amount in
+    record r { markets = marked_with r.markets n region; stocks = marked_with r.stocks n region }
+
+-- a stock that is to become another amount is marked, alone or with all stocks of its region, and nothing else is
+abbrev pub MarksStockAt : (before after : MarkedRegions) → (region item : ℕ) → ℕ → Type 0
+MarksStockAt before after n item amount =
+    (after ≡ record (with_stock_marked before n item amount) { values = after.values }) ⊎ (after ≡ record (with_stocks_marked before n item amount) { values = after.values })
+
+-- For proofs alone: there is room to mark each region's row and its stocks, and a marked stock has its region marked.
+pub record AreRegions (regions : map.FinMap nat_cmp Region) (rows markets stocks : RoomySet) (items : Things) : Type 0 where
+  pub within : AreStocksWithin markets.numbers stocks.numbers items
   pub rows_fit : HasRoom regions rows
+  pub markets_fit : HasRoom regions markets
   pub stocks_fit : HasRoom regions stocks

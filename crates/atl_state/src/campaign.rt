@@ -89,7 +89,9 @@ impl Model for Campaign {
       marks = record {
         factions = a.factions.marks;
         regions = a.regions.rows;
+        markets = a.regions.markets;
         stocks = a.regions.stocks;
+        stock_items = a.regions.items;
         units = a.units.marks;
         rows = a.units.rows;
         goods = a.units.goods;

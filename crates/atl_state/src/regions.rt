@@ -1,10 +1,11 @@
 //! The regions of a campaign.
-ghost use Rattle.std.specs.Prelude.{◌≡◌, ◌≤◌, ◌+◌, ◌*◌, IfOk, IsOk, OnOk, OnErr, option_copied};
+ghost use Rattle.std.specs.Prelude.{◌≡◌, ◌≤◌, ◌+◌, ◌*◌, ◌⊎◌, IfOk, IsOk, OnOk, OnErr, option_copied};
 ghost use Rattle.std.specs.FinMap as map;
 ghost use Rattle.std.specs.FinSet as set;
 ghost use Rattle.atl_tables.specs.Limits.{number_count};
 ghost use Rattle.atl_tables.specs.Tracking.{Lists, marked_with};
-ghost use Rattle.atl_state.specs.Regions.{unmarked_regions, with_region_row, with_stock_at, stock_marked};
+ghost use Rattle.atl_state.specs.Marks.{AreStocksWithin, thing_marked};
+ghost use Rattle.atl_state.specs.Regions.{MarksStockAt, unmarked_regions, with_region_row, with_stock_at};
 ghost use Rattle.atl_state.specs.Stocks.{stock_in};
 
 use atl_records::{Region, put_amount};
@@ -12,17 +13,21 @@ use atl_tables::{Entries, MarkedNumbers, Marks, Numbered, let_go};
 use std::alloc::{AllocError, Global};
 use std::marker::Model;
 
-/// The regions by their numbers. Of each its row and its stocks can be marked, each for itself.
+/// The regions by their numbers. Of each its row, all of its stocks, or single stocks can be marked, each for itself.
 pub(crate) struct Regions {
     values: Numbered<Region>,
-    // The regions whose rows are marked, and those whose stocks are, each with room for every region.
+    // The regions whose rows are marked, those of which a stock is, and those all of whose stocks are, each with room for
+    // every region.
     rows: Marks,
+    markets: Marks,
     stocks: Marks,
+    // The single stocks that are marked, by region and item.
+    items: Numbered<Numbered<()>>,
 }
 
 impl Drop for Regions {
     fn drop(self) {
-        let_go!(self: Regions { values, rows, stocks });
+        let_go!(self: Regions { values, rows, markets, stocks, items });
     }
 }
 
@@ -33,9 +38,9 @@ impl Model for Regions {
 
     ghost coded = { regions_code };
 
-    ghost view = { λ a. record { values = a.values; rows = a.rows.numbers; stocks = a.stocks.numbers } };
+    ghost view = { λ a. record { values = a.values; rows = a.rows.numbers; markets = a.markets.numbers; stocks = a.stocks.numbers; items = a.items } };
 
-    ghost invariant = { λ a. AreRegions a.values a.rows a.stocks };
+    ghost invariant = { λ a. AreRegions a.values a.rows a.markets a.stocks a.items };
 }
 
 impl Regions {
@@ -50,7 +55,9 @@ impl Regions {
         Regions {
             values: Numbered::new(alloc),
             rows: Marks::new(alloc),
+            markets: Marks::new(alloc),
             stocks: Marks::new(alloc),
+            items: Numbered::new(alloc),
         }
     }
 
@@ -59,11 +66,14 @@ impl Regions {
         ensures { IfOk result (λ regions. regions ≡ unmarked_regions values) }
     {
         let rows = Marks::with_room(alloc, values.len())?;
+        let markets = Marks::with_room(alloc, values.len())?;
         let stocks = Marks::with_room(alloc, values.len())?;
         Ok(Regions {
             values,
             rows,
+            markets,
             stocks,
+            items: Numbered::new(alloc),
         })
     }
 
@@ -96,12 +106,13 @@ impl Regions {
         }
     }
 
-    /// How many rows are marked, and how many regions' stocks, in one sum.
+    /// How many rows are marked, and of how many regions a stock is, in one sum.
     pub(crate) fn marked(&self) -> usize
-        ensures value { result ≡ set.len self.now.rows + set.len self.now.stocks }
+        ensures value { result ≡ set.len self.now.rows + set.len self.now.markets }
         ensures small { result ≤ 2 * number_count }
+        ensures within { AreStocksWithin self.now.markets self.now.stocks self.now.items }
     {
-        self.rows.len() + self.stocks.len()
+        self.rows.len() + self.markets.len()
     }
 
     /// The numbers of the regions whose rows are marked, in rising order.
@@ -111,11 +122,18 @@ impl Regions {
         self.rows.iter()
     }
 
-    /// The numbers of the regions whose stocks are marked, in rising order.
+    /// The numbers of the regions all of whose stocks are marked, in rising order.
     pub(crate) fn marked_stocks(&self) -> MarkedNumbers<'_>
         ensures { Lists self.now.stocks result }
     {
         self.stocks.iter()
+    }
+
+    /// The single stocks that are marked, by region and item, in rising order.
+    pub(crate) fn marked_stock_items(&self) -> Entries<'_, Numbered<()>>
+        ensures { result ≡ map.entries self.now.items }
+    {
+        self.items.iter()
     }
 
     /// Lends a region, and marks nothing.
@@ -137,20 +155,39 @@ impl Regions {
         self.rows.mark_present(&self.values, number);
     }
 
-    /// Marks a region's stocks. It takes no memory.
-    fn mark_stocks(&mut self, number: u32)
-        ensures { self.new ≡ record self.old
-            { stocks = marked_with self.old.stocks number (map.get self.old.values number) } }
+    /// Marks one stock of a region, or all of them where there is no memory for that mark.
+    fn mark_item(&mut self, alloc: Global, number: u32, item: u32)
+        ensures { (self.new ≡ record self.old
+            {
+              markets = marked_with self.old.markets number (map.get self.old.values number);
+              items = thing_marked self.old.items number item (map.get self.old.values number);
+            })
+            ⊎ (self.new ≡ record self.old
+            {
+              markets = marked_with self.old.markets number (map.get self.old.values number);
+              stocks = marked_with self.old.stocks number (map.get self.old.values number);
+            }) }
     {
+        match self.values.get(number) {
+            Some(_) => {}
+            None => return,
+        }
+        self.markets.mark_present(&self.values, number);
+        match self.items.insert_under(alloc, number, item, ()) {
+            Ok(()) => return,
+            Err(_) => {}
+        }
         self.stocks.mark_present(&self.values, number);
     }
 
-    /// Marks a region's stocks, if it has another amount of an item than this. It takes no memory.
-    fn mark_stock(&mut self, number: u32, item: u32, amount: u32)
-        ensures { self.new ≡ record self.old { stocks = stock_marked self.old number item amount } }
+    /// Marks one stock of a region, if it has another amount of the item than this, or all of them where there is no memory for
+    /// that mark.
+    fn mark_stock(&mut self, alloc: Global, number: u32, item: u32, amount: u32)
+        ensures marks { MarksStockAt self.old self.new number item amount }
+        ensures values { self.new.values ≡ self.old.values }
     {
         if self.stock(number, item) != amount {
-            self.mark_stocks(number);
+            self.mark_item(alloc, number, item);
         }
     }
 
@@ -182,8 +219,7 @@ impl Regions {
             (self.new.values ≡ with_stock_at self.old.values number item amount) }
         ensures err { OnErr result (self.new.values ≡ self.old.values) }
         ensures none { amount ≡ 0 → IsOk result }
-        ensures rows { self.new.rows ≡ self.old.rows }
-        ensures stocks { self.new.stocks ≡ self.old.stocks }
+        ensures marks { self.new ≡ record self.old { values = self.new.values } }
     {
         let Some(region) = self.lend(number) else {
             return Ok(());
@@ -191,10 +227,12 @@ impl Regions {
         put_amount(&mut region.stocks, item, amount)
     }
 
-    /// Sets how many pieces of an item a region has in stock, and marks its stocks if it had another amount. An amount of 0
-    /// takes no memory. Without memory the regions are as they were, but for that mark.
+    /// Sets how many pieces of an item a region has in stock. If it had another amount, that stock is marked alone, or all of
+    /// the region's where there is no memory for that mark. An amount of 0 needs no memory. Without memory the regions are as
+    /// they were, but for that mark.
     pub(crate) fn set_stock(
         &mut self,
+        alloc: Global,
         number: u32,
         item: u32,
         amount: u32,
@@ -203,10 +241,9 @@ impl Regions {
             (self.new.values ≡ with_stock_at self.old.values number item amount) }
         ensures err { OnErr result (self.new.values ≡ self.old.values) }
         ensures none { amount ≡ 0 → IsOk result }
-        ensures rows { self.new.rows ≡ self.old.rows }
-        ensures stocks { self.new.stocks ≡ stock_marked self.old number item amount }
+        ensures marks { MarksStockAt self.old self.new number item amount }
     {
-        self.mark_stock(number, item, amount);
+        self.mark_stock(alloc, number, item, amount);
         self.put_stock(number, item, amount)
     }
 
@@ -215,6 +252,8 @@ impl Regions {
         ensures { self.new ≡ unmarked_regions self.old.values }
     {
         self.rows.clear();
+        self.markets.clear();
         self.stocks.clear();
+        self.items.clear();
     }
 }

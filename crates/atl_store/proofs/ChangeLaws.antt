@@ -28,7 +28,7 @@ use Rattle.atl_store.specs.Tables.{Part, Own, Factions, Regions, Units, Goods, S
 use Rattle.atl_store.specs.Shown.{CampaignRowValue, campaign_row, has_row, mail_row, report_row, books_row}
 use Rattle.atl_store.specs.Written.{sort_number}
 use Rattle.atl_store.specs.Rows.{RowsOf, HasRowsOf, BooksRowsOf, MarketRowsOf, rows_for, campaign_row_of, campaign_line, faction_line, region_line, unit_line, structure_line, things_under, amount_under, Holds}
-use Rattle.atl_store.specs.Changing.{begins_marked, has_thing, goods_marked, amount_marked, is_marked, Chosen, rows_after_rewrite, campaign_row_after, HasUnmarked, WritesChanges, HoldsUnmarked}
+use Rattle.atl_store.specs.Changing.{begins_marked, has_thing, goods_marked, stocks_marked, amount_marked, is_marked, Chosen, rows_after_rewrite, campaign_row_after, HasUnmarked, WritesChanges, HoldsUnmarked}
 use Rattle.atl_store.specs.Rewriting.{marked_things}
 use Rattle.atl_store.proofs.GoodsLaws.{had_of, of_had}
 use Rattle.atl_store.proofs.MarketLaws.{stock_had, had_stock}
@@ -120,10 +120,10 @@ goods_follow one other marks r same not_marked of =
 -- ---- stocks
 
 -- a clean row of `market` of one campaign is one of the other
-stocks_follow : (one other : FinMap nat_cmp Region) (marks : FinSet nat_cmp) (r : Row) → ((n item : ℕ) → contains marks n ≡ false → stock_in other n item ≡ stock_in one n item) → begins_marked marks r ≡ false → MarketRowsOf one r → MarketRowsOf other r
+stocks_follow : (one other : FinMap nat_cmp Region) (marks : Marks) (r : Row) → ((n item : ℕ) → is_thing_marked marks.stocks marks.stock_items n item ≡ false → stock_in other n item ≡ stock_in one n item) → stocks_marked marks r ≡ false → MarketRowsOf one r → MarketRowsOf other r
 stocks_follow one other marks r same not_marked of =
     let had = stock_had one r of in
-    let is = same had.0 had.1 (ap (begins_marked marks) (sym had.3) ∙ not_marked) in
+    let is = same had.0 had.1 (ap (stocks_marked marks) (sym had.3) ∙ not_marked) in
     subst (MarketRowsOf other) (sym had.3) (had_stock other had.0 had.1 (stock_in one had.0 had.1) (sym is) had.2)
 
 -- ---- amounts
@@ -191,8 +191,8 @@ covers_unmarked c db text before covers held = record { before = campaign_row_of
     rest Books =
         rest_of (amount_marked c.marks.books) (BooksRowsOf before.books) (BooksRowsOf c.value.books) _ (λ r is. amounts_follow before.books c.value.books c.marks.books r covers.books is) (λ r is. amounts_follow c.value.books before.books c.marks.books r (λ e t not_marked. sym (covers.books e t not_marked)) is) (held.rows Books)
     rest Markets =
-        rest_of (begins_marked c.marks.stocks) (MarketRowsOf before.regions) (MarketRowsOf c.value.regions) _ (λ r is. stocks_follow before.regions c.value.regions c.marks.stocks r covers.stocks is)
-        (λ r is. stocks_follow c.value.regions before.regions c.marks.stocks r (λ n item not_marked. sym (covers.stocks n item not_marked)) is) (held.rows Markets)
+        rest_of (stocks_marked c.marks) (MarketRowsOf before.regions) (MarketRowsOf c.value.regions) _ (λ r is. stocks_follow before.regions c.value.regions c.marks r covers.stocks is)
+        (λ r is. stocks_follow c.value.regions before.regions c.marks r (λ n item not_marked. sym (covers.stocks n item not_marked)) is) (held.rows Markets)
 
 -- both together: tables of the campaign before hold the one after, once all that is dirty is written
 pub changes_held : (c : MarkedCampaign) (old new : Database) → WritesChanges c old new → (text : List ℕ) (before : CampaignValue) → Covers c.marks before c.value → Holds old.trees text before → Holds new.trees text c.value

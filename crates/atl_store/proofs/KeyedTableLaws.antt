@@ -15,7 +15,7 @@ use Rattle.sqlite_value.specs.Keys.{first_key}
 use Rattle.sqlite_schema.specs.declared.schema.Constraint.TheVariants.{Datatype, NotNull}
 use Rattle.sqlite_schema.specs.Rules.{passes}
 use Rattle.atl_store.specs.Tables.{Part, Goods, Books, Markets, has_table, has_unique, books_table, books_unique, market_table, market_unique, table_of, key_of}
-use Rattle.atl_store.specs.Shown.{int, has_key, has_row, books_key, books_row, market_row}
+use Rattle.atl_store.specs.Shown.{int, has_key, has_row, books_key, books_row, market_key, market_row}
 use Rattle.atl_store.specs.Statements.{deletion, upsert}
 use Rattle.atl_store.proofs.KeyLaws.{int_by, cons_is}
 use Rattle.atl_store.proofs.KeyedRowLaws.{AreInts, HasKey, IsPutUnder, IsTakeOut, MakesValues, puts_keyed, drops_keyed}
@@ -147,6 +147,12 @@ pub drops_books : (entry thing : ℕ) → DropsKey books_table 2 (books_key entr
 drops_books entry thing =
     let is = means InBooks in
     drops_keyed books_table.tree _ _ books_unique 8 (key_is InBooks) (deletion books_table 2) (of_key 2) is.drops is.drops_plain books_unique (λ x ints. ints) (λ x. refl) (books_key entry thing) (refl, (refl, tt)) refl (λ x. refl)
+
+-- the DELETE of `market` by region and item removes the row of these
+pub drops_stock : (region item : ℕ) → DropsKey market_table 2 (market_key region item)
+drops_stock region item =
+    let is = means InMarket in
+    drops_keyed market_table.tree _ _ market_unique 9 (key_is InMarket) (deletion market_table 2) (of_key 2) is.drops is.drops_plain market_unique (λ x ints. ints) (λ x. refl) (market_key region item) (refl, (refl, tt)) refl (λ x. refl)
 
 -- the DELETE of `has` by the unit removes all its rows
 pub drops_goods : (unit : ℕ) → DropsKey has_table 1 (int unit ∷ [])

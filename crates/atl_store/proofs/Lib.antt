@@ -35,6 +35,7 @@ pub mod UpgradeLaws
 pub mod BareWorldLaws
 pub mod CampaignRowLaws
 pub mod ShownLaws
+pub mod SingleLaws
 pub mod CheckTerms
 pub mod SchemaLaws
 pub mod SelectLaws

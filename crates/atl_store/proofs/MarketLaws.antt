@@ -1,5 +1,6 @@
 -- Laws on the table `market`: one row for each region and item, if the stock is not 0.
-use Rattle.std.proofs.Common.{◌≡◌, ◌≢◌, ℕ, Option, Some, None, take, unwrap_or, refl, sym, ap, ◌∙◌, subst}
+use Rattle.std.proofs.Common.{◌≡◌, ◌≢◌, ◌||◌, ℕ, pos, Bool, true, false, [], ◌∷◌, Option, Some, None, take, unwrap_or, refl, sym, ap, ◌∙◌, subst, inr, true≢false}
+use Rattle.std.proofs.lemmas.Bool.{and_parts, and_from}
 use Rattle.std.specs.Ordering.{nat_cmp}
 use Rattle.std.specs.FinMap.{FinMap, entries, get}
 use Rattle.std.specs.Option.{option_map_or}
@@ -7,7 +8,16 @@ use Rattle.sqlite_rules.specs.Lists.{Has}
 use Rattle.atl_records.specs.Holdings.{amount_of}
 use Rattle.atl_records.specs.declared.records.Region.{Region}
 use Rattle.atl_state.specs.Stocks.{stock_in}
-use Rattle.atl_store.specs.Shown.{market_row}
+use Rattle.sqlite.specs.State.{State}
+use Rattle.sqlite_value.specs.declared.value.Value.TheVariants.{Int}
+use Rattle.atl_state.specs.Campaign.{CampaignValue}
+use Rattle.atl_store.specs.Shown.{int, market_key, market_row}
+use Rattle.atl_store.specs.Tables.{market_table}
+use Rattle.atl_store.specs.Inside.{Inside, HasTables, Puts, Drops}
+use Rattle.atl_store.specs.Changing.{of_stock}
+use Rattle.atl_store.specs.Rewriting.{FindsByNumbers, RewritesStock, is_thing}
+use Rattle.atl_store.proofs.RewriteLaws.{tied, is_itself, rewrites_key, kept_only}
+use Rattle.atl_store.proofs.WholeLaws.{inside_weaker}
 use Rattle.atl_store.specs.Rows.{MarketRowsOf}
 use Rattle.atl_store.specs.Lines.{AreGroups, region_lines}
 use Rattle.atl_store.proofs.EntryLaws.{got_entry, entry_got, in_order}
@@ -57,3 +67,76 @@ module _ (regions : FinMap nat_cmp Region) where
       there : (o : Option Region) → get regions n ≡ o → MarketRowsOf regions (market_row n item amount)
       there None none = absurd (some (is ∙ ap (in_stock item) none))
       there (Some region) found = (n, region, found, item, amount, got (get region.stocks item) (is ∙ ap (in_stock item) found), some, refl)
+
+-- ---- the row of one stock
+
+-- `of_stock` finds rows by their region and item
+pub finds_stocks : FindsByNumbers of_stock
+finds_stocks = record { either = either; none = none }
+  where
+    either : (f g : ℕ → ℕ → Bool) (r : Row) → of_stock (λ n t. f n t || g n t) r ≡ (of_stock f r || of_stock g r)
+    either f g (Int (pos region) ∷ Int (pos item) ∷ row) = refl
+    either f g row = refl
+
+    none : (r : Row) → of_stock (λ n t. false) r ≡ false
+    none (Int (pos region) ∷ Int (pos item) ∷ row) = refl
+    none row = refl
+
+-- keys of two numbers that are the same have the same numbers
+pub two_same : (a b c d : ℕ) → ◌≡◌ {A = Row} (market_key a b) (market_key c d) → (a ≡ c) × (b ≡ d)
+two_same a b c d same = (cc, cc)
+
+module _ (region item : ℕ) where
+  -- whether a row of `market` is that of the region and item
+  abbrev is_here : Row → Bool
+  is_here r = of_stock (is_thing region item) r
+
+  -- such a row has their key, and a row with their key is such a row
+  key_of : (r : Row) → is_here r ≡ true → take 2 r ≡ market_key region item
+  key_of (Int (pos n) ∷ Int (pos t) ∷ row) is =
+      let both = and_parts _ _ is in
+      ap (λ k. market_key k t) (tied n region both.0) ∙ ap (market_key region) (tied t item both.1)
+  key_of row is = absurd (true≢false (sym is))
+
+  of_key : (r : Row) → take 2 r ≡ market_key region item → is_here r ≡ true
+  of_key [] key = absurd cc
+  of_key (u ∷ []) key = absurd cc
+  of_key (u ∷ v ∷ row) key =
+      let first : u ≡ int region = cc in
+      let second : v ≡ int item = cc in
+      ap (λ x. is_here (x ∷ v ∷ row)) first ∙ ap (λ x. is_here (int region ∷ x ∷ row)) second ∙ and_from _ _ (is_itself region) (is_itself item)
+
+  module _ (c : CampaignValue) (stock : ℕ) (is : stock ≡ stock_in c.regions region item) where
+    -- the row of the stock
+    abbrev row : Row
+    row = market_row region item stock
+
+    -- a row of the region and item that the campaign has is that of the stock, which isn't 0
+    wanted_here : (r : Row) → is_here r ≡ true → MarketRowsOf c.regions r → (stock ≢ 0) × (r ≡ row)
+    wanted_here r here of =
+        let had = stock_had c.regions r of in
+        let keys = two_same had.0 had.1 region item (ap (take 2) (sym had.3) ∙ key_of r here) in
+        let Tells : ℕ → ℕ → Type 0 = λ n t. (stock_in c.regions n t ≢ 0) × (r ≡ market_row n t (stock_in c.regions n t)) in
+        let told : Tells region item = subst (λ n. Tells n item) keys.0 (subst (Tells had.0) keys.1 (had.2, had.3)) in
+        (λ none. told.0 (sym is ∙ none), told.1 ∙ ap (market_row region item) (sym is))
+
+    -- if the stock is 0, no row of the campaign has its key
+    pub no_stock : stock ≡ 0 → (r : Row) → MarketRowsOf c.regions r → take 2 r ≢ market_key region item
+    no_stock none r of key = (wanted_here r (of_key r key) of).0 none
+
+    -- putting the row of a stock that isn't 0 rewrites that stock
+    pub stock_put : stock ≢ 0 → (old new : State) → Inside HasTables (Puts market_table 2 row) old new → Inside HasTables (RewritesStock c (is_thing region item)) old new
+    stock_put some old new did = inside_weaker HasTables (Puts market_table 2 row) (RewritesStock c (is_thing region item)) old new
+        (λ has puts. rewrites_key is_here (λ r. take 2 r ≡ market_key region item) (λ r. r ≡ row) (MarketRowsOf c.regions) key_of of_key
+        (λ r same. (ap (take 2) same, subst (MarketRowsOf c.regions) (sym same) (had_stock c.regions region item stock is some)))
+        (λ r here of. (wanted_here r here of).1)
+        market_table old.now new.now puts.rows puts.others)
+        did
+
+    -- deleting the row of a stock that is 0 rewrites that stock
+    pub stock_dropped : stock ≡ 0 → (old new : State) → Inside HasTables (Drops market_table 2 (market_key region item)) old new → Inside HasTables (RewritesStock c (is_thing region item)) old new
+    stock_dropped none old new did = inside_weaker HasTables (Drops market_table 2 (market_key region item)) (RewritesStock c (is_thing region item)) old new
+        (λ has drops. rewrites_key is_here (λ r. take 2 r ≡ market_key region item) (λ r. ⊥) (MarketRowsOf c.regions) key_of of_key (λ r never. absurd never)
+        (λ r here of. (wanted_here r here of).0 none)
+        market_table old.now new.now (λ r. let so = drops.rows r in (λ h. inr (so.0 h), λ h. so.1 (kept_only h))) drops.others)
+        did

@@ -36,17 +36,26 @@ abbrev pub of_kind : ThingKind → (ℕ → ℕ → Bool) → Row → Bool
 of_kind sort is_so (Int (pos unit) ∷ Int (pos number) ∷ Int (pos thing) ∷ row) = number == sort_number sort && is_so unit thing
 of_kind sort is_so row = false
 
+-- whether this is so of the region and the item of a row of the table of stocks
+abbrev pub of_stock : (ℕ → ℕ → Bool) → Row → Bool
+of_stock is_so (Int (pos region) ∷ Int (pos item) ∷ row) = is_so region item
+of_stock is_so row = false
+
 -- whether the first column of a row is a marked number
 abbrev pub begins_marked : FinSet nat_cmp → Row → Bool
 begins_marked marks r = begins (contains marks) r
 
--- whether this thing of this unit is among `things`
+-- whether this thing of this unit, or this item of this region, is among `things`
 abbrev pub has_thing : Things → ℕ → ℕ → Bool
 has_thing things unit thing = is_some (get (group_of things unit) thing)
 
 -- whether a row of `has` is marked: with all goods of its unit, or as a single item or skill
 abbrev pub goods_marked : Marks → Row → Bool
 goods_marked marks r = begins_marked marks.goods r || of_kind Item (has_thing marks.items) r || of_kind Skill (has_thing marks.skills) r
+
+-- whether all stocks of a row's region are marked, or the row's alone
+abbrev pub stocks_marked : Marks → Row → Bool
+stocks_marked marks r = begins_marked marks.stocks r || of_stock (has_thing marks.stock_items) r
 
 -- whether the amount of an entry and a thing is marked; the entry is given by its index, which has to be below `entry_count`
 abbrev pub is_marked_amount : FinSet nat_cmp → ℕ → ℕ → Bool
@@ -89,7 +98,7 @@ is_marked marks Structures = begins_marked marks.structures
 is_marked marks Mail = begins_marked marks.mail
 is_marked marks Reports = begins_marked marks.reports
 is_marked marks Books = amount_marked marks.books
-is_marked marks Markets = begins_marked marks.stocks
+is_marked marks Markets = stocks_marked marks
 
 -- In each table the rows with a marked key become the campaign's, and others stay; the campaign row said `before` and keeps this world text.
 pub record WritesMarked (c : MarkedCampaign) (before : CampaignRowValue) (text : List ℕ) (old new : Database) : Type 0 where

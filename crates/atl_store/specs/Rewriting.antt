@@ -1,5 +1,5 @@
 -- For proofs and for private functions: what the steps of writing a campaign's changes do.
-use Rattle.std.specs.Prelude.{◌≡◌, ◌+◌, ◌*◌, ◌&&◌, ℕ, Bool, List, [], ◌∷◌, is_some}
+use Rattle.std.specs.Prelude.{◌≡◌, ◌+◌, ◌*◌, ◌&&◌, ◌||◌, ℕ, Bool, false, List, [], ◌∷◌, is_some}
 use Rattle.std.specs.List.{list_any}
 use Rattle.std.specs.Ordering.{nat_cmp, eq_by_cmp}
 use Rattle.std.specs.FinSet.{FinSet, contains}
@@ -15,10 +15,10 @@ use Rattle.atl_store.specs.declared.rows.has.ThingKind.{ThingKind}
 use Rattle.atl_store.specs.declared.rows.has.ThingKind.TheVariants.{Item, Skill}
 use Rattle.atl_store.specs.Sets.{Set, Is, rows_in}
 use Rattle.atl_store.specs.Inside.{Alters, Changes}
-use Rattle.atl_store.specs.Tables.{Part, campaign_table, has_table, books_table}
+use Rattle.atl_store.specs.Tables.{Part, campaign_table, has_table, books_table, market_table}
 use Rattle.atl_store.specs.Shown.{CampaignRowValue, campaign_row}
-use Rattle.atl_store.specs.Rows.{RowsOf, HasRowsOf, BooksRowsOf, rows_for}
-use Rattle.atl_store.specs.Changing.{begins, accounts, of_kind, begins_marked, goods_marked, amount_marked, is_marked, rows_after_rewrite, own_after}
+use Rattle.atl_store.specs.Rows.{RowsOf, HasRowsOf, BooksRowsOf, MarketRowsOf, rows_for}
+use Rattle.atl_store.specs.Changing.{begins, accounts, of_kind, of_stock, begins_marked, goods_marked, stocks_marked, amount_marked, is_marked, rows_after_rewrite, own_after}
 
 -- the table's rows with a chosen key are those that are wanted, its other rows are as they were, and so is every other table
 abbrev pub Rewrites : Table → (Row → Bool) → Set → Database → Database → Type 0
@@ -38,13 +38,18 @@ is_among ns k = list_any (eq_by_cmp nat_cmp k) ns
 abbrev pub of_amounts : FinSet nat_cmp → (ℕ → Bool) → (ℕ → Bool) → Row → Bool
 of_amounts marks entries things r = accounts (λ entry thing. entries entry && (things thing && contains marks (entry_count * thing + entry))) r
 
--- whether the unit `n` and the thing `t` are this unit and this thing
-abbrev pub is_thing : (unit thing : ℕ) → ℕ → ℕ → Bool
-is_thing unit thing n t = is_number unit n && is_number thing t
+-- whether the unit or region `n` and the thing `t` are this owner and this thing
+abbrev pub is_thing : (owner thing : ℕ) → ℕ → ℕ → Bool
+is_thing owner thing n t = is_number owner n && is_number thing t
 
--- whether `n` is this unit, and `t` one of these things
-abbrev pub is_of : {V : Type 0} → (unit : ℕ) → FinMap nat_cmp V → ℕ → ℕ → Bool
-is_of unit things n t = is_number unit n && is_some (get things t)
+-- whether `n` is this unit or region, and `t` one of these things
+abbrev pub is_of : {V : Type 0} → (owner : ℕ) → FinMap nat_cmp V → ℕ → ℕ → Bool
+is_of owner things n t = is_number owner n && is_some (get things t)
+
+-- A test of rows by two of their numbers finds by one of two what it finds by either, and nothing by none.
+pub record FindsByNumbers (finds : (ℕ → ℕ → Bool) → Row → Bool) : Type 0 where
+  pub either : (f g : ℕ → ℕ → Bool) (r : Row) → finds (λ n t. f n t || g n t) r ≡ (finds f r || finds g r)
+  pub none : (r : Row) → finds (λ n t. false) r ≡ false
 
 -- the row of one number becomes the campaign's, or is deleted if there is none
 abbrev pub RewritesNumber : {V : Type 0} → Table → (ℕ → V → Row) → FinMap nat_cmp V → ℕ → Database → Database → Type 0
@@ -61,6 +66,14 @@ RewritesGroup table Wanted n old new = Rewrites table (begins (is_number n)) Wan
 -- the rows that belong to each marked number become those that are wanted
 abbrev pub RewritesGroups : Table → Set → FinSet nat_cmp → Database → Database → Type 0
 RewritesGroups table Wanted marks old new = Rewrites table (begins_marked marks) Wanted old new
+
+-- the rows of the stocks of these regions and items
+abbrev pub RewritesStock : CampaignValue → (ℕ → ℕ → Bool) → Database → Database → Type 0
+RewritesStock c stocks old new = Rewrites market_table (of_stock stocks) (MarketRowsOf c.regions) old new
+
+-- the rows of all stocks that are marked
+abbrev pub RewritesStocks : MarkedCampaign → Database → Database → Type 0
+RewritesStocks c old new = Rewrites market_table (stocks_marked c.marks) (MarketRowsOf c.value.regions) old new
 
 -- the rows of `has` of this kind, and of the units and things that are asked for, become the campaign's
 abbrev pub RewritesThings : CampaignValue → ThingKind → (ℕ → ℕ → Bool) → Database → Database → Type 0

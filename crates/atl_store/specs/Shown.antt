@@ -88,6 +88,10 @@ books_key entry thing = int entry ∷ int thing ∷ []
 abbrev pub books_row : ℕ → ℕ → ℤ → Row
 books_row entry thing amount = int entry ∷ int thing ∷ Int amount ∷ []
 
+-- the key of a row of `market`: region, item
+abbrev pub market_key : ℕ → ℕ → Row
+market_key region item = int region ∷ int item ∷ []
+
 -- a row of `market`: region, item, stock
 abbrev pub market_row : ℕ → ℕ → ℕ → Row
 market_row region item stock = int region ∷ int item ∷ int stock ∷ []

@@ -13,7 +13,7 @@ ghost use Rattle.atl_store.specs.Rewriting.{RewritesGoods};
 use crate::amounts::{AmountWriter, put_amounts};
 use crate::grouped::{Grouped, rewrite_marked_groups};
 use crate::rows::has::{HasRow, ThingKind, drop_goods, put_has};
-use crate::things::rewrite_kind;
+use crate::singles::rewrite_singles;
 use atl_state::{Campaign, Holding, SlotEntries, Unit};
 use atl_tables::MarkedNumbers;
 use sqlite::{Alter, Error, Transaction};
@@ -122,6 +122,6 @@ pub(crate) fn rewrite_goods<S: Alter>(
         (Inside HasTables (RewritesGoods campaign.now)) result tx.old.conn tx.new.conn }
 {
     rewrite_marked_groups::<Unit, S>(tx, campaign)?;
-    rewrite_kind(tx, campaign, ThingKind::Item)?;
-    rewrite_kind(tx, campaign, ThingKind::Skill)
+    rewrite_singles(tx, campaign, ThingKind::Item)?;
+    rewrite_singles(tx, campaign, ThingKind::Skill)
 }

@@ -20,6 +20,7 @@ mod one_campaign;
 mod reopening;
 pub mod rows;
 pub mod schema;
+mod singles;
 mod statement;
 pub mod tables;
 mod things;

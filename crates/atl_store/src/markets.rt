@@ -2,15 +2,20 @@
 ghost use Rattle.std.specs.Prelude.{refl};
 ghost use Rattle.atl_store.specs.Tables.{Markets, market_table};
 ghost use Rattle.atl_store.specs.Shown.{market_row};
+ghost use Rattle.atl_store.specs.Changing.{of_stock};
 ghost use Rattle.atl_store.specs.Rows.{MarketRowsOf};
 ghost use Rattle.atl_store.specs.Lines.{region_lines, all_stocks_lines};
-ghost use Rattle.atl_store.specs.Writes.{WritesRows};
+ghost use Rattle.atl_store.specs.OwnStatements.{OfChange};
+ghost use Rattle.atl_store.specs.Writes.{Writes, WritesRows};
+ghost use Rattle.atl_store.specs.Inside.{Inside, HasTables};
+ghost use Rattle.atl_store.specs.Rewriting.{RewritesStock, RewritesStocks, is_thing};
 
 use crate::amounts::{AmountWriter, put_amounts};
-use crate::grouped::Grouped;
-use crate::rows::market::{drop_stocks, put_stock};
+use crate::grouped::{Grouped, rewrite_marked_groups};
+use crate::rows::market::{drop_stock, drop_stocks, put_stock};
+use crate::singles::{SingleAmounts, rewrite_singles};
 use atl_state::{Campaign, Region};
-use atl_tables::{Entries, MarkedNumbers};
+use atl_tables::{Entries, MarkedNumbers, Numbered};
 use sqlite::{Alter, Error, Transaction};
 
 /// The markets of a region: the owner of its stocks.
@@ -90,4 +95,62 @@ impl Grouped for Region {
     fn drop_rows<S: Alter>(tx: &mut Transaction<'_, S>, number: u32) -> Result<(), Error> {
         drop_stocks(tx, number)
     }
+}
+
+/// Puts the row of a stock, or deletes it where the region has none of the item.
+fn rewrite_stock<S: Alter>(
+    tx: &mut Transaction<'_, S>,
+    campaign: &Campaign,
+    region: u32,
+    item: u32,
+) -> Result<(), Error>
+    ensures { Writes S.Store (OfChange campaign.now.value)
+        (Inside HasTables (RewritesStock campaign.now.value (is_thing region item))) result
+        tx.old.conn tx.new.conn }
+{
+    let stock = campaign.stock(region, item);
+    if stock == 0 {
+        return drop_stock(tx, region, item);
+    }
+    put_stock(tx, region, item, stock)
+}
+
+/// The stocks of regions, by region and item.
+#[derive(Clone, Copy)]
+struct SingleStocks;
+
+impl SingleAmounts for SingleStocks {
+    ghost table = { market_table };
+
+    ghost wanted = { λ c. MarketRowsOf c.regions };
+
+    ghost finds = { λ s. of_stock };
+
+    ghost marks = { λ s m. m.stock_items };
+
+    fn marked_singles(self, campaign: &Campaign) -> Entries<'_, Numbered<()>> {
+        campaign.marked_stock_items()
+    }
+
+    fn rewrite_single<S: Alter>(
+        self,
+        tx: &mut Transaction<'_, S>,
+        campaign: &Campaign,
+        owner: u32,
+        number: u32,
+    ) -> Result<(), Error> {
+        rewrite_stock(tx, campaign, owner, number)
+    }
+}
+
+/// Writes what is marked of stocks: all those of a region, and single ones.
+pub(crate) fn rewrite_stocks<S: Alter>(
+    tx: &mut Transaction<'_, S>,
+    campaign: &Campaign,
+) -> Result<(), Error>
+    ensures { Writes S.Store (OfChange campaign.now.value)
+        (Inside HasTables (RewritesStocks campaign.now)) result tx.old.conn tx.new.conn }
+{
+    rewrite_marked_groups::<Region, S>(tx, campaign)?;
+    rewrite_singles(tx, campaign, SingleStocks)
 }

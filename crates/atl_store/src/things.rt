@@ -1,14 +1,15 @@
-//! Writes the single items and skills of units that are marked, row by row.
+//! The single items and skills of units, whose rows are written one by one.
 ghost use Rattle.std.specs.Prelude.{◌≡◌};
-ghost use Rattle.std.specs.FinMap.{entries};
-ghost use Rattle.atl_store.specs.Rows.{amount_under};
+ghost use Rattle.atl_store.specs.Rows.{HasRowsOf, amount_under};
 ghost use Rattle.atl_store.specs.OwnStatements.{OfChange};
+ghost use Rattle.atl_store.specs.Tables.{has_table};
 ghost use Rattle.atl_store.specs.Writes.{Writes};
 ghost use Rattle.atl_store.specs.Inside.{Inside, HasTables};
-ghost use Rattle.atl_store.specs.Changing.{has_thing};
-ghost use Rattle.atl_store.specs.Rewriting.{RewritesThings, is_thing, is_of, marked_things};
+ghost use Rattle.atl_store.specs.Changing.{of_kind};
+ghost use Rattle.atl_store.specs.Rewriting.{RewritesThings, is_thing, marked_things};
 
 use crate::rows::has::{HasRow, ThingKind, drop_has, put_has};
+use crate::singles::SingleAmounts;
 use atl_state::Campaign;
 use atl_tables::{Entries, Numbered};
 use sqlite::{Alter, Error, Transaction};
@@ -51,46 +52,29 @@ fn rewrite_thing<S: Alter>(
     put_has(tx, &row)
 }
 
-/// Puts or deletes the rows of these items or skills of a unit.
-fn rewrite_things<S: Alter>(
-    tx: &mut Transaction<'_, S>,
-    campaign: &Campaign,
-    unit: u32,
-    sort: ThingKind,
-    things: &Numbered<()>,
-) -> Result<(), Error>
-    ensures { Writes S.Store (OfChange campaign.now.value)
-        (Inside HasTables (RewritesThings campaign.now.value sort (is_of unit things.now))) result
-        tx.old.conn tx.new.conn }
-{
-    for (thing, _mark) in things.iter() {
-        rewrite_thing(tx, campaign, unit, sort, thing)?;
-    }
-    Ok(())
-}
+impl SingleAmounts for ThingKind {
+    ghost table = { has_table };
 
-/// The single things of a kind that are marked, by unit.
-fn marked_of(campaign: &Campaign, sort: ThingKind) -> Entries<'_, Numbered<()>>
-    ensures { result ≡ entries (marked_things campaign.now.marks sort) }
-{
-    match sort {
-        ThingKind::Item => campaign.marked_items(),
-        ThingKind::Skill => campaign.marked_skills(),
-    }
-}
+    ghost wanted = { λ c. HasRowsOf c.units };
 
-/// Puts or deletes the rows of the single things of a kind that are marked.
-pub(crate) fn rewrite_kind<S: Alter>(
-    tx: &mut Transaction<'_, S>,
-    campaign: &Campaign,
-    sort: ThingKind,
-) -> Result<(), Error>
-    ensures { Writes S.Store (OfChange campaign.now.value)
-        (Inside HasTables (RewritesThings campaign.now.value sort
-        (has_thing (marked_things campaign.now.marks sort)))) result tx.old.conn tx.new.conn }
-{
-    for (unit, things) in marked_of(campaign, sort) {
-        rewrite_things(tx, campaign, unit, sort, things)?;
+    ghost finds = { of_kind };
+
+    ghost marks = { λ sort m. marked_things m sort };
+
+    fn marked_singles(self, campaign: &Campaign) -> Entries<'_, Numbered<()>> {
+        match self {
+            ThingKind::Item => campaign.marked_items(),
+            ThingKind::Skill => campaign.marked_skills(),
+        }
     }
-    Ok(())
+
+    fn rewrite_single<S: Alter>(
+        self,
+        tx: &mut Transaction<'_, S>,
+        campaign: &Campaign,
+        owner: u32,
+        number: u32,
+    ) -> Result<(), Error> {
+        rewrite_thing(tx, campaign, owner, self, number)
+    }
 }

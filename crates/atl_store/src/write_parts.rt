@@ -9,9 +9,8 @@ ghost use Rattle.atl_store.specs.Filling.{FillsPart};
 ghost use Rattle.atl_store.specs.Rewriting.{RewritesPart};
 
 use crate::goods::{put_all_goods, rewrite_goods};
-use crate::grouped::rewrite_marked_groups;
 use crate::ledger::{put_all_books, rewrite_books};
-use crate::markets::put_all_stocks;
+use crate::markets::{put_all_stocks, rewrite_stocks};
 use crate::numbered_rows::{Mapped, put_each, rewrite_marked};
 use crate::rows::unit::put_units;
 use atl_state::{Campaign, Faction, Region, Structure, Unit};
@@ -115,7 +114,7 @@ impl WrittenPart for Stocks {
     }
 
     fn rewrite<S: Alter>(tx: &mut Transaction<'_, S>, campaign: &Campaign) -> Result<(), Error> {
-        rewrite_marked_groups::<Region, S>(tx, campaign)
+        rewrite_stocks(tx, campaign)
     }
 }
 

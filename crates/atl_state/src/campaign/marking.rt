@@ -4,7 +4,7 @@ ghost use Rattle.std.specs.FinMap as map;
 ghost use Rattle.std.specs.FinSet as set;
 ghost use Rattle.atl_tables.specs.Tracking.{Lists};
 ghost use Rattle.atl_records.specs.Books.{thing_index, amount_number};
-ghost use Rattle.atl_state.specs.Marks.{AreWithin, no_marks, marks_in};
+ghost use Rattle.atl_state.specs.Marks.{AreStocksWithin, AreWithin, no_marks, marks_in};
 
 use super::Campaign;
 use atl_records::{Entry, Thing, amount_number};
@@ -18,6 +18,8 @@ impl Campaign {
         ensures value { result ≡ marks_in self.now.marks }
         ensures units { AreWithin self.now.marks.units self.now.marks.rows self.now.marks.goods
             self.now.marks.items self.now.marks.skills }
+        ensures stocks { AreStocksWithin self.now.marks.markets self.now.marks.stocks
+            self.now.marks.stock_items }
     {
         let row = if self.row_marked { 1 } else { 0 };
         let named = self.factions.marked() + self.mail.marked() + self.reports.marked();
@@ -39,11 +41,19 @@ impl Campaign {
         self.regions.marked_rows()
     }
 
-    /// The numbers of the regions whose stocks are marked, in rising order. It takes no memory.
+    /// The numbers of the regions all of whose stocks are marked, in rising order. It takes no memory.
     pub fn marked_stocks(&self) -> MarkedNumbers<'_>
         ensures { Lists self.now.marks.stocks result }
     {
         self.regions.marked_stocks()
+    }
+
+    /// The single stocks that are marked, by the numbers of their regions and of their items, in rising order. It takes no
+    /// memory.
+    pub fn marked_stock_items(&self) -> Entries<'_, Numbered<()>>
+        ensures { result ≡ map.entries self.now.marks.stock_items }
+    {
+        self.regions.marked_stock_items()
     }
 
     /// The numbers of the units of which something is marked, in rising order. Units that are gone

@@ -5,7 +5,7 @@ ghost use Rattle.std.specs.Int.{w64};
 ghost use Rattle.std.specs.Int.RustNames.{FitsSigned};
 ghost use Rattle.atl_records.specs.Books.{amount_in, thing_index};
 ghost use Rattle.atl_records.specs.Limits.{holding_limit, men_limit};
-ghost use Rattle.atl_state.specs.Marking.{mark_campaign_row, mark_faction, mark_region, mark_stock, mark_structure, mark_unit_row, mark_item, mark_skill, item_marked, skill_marked, mark_amount, mark_all_mail};
+ghost use Rattle.atl_state.specs.Marking.{MarksStock, mark_campaign_row, mark_faction, mark_region, mark_structure, mark_unit_row, mark_item, mark_skill, item_marked, skill_marked, mark_amount, mark_all_mail};
 ghost use Rattle.atl_state.specs.Campaign.{with_month, with_faction_name, with_gone, with_peasants, with_region_money, with_stock, with_unit_name, with_men, with_money, with_item, with_skill, with_guard, with_done, with_structure_name, with_structure_region, with_owner, with_amount, without_mail};
 
 use super::Campaign;
@@ -62,16 +62,17 @@ impl Campaign {
     }
 
     /// Sets how many pieces of an item a region has in stock. In a good campaign it is at most the
-    /// limit of its market there. The region's stocks are marked if there were more or fewer, and
-    /// never its row. An item of which there is 0 isn't listed, which takes no memory. AllocError
-    /// without memory, and then the campaign is as it was, but for that mark.
+    /// limit of its market there. If there were more or fewer, that stock is marked alone, or all
+    /// stocks of the region where there is no memory for that mark, and never the region's row. An
+    /// item of which there is 0 isn't listed, which needs no memory. AllocError without memory, and
+    /// then the campaign is as it was, but for that mark.
     pub fn set_stock(&mut self, region: u32, item: u32, amount: u32) -> Result<(), AllocError>
         ensures ok { OnOk result (self.new.value ≡ with_stock self.old.value region item amount) }
         ensures err { OnErr result (self.new.value ≡ self.old.value) }
         ensures none { amount ≡ 0 → IsOk result }
-        ensures marks { self.new.marks ≡ mark_stock self.old region item amount }
+        ensures marks { MarksStock self.old region item amount self.new.marks }
     {
-        self.regions.set_stock(region, item, amount)
+        self.regions.set_stock(self.alloc, region, item, amount)
     }
 
     /// Sets the name of a unit, and marks its row; its goods stay unmarked.

@@ -1,7 +1,7 @@
 //! The table `market`: the stock of an item of a region in each row.
 ghost use Rattle.std.specs.Prelude.{[], ◌∷◌, refl};
 ghost use Rattle.atl_store.specs.Tables.{Markets, market_table};
-ghost use Rattle.atl_store.specs.Shown.{int, market_row, market_stored, market_forms};
+ghost use Rattle.atl_store.specs.Shown.{int, market_key, market_row, market_stored, market_forms};
 ghost use Rattle.atl_store.specs.Writes.{WritesRow, TakesOut};
 
 use crate::rows::columns::two_integers;
@@ -26,6 +26,22 @@ pub(crate) fn put_stock<S: Alter>(
         tx,
         "INSERT INTO market (region, item, stock) VALUES (?1, ?2, ?3) ON CONFLICT (region, item) DO UPDATE SET stock = ?3",
         params![region, item, stock],
+    )
+}
+
+/// Deletes the row of this region and item, where there is one.
+pub(crate) fn drop_stock<S: Alter>(
+    tx: &mut Transaction<'_, S>,
+    region: u32,
+    item: u32,
+) -> Result<(), Error>
+    ensures { TakesOut S.Store market_table 2 (market_key region item) result tx.old.conn
+        tx.new.conn }
+{
+    run(
+        tx,
+        "DELETE FROM market WHERE region = ?1 AND item = ?2",
+        params![region, item],
     )
 }
 

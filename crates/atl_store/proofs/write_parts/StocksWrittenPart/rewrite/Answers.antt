@@ -1,15 +1,11 @@
 use Rattle.atl_store.specs.Tables.{Markets}
 use Rattle.atl_store.specs.Rewriting.{RewritesPart}
-use Rattle.atl_store.proofs.MarketLaws.{stocks_grouped}
 use Rattle.atl_store.proofs.RewriteAllLaws.{part_rewritten}
 use Rattle.atl_store.proofs.PartLaws.{in_turn_one}
 use Rattle.atl_store.proofs.WholeLaws.{done_as}
 use Rattle.atl_store.proofs.write_parts.StocksWrittenPart.rewrite.Goals as goal
 
-pub rewrite_marked_groups-requires : goal.rewrite_marked_groups-requires
-rewrite_marked_groups-requires g c = stocks_grouped c.args.campaign.now.value.regions
-
 pub returns : goal.returns
 returns g c =
     let campaign = c.args.campaign.now in
-    done_as g.S.Store (λ old new did. in_turn_one (RewritesPart campaign) Markets old new (part_rewritten campaign Markets (λ own before after is. is) old new did)) c.rewrite_marked_groups.ensures
+    done_as g.S.Store (λ old new did. in_turn_one (RewritesPart campaign) Markets old new (part_rewritten campaign Markets (λ own before after is. is) old new did)) c.rewrite_stocks.ensures

@@ -1,9 +1,0 @@
-use Rattle.std.proofs.Common.{refl}
-use Rattle.atl_state.proofs.MarkedRegionLaws.{AreRegions-stocks}
-use Rattle.atl_state.proofs.regions.Regions.mark_stocks.Goals as goal
-
-pub invariant_of-self : goal.invariant_of-self
-invariant_of-self c = rw c.mark_present.ensures (AreRegions-stocks c.self.inside.values c.self.inside.rows c.self.inside.stocks c.self.invariant c.args.number)
-
-pub returns : goal.returns
-returns c = rw (← c.self.view_is, c.mark_present.ensures) refl

@@ -1,0 +1,117 @@
+-- Laws on writing single amounts that are dirty: one after another, and one owner after another, until all are written.
+use Rattle.std.proofs.Common.{◌≡◌, ◌&&◌, ◌||◌, ℕ, Bool, true, false, cond, List, [], ◌∷◌, map, is_some, unwrap_or, Some, Less, Equal, Greater, refl, sym, ap, ◌∙◌, inl, inr, true≢false}
+use Rattle.std.specs.List.{list_any}
+use Rattle.std.specs.Ordering.{nat_cmp, is_eq, is_lt, eq_by_cmp}
+use Rattle.std.specs.FinMap.{FinMap, get, empty, entries, find, is_sorted, get-empty, get-entries}
+use Rattle.std.specs.FinMap.Entries.{below_all}
+use Rattle.std.proofs.lemmas.Bool.{cases_Bool, and_parts}
+use Rattle.std.proofs.Math.Bool.{and-false, or-false, and-or_distrib_left}
+use Rattle.sqlite.specs.Effect.{Database}
+use Rattle.sqlite.specs.Order.{Row}
+use Rattle.sqlite.specs.State.{State}
+use Rattle.sqlite.specs.Table.{Table}
+use Rattle.atl_state.specs.Marks.{Things}
+use Rattle.atl_store.specs.Sets.{Set}
+use Rattle.atl_store.specs.Inside.{Inside, HasTables}
+use Rattle.atl_store.specs.Changing.{has_thing}
+use Rattle.atl_store.specs.Rewriting.{FindsByNumbers, Rewrites, is_number, is_among, is_thing, is_of}
+use Rattle.atl_store.proofs.EntryLaws.{in_order}
+use Rattle.atl_store.proofs.RewriteLaws.{Nearing, one_nearer, all_rewritten, tied}
+
+-- ---- the entries of a map
+
+-- a key is among those of the entries exactly if one is found
+listed_key : {V : Type 0} (es : List (ℕ × V)) (t : ℕ) → is_among (map (λ e. e.0) es) t ≡ is_some (find nat_cmp t es)
+listed_key [] t = refl
+listed_key (e ∷ es) t = elim (eq_by_cmp nat_cmp t e.0) as (λ b. (b || is_among (map (λ x. x.0) es) t) ≡ is_some (cond b (Some e.1) (find nat_cmp t es))) [ true ↦ refl | false ↦ listed_key es t ]
+
+-- a smaller number is another
+differs : (k n : ℕ) → is_lt (nat_cmp k n) ≡ true → is_number n k ≡ false
+differs k n less = elim (nat_cmp k n) as (λ o. is_lt o ≡ true → is_eq o ≡ false) [
+  | Less ↦ λ _. refl
+  | Equal ↦ λ never. absurd (true≢false (sym never))
+  | Greater ↦ λ _. refl
+] less
+
+module _ {V : Type 0} where
+  -- whether the owner is this one and the number among those of the entries
+  abbrev pub is_key : ℕ → List (ℕ × V) → ℕ → ℕ → Bool
+  is_key owner es n t = is_number owner n && is_among (map (λ e. e.0) es) t
+
+  -- whether a number is in the map of its owner
+  abbrev pub is_listed : List (ℕ × FinMap nat_cmp V) → ℕ → ℕ → Bool
+  is_listed es n t = list_any (λ e. is_of e.0 e.1 n t) es
+
+  -- no number is listed for an owner below all that are listed
+  not_listed : (es : List (ℕ × FinMap nat_cmp V)) (n t : ℕ) → below_all nat_cmp n es ≡ true → is_listed es n t ≡ false
+  not_listed [] n t below = refl
+  not_listed (e ∷ es) n t below = ap (λ b. b && is_some (get e.1 t) || is_listed es n t) (differs n e.0 (and_parts _ _ below).0) ∙ not_listed es n t (and_parts _ _ below).1
+
+  -- a number is listed exactly if the map under its owner has it
+  listed_thing : (es : List (ℕ × FinMap nat_cmp V)) (n t : ℕ) → is_sorted nat_cmp es ≡ true → is_listed es n t ≡ is_some (get (unwrap_or (find nat_cmp n es) empty) t)
+  listed_thing [] n t sorted = sym (ap is_some (get-empty {X = V} nat_cmp t))
+  listed_thing (e ∷ es) n t sorted = elim (cases_Bool (eq_by_cmp nat_cmp n e.0)) [
+    | inl here ↦
+        ap (λ b. b && is_some (get e.1 t) || is_listed es n t) here ∙ ap (λ b. is_some (get e.1 t) || b) (ap (λ k. is_listed es k t) (tied n e.0 here) ∙ not_listed es e.0 t (and_parts _ _ sorted).0) ∙ or-false (is_some (get e.1 t))
+        ∙ ap (λ b. is_some (get (unwrap_or (cond b (Some e.1) (find nat_cmp n es)) empty) t)) (sym here)
+    | inr other ↦ ap (λ b. b && is_some (get e.1 t) || is_listed es n t) other ∙ listed_thing es n t (and_parts _ _ sorted).1 ∙ ap (λ b. is_some (get (unwrap_or (cond b (Some e.1) (find nat_cmp n es)) empty) t)) (sym other)
+  ]
+
+-- ---- one amount after another, and one owner after another
+
+module _ (table : Table) (Wanted : Set) (finds : (ℕ → ℕ → Bool) → Row → Bool) where
+  -- once the rest of these amounts is rewritten too, all are
+  abbrev pub NearingSingles : (ℕ → ℕ → Bool) → (ℕ → ℕ → Bool) → Database → Database → Type 0
+  NearingSingles rest all = Nearing table Wanted (λ r. finds rest r) (λ r. finds all r)
+
+  -- the rows that the test finds by these numbers become the wanted ones, and all others stay
+  abbrev RewritesFound : (ℕ → ℕ → Bool) → Database → Database → Type 0
+  RewritesFound found = Rewrites table (λ r. finds found r) Wanted
+
+  module _ (by_numbers : FindsByNumbers finds) where
+    -- two tests of numbers that agree find the same rows
+    finds_same : (f g : ℕ → ℕ → Bool) → ((n t : ℕ) → f n t ≡ g n t) → (r : Row) → finds f r ≡ finds g r
+    finds_same f g same r = ap (λ (h : ℕ → ℕ → Bool). finds h r) (λ i n t. same n t i)
+
+    -- no row is found by a test that no number passes
+    finds_none : (f : ℕ → ℕ → Bool) → ((n t : ℕ) → f n t ≡ false) → (r : Row) → finds f r ≡ false
+    finds_none f never r = finds_same f (λ n t. false) never r ∙ by_numbers.none r
+
+    -- one step more is rewritten
+    nearer : (step rest next all : ℕ → ℕ → Bool) → ((n t : ℕ) → rest n t ≡ (step n t || next n t)) → (old mid new : State)
+        → Inside HasTables (NearingSingles rest all) old mid → Inside HasTables (RewritesFound step) mid new → Inside HasTables (NearingSingles next all) old new
+    nearer step rest next all parts = one_nearer table Wanted (λ r. finds step r) (λ r. finds rest r) (λ r. finds next r) (λ r. finds all r)
+        (λ r. finds_same rest (λ n t. step n t || next n t) parts r ∙ by_numbers.either step next r)
+
+    -- with no number left, all are rewritten
+    nearest : (rest all goal : ℕ → ℕ → Bool) → ((n t : ℕ) → rest n t ≡ false) → ((n t : ℕ) → all n t ≡ goal n t) → (old new : State)
+        → Inside HasTables (NearingSingles rest all) old new → Inside HasTables (RewritesFound goal) old new
+    nearest rest all goal none same = all_rewritten table Wanted (λ r. finds rest r) (λ r. finds all r) (λ r. finds goal r) (finds_none rest none) (finds_same all goal same)
+
+    module _ {V : Type 0} where
+      -- one amount more of an owner is rewritten
+      pub single_nearer : (owner : ℕ) (x : ℕ × V) (now rest all : List (ℕ × V)) → now ≡ x ∷ rest → (old mid new : State)
+          → Inside HasTables (NearingSingles (is_key owner now) (is_key owner all)) old mid → Inside HasTables (RewritesFound (is_thing owner x.0)) mid new
+          → Inside HasTables (NearingSingles (is_key owner rest) (is_key owner all)) old new
+      single_nearer owner x now rest all is = nearer (is_thing owner x.0) (is_key owner now) (is_key owner rest) (is_key owner all)
+          (λ n t. ap (λ es. is_key owner es n t) is ∙ and-or_distrib_left (is_number owner n) (is_number x.0 t) (is_among (map (λ e. e.0) rest) t))
+
+      -- with none left, all amounts of the owner are rewritten
+      pub singles_rewritten : (owner : ℕ) (numbers : FinMap nat_cmp V) (rest all : List (ℕ × V)) → rest ≡ [] → all ≡ entries numbers → (old new : State)
+          → Inside HasTables (NearingSingles (is_key owner rest) (is_key owner all)) old new → Inside HasTables (RewritesFound (is_of owner numbers)) old new
+      singles_rewritten owner numbers rest all none is = nearest (is_key owner rest) (is_key owner all) (is_of owner numbers)
+          (λ n t. ap (λ es. is_key owner es n t) none ∙ and-false (is_number owner n))
+          (λ n t. ap (λ es. is_key owner es n t) is ∙ ap (λ b. is_number owner n && b) (listed_key (entries numbers) t ∙ ap is_some (sym (get-entries numbers t))))
+
+      -- the amounts of one owner more are rewritten
+      pub owner_nearer : (x : ℕ × FinMap nat_cmp V) (now rest all : List (ℕ × FinMap nat_cmp V)) → now ≡ x ∷ rest → (old mid new : State)
+          → Inside HasTables (NearingSingles (is_listed now) (is_listed all)) old mid → Inside HasTables (RewritesFound (is_of x.0 x.1)) mid new
+          → Inside HasTables (NearingSingles (is_listed rest) (is_listed all)) old new
+      owner_nearer x now rest all is = nearer (is_of x.0 x.1) (is_listed now) (is_listed rest) (is_listed all) (λ n t. ap (λ es. is_listed es n t) is)
+
+    -- with no owner left, all dirty amounts are rewritten
+    pub owners_rewritten : (things : Things) (rest all : List (ℕ × FinMap nat_cmp (Unit {0}))) → rest ≡ [] → all ≡ entries things → (old new : State)
+        → Inside HasTables (NearingSingles (is_listed rest) (is_listed all)) old new → Inside HasTables (RewritesFound (has_thing things)) old new
+    owners_rewritten things rest all none is = nearest (is_listed rest) (is_listed all) (has_thing things)
+        (λ n t. ap (λ es. is_listed es n t) none)
+        (λ n t. ap (λ es. is_listed es n t) is ∙ listed_thing (entries things) n t (in_order things) ∙ ap (λ o. is_some (get (unwrap_or o empty) t)) (sym (get-entries things n)))

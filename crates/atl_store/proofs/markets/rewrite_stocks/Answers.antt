@@ -1,0 +1,22 @@
+use Rattle.atl_store.specs.Tables.{market_table}
+use Rattle.atl_store.specs.Rows.{MarketRowsOf}
+use Rattle.atl_store.specs.Changing.{begins_marked, has_thing, of_stock}
+use Rattle.atl_store.proofs.MarketLaws.{finds_stocks, stocks_grouped}
+use Rattle.atl_store.proofs.RewriteLaws.{both_rewritten}
+use Rattle.atl_store.proofs.WholeLaws.{then_done}
+use Rattle.atl_store.proofs.WriteLaws.{stops}
+use Rattle.atl_store.proofs.markets.rewrite_stocks.Goals as goal
+
+pub rewrite_marked_groups-requires : goal.rewrite_marked_groups-requires
+rewrite_marked_groups-requires g c = stocks_grouped c.args.campaign.now.value.regions
+
+pub rewrite_singles-requires : goal.rewrite_singles-requires
+rewrite_singles-requires g c = finds_stocks
+
+pub returns : goal.returns
+returns g c =
+    let marks = c.args.campaign.now.marks in
+    then_done g.S.Store (both_rewritten market_table (MarketRowsOf c.args.campaign.now.value.regions) (begins_marked marks.stocks) (of_stock (has_thing marks.stock_items))) c.in_ok-rewrite_marked_groups.ensures c.rewrite_singles.ensures
+
+pub returns-in_err-rewrite_marked_groups : goal.returns-in_err-rewrite_marked_groups
+returns-in_err-rewrite_marked_groups g c = stops g.S.Store c.in_err-rewrite_marked_groups.ensures c.from_residual.ensures

@@ -1,0 +1,84 @@
+//! Writes the marked single amounts of units and regions, row by row.
+ghost use Rattle.std.specs.Prelude.{◌≡◌, ℕ, Bool};
+ghost use Rattle.std.specs.FinMap.{entries};
+ghost use Rattle.sqlite.specs.Order.{Row as SqlRow};
+ghost use Rattle.sqlite.specs.Table.{Table};
+ghost use Rattle.atl_state.specs.Campaign.{CampaignValue};
+ghost use Rattle.atl_state.specs.Marks.{Marks, Things};
+ghost use Rattle.atl_store.specs.OwnStatements.{OfChange};
+ghost use Rattle.atl_store.specs.Writes.{Writes};
+ghost use Rattle.atl_store.specs.Inside.{Inside, HasTables};
+ghost use Rattle.atl_store.specs.Changing.{has_thing};
+ghost use Rattle.atl_store.specs.Rewriting.{FindsByNumbers, Rewrites, is_thing, is_of};
+
+use atl_state::Campaign;
+use atl_tables::{Entries, Numbered};
+use sqlite::{Alter, Error, Transaction};
+
+/// A kind of amounts, each under the number of its owner and its own: of items or days of units, of stocks of regions. Each
+/// has a row where it is not 0, and can be marked alone.
+pub(crate) trait SingleAmounts: Copy {
+    ghost table: { Table };
+
+    ghost wanted: { CampaignValue → SqlRow → Type 0 };
+
+    // The rows of which this is so by the two numbers.
+    ghost finds: { Self → (ℕ → ℕ → Bool) → SqlRow → Bool };
+
+    ghost marks: { Self → Marks → Things };
+
+    /// The single amounts that are marked, by owner and number, in rising order.
+    fn marked_singles(self, campaign: &Campaign) -> Entries<'_, Numbered<()>>
+        ensures { result ≡ entries (marks self campaign.now.marks) };
+
+    /// Puts the row of an amount, or deletes it where the amount is 0.
+    fn rewrite_single<S: Alter>(
+        self,
+        tx: &mut Transaction<'_, S>,
+        campaign: &Campaign,
+        owner: u32,
+        number: u32,
+    ) -> Result<(), Error>
+        ensures { Writes S.Store (OfChange campaign.now.value)
+            (Inside HasTables (Rewrites table (finds self (is_thing owner number))
+            (wanted campaign.now.value))) result tx.old.conn tx.new.conn };
+}
+
+/// Puts or deletes the rows of these amounts of an owner.
+fn rewrite_under<A: SingleAmounts, S: Alter>(
+    tx: &mut Transaction<'_, S>,
+    campaign: &Campaign,
+    amounts: A,
+    owner: u32,
+    numbers: &Numbered<()>,
+) -> Result<(), Error>
+    requires { FindsByNumbers (A.SingleAmounts.finds amounts) }
+    ensures { Writes S.Store (OfChange campaign.now.value)
+        (Inside HasTables (Rewrites A.SingleAmounts.table
+        (A.SingleAmounts.finds amounts (is_of owner numbers.now))
+        (A.SingleAmounts.wanted campaign.now.value))) result tx.old.conn tx.new.conn }
+{
+    for (number, _mark) in numbers.iter() {
+        amounts.rewrite_single(tx, campaign, owner, number)?;
+    }
+    Ok(())
+}
+
+/// Puts or deletes the rows of the single amounts of a kind that are marked.
+pub(crate) fn rewrite_singles<A: SingleAmounts, S: Alter>(
+    tx: &mut Transaction<'_, S>,
+    campaign: &Campaign,
+    amounts: A,
+) -> Result<(), Error>
+    requires { FindsByNumbers (A.SingleAmounts.finds amounts) }
+    ensures { Writes S.Store (OfChange campaign.now.value)
+        (Inside HasTables (Rewrites A.SingleAmounts.table
+        (A.SingleAmounts.finds amounts
+        (has_thing (A.SingleAmounts.marks amounts campaign.now.marks)))
+        (A.SingleAmounts.wanted campaign.now.value))) result tx.old.conn tx.new.conn }
+{
+    for (owner, numbers) in amounts.marked_singles(campaign) {
+        rewrite_under(tx, campaign, amounts, owner, numbers)?;
+    }
+    Ok(())
+}
