@@ -228,29 +228,63 @@ fn add_lists(alloc: Global, text: &mut String, campaign: &Campaign) -> Result<()
     Ok(())
 }
 
-/// Appends the marked items, or skills, of a unit.
-fn add_goods(
+/// Names of single amounts that are marked, and of what has them.
+#[derive(Clone, Copy)]
+struct Singles {
+    amount: &'static str,
+    owner: &'static str,
+}
+
+/// The single amounts, in the order in which their marks are told.
+static SINGLES: [Singles; 3] = [
+    Singles {
+        amount: "item",
+        owner: "unit",
+    },
+    Singles {
+        amount: "skill",
+        owner: "unit",
+    },
+    Singles {
+        amount: "stock",
+        owner: "region",
+    },
+];
+
+/// The single amounts of an index in `SINGLES` that are marked, by owner.
+fn marked_singles(campaign: &Campaign, index: usize) -> Entries<'_, Numbered<()>> {
+    match index {
+        0 => campaign.marked_items(),
+        1 => campaign.marked_skills(),
+        _ => campaign.marked_stock_items(),
+    }
+}
+
+/// Appends the marked single amounts of an owner.
+fn add_singles(
     alloc: Global,
     text: &mut String,
-    name: &str,
-    unit: u32,
-    goods: &Numbered<()>,
+    singles: Singles,
+    owner: u32,
+    numbers: &Numbered<()>,
 ) -> Result<(), Fail> {
-    for (number, _) in goods.iter() {
-        text.push_str(&format!(in alloc; ", {name} {number} of unit {unit}")?)?;
+    let name = singles.amount;
+    let of = singles.owner;
+    for (number, _) in numbers.iter() {
+        text.push_str(&format!(in alloc; ", {name} {number} of {of} {owner}")?)?;
     }
     Ok(())
 }
 
-/// Appends the marked items, or skills, of all units.
-fn add_all_goods(
+/// Appends the marked single amounts of a kind.
+fn add_all_singles(
     alloc: Global,
     text: &mut String,
-    name: &str,
+    singles: Singles,
     marked: Entries<'_, Numbered<()>>,
 ) -> Result<(), Fail> {
-    for (unit, goods) in marked {
-        add_goods(alloc, text, name, unit, goods)?;
+    for (owner, numbers) in marked {
+        add_singles(alloc, text, singles, owner, numbers)?;
     }
     Ok(())
 }
@@ -277,8 +311,9 @@ fn marks_text(alloc: Global, campaign: &Campaign) -> Result<String, Fail> {
     let count = campaign.marks();
     let mut text = format!(in alloc; "{count}")?;
     add_lists(alloc, &mut text, campaign)?;
-    add_all_goods(alloc, &mut text, "item", campaign.marked_items())?;
-    add_all_goods(alloc, &mut text, "skill", campaign.marked_skills())?;
+    for (index, singles) in SINGLES.iter().enumerate() {
+        add_all_singles(alloc, &mut text, *singles, marked_singles(campaign, index))?;
+    }
     add_own(&mut text, campaign)?;
     Ok(text)
 }

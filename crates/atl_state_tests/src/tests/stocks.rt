@@ -12,7 +12,7 @@ const ALL_WOOD: Ask = Ask::Total(Thing::Item(0));
 /// The question how much wood region 1 has in stock.
 const STOCK: Ask = Ask::Stock(1, 0);
 
-/// Steps that set stocks. Setting the same amount marks nothing, an amount of 0 is not listed, and
+/// Steps that set stocks. Each marks that stock alone. Setting the same amount marks nothing, an amount of 0 is not listed, and
 /// without a region nothing changes.
 static WOOD: [Row; 11] = [
     (Step::Unmark, ALL_WOOD, "0", "0"),
@@ -26,14 +26,14 @@ static WOOD: [Row; 11] = [
         Step::Region(1, OfRegion::Stock(0, 25)),
         ALL_WOOD,
         "28",
-        "2, stocks [1], units [1], rows [1], goods [1]",
+        "2, units [1], rows [1], goods [1], stock 0 of region 1",
     ),
     (Step::Unmark, STOCK, "25 of 1", "0"),
     (
         Step::Region(1, OfRegion::Stock(0, 30)),
         STOCK,
         "30 of 1",
-        "1, stocks [1]",
+        "1, stock 0 of region 1",
     ),
     (Step::Unmark, STOCK, "30 of 1", "0"),
     (
@@ -46,7 +46,7 @@ static WOOD: [Row; 11] = [
         Step::Region(1, OfRegion::Stock(0, 0)),
         STOCK,
         "0 of 0",
-        "1, stocks [1]",
+        "1, stock 0 of region 1",
     ),
     (Step::Unmark, STOCK, "0 of 0", "0"),
     (

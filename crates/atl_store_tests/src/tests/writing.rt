@@ -178,10 +178,10 @@ load";
     play_new(&rt, rt.alloc(), script)
 }
 
-/// One stock is sold out, and another is less. In region 3 the peasants change and a stock is set to what it is: its row of the market
-/// stays as it was changed by hand.
+/// All stocks are changed by hand. One is set to less, and then sold out. Another of its region, and one
+/// that is set to what it is, keep what they were changed to.
 #[test]
-fn stocks_of_marked_regions_are_written(rt: HostRuntime) -> Result<(), Fail> {
+fn only_changed_stocks_are_written(rt: HostRuntime) -> Result<(), Fail> {
     let script = "create isle with markets
 SELECT count(*) FROM market -> 0
 load
@@ -193,16 +193,20 @@ SELECT count(*) FROM market -> 3
 SELECT stock FROM market WHERE region = 1 AND item = 0 -> 12
 SELECT stock FROM market WHERE region = 1 AND item = 1 -> 5
 SELECT stock FROM market WHERE region = 3 AND item = 1 -> 4
-sql UPDATE market SET stock = 2 WHERE region = 3
-set stock 1 0 0
-set stock 1 1 3
+sql UPDATE market SET stock = 2
+set stock 1 0 7
 set peasants 3 77
 set stock 3 1 4
 write
 SELECT peasants FROM region WHERE number = 3 -> 77
+SELECT count(*) FROM market -> 3
+SELECT stock FROM market WHERE region = 1 AND item = 0 -> 7
+SELECT stock FROM market WHERE region = 1 AND item = 1 -> 2
+SELECT stock FROM market WHERE region = 3 AND item = 1 -> 2
+set stock 1 0 0
+write
 SELECT count(*) FROM market -> 2
-SELECT stock FROM market WHERE region = 1 AND item = 1 -> 3
-SELECT stock FROM market WHERE region = 3 AND item = 1 -> 2";
+SELECT stock FROM market WHERE region = 1 AND item = 1 -> 2";
     play_new(&rt, rt.alloc(), script)
 }
 
