@@ -6,7 +6,7 @@ use Rattle.std.specs.Cmp.{nat_cmp_total}
 use Rattle.std.specs.FinMap.{FinMap, get, get-empty, get-insert, insert, remove, len, empty}
 use Rattle.std.specs.FinSet as set
 use Rattle.std.proofs.lemmas.Bool.{false≢true}
-use Rattle.atl_tables.specs.RoomySets.{RoomySet, HasRoom}
+use Rattle.atl_tables.specs.RoomySets.{RoomySet, HasRoomForMarks}
 use Rattle.atl_tables.proofs.GeneralLaws.{one_more}
 use Rattle.atl_tables.proofs.TrackLaws.{Room-empty, Room-of, Room-unmarked, Room-lent, Room-over, Room-inserted, Room-without, fits-inserted}
 use Rattle.atl_records.specs.declared.records.Unit.{Unit}
@@ -190,7 +190,7 @@ pub fits-new : (units : FinMap nat_cmp Unit) (marks more : RoomySet) (n : ℕ) (
 fits-new units marks more n w h = fits-inserted units more.numbers more.room n w (room_inserted units marks more n w h)
 
 -- a wider dirty set has room for all units once a new one is marked
-HasRoom-added : (units : FinMap nat_cmp Unit) (marks more : RoomySet) (n : ℕ) (w : Unit) → IsWider units marks more → HasRoom (insert units n w) (marking more n)
+HasRoom-added : (units : FinMap nat_cmp Unit) (marks more : RoomySet) (n : ℕ) (w : Unit) → IsWider units marks more → HasRoomForMarks (insert units n w) (marking more n)
 HasRoom-added units marks more n w h = Room-inserted units more.numbers more.room n w (room_inserted units marks more n w h)
 
 -- there is still room once a new unit is added and marked in wider dirty sets

@@ -1,4 +1,4 @@
--- For proofs alone: what becomes of the regions after a write through the one that is lent.
+-- For proofs alone: what the regions are after a write through a region that they lend.
 use Rattle.std.specs.Prelude.{ℕ, Option}
 use Rattle.std.specs.FinMap as map
 use Rattle.std.specs.Borrow.{LendsIf, MutBor, Fml}
@@ -7,6 +7,6 @@ use Rattle.atl_records.specs.contracts.records.Region as region
 use Rattle.atl_state.specs.contracts.regions.Regions.{the_row}
 use Rattle.atl_state.specs.Regions.{MarkedRegions}
 
--- r ends with the last value behind q under the number, or as it was
+-- the regions end with the last value written through the lent region under its number, or unchanged if none is there
 abbrev pub LendsRegion : MutBor MarkedRegions → ℕ → Option (MutBor Region) → Fml
 LendsRegion r n q = LendsIf the_row region.the_row r q (λ w. record r.now { values = map.insert r.now.values n w }) r.now

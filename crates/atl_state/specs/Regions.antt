@@ -1,10 +1,10 @@
--- What a campaign sees of its regions: by their numbers, with the regions whose rows are marked, and with marks on their stocks.
+-- The regions of a campaign as clauses see them: by their numbers, with the marks on their rows and stocks.
 use Rattle.std.specs.Prelude.{◌≡◌, ◌⊎◌, ◌==◌, ℕ, Option, None, refl, if◌then◌else◌}
 use Rattle.std.specs.Ordering.{nat_cmp}
 use Rattle.std.specs.Coded.{Coded, code_by, coded×, coded_ℕ}
 use Rattle.std.specs.FinMap as map
 use Rattle.std.specs.FinSet as set
-use Rattle.atl_tables.specs.RoomySets.{RoomySet, HasRoom}
+use Rattle.atl_tables.specs.RoomySets.{RoomySet, HasRoomForMarks}
 use Rattle.atl_tables.specs.Sums.{changed}
 use Rattle.atl_tables.specs.Tracking.{marked_with}
 use Rattle.atl_records.specs.Holdings.{with_amount_of}
@@ -42,30 +42,34 @@ with_region_row f r n = record r { values = changed f r.values n; rows = marked_
 abbrev pub with_stock_at : map.FinMap nat_cmp Region → (region item : ℕ) → ℕ → map.FinMap nat_cmp Region
 with_stock_at values n item amount = changed (λ r. record r { stocks = with_amount_of r.stocks item amount }) values n
 
+-- the regions with the mark of one stock of a region, if it is there
+abbrev pub with_item_marked_in : MarkedRegions → (region item : ℕ) → Option Region → MarkedRegions
+with_item_marked_in r n item region = record r { markets = marked_with r.markets n region; items = thing_marked r.items n item region }
+
+-- the regions with the mark of all stocks of a region, if it is there
+abbrev pub with_items_marked_in : MarkedRegions → (region : ℕ) → Option Region → MarkedRegions
+with_items_marked_in r n region = record r { markets = marked_with r.markets n region; stocks = marked_with r.stocks n region }
+
+-- the same of the region under the number
+abbrev pub with_item_marked : MarkedRegions → (region item : ℕ) → MarkedRegions
+with_item_marked r n item = with_item_marked_in r n item (map.get r.values n)
+
+abbrev pub with_items_marked : MarkedRegions → (region : ℕ) → MarkedRegions
+with_items_marked r n = with_items_marked_in r n (map.get r.values n)
+
 -- the region under a number, if it has another amount of an item than this
 abbrev pub region_to_restock : map.FinMap nat_cmp Region → (region item : ℕ) → ℕ → Option Region
 region_to_restock values n item amount = if stock_in values n item == amount then None else map.get values n
 
--- the regions with the mark of one stock, if it is to become another amount
-abbrev pub with_stock_marked : MarkedRegions → (region item : ℕ) → ℕ → MarkedRegions
-with_stock_marked r n item amount =
-    let region = region_to_restock r.values n item amount in
-    record r { markets = marked_with r.markets n region; items = thing_marked r.items n item region }
-
--- the regions with the mark of all stocks of a region, if this one is to become another amount
-abbrev pub with_stocks_marked : MarkedRegions → (region item : ℕ) → ℕ → MarkedRegions
-with_stocks_marked r n item amount =
-    let region = region_to_restock r.values n item amount in
-    record r { markets = marked_with r.markets n region; stocks = marked_with r.stocks n region }
-
--- a stock that is to become another amount is marked, alone or with all stocks of its region, and nothing else is
+-- A stock that is to become another amount is marked, alone or with all stocks of its region, and nothing else is.
 abbrev pub MarksStockAt : (before after : MarkedRegions) → (region item : ℕ) → ℕ → Type 0
 MarksStockAt before after n item amount =
-    (after ≡ record (with_stock_marked before n item amount) { values = after.values }) ⊎ (after ≡ record (with_stocks_marked before n item amount) { values = after.values })
+    let region = region_to_restock before.values n item amount in
+    (after ≡ record (with_item_marked_in before n item region) { values = after.values }) ⊎ (after ≡ record (with_items_marked_in before n region) { values = after.values })
 
 -- For proofs alone: there is room to mark each region's row and its stocks, and a marked stock has its region marked.
 pub record AreRegions (regions : map.FinMap nat_cmp Region) (rows markets stocks : RoomySet) (items : Things) : Type 0 where
   pub within : AreStocksWithin markets.numbers stocks.numbers items
-  pub rows_fit : HasRoom regions rows
-  pub markets_fit : HasRoom regions markets
-  pub stocks_fit : HasRoom regions stocks
+  pub rows_fit : HasRoomForMarks regions rows
+  pub markets_fit : HasRoomForMarks regions markets
+  pub stocks_fit : HasRoomForMarks regions stocks

@@ -4,8 +4,8 @@ ghost use Rattle.std.specs.FinMap as map;
 ghost use Rattle.std.specs.FinSet as set;
 ghost use Rattle.atl_tables.specs.Limits.{number_count};
 ghost use Rattle.atl_tables.specs.Tracking.{Lists, marked_with};
-ghost use Rattle.atl_state.specs.Marks.{AreStocksWithin, thing_marked};
-ghost use Rattle.atl_state.specs.Regions.{MarksStockAt, unmarked_regions, with_region_row, with_stock_at};
+ghost use Rattle.atl_state.specs.Marks.{AreStocksWithin};
+ghost use Rattle.atl_state.specs.Regions.{MarksStockAt, unmarked_regions, with_item_marked, with_items_marked, with_region_row, with_stock_at};
 ghost use Rattle.atl_state.specs.Stocks.{stock_in};
 
 use atl_records::{Region, put_amount};
@@ -13,11 +13,12 @@ use atl_tables::{Entries, MarkedNumbers, Marks, Numbered, let_go};
 use std::alloc::{AllocError, Global};
 use std::marker::Model;
 
-/// The regions by their numbers. Of each its row, all of its stocks, or single stocks can be marked, each for itself.
+/// The regions by their numbers. The row of each, all of its stocks, and single stocks can be marked,
+/// each for itself.
 pub(crate) struct Regions {
     values: Numbered<Region>,
-    // The regions whose rows are marked, those of which a stock is, and those all of whose stocks are, each with room for
-    // every region.
+    // The regions whose rows are marked, those of which a stock is, and those all of whose stocks
+    // are, each with room for every region.
     rows: Marks,
     markets: Marks,
     stocks: Marks,
@@ -61,7 +62,7 @@ impl Regions {
         }
     }
 
-    /// These regions, with nothing marked.
+    /// These regions, with nothing marked. AllocError if there is no memory for their marks.
     pub(crate) fn of(alloc: Global, values: Numbered<Region>) -> Result<Regions, AllocError>
         ensures { IfOk result (λ regions. regions ≡ unmarked_regions values) }
     {
@@ -77,6 +78,7 @@ impl Regions {
         })
     }
 
+    /// The region under a number, where there is one.
     pub(crate) fn get(&self, number: u32) -> Option<&Region>
         ensures { option_copied result ≡ map.get self.now.values number }
     {
@@ -90,6 +92,7 @@ impl Regions {
         self.values.iter()
     }
 
+    /// How many regions there are.
     pub(crate) fn len(&self) -> usize
         ensures { result ≡ map.len self.now.values }
     {
@@ -157,16 +160,8 @@ impl Regions {
 
     /// Marks one stock of a region, or all of them where there is no memory for that mark.
     fn mark_item(&mut self, alloc: Global, number: u32, item: u32)
-        ensures { (self.new ≡ record self.old
-            {
-              markets = marked_with self.old.markets number (map.get self.old.values number);
-              items = thing_marked self.old.items number item (map.get self.old.values number);
-            })
-            ⊎ (self.new ≡ record self.old
-            {
-              markets = marked_with self.old.markets number (map.get self.old.values number);
-              stocks = marked_with self.old.stocks number (map.get self.old.values number);
-            }) }
+        ensures { (self.new ≡ with_item_marked self.old number item) ⊎ (self.new
+            ≡ with_items_marked self.old number) }
     {
         match self.values.get(number) {
             Some(_) => {}
@@ -180,9 +175,9 @@ impl Regions {
         self.stocks.mark_present(&self.values, number);
     }
 
-    /// Marks one stock of a region, if it has another amount of the item than this, or all of them where there is no memory for
-    /// that mark.
-    fn mark_stock(&mut self, alloc: Global, number: u32, item: u32, amount: u32)
+    /// Marks one stock of a region, if it has another amount of the item than this, or all of them
+    /// where there is no memory for that mark.
+    pub(crate) fn mark_stock(&mut self, alloc: Global, number: u32, item: u32, amount: u32)
         ensures marks { MarksStockAt self.old self.new number item amount }
         ensures values { self.new.values ≡ self.old.values }
     {
@@ -212,39 +207,19 @@ impl Regions {
         }
     }
 
-    /// Sets how many pieces of an item a region has in stock, and marks nothing. An amount of 0 takes no memory. Without
-    /// memory nothing changes.
-    fn put_stock(&mut self, number: u32, item: u32, amount: u32) -> Result<(), AllocError>
+    /// Sets how many pieces of an item a region has in stock, and marks nothing. An amount of 0 takes
+    /// no memory. Without memory nothing changes.
+    pub(crate) fn put_stock(&mut self, region: u32, item: u32, stock: u32) -> Result<(), AllocError>
         ensures ok { OnOk result
-            (self.new.values ≡ with_stock_at self.old.values number item amount) }
+            (self.new.values ≡ with_stock_at self.old.values region item stock) }
         ensures err { OnErr result (self.new.values ≡ self.old.values) }
-        ensures none { amount ≡ 0 → IsOk result }
+        ensures none { stock ≡ 0 → IsOk result }
         ensures marks { self.new ≡ record self.old { values = self.new.values } }
     {
-        let Some(region) = self.lend(number) else {
+        let Some(lent) = self.lend(region) else {
             return Ok(());
         };
-        put_amount(&mut region.stocks, item, amount)
-    }
-
-    /// Sets how many pieces of an item a region has in stock. If it had another amount, that stock is marked alone, or all of
-    /// the region's where there is no memory for that mark. An amount of 0 needs no memory. Without memory the regions are as
-    /// they were, but for that mark.
-    pub(crate) fn set_stock(
-        &mut self,
-        alloc: Global,
-        number: u32,
-        item: u32,
-        amount: u32,
-    ) -> Result<(), AllocError>
-        ensures ok { OnOk result
-            (self.new.values ≡ with_stock_at self.old.values number item amount) }
-        ensures err { OnErr result (self.new.values ≡ self.old.values) }
-        ensures none { amount ≡ 0 → IsOk result }
-        ensures marks { MarksStockAt self.old self.new number item amount }
-    {
-        self.mark_stock(alloc, number, item, amount);
-        self.put_stock(number, item, amount)
+        put_amount(&mut lent.stocks, item, stock)
     }
 
     /// Leaves nothing marked. It takes no memory.

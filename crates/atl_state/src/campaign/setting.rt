@@ -72,7 +72,8 @@ impl Campaign {
         ensures none { amount ≡ 0 → IsOk result }
         ensures marks { MarksStock self.old region item amount self.new.marks }
     {
-        self.regions.set_stock(self.alloc, region, item, amount)
+        self.regions.mark_stock(self.alloc, region, item, amount);
+        self.regions.put_stock(region, item, amount)
     }
 
     /// Sets the name of a unit, and marks its row; its goods stay unmarked.

@@ -5,6 +5,6 @@ use Rattle.atl_state.proofs.regions.Regions.put_stock.Goals as goal
 
 pub returns-clause-err : goal.returns-clause-err
 returns-clause-err c =
-    let region = c.in-Some.region.now in
+    let region = c.in-Some.lent.now in
     let same = on_err_weaker c.put_amount.result (ap (λ stocks. record region { stocks = stocks })) c.put_amount.ensures.err in
-    put_same_err c.put_amount.result c.args.self.now.values c.args.number region (record region { stocks = c.put_amount.new.amounts }) (sym c.in-Some.ensures.value) same
+    put_same_err c.put_amount.result c.args.self.now.values c.args.region region (record region { stocks = c.put_amount.new.amounts }) (sym c.in-Some.ensures.value) same
