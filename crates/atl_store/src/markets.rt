@@ -8,7 +8,7 @@ ghost use Rattle.atl_store.specs.Lines.{region_lines, all_stocks_lines};
 ghost use Rattle.atl_store.specs.OwnStatements.{OfChange};
 ghost use Rattle.atl_store.specs.Writes.{Writes, WritesRows};
 ghost use Rattle.atl_store.specs.Inside.{Inside, HasTables};
-ghost use Rattle.atl_store.specs.Rewriting.{RewritesStock, RewritesStocks, is_thing};
+ghost use Rattle.atl_store.specs.Rewriting.{RewritesStocks};
 
 use crate::amounts::{AmountWriter, put_amounts};
 use crate::grouped::{Grouped, rewrite_marked_groups};
@@ -97,25 +97,7 @@ impl Grouped for Region {
     }
 }
 
-/// Puts the row of a stock, or deletes it where the region has none of the item.
-fn rewrite_stock<S: Alter>(
-    tx: &mut Transaction<'_, S>,
-    campaign: &Campaign,
-    region: u32,
-    item: u32,
-) -> Result<(), Error>
-    ensures { Writes S.Store (OfChange campaign.now.value)
-        (Inside HasTables (RewritesStock campaign.now.value (is_thing region item))) result
-        tx.old.conn tx.new.conn }
-{
-    let stock = campaign.stock(region, item);
-    if stock == 0 {
-        return drop_stock(tx, region, item);
-    }
-    put_stock(tx, region, item, stock)
-}
-
-/// The stocks of regions, by region and item.
+/// The stocks of regions, each under its region and item.
 #[derive(Clone, Copy)]
 struct SingleStocks;
 
@@ -139,7 +121,11 @@ impl SingleAmounts for SingleStocks {
         owner: u32,
         number: u32,
     ) -> Result<(), Error> {
-        rewrite_stock(tx, campaign, owner, number)
+        let stock = campaign.stock(owner, number);
+        if stock == 0 {
+            return drop_stock(tx, owner, number);
+        }
+        put_stock(tx, owner, number, stock)
     }
 }
 

@@ -1,0 +1,19 @@
+use Rattle.std.proofs.Common.{refl}
+use Rattle.atl_store.specs.Tables.{Markets}
+use Rattle.atl_store.specs.OwnStatements.{changes_row, puts_row, drops_row}
+use Rattle.atl_store.proofs.MarketLaws.{had_stock, no_stock, stock_put, stock_dropped}
+use Rattle.atl_store.proofs.WriteLaws.{weaker, among_only}
+use Rattle.atl_store.proofs.markets.SingleStocksSingleAmounts.rewrite_single.Goals as goal
+
+pub returns : goal.returns
+returns g c =
+    let campaign = c.args.campaign.now.value in
+    let stock = c.stock-stock in
+    weaker g.S.Store (stock_put c.args.owner c.args.number campaign stock.result stock.ensures c.if-stock-eq0.false)
+    (among_only g.S.Store _ _ (changes_row (puts_row Markets (λ own. had_stock campaign.regions c.args.owner c.args.number stock.result stock.ensures c.if-stock-eq0.false))) c.put_stock.ensures)
+
+pub returns-then-stock-eq0 : goal.returns-then-stock-eq0
+returns-then-stock-eq0 g c =
+    let stock = c.stock-stock in
+    weaker g.S.Store (stock_dropped c.args.owner c.args.number c.args.campaign.now.value stock.result stock.ensures c.if-stock-eq0.true)
+    (among_only g.S.Store _ _ (drops_row Markets (refl, λ own. no_stock c.args.owner c.args.number c.args.campaign.now.value stock.result stock.ensures c.if-stock-eq0.true)) c.drop_stock.ensures)
