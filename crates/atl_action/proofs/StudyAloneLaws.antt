@@ -109,7 +109,7 @@ module _ (w : WorldValue) (taught : TaughtMen) (n : ℕ) (u : Unit) where
       by_said (operands.Skill s) x = study_cases (λ b. b.structures ≡ d.structures) w (taught t.unit) d t.unit s x refl (λ days payable most. refl)
       by_said other x = tt
 
-  -- an order that is another's leaves unit n as it was
+  -- an order of STUDY that isn't for unit n from its own faction leaves unit n as it was
   one_stays : (d : CampaignValue) (l : MonthValue) (t : Task) (v : Unit) → get d.units n ≡ Some v → v.faction ≡ u.faction → IsOther t → get (step (d, l) t).0.units n ≡ Some v
   one_stays d l t v there own other = ordered_cases (λ b. get b.units n ≡ Some v) (study_step taught w l.aliases t) d t there (λ x its. by_said t.order_value.operands x its)
     where
@@ -123,7 +123,7 @@ module _ (w : WorldValue) (taught : TaughtMen) (n : ℕ) (u : Unit) where
           ]
       by_said o x its = tt
 
-  -- orders that are others' leave unit n as it was
+  -- orders of STUDY, none for unit n from its own faction, leave unit n as it was
   all_stay : (ts : List Task) (p : CampaignValue × MonthValue) (v : Unit) → get p.0.units n ≡ Some v → v.faction ≡ u.faction → AllByRecursion IsOther ts → get (fold step p ts).0.units n ≡ Some v
   all_stay [] p v there own others = there
   all_stay (t ∷ ts) p v there own others = all_stay ts (step p t) v (one_stays p.0 p.1 t v there own others.0) own others.1
@@ -132,6 +132,7 @@ module _ (w : WorldValue) (taught : TaughtMen) (n : ℕ) (u : Unit) where
     studies : Studies order
     studies = ap (λ (o : OrderValue). is_studying o.verb) says
 
+    -- an order of STUDY that shares no slot with the unit's own order isn't for the unit from its faction
     apart : (t : Task) → share_slot t order ≡ false → Studies t → IsOther t
     apart t never other unit faction = both_own t order never other studies (unit ∙ sym for_unit) (faction ∙ sym own)
 
@@ -145,6 +146,7 @@ module _ (w : WorldValue) (taught : TaughtMen) (n : ℕ) (u : Unit) where
     abbrev deed : OrderEffect
     deed = study w (taught n) n skill
 
+    -- the unit's own order makes of a campaign what its effect makes of it
     own_study : (d : CampaignValue) (l : MonthValue) → get d.units n ≡ Some u → (step (d, l) order).0 ≡ (deed d u).0
     own_study d l there =
         ap (λ (o : OrderValue). (order_result (study_effect w taught order.unit o.operands) d order.faction order.unit).0) says

@@ -86,6 +86,7 @@ impl PhaseVerbs for MovePhase {
     }
 }
 
+/// Walks a unit in a direction by MOVE. An order with other operands is passed over.
 impl OrderPhase for MovePhase {
     ghost step = { λ _. walk_step };
 

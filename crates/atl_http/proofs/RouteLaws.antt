@@ -202,7 +202,7 @@ join_by q false e = nowhere (letter_first 106 q ∙ first_behind (codes "oin") j
 leads_join : (q : List ℕ) → Leads (47 ∷ 106 ∷ q)
 leads_join q = join_by q (bytes_eq q (codes "oin")) refl
 
--- paths whose letter after the slash begins no route lead nowhere
+-- where paths lead whose letter after the slash begins no route: nowhere
 leads_other : (c : ℕ) (q : List ℕ) → (c == 99) ≡ false → (c == 106) ≡ false → (c == 111) ≡ false → (c == 114) ≡ false → Leads (47 ∷ c ∷ q)
 unfolding route_of
 leads_other c q one two three four =
@@ -212,24 +212,28 @@ leads_other c q one two three four =
     let first_four : (114 == c) ≡ false = grind (arith, nat_tests) in
     nowhere (letter_first c q ∙ rw (first_one, first_two, first_three, first_four) (seek-empty 0 q)) (rw (one, two, three, four) refl)
 
+-- where paths lead with no `c`, `j` or `o` after the slash, if it is known whether it is `r`
 letter_report : (c : ℕ) (q : List ℕ) → (c == 99) ≡ false → (c == 106) ≡ false → (c == 111) ≡ false → (t : Bool) → (c == 114) ≡ t → Leads (47 ∷ c ∷ q)
 letter_report c q one two three true e =
     let same : 114 ≡ c = grind (arith, nat_tests) in
     subst (λ x. Leads (47 ∷ x ∷ q)) same (leads_report q)
 letter_report c q one two three false e = leads_other c q one two three e
 
+-- where paths lead with no `c` or `j` after the slash, if it is known whether it is `o`
 letter_orders : (c : ℕ) (q : List ℕ) → (c == 99) ≡ false → (c == 106) ≡ false → (t : Bool) → (c == 111) ≡ t → Leads (47 ∷ c ∷ q)
 letter_orders c q one two true e =
     let same : 111 ≡ c = grind (arith, nat_tests) in
     subst (λ x. Leads (47 ∷ x ∷ q)) same (leads_orders q)
 letter_orders c q one two false e = letter_report c q one two e (c == 114) refl
 
+-- where paths lead with no `c` after the slash, if it is known whether it is `j`
 letter_join : (c : ℕ) (q : List ℕ) → (c == 99) ≡ false → (t : Bool) → (c == 106) ≡ t → Leads (47 ∷ c ∷ q)
 letter_join c q one true e =
     let same : 106 ≡ c = grind (arith, nat_tests) in
     subst (λ x. Leads (47 ∷ x ∷ q)) same (leads_join q)
 letter_join c q one false e = letter_orders c q one e (c == 111) refl
 
+-- where paths lead with a letter after the slash, if it is known whether it is `c`
 letter_close : (c : ℕ) (q : List ℕ) (t : Bool) → (c == 99) ≡ t → Leads (47 ∷ c ∷ q)
 letter_close c q true e =
     let same : 99 ≡ c = grind (arith, nat_tests) in

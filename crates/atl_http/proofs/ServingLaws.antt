@@ -1,4 +1,4 @@
--- Laws on replies: the message for a refused request, and for an answered one, fulfils `RepliesWith`.
+-- Laws on replies: the message for a problem, or for the answer of a command that was run, replies to the request.
 use Rattle.std.proofs.Common.{◌≡◌, refl, sym, subst, inl, inr}
 use Rattle.std.specs.Prelude.{Result, Ok, Err, IfOk}
 use Rattle.std.specs.declared.alloc.AllocError.{AllocError}

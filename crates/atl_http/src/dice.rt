@@ -10,14 +10,16 @@ use std::alloc::{AllocError, Global};
 /// month's.
 const JOINING_STREAMS: u64 = 10_000;
 
-/// Dice, by the seed that a club chose. The same seed gives the same words. See docs/FORMATS.md, "Dice".
+/// Dice, by the seed that a club chose. The same seed gives the same words.
+/// See docs/FORMATS.md, "Dice".
 #[derive(Clone, Copy, Debug)]
 pub struct Dice {
     pub seed: u64,
 }
 
 impl Dice {
-    /// The word of the faction of this number, which picks the region where it begins. See docs/FORMATS.md, "Dice".
+    /// The word of the faction of this number, which picks the region where it begins.
+    /// See docs/FORMATS.md, "Dice".
     #[tactic(auto, unfolding(crate::specs::Dice::generator, crate::specs::Dice::word_of, crate::specs::Dice::joining_streams))]
     pub fn join_word(self, faction: u32) -> u32
         ensures definition { result ≡ word_of (generator self.seed (joining_streams + faction)) }
@@ -25,7 +27,8 @@ impl Dice {
         Lcg64Xsh32::new(self.seed, JOINING_STREAMS + u64::from(faction)).next_word()
     }
 
-    /// The first `count` words of the month of this number, one for each region. AllocError without memory for them. See
+    /// The first `count` words of the month of this number, one for each region. AllocError without
+    /// memory for them. See
     /// docs/FORMATS.md, "Dice".
     #[tactic(auto, unfolding(crate::specs::Dice::generator, crate::specs::Dice::first_words))]
     pub fn month_words(

@@ -107,7 +107,8 @@ every_set : (f : ℕ → ℕ → ℕ) (es : List (ℕ × ℕ)) (left : FinMap na
 every_set f [] left old = old
 every_set f (e ∷ es) left old = every_set f es (with_amount_of left e.0 (f e.0 e.1)) (every_amount (λ s d. 1 ≤ d) left e.0 (f e.0 e.1) (λ some. some) old)
 
--- days set one by one over `had` are the map `said`, if the days of each skill are the same in both
+-- setting, over `had`, each skill of `days` to `f` of its days gives `said`, if `said` has `f` of each skill's days,
+-- and `had` has it where these are 0
 set_as_said : (days had said : FinMap nat_cmp ℕ) (f : ℕ → ℕ → ℕ) → Every (λ s d. 1 ≤ d) had → Every (λ s d. 1 ≤ d) said
     → ((s : ℕ) → amount_of days s ≡ 0 → amount_of had s ≡ f s 0) → ((s : ℕ) → f s (amount_of days s) ≡ amount_of said s)
     → with_days had (map (λ e. (e.0, f e.0 e.1)) (entries days)) ≡ said

@@ -1,4 +1,4 @@
--- Steps and phases in turn: what they leave, and the room that they need in the books.
+-- Laws of phases and steps in turn: what holds after them, how far they move the books, and what room that needs.
 use Rattle.std.proofs.Common.{◌≡◌, ℕ, ◌+◌, ◌*◌, ◌≤◌, List, [], ◌∷◌, length, refl, sym, ap, subst, ◌∙◌, arith}
 use Rattle.std.specs.Prelude.{ℤ, fold}
 use Rattle.std.specs.Ordering.{nat_cmp}

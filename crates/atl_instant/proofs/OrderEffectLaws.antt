@@ -77,7 +77,7 @@ well_twice {holds} {reserve} w a b c one two = record {
   drawn = λ e t. drawn_twice (reserve a e t) (reserve b e t) (reserve c e t) (amount_in a.books e t) (amount_in b.books e t) (amount_in c.books e t) (one.drawn e t) (two.drawn e t);
 }
 
--- after a step there is room for what is left of the remaining bound
+-- if the books have room for the remaining bound before a step, they have room for the remaining bound after it
 pub room_left : {holds : Condition} {reserve : RemainingBound} (w : WorldValue) (a b : CampaignValue) → StepsWell holds reserve w a b → HaveRoom (reserve a) a → HaveRoom (reserve b) b
 room_left {holds} {reserve} w a b well room e t = room_drawn (reserve a e t) (reserve b e t) (amount_in a.books e t) (amount_in b.books e t) (well.drawn e t) (room e t)
 

@@ -62,7 +62,7 @@ listed_orders P a ts all =
 -- ---- the orders of a mailing
 
 module _ (aliases : Aliases) (readings : FinMap nat_cmp Reading) where
-  -- each order of these entries of a faction's mailing is an entry there
+  -- of the entries of a faction's mailing from an index on, each order that passes a test is in that mailing
   in_mailing : (p : Task → Bool) (f : ℕ) (r : Reading) → get readings f ≡ Some r → (place : ℕ) (es : List EntryValue) → ((j : ℕ) (e : EntryValue) → slice_get es j ≡ Some e → slice_get r.entries (place + j) ≡ Some e) →
       AllByRecursion (IsInMailing aliases readings) (filter p (tasks_from aliases f place es))
   in_mailing p f r h place [] whole = tt
@@ -91,6 +91,7 @@ module _ (aliases : Aliases) (readings : FinMap nat_cmp Reading) where
       append_each (IsInMailing aliases readings) (tasks_for is_of (tasks_of aliases e.0 e.1)) (flat_map (λ e. tasks_for is_of (tasks_of aliases e.0 e.1)) es)
       (in_mailing _ e.0 e.1 h.0 0 e.1.entries (λ j x is. let at : j ≡ 0 + j = omega arith in subst (λ n. slice_get e.1.entries n ≡ Some x) at is)) (in_mailings is_of es h.1)
 
+-- each order of a phase is an entry of the mailing of its faction
 pub orders_are_in_mailings : OrdersAreInMailings
 orders_are_in_mailings is_of a aliases readings =
     let P = IsInMailing aliases readings in

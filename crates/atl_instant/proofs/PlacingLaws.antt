@@ -1,4 +1,4 @@
--- A campaign in which a unit goes from one structure to another of its region, or to none, stays well.
+-- Where a unit goes from one structure to another of its region, or to none, invariants, totals and other units stay.
 use Rattle.std.proofs.Common.{◌≡◌, ◌≢◌, ◌==◌, ◌&&◌, ℕ, ◌≤◌, Bool, true, false, Option, Some, None, refl, sym, ap, subst, ◌∙◌, arith}
 use Rattle.std.proofs.lemmas.Bool.{true≢false}
 use Rattle.std.proofs.lemmas.Option.{same_Some}

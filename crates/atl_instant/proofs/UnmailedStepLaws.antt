@@ -53,6 +53,7 @@ form_told : (p : CampaignValue × MonthValue) (ts : List Task) (n : ℕ) → sta
 form_told p [] n = refl
 form_told p (t ∷ ts) n = form_told (form_order p t) ts n ∙ told_of_order p.1.events t (form_by p.0 t.faction t.unit).1 n
 
+-- the phase of FORM leaves units of factions without a mailing what is theirs (`LeavesUnmailed`)
 pub form_leaves : LeavesUnmailed form_meaning form_keeps
 unfolding form_meaning
 form_leaves =
@@ -85,9 +86,11 @@ name_men w c f n x (operands.Name what name) = others_men f c (naming w n what n
 name_men w c f n x (operands.Flag false) = others_men f c (with_guard c n false) (guard_men c n false)
 name_men w c f n x other = tt
 
+-- each step of NAME or GUARD 0 leaves units of other factions than the order's their men
 name_spares : SparesMen name_step
 name_spares w a c t x own = name_men w c t.faction t.unit x t.order_value.operands
 
+-- the phase of NAME and GUARD 0 leaves units of factions without a mailing what is theirs (`LeavesUnmailed`)
 pub name_leaves : PhaseLeavesUnmailed name_spec
 name_leaves = carried_leaves name_step is_naming name_spares (unmailed_spared {concerns = name_concerns} is_naming (λ t n f h. own_faction t n f h.0) items_of_no_worse)
 
@@ -134,9 +137,11 @@ places_men w a c f n x (operands.Unit to) =
     others_men f c (promote n (unit_of a f to) c x).0 (men_unless c owned (Done 0) (promote_fault c n (unit_of a f to) x) (men_same c owned refl))
 places_men w a c f n x other = tt
 
+-- each step of LEAVE, ENTER or PROMOTE leaves units of other factions than the order's their men
 place_spares : SparesMen place_step
 place_spares w a c t x own = places_men w a c t.faction t.unit x t.order_value.operands
 
+-- the phase of LEAVE, ENTER and PROMOTE leaves units of factions without a mailing what is theirs (`LeavesUnmailed`)
 pub place_leaves : PhaseLeavesUnmailed place_spec
 place_leaves = carried_leaves place_step is_placing place_spares (unmailed_spared is_placing own_faction items_of_no_worse)
 
@@ -169,9 +174,11 @@ given_men a c f from x here (operands.UnitAndGoods to n item) = others_men f c (
 given_men a c f from x here (operands.UnitAndNumber to n) = others_men f c (give from (unit_of a f to) Money n c x).0 (give_men c from (unit_of a f to) Money n x here)
 given_men a c f from x here other = tt
 
+-- each step of GIVE or PAY leaves units of other factions than the order's their men
 give_spares : SparesMen give_step
 give_spares w a c t x own = given_men a c t.faction t.unit x own.there t.order_value.operands
 
+-- the phase of GIVE and PAY leaves units of factions without a mailing what is theirs (`LeavesUnmailed`)
 pub give_leaves : PhaseLeavesUnmailed give_spec
 give_leaves = carried_leaves give_step is_giving give_spares (unmailed_spared is_giving own_faction items_of_no_worse)
 
@@ -200,9 +207,11 @@ transferred : (a : Aliases) (c : CampaignValue) (t : Task) (x : Unit) → IsUnit
 transferred a c t x own (operands.UnitAndNumber to n) = λ k y there other. transfer_others c t.unit (unit_of a t.faction to) n x own.there k y there (λ same. other (sym own.faction ∙ same))
 transferred a c t x own o = tt
 
+-- each step of TRANSFER leaves units of other factions than the order's their men
 transfer_spares : SparesMen transfer_step
 transfer_spares w a c t x own = transferred a c t x own t.order_value.operands
 
+-- the phase of TRANSFER leaves units of factions without a mailing what is theirs (`LeavesUnmailed`)
 pub transfer_leaves : PhaseLeavesUnmailed transfer_spec
 transfer_leaves = carried_leaves transfer_step is_transferring transfer_spares (unmailed_spared is_transferring own_faction items_of_no_worse)
 
@@ -218,9 +227,11 @@ guarded_men : (c : CampaignValue) (f n : ℕ) (x : Unit) (o : OperandsValue) →
 guarded_men c f n x (operands.Flag true) = others_men f c (guard n c x).0 (guarding_men c n x)
 guarded_men c f n x other = tt
 
+-- each step of GUARD 1 leaves units of other factions than the order's their men
 guard_spares : SparesMen guard_step
 guard_spares w a c t x own = guarded_men c t.faction t.unit x t.order_value.operands
 
+-- the phase of GUARD 1 leaves units of factions without a mailing what is theirs (`LeavesUnmailed`)
 pub guard_leaves : PhaseLeavesUnmailed guard_spec
 guard_leaves = carried_leaves guard_step is_guarding guard_spares (unmailed_spared {concerns = guard_concerns} is_guarding (λ t n f h. own_faction t n f h.0) items_of_no_worse)
 
@@ -247,8 +258,10 @@ quitted : (c : CampaignValue) (t : Task) (x : Unit) → IsUnitOf c t x → (o : 
 quitted c t x own (operands.Number number) = λ k y there other. quit_others c number x k y there (λ same. other (sym own.faction ∙ same))
 quitted c t x own o = tt
 
+-- each step of QUIT leaves units of other factions than the order's their men
 quit_spares : SparesMen quit_step
 quit_spares w a c t x own = quitted c t x own t.order_value.operands
 
+-- the phase of QUIT leaves units of factions without a mailing what is theirs (`LeavesUnmailed`)
 pub quit_leaves : LeavesUnmailed quit_meaning quit_keeps
 quit_leaves = carried_leaves quit_step is_quitting quit_spares (λ w c d m. unmailed_spared {concerns = QuitsFrom c} is_quitting (λ t n f h. h.faction) items_of_no_worse w c d m)

@@ -156,6 +156,7 @@ impl PhaseVerbs for GivePhase {
     }
 }
 
+/// Gives an item by GIVE, or money by PAY. An order with other operands is passed over.
 impl OrderPhase for GivePhase {
     ghost step = { λ _. give_step };
 

@@ -36,10 +36,11 @@ pub trait OrderPhase: PhaseVerbs {
     // By how much the whole phase may move each amount of the books.
     ghost moving: { BookBound } = { moves_nothing };
 
-    // Which units an order concerns, and what stays of the others. With most phases it concerns
-    // the unit that it is for, and the others are no worse off.
+    // Which units an order concerns; `spares` says what stays of the others. With most phases it
+    // concerns the unit that it is for, of the faction that wrote it.
     ghost concerns: { Affects } = { IsOwnOrder };
 
+    // What stays of the units that no order concerns. With most phases they are no worse off.
     ghost spares: { Unaffected } = { IsNoWorse };
 
     /// Carries out an order of the phase's verbs. Returns its outcome, or None where it is passed

@@ -45,7 +45,8 @@ fn is_owned_by(campaign: &Campaign, structure: u32, unit: u32) -> bool
     }
 }
 
-/// Puts a unit inside a structure of its region, or inside none where `structure` is 0.
+/// Puts a unit inside a structure of its region, or inside none where `structure` is 0. One that it
+/// owned and leaves gets its next owner; one that it enters and nobody owns becomes its own.
 fn put_inside(
     campaign: &mut Campaign,
     unit: u32,

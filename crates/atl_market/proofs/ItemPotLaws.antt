@@ -201,6 +201,7 @@ module _ (item_of : ℕ → Option ℕ) (wants : FinMap nat_cmp ℕ) where
     | Some want ↦ ap (λ ks. n ∷ ks) (pair_keys i ns)
   ]
 
+-- two functions that agree on all that passes a test map a list alike, once it is filtered by the test
 filtered_map : (p : ℕ → Bool) (f g : ℕ → ℕ) → ((n : ℕ) → p n ≡ true → f n ≡ g n) → (ns : List ℕ) → map f (filter p ns) ≡ map g (filter p ns)
 filtered_map p f g same [] = refl
 filtered_map p f g same (n ∷ ns) = by_test (p n) refl (filtered_map p f g same ns)
@@ -209,10 +210,12 @@ filtered_map p f g same (n ∷ ns) = by_test (p n) refl (filtered_map p f g same
     by_test true is rest = λ i. same n is i ∷ rest i
     by_test false is rest = rest
 
+-- each entry of a list in which no two have one number is found by its number
 found_all : (es : Entries) → IsApart es → AllByRecursion (λ e. find nat_cmp e.0 es ≡ Some e.1) es
 found_all [] apart = tt
 found_all (e ∷ es) apart = (found_head e es, each_so (λ f. find nat_cmp f.0 es ≡ Some f.1) (λ f. find nat_cmp f.0 (e ∷ es) ≡ Some f.1) (λ f is. found_tail e es f.0 f.1 apart is) es (found_all es apart.1))
 
+-- what is so of all is so of each element of a list
 so_each : {A : Type 0} (P : A → Type 0) → ((x : A) → P x) → (xs : List A) → AllByRecursion P xs
 so_each P h [] = tt
 so_each P h (x ∷ xs) = (h x, so_each P h xs)
@@ -263,7 +266,7 @@ module _ (item_of : ℕ → Option ℕ) (pot_of : (item region : ℕ) → ℕ) (
     region_is : region_shares item_of pot_of wants c r ≡ flat_map of_item (keys groups)
     region_is = items_are (entries groups) (each-from_every (λ i group. get groups i ≡ Some group) groups (λ i group is. is))
 
-    -- each share that is put for a region is the unit's share by the definition
+    -- each of the region's shares is its unit's share by the definition, if the region is there
     region_agrees : IsThere c.regions r → AgreeWith gets (region_shares item_of pot_of wants c r)
     region_agrees there = subst (AgreeWith gets) (sym region_is) (each_flat (λ e. gets e.0 ≡ Some e.1) of_item (keys groups) (so_each _ one (keys groups)))
       where
@@ -274,7 +277,7 @@ module _ (item_of : ℕ → Option ℕ) (pot_of : (item region : ℕ) → ℕ) (
             let (at, (want, wanted)) = given_takes (pot_of i) (mine item_of wants i) c.units r e.0 e.1 is in
             ap (share_for e.0) (asks item_of wants i e.0 want wanted) ∙ given_is (pot_of i) (mine item_of wants i) c r e.0 e.1 there is) (of_item i) (found_all (of_item i) (given_apart (pot_of i) (mine item_of wants i) c.units r))
 
-    -- each share of an item in the region is put
+    -- a unit that has a share of an item in the region is among the region's shares
     region_whole : (i n s : ℕ) → find nat_cmp n (of_item i) ≡ Some s → is_some (find nat_cmp n (region_shares item_of pot_of wants c r)) ≡ true
     region_whole i n s is =
         subst (λ (es : Entries). is_some (find nat_cmp n es) ≡ true) (sym region_is)

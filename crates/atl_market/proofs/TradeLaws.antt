@@ -1,4 +1,4 @@
--- Laws of SELL and BUY: they leave a campaign well, take nothing from units without an order, and can be carried out in turn.
+-- Laws of SELL and BUY: invariants stay, units without an order lose nothing, and the trades can be made in turn.
 use Rattle.std.proofs.Common.{◌≡◌, ◌≢◌, ◌==◌, ◌&&◌, ℕ, ◌+◌, ◌-◌, ◌*◌, ◌/◌, ◌≤◌, ◌<◌, Bool, true, false, cond, Option, Some, None, List, [], ◌∷◌, length, refl, sym, ap, subst, ◌∙◌, arith}
 use Rattle.std.specs.Prelude.{IsSome, fold, pos, neg_ℤ, ◌+ℤ◌, min, option_and_then, unwrap_or}
 use Rattle.std.specs.Option.{option_map_or}

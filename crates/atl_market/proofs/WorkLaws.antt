@@ -64,6 +64,7 @@ module _ (w : WorldValue) (c : CampaignValue) (n : ℕ) (u : Unit) (money : ℕ)
   abbrev pub wages_paid : CampaignValue
   wages_paid = with_amount given Wages Money (pos money)
 
+  -- raising the unit's money by its wages and booking them gives that campaign
   wages_are : with_amount (with_money c n (u.holding.money + money)) Wages Money (pos money) ≡ wages_paid
   wages_are = ap (λ d. with_amount d Wages Money (pos money)) (richer_is c n u money is)
 
@@ -85,6 +86,7 @@ module _ (w : WorldValue) (c : CampaignValue) (n : ℕ) (u : Unit) (money : ℕ)
           zero_more : (x : ℕ) → pos x +ℤ pos 0 ≡ pos x
           zero_more x = omega (arith, ints)
 
+  -- wages that the unit has room for leave a steady campaign well: it stays steady, and its books balance
   pub wages_leave_well : u.holding.money + money ≤ holding_limit → IsSteady w c → LeavesWell IsSteady (work_moves holding_limit) w c wages_paid
   wages_leave_well fits steady = record {
     leaves_it = steady-amount w given Wages Money (pos money) (omega arith) (steady-unit_amount w c n u more is (may_hold_money w c n (u.holding.money + money) u is fits steady) steady);
@@ -99,6 +101,7 @@ module _ (w : WorldValue) (c : CampaignValue) (n : ℕ) (u : Unit) (money : ℕ)
   pub wages_leave_others : (k : ℕ) → k ≢ n → get wages_paid.units k ≡ get c.units k
   wages_leave_others k apart = others_stay c n u money is k apart
 
+  -- no unit is worse off once unit `n` got wages
   pub wages_no_worse : AreNoWorse c wages_paid
   wages_no_worse k v there = richer_no_worse c n u money is k v there
 

@@ -115,7 +115,7 @@ fn use_raw(
     }
 }
 
-/// Takes from a unit the raw items for `made` of an item, and gives it these.
+/// Takes from a unit the raw items that `made` of an item need, and gives it the made ones.
 fn make_of(
     world: &World,
     campaign: &mut Campaign,
@@ -134,7 +134,8 @@ fn make_of(
     Ok(())
 }
 
-/// Takes the raw items for `made` of an item, and gives these, if it is one of the world's items.
+/// Takes from a unit the raw items that `made` of an item need, and gives it the made ones. Where
+/// the world has no such item, nothing changes.
 pub(crate) fn make(
     world: &World,
     campaign: &mut Campaign,

@@ -26,7 +26,7 @@ enum Came {
 pub enum Outcome {
     /// The answer is Memory, and all is as before.
     Held,
-    /// The outcome is that of ample memory, and none was refused as far as is known.
+    /// The outcome is that of ample memory, and no growth was refused as far as is known.
     Done,
     /// A growth was refused, and the outcome is nevertheless that of enough memory.
     MadeGood,
@@ -234,7 +234,7 @@ fn upgrades<S: Alter + Drop>(
     }
 }
 
-/// Tries one command.
+/// Runs one command with memory short, and judges the answer and what it leaves.
 fn runs<S: Alter + Drop>(
     alloc: Global,
     mut service: Service<S>,
@@ -253,7 +253,7 @@ fn runs<S: Alter + Drop>(
     }
 }
 
-/// Tries a list of commands.
+/// Runs a list of commands with memory short, and judges the answers and what they leave.
 fn runs_all<S: Alter + Drop>(
     alloc: Global,
     mut service: Service<S>,
@@ -269,7 +269,7 @@ fn runs_all<S: Alter + Drop>(
     }
 }
 
-/// Tries the text of the books.
+/// Asks for the text of the books with memory short, and judges it and what is left.
 fn tells_books<S: Alter + Drop>(
     alloc: Global,
     service: Service<S>,
@@ -287,7 +287,7 @@ fn tells_books<S: Alter + Drop>(
     }
 }
 
-/// Tries the rows of a campaign.
+/// Asks a campaign for its rows with memory short, and judges them and what is left.
 fn gives_rows(alloc: Global, campaign: &Campaign, case: &Case, shortage: &mut Shortage) -> Came {
     shortage.begin(alloc);
     let parts = campaign.parts();
@@ -299,7 +299,7 @@ fn gives_rows(alloc: Global, campaign: &Campaign, case: &Case, shortage: &mut Sh
     }
 }
 
-/// Tries the check of a campaign's rows.
+/// Checks a campaign's rows with memory short, and judges the result.
 fn checks(
     alloc: Global,
     world: &World,
@@ -320,7 +320,7 @@ fn checks(
     }
 }
 
-/// Tries a call that reads the campaign of a service.
+/// Tries the rows of a service's campaign, or the check of these rows, by the call of the case.
 fn reads<S: Alter + Drop>(
     alloc: Global,
     service: Service<S>,

@@ -303,7 +303,7 @@ room_alone c i room =
 pub room_for_market : (x : ℕ × Market) (xs : List (ℕ × Market)) (c : CampaignValue) → HaveRoom (stocking (x ∷ xs)) c → HaveRoom (moves_only most_amount Stocked (Item x.0)) c
 room_for_market x xs c room = room_less (moves_only most_amount Stocked (Item x.0)) (stocking (x ∷ xs)) c (λ e t. omega arith) room
 
--- after the first market got its goods, they have room for those of the others
+-- after the first market got its new goods, the books have room for those of the others
 pub room_behind_market : (w : WorldValue) (n : ℕ) → IsThere w.regions n → (x : ℕ × Market) (xs : List (ℕ × Market)) (c : CampaignValue) → IsMarketOf w n x.0 x.1 → IsSteady w c → HaveRoom (stocking (x ∷ xs)) c → HaveRoom (stocking xs) (after_market_restock n c x)
 room_behind_market w n there x xs c of steady room = room_behind (moves_only most_amount Stocked (Item x.0)) (stocking xs) w c (after_market_restock n c x) (one_leaves_well w n there c x of steady) room
 

@@ -115,6 +115,7 @@ module _ (w : WorldValue) (c : CampaignValue) (n : ℕ) (steady : IsSteady w c) 
 abbrev AreListed : List ℕ → CampaignValue → Type 0
 AreListed ns c = Every (λ m v. v.holding.men ≡ 0 → IsListed m ns) c.units
 
+-- a number that is listed in `n ∷ ns`, and isn't `n`, is listed in `ns`
 behind_it : (m n : ℕ) (ns : List ℕ) → m ≢ n → IsListed m (n ∷ ns) → IsListed m ns
 behind_it m n ns apart (inl same) = absurd (apart same)
 behind_it m n ns apart (inr rest) = rest
@@ -158,6 +159,7 @@ abbrev pub nothing_moves : BookBound
 nothing_moves e t = 0
 
 module _ (c : CampaignValue) (n : ℕ) where
+  -- sweeping a faction leaves the units as they are
   pub gone_at_units : (after_sweeping_faction c n).units ≡ c.units
   gone_at_units = by_test (is_empty (numbers_of n c.units))
     where
@@ -186,6 +188,7 @@ module _ (c : CampaignValue) (n : ℕ) where
   abbrev Remains : CampaignValue → Type 0
   Remains d = Every (λ m f. numbers_of m c.units ≡ [] → f.gone ≡ false → (m ≢ n) × (get c.factions m ≡ Some f)) d.factions
 
+  -- after sweeping faction `n`, each faction without a unit that isn't gone is as before, and isn't faction `n`
   pub gone_at_remains : Remains (after_sweeping_faction c n)
   gone_at_remains = by_test (is_empty (numbers_of n c.units)) refl
     where
@@ -228,6 +231,7 @@ all_are_gone (n ∷ ns) c listed =
     let (apart, was) = gone_at_remains c n m f there here stays in
     behind_it m n ns apart (listed m f was here stays))
 
+-- sweeping factions leaves the units as they are
 units_stay : (ns : List ℕ) (c : CampaignValue) → (fold after_sweeping_faction c ns).units ≡ c.units
 units_stay [] c = refl
 units_stay (n ∷ ns) c = units_stay ns (after_sweeping_faction c n) ∙ gone_at_units c n
@@ -242,6 +246,7 @@ length-numbers p (e ∷ es) = subst (λ ns. length ns ≤ length (e ∷ es)) (sy
     one_more true n ns l = omega arith
     one_more false n ns l = omega arith
 
+-- what at most `most_units` units lose, each at most `most_amount` of a thing, is within the bound of the sweep
 pub loses_little : (k : ℕ) → k ≤ most_units → (e : Entry) (t : Thing) → moved_times k (loses_by most_amount) e t ≤ loses_by most_moved e t
 loses_little k few e t = scaled ((entry_index e == entry_index Lost) && not (thing_index t == thing_index People))
   where
@@ -249,9 +254,11 @@ loses_little k few e t = scaled ((entry_index e == entry_index Lost) && not (thi
     scaled true = omega (arith, few)
     scaled false = omega (arith, few)
 
+-- a steady campaign has at most `most_units` units without men
 pub few_menless : (w : WorldValue) (c : CampaignValue) → IsSteady w c → length (menless_units c) ≤ most_units
 few_menless w c steady = omega (arith, length-numbers (λ (u : Unit). u.holding.men == 0) (entries c.units), len-entries c.units, steady.numbers.few_units)
 
+-- steps that each move nothing in the books move nothing together
 moves_none : (k : ℕ) (e : Entry) (t : Thing) → moved_times k nothing_moves e t ≤ nothing_moves e t
 moves_none k e t = omega arith
 

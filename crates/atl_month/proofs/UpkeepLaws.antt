@@ -431,7 +431,7 @@ starved_supplied s h some fewer listed = by_men ((h.men - s.starved) == h.men) r
 
 -- ---- what is marked
 
--- taking and booking upkeep sets the dirty flags of all that changes
+-- taking upkeep, then booking its money and the starved, marks all that changes, if the taking marks what it changes
 pub upkeep_marks : (c d e f : MarkedCampaign) (s : UpkeepResult) (x y : ℤ)
     → MarksChanges c d → e.value ≡ with_amount d.value Upkeep Money x → e.marks ≡ mark_amount d Upkeep Money
     → f.value ≡ with_amount e.value Starved People y → f.marks ≡ mark_amount e Starved People → MarksChanges c f

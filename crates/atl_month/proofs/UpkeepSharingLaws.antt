@@ -1,4 +1,4 @@
--- Laws of the accounts of upkeep: gone through unit by unit, they give what the definition says of each unit.
+-- Laws of the accounts of upkeep: what the code computes with them for each unit in turn is what the definition says.
 use Rattle.std.proofs.Common.{◌≡◌, ◌≢◌, ◌==◌, ◌&&◌, ◌++◌, ℕ, zero, suc, ◌+◌, ◌-◌, ◌*◌, ◌≤◌, ◌<◌, min, Bool, true, false, cond, List, [], ◌∷◌, length, get_or, take, filter, sum_by, Option, unwrap_or, refl, sym, ap, ◌∙◌, mul_comm, add-zero, arith}
 use Rattle.std.specs.Prelude.{All, nat_lt}
 use Rattle.std.specs.Ordering.{nat_cmp}

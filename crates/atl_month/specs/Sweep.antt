@@ -36,7 +36,7 @@ receiver c region faction = first_or_zero (numbers_where (receives region factio
 abbrev pub with_lost : CampaignValue → Thing → ℕ → CampaignValue
 with_lost c t amount = with_amount c Lost t (neg_ℤ (pos amount))
 
--- how much of an amount fits to the `have` that a unit holds already, up to 999,999,999 together
+-- how much of an amount a unit can take that holds `have` already, up to 999,999,999 together
 abbrev pub accepted_of : (amount have : ℕ) → ℕ
 accepted_of amount have = min amount (holding_limit - have)
 

@@ -24,7 +24,7 @@ use Rattle.atl_instant.specs.Transfer.{going_of}
 
 -- ---- the upkeep of one unit
 
--- a holding with so many of its men left, and of each skill the days times the men left, divided by the men before
+-- a holding with `left` of its men, and of each skill its days times `left` divided by the men before, rounded down
 abbrev pub with_men_left : ℕ → HoldingValue → HoldingValue
 with_men_left left h =
     if left == h.men then h

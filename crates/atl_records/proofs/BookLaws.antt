@@ -119,7 +119,7 @@ once Founding n = omega (arith, ints)
 once _ n = omega (arith, ints)
 
 module _ (books : BooksValue) (e : Entry) (u : Thing) (n : ℤ) where
-  -- a booking of a thing raises its amount under each entry by `under`
+  -- a booking of n adds n to the thing's amount under its entry, and nothing under any other (`under`)
   raised : (f : Entry) → amount_in (after_booking books e u n) f u ≡ amount_in books f u +ℤ under e n f
   raised f =
       elim (cases_eq (entry_index f) (entry_index e)) [

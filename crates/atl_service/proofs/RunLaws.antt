@@ -1,4 +1,5 @@
--- Laws on `run`: from what `answer_to` promises (`Answers`, `GivesUp`) to what `run` promises (`Runs`), and the invariant.
+-- Laws on `run`: what `answer_to` promises (`Answers`, `GivesUp`) implies what `run` promises (`Runs`).
+-- The invariant stays.
 use Rattle.std.proofs.Common.{◌≡◌, Bool, true, false, cond, Some, None, IfSome, refl, sym, ap, ap₂, ◌∙◌, subst}
 use Rattle.std.proofs.lemmas.Bool.{false≢true}
 use Rattle.sqlite_trees.specs.declared.store.Store.{Ghosts}
@@ -26,6 +27,7 @@ module _ {S : Type 0} (g : Ghosts S) where
   shown conn w c is_open = record { conn = conn; world = w; campaign = cond is_open (Some c) None }
 
   module _ (conn conn' : Held S) (w : WorldValue) (c c' : CampaignValue) (command : Command) where
+    -- the command had this answer and left campaign c' and connection conn', as `Answers` says
     abbrev pub Answered : Answer → Type 0
     Answered = Answers g w c conn command c' conn'
 
@@ -42,7 +44,7 @@ module _ {S : Type 0} (g : Ghosts S) where
       text = λ up clean. ap world_of (world_text_is (state g conn') (text_in g conn) c' (holding answer stands leaves done clean)) ∙ stands.text refl (leaves.later.clean clean);
     }
 
-    -- the same, with the flag that the service is open
+    -- a service whose flag `is_open` is set is consistent after a command that was answered
     pub consistent_after : (answer : Answer) (is_open : Bool) → is_open ≡ true → IsConsistent g conn w c is_open → LeavesIdle g conn conn' → Answered answer → IsConsistent g conn' w c' is_open
     consistent_after answer true up stands leaves done = consistent_open answer stands leaves done
     consistent_after answer false up stands leaves done = absurd (false≢true up)

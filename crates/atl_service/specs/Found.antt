@@ -34,7 +34,8 @@ pub record Founds {S : Type 0} (g : Ghosts S) (old : Held S) (text pass : List �
 abbrev pub IsWorldText : List ℕ → Type 0
 IsWorldText text = (w : WorldValue) × (world_of text ≡ Ok w)
 
--- This is the cause of the first check of a founding that fails; `is_there` says whether a table `campaign` exists. Causes of opening and upgrading never apply.
+-- Whether a founding may fail with this cause: that of the first check that fails, Store if none does, or Memory.
+-- `is_there` says whether a table `campaign` exists. Causes of opening and upgrading never apply.
 abbrev pub IsCause : List ℕ → List ℕ → Bool → Cause → Type 0
 IsCause text pass is_there (BadWorld fault) = world_of text ≡ Err fault
 IsCause text pass is_there BadPassText = IsWorldText text × (pass_ok pass ≡ false)

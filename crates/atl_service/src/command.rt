@@ -187,7 +187,8 @@ impl From<WriteFault> for Fault {
     }
 }
 
-/// The answer to a command. Joined, Mailed and MonthDone are given once what the command changed is written. See docs/RULES.md,
+/// The answer to a command. Joined, Mailed and MonthDone are given once what the command changed is
+/// written. See docs/RULES.md,
 /// "Joining", "Mail", "Closing a month", "Reports" and "Refusals and faults".
 pub enum Answer {
     /// A faction joined, and its first report is stored.

@@ -1,4 +1,4 @@
--- Laws of the rows of books: those of the books assembled from rows are these rows, in another order.
+-- Laws of the rows of books: books that are assembled from rows with distinct keys have these rows, in some order.
 use Rattle.std.proofs.Common.{◌≡◌, ◌≢◌, ℕ, ◌≤◌, ◌<◌, ◌+◌, ◌-◌, ◌++◌, List, [], ◌∷◌, true, false, cond, map, Some, None, refl, sym, ap, subst, ◌∙◌, arith, inl, inr}
 use Rattle.std.specs.Prelude.{pos, ℤ, nat_lt}
 use Rattle.std.specs.declared.cmp.Ordering.TheVariants.{Less, Equal, Greater}

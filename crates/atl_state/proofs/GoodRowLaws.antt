@@ -241,7 +241,7 @@ module _ (w : WorldValue) (world : IsWorld w) (c : CampaignValue) (good : IsGood
       let holding = (good.sound.steady.numbers.units n u is).1 in
       few_goods w world u placed.items placed.skills holding.items holding.men (good.sound.steady.days n u is)
 
-  -- what units have fits its rows, as AreHad says
+  -- the numbers of units and of what they have fit 32 bits, and each amount is from 1 to most_u32
   pub had : AreHad c.units
   had = record { numbers = small_enough c.units last_unit (omega arith) few_units; goods = goods_few }
 
@@ -252,7 +252,7 @@ module _ (w : WorldValue) (world : IsWorld w) (c : CampaignValue) (good : IsGood
       let below = market_known w world n i named in
       omega (arith, few, below)
 
-  -- what regions have in stock fits its rows, as AreStocked says
+  -- the numbers of regions and of items in stock fit 32 bits, and each stock is from 1 to most_u32
   pub stocked : AreStocked c.regions
   stocked = record {
     numbers = λ n r is. let most = region_small n (r, is) in omega (arith, most);
@@ -432,7 +432,7 @@ module _ (w : WorldValue) (world : IsWorld w) (c : CampaignValue) (good : IsGood
     next_structure_said : as_u32 (campaign_row_of p).next_structure ≡ c.next_structure
     next_structure_said = ap (λ (h : StoredCampaignRow). as_u32 h.next_structure) head_said ∙ read_whole c.next_structure (omega (arith, structure_next))
 
-    -- the campaign assembled from the rows is the campaign
+    -- assembling the rows of a good campaign gives that campaign back
     pub state_back : campaign_of w p ≡ c
     unfolding campaign_of
     state_back =

@@ -66,17 +66,17 @@ keys_are (p ∷ ps) = ap (λ ns. p.number ∷ ns) (keys_are ps)
 
 -- ---- an entry whose number is new, at any index of a list
 module _ {X : Type 0} where
-  -- where a choice of Some or o is None, it is not the Some
+  -- if `cond b (Some x) o` is None, b is false
   first_apart : (b : Bool) (x : X) (o : Option X) → cond b (Some x) o ≡ None → b ≡ false
   first_apart true x o h = some_none x h
   first_apart false x o h = refl
 
-  -- where a choice of Some or o is None, o is None
+  -- if `cond b (Some x) o` is None, o is None
   rest_none : (b : Bool) (x : X) (o : Option X) → cond b (Some x) o ≡ None → o ≡ None
   rest_none true x o h = some_none x h
   rest_none false x o h = h
 
-  -- looking up two different numbers gives the same in either order
+  -- for a look-up of q it makes no difference which of two entries with different numbers comes first
   turned : (q n m : ℕ) (v w o : Option X) → eq_by_cmp nat_cmp n m ≡ false → cond (eq_by_cmp nat_cmp q m) w (cond (eq_by_cmp nat_cmp q n) v o) ≡ cond (eq_by_cmp nat_cmp q n) v (cond (eq_by_cmp nat_cmp q m) w o)
   turned q n m v w o apart =
       elim (eq_by_cmp nat_cmp q n) as (λ b. eq_by_cmp nat_cmp q n ≡ b → cond (eq_by_cmp nat_cmp q m) w (cond b v o) ≡ cond b v (cond (eq_by_cmp nat_cmp q m) w o)) [

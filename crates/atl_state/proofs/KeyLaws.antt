@@ -60,12 +60,12 @@ module _ {K : Type 0} {R : K → K → Ordering} (o : IsTotalOrder R) where
       ∙ sym (list_any-append (eq_by_cmp R q) (take i keys) (x ∷ [])) ∙ ap (list_any (eq_by_cmp R q)) (ap (λ y. take i keys ++ y ∷ []) is ∙ sym (take_more keys i x h))
 
 module _ {A B : Type 0} (f : A → B) (e : B → B → Bool) where
-  -- values f x and f y that differ for each y of a list differ in the mapped list
+  -- if f x differs from f y for each y of a list, it differs from each value of the mapped list
   each_map : (x : A) (xs : List A) → AllByRecursion (λ y. e (f x) (f y) ≡ false) xs → AllByRecursion (λ y. e (f x) y ≡ false) (map f xs)
   each_map x [] h = tt
   each_map x (y ∷ xs) h = (h.0, each_map x xs h.1)
 
-  -- the converse of each_map
+  -- if f x differs from each value of the mapped list, it differs from f y for each y of the list
   each_of_map : (x : A) (xs : List A) → AllByRecursion (λ y. e (f x) y ≡ false) (map f xs) → AllByRecursion (λ y. e (f x) (f y) ≡ false) xs
   each_of_map x [] h = tt
   each_of_map x (y ∷ xs) h = (h.0, each_of_map x xs h.1)

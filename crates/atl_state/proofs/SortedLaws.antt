@@ -1,4 +1,4 @@
--- Laws of sorted lists of numbers: they stay sorted when a number is put or taken.
+-- Laws of sorted lists of numbers: they stay sorted when a number is put in or taken out.
 use Rattle.std.proofs.Common.{◌≡◌, refl, ℕ, zero, suc, ◌≤◌, ◌<◌, Bool, true, false, cond, nat_le, List, [], ◌∷◌, length, get_or, sym, subst, arith}
 use Rattle.std.specs.List.{AllByRecursion}
 use Rattle.std.specs.List.Sorted.{IsPartitionedBy}
@@ -32,7 +32,7 @@ parted n xs h i j d le l e = lower (get_or xs i d) (get_or xs j d) n (rises xs i
 
 -- ---- a number put
 
--- a number that is at most each, and at most n, still is at most each once n is put
+-- a number that is at most each, and at most n, still is at most each once n is put in
 put_least : (x n : ℕ) (xs : List ℕ) → x ≤ n → AllByRecursion (λ y. x ≤ y) xs → AllByRecursion (λ y. x ≤ y) (put_number n xs)
 put_least x n [] le h = subst (AllByRecursion (λ y. x ≤ y)) (sym (put_number-nil n)) (le, tt)
 put_least x n (y ∷ xs) le h = subst (AllByRecursion (λ y. x ≤ y)) (sym (put_number-cons n y xs)) (either (put_least x n xs le h.1) (nat_le n y))
@@ -45,7 +45,7 @@ put_least x n (y ∷ xs) le h = subst (AllByRecursion (λ y. x ≤ y)) (sym (put
 lower_all : (n x : ℕ) (xs : List ℕ) → n ≤ x → AllByRecursion (λ y. x ≤ y) xs → AllByRecursion (λ y. n ≤ y) xs
 lower_all n x xs le h = each_so (λ y. x ≤ y) (λ y. n ≤ y) (λ y l. omega arith) xs h
 
--- a sorted list stays sorted when a number is put
+-- a sorted list stays sorted when a number is put in
 pub IsSorted-put : (n : ℕ) (xs : List ℕ) → IsSorted xs → IsSorted (put_number n xs)
 IsSorted-put n [] h = subst IsSorted (sym (put_number-nil n)) (tt, tt)
 IsSorted-put n (x ∷ xs) h = subst IsSorted (sym (put_number-cons n x xs)) (either (IsSorted-put n xs h.1) (nat_le n x) refl)
@@ -56,7 +56,7 @@ IsSorted-put n (x ∷ xs) h = subst IsSorted (sym (put_number-cons n x xs)) (eit
 
 -- ---- and one taken
 
--- a number that is at most each still is once one is taken
+-- a number that is at most each of a list still is once a number is taken out
 take_least : (x n : ℕ) (xs : List ℕ) → AllByRecursion (λ y. x ≤ y) xs → AllByRecursion (λ y. x ≤ y) (take_number n xs)
 take_least x n [] h = subst (AllByRecursion (λ y. x ≤ y)) (sym (take_number-nil n)) tt
 take_least x n (y ∷ xs) h = subst (AllByRecursion (λ y. x ≤ y)) (sym (take_number-cons n y xs)) (either (take_least x n xs h.1) (nat_le n y))
@@ -65,7 +65,7 @@ take_least x n (y ∷ xs) h = subst (AllByRecursion (λ y. x ≤ y)) (sym (take_
     either rest true = h.1
     either rest false = (h.0, rest)
 
--- a sorted list stays sorted when a number is taken
+-- a sorted list stays sorted when a number is taken out
 pub IsSorted-take : (n : ℕ) (xs : List ℕ) → IsSorted xs → IsSorted (take_number n xs)
 IsSorted-take n [] h = subst IsSorted (sym (take_number-nil n)) tt
 IsSorted-take n (x ∷ xs) h = subst IsSorted (sym (take_number-cons n x xs)) (either (IsSorted-take n xs h.1) (nat_le n x))

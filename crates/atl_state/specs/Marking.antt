@@ -108,7 +108,7 @@ abbrev pub place_marked_at : MarkedCampaign → ℕ → ℕ → ℕ → Option U
 place_marked_at c n r s None = c
 place_marked_at c n r s (Some u) = if u.structure == s then put_marked c n r s else handed_marked (handed_marked (put_marked c n r s) u.structure n (heir c.value u.structure n)) s 0 n
 
--- the campaign with unit n put in region r and structure s: its row is marked, and structures that get another owner
+-- the campaign with unit n put in region r and structure s; its row and structures that get another owner are marked
 unfoldable pub place_marked : MarkedCampaign → ℕ → ℕ → ℕ → MarkedCampaign
 place_marked c n r s = place_marked_at c n r s (get c.value.units n)
 

@@ -24,7 +24,7 @@ pub rests_unchanged : (old new : State) → IsUnchanged old new → Rests old ne
 rests_unchanged old new h = record { was_open = λ _. h.0.was_open; same = λ _. (inr h.0.now_is, h.0.committed_is) }
 
 module _ (sql : List ℕ) (old new : State) (plain : IsPlain (understood old.now.schema sql)) where
-  -- such a query commits nothing
+  -- a query without RETURNING that doesn't read the time (`IsPlain`) commits nothing
   pub commits_none : Survives old new (CommitsShowing sql [] old) → Survives old new (λ _. ⊥)
   commits_none = survives_weaker old new _ _ (λ _ db. never_commits sql [] old db plain)
 
@@ -33,15 +33,15 @@ module _ (sql : List ℕ) (old new : State) (plain : IsPlain (understood old.now
   unfolding Shown
   shown_unchanged rows h = (subst (ShowsRows old new sql h.0 _ rows) (subst IsPlain h.1.is plain).0 h.2).3
 
-  -- an unchanged connection leaves its tables
+  -- an unchanged connection has its tables as they were
   unchanged_stays : IsUnchanged old new → Stays old new
   unchanged_stays h = record { was_open = λ _. h.0.was_open; same = λ _. (h.0.now_is, h.0.committed_is) }
 
-  -- a rollback leaves the tables of a settled connection
+  -- a rollback leaves the tables as they were, if the disk is clean and the connection was settled
   rolled_stays : IsSettled old → HasCleanDisk old → IsRolledBack old new → Stays old new
   rolled_stays settled clean h = record { was_open = h.was_open; same = λ up. let back = h.undone up in (back.0 ∙ sym (settled clean (h.was_open up)), back.1) }
 
-  -- a query that shows rows leaves the tables
+  -- a query that shows rows leaves the tables as they were
   pub shown_stays : (rows : List Row) → Shown sql [] old new rows → Stays old new
   shown_stays rows h = unchanged_stays (shown_unchanged rows h)
 
@@ -50,7 +50,7 @@ module _ (sql : List ℕ) (old new : State) (plain : IsPlain (understood old.now
   fails_stay c row e None is h = h.3
   fails_stay c row e (Some what) is h = absurd (let k = is in cc)
 
-  -- a query that is refused leaves the tables, if the connection was settled
+  -- a query that is refused leaves the tables as they were, if the disk is clean and the connection was settled
   pub refused_stays : IsSettled old → HasCleanDisk old → (e : Error) → FailsToQuery sql [] old new e → Stays old new
   unfolding FailsToQuery IsNotRun
   refused_stays settled clean e (inl (inl h)) = unchanged_stays h.1

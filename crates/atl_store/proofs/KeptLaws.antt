@@ -23,7 +23,7 @@ use Rattle.atl_store.proofs.EntryLaws.{same_number}
 use Rattle.atl_store.proofs.FillLaws.{numbered_filled}
 use Rattle.atl_store.proofs.PartLaws.{one_changed}
 
--- the key of such a part is its first column
+-- the key of a part whose rows have numbers of their own (`IsNumberedPart`) is one column, the first
 pub key_one : (part : Part) → IsNumberedPart part → key_of part ≡ 1
 key_one Own is = absurd is
 key_one Goods is = absurd is

@@ -60,7 +60,7 @@ makes_more count a b c first next = (next.0 ∙ first.0, λ bare. let made = nex
 no_rows : IsKeyed []
 no_rows = record { apart = tt; ints = tt }
 
--- once the count is reached, all tables are made, and empty
+-- making at least `table_count` tables in a blank database makes all of them, empty
 pub makes_all : (count : ℕ) → table_count ≤ count → (a b : State) → MakesSome count a b → Inside IsBlank AreEmpty a b
 makes_all count enough a b all = (
   all.0,

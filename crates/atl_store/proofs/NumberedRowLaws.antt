@@ -18,6 +18,7 @@ place_in part = unwrap_or (position (λ p. nat_eq (tree_of p) (tree_of part)) al
 abbrev width_of : Part → ℕ
 width_of part = length (drop 1 (table_of part).columns)
 
+-- the table of a part whose key is the row's number is numbered: its two statements mean what they should
 numbered : (part : Part) → IsNumberedPart part → IsNumbered (table_of part) (place_in part) (width_of part)
 unfolding understood everything
 numbered Own is = absurd is
@@ -35,7 +36,7 @@ numbered part is = record {
   spared = λ new x. refl;
 }
 
--- the upsert of such a part puts its row
+-- the upsert of a part whose key is the row's number puts the row
 pub puts_part : (part : Part) → IsNumberedPart part → (n : ℕ) (values : Row) → Fits (drop 1 (table_of part).columns) values → PutsRow (table_of part) 1 (int n ∷ values)
 puts_part Own is = absurd is
 puts_part Goods is = absurd is
@@ -43,7 +44,7 @@ puts_part Books is = absurd is
 puts_part Markets is = absurd is
 puts_part part is = puts_numbered (table_of part).tree _ _ _ _ (place_in part) (numbered part is)
 
--- the DELETE of such a part removes the row of the number
+-- the DELETE of a part whose key is the row's number removes the row of that number
 pub drops_part : (part : Part) → IsNumberedPart part → (n : ℕ) → DropsKey (table_of part) 1 (int n ∷ [])
 drops_part Own is = absurd is
 drops_part Goods is = absurd is

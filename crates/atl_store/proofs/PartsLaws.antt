@@ -103,7 +103,7 @@ unit_row_is_line n u =
 
 -- ---- the campaign's own row
 
--- the table `campaign` has exactly the row of the campaign
+-- if the row read of the table `campaign` is made of the campaign, the table has exactly the campaign's row
 own_held : {Q : Type 0} (f : Format) (text : List ℕ) (c : CampaignValue) (rows : List Row) (read : List StoredCampaignRow) → IsPermutation rows (map (own_stored text) read) → IsPermutation (made.campaign_row f c ∷ []) read → Is rows (λ r. r ≡ campaign_row_in f (campaign_row_of c) text) × (Q → HasKeys rows)
 own_held f text c rows read in_table of_them = (
   λ r.

@@ -12,7 +12,7 @@ use Rattle.atl_store.specs.Tables.{HasAll}
 use Rattle.atl_store.proofs.ListedLaws.{one_schema}
 
 module _ {S : Type 0} (g : Ghosts S) where
-  -- an open connection to a file that stores a campaign keeps it
+  -- a connection just opened to a file that stores a campaign keeps it, if a crash leaves only what was committed
   pub keeps_stored : (new : Held S) → Opens (state g new) → IsLive (state g new) → ((db : Trees) → (state g new).may_leave db → db ≡ (state g new).committed.trees) → (text : List ℕ) (c : CampaignValue) → Stores (state g new).now.trees text c → Keeps (state g new) text c
   keeps_stored new opens live settled text c stores =
       let listed = (live opens.is_open).0 in

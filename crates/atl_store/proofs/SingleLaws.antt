@@ -34,11 +34,11 @@ differs k n less = elim (nat_cmp k n) as (λ o. is_lt o ≡ true → is_eq o ≡
 ] less
 
 module _ {V : Type 0} where
-  -- whether the owner is this one and the number among those of the entries
+  -- whether `n` is this owner, and `t` is the number of one of these entries
   abbrev pub is_key : ℕ → List (ℕ × V) → ℕ → ℕ → Bool
   is_key owner es n t = is_number owner n && is_among (map (λ e. e.0) es) t
 
-  -- whether a number is in the map of its owner
+  -- whether a map that is listed under owner `n` has the number `t`
   abbrev pub is_listed : List (ℕ × FinMap nat_cmp V) → ℕ → ℕ → Bool
   is_listed es n t = list_any (λ e. is_of e.0 e.1 n t) es
 

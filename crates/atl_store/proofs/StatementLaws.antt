@@ -1,4 +1,4 @@
--- Laws on the statements on one table: which rows it has after an upsert or a DELETE, by their texts.
+-- Laws on the statements of one table: which rows it has after an upsert or a DELETE, and what a text of SQL does.
 use Rattle.std.proofs.Common.{IsTrue, ◌≡◌, ◌/◌, ℕ, ℤ, Bool, false, List, [], ◌∷◌, ◌++◌, length, slice_get, Option, Some, None, Result, Ok, sym, ap, ◌∙◌, subst}
 use Rattle.sqlite_value.specs.Order.{Row, column}
 use Rattle.sqlite_trees.specs.Tree.{Trees, rowid}
@@ -115,7 +115,7 @@ module _ (schema : Schema) (tree : ℕ) (name : List ℕ) (columns : List Column
         subst (Changed (made_up db src) db) (sym (counted limit params db each.0 counter.0 w each.2))
         (each_upserts src (count_of counter.0) db each.0 keyed aimed (subst (λ l. TriesEach (task limit params t) Abort (clause_on target q ∷ []) l (count_of counter.0) (nothing db) (Ok each.0)) given each.1))
 
-    -- an upsert that ran did so
+    -- an upsert that ran put its row or changed the one with its key
     pub upserting : (text : List ℕ) (terms : List Term) (width : ℕ) (src : Row) (db : Trees) (out : Tally × Database) → IsKeyed (db tree)
         → ((r : Row) → Has (db tree) r → column (params ++ rowid r ∷ shown t (made_up db src)) hole ≡ rowid r)
         → value_rows (params ++ []) width (length terms / width) terms ≡ src ∷ []
@@ -145,13 +145,13 @@ PutsRow t key row = DoneBy (upsert t key) row (Puts t key row)
 abbrev pub DropsKey : Table → ℕ → Row → Type 1
 DropsKey t key k = DoneBy (deletion t key) k (Drops t key k)
 
--- a text whose meaning does this is so
+-- a text does this if each run of it inside a transaction, with these values as parameters, does it
 pub done_by : (sql : List ℕ) (values : Row) (What : Database → Database → Type 0)
     → ((old new : State) (count : ℕ) → IsTrue old.in_transaction → ExecutesInside 0 sql values old new (Ok count) → Inside HasTables What old new)
     → DoneBy sql values What
 done_by sql values What does old new count params inside h same = does old new count inside (subst (λ p. ExecutesInside 0 sql p old new (Ok count)) same h)
 
--- a statement that ran is the one of these values, which are its parameters
+-- a statement that ran with these values as parameters did what its text does with them
 pub runs_with : {S A : Type 0} (g : Ghosts S) {r : Result A Error} {a b : MutBor (Held S)} (sql : List ℕ) (values params : Row) (What : Database → Database → Type 0)
     → DoneBy sql values What → params ≡ values → Writes g (Only sql params) (RunsStatement sql params) r a b → Writes g (Only sql values) (Inside HasTables What) r a b
 runs_with g sql values params What done same ran = among g (λ s p only. (only.0, only.1 ∙ same)) (weaker g (λ old new did. done old new did.1 params did.0 did.2 same) ran)

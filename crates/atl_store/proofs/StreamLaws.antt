@@ -25,7 +25,7 @@ use Rattle.atl_store.proofs.SelectingLaws.{never_other, no_fewer}
 asked_unchanged : (old now : State) → IsUnchanged old now → Survives old now (λ _. ⊥) → IsAsked old now
 asked_unchanged old now h survives = record { was_open = λ _. h.0.was_open; is_open = λ _. h.0.is_open; same = h.0.now_is; limit = survives.limit; faults = survives.counts }
 
--- a call after one that changed nothing
+-- if a call changed nothing, and the next leaves the connection at rest (`Rests`), both together leave it at rest
 pub rests_then : (old mid new : State) → IsUnchanged old mid → Rests mid new → Rests old new
 rests_then old mid new first rests = record {
   was_open = λ up. first.0.was_open;

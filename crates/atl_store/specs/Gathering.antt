@@ -103,7 +103,7 @@ JudgesOwn f rows r = Judges (λ both. IsOwn f rows both.0 both.1) ((own : Stored
 abbrev pub JudgesRows : Format → List Row → Result (StoredCampaign × WorldValue) LoadFault → Type 0
 JudgesRows f rows r = Judges (λ both. AreOwnRow f rows both.0.head (string_bytes both.0.world) both.1) ((h : StoredCampaignRow) (text : List ℕ) (w : WorldValue) → ¬ AreOwnRow f rows h text w) r
 
--- the same, but OtherFormat if it is one row of the other format, which is judged first
+-- OtherFormat if there is just one row, and of the other format; else the result of `JudgesRows`
 abbrev pub JudgesFormat : Format → List Row → Result (StoredCampaign × WorldValue) LoadFault → Type 0
 JudgesFormat f rows r = (IsOther f rows × (r ≡ Err OtherFormat)) ⊎ ((¬ IsOther f rows) × JudgesRows f rows r)
 

@@ -6,7 +6,8 @@ use Rattle.sqlite.specs.State.{HasCleanDisk}
 use Rattle.atl_state.specs.Campaign.{CampaignValue}
 use Rattle.atl_store.specs.Keeps.{Keeps, Stores}
 
--- If the disk is clean, the tables are some that a crash could leave of the connection before.
+-- The connection `new` is `old` opened again after a crash. If the disk is clean now, it was clean before,
+-- and the tables are some that a crash could leave of `old`.
 -- If they store a campaign (`Stores`), the new connection keeps it.
 pub record Reopens {S : Type 0} (g : Ghosts S) (old new : Held S) : Type 0 where
   pub clean : HasCleanDisk (state g new) → HasCleanDisk (state g old)

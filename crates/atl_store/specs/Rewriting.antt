@@ -107,7 +107,7 @@ RewritesCampaignRow c old new = (before : CampaignRowValue) (text : List ℕ) �
 abbrev pub Becomes : MarkedCampaign → Row → Part → List Row → List Row → Type 0
 Becomes c own part before after = Is after (rows_after_rewrite (is_marked c.marks part) (rows_for own c.value part) (Has before))
 
--- the marked rows of these parts, of which the campaign row is none, become the campaign's
+-- the marked rows of these parts, which don't include the campaign row, become the campaign's; all other rows stay
 abbrev pub RewritesParts : MarkedCampaign → List Part → Database → Database → Type 0
 RewritesParts c parts old new = (own : Row) → Changes (Becomes c own) parts old new
 
@@ -115,6 +115,6 @@ RewritesParts c parts old new = (own : Row) → Changes (Becomes c own) parts ol
 abbrev pub RewritesPart : MarkedCampaign → Part → Database → Database → Type 0
 RewritesPart c part = RewritesParts c (part ∷ [])
 
--- the marked rows of these parts, of which the campaign row is one, become the campaign's
+-- the marked rows of these parts, which include the campaign row, become the campaign's; all other rows stay
 abbrev pub RewritesWithOwn : MarkedCampaign → List Part → Database → Database → Type 0
 RewritesWithOwn c parts old new = (before : CampaignRowValue) (text : List ℕ) → Is (rows_in campaign_table old.trees) (λ r. r ≡ campaign_row before text) → Changes (Becomes c (own_after c before text)) parts old new

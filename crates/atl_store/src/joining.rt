@@ -1,4 +1,4 @@
-//! Writes a join into the tables. See docs/RULES.md, "Joining".
+//! Writes the rows of a faction's joining into the tables. See docs/RULES.md, "Joining".
 ghost use Rattle.std.specs.Prelude.{◌≡◌, [], false, List, ℕ, IfErr, OnOk, OnErr};
 ghost use Rattle.sqlite.specs.Held.{state};
 ghost use Rattle.sqlite.specs.State.{HasCleanDisk};
@@ -90,7 +90,7 @@ fn put_welcome<S: Alter>(
     settle_amount(tx, campaign, Entry::Joining, Thing::People)
 }
 
-/// Puts all rows of a join, inside a transaction.
+/// Puts all rows that a faction's joining adds or changes, inside a transaction.
 fn put_joining<S: Alter>(
     tx: &mut Transaction<'_, S>,
     campaign: &Campaign,
@@ -106,7 +106,7 @@ fn put_joining<S: Alter>(
     put_welcome(tx, campaign, arrival)
 }
 
-/// Puts all rows of a join in one transaction.
+/// Puts all rows that a faction's joining adds or changes, in one transaction.
 fn write_joining<S: Alter>(
     conn: &mut Connection<S>,
     campaign: &Campaign,

@@ -12,13 +12,13 @@ pub stops_first : {X Y : Type 0} (view : X → Y) (e : WorldFault) (r : Result Y
 stops_first view Memory r fs h = tt
 stops_first view e r fs h = rw h refl
 
--- if the first of two joined lists has no fault, the second has the fault of both
+-- if the first of two lists has no fault, the fault of the joined list is that of the second
 pub passes : (fs gs : Conditions) → first_fault fs ≡ None → first_fault (fs ++ gs) ≡ first_fault gs
 passes [] gs h = refl
 passes (None ∷ fs) gs h = passes fs gs h
 passes (Some f ∷ fs) gs h = absurd (cc)
 
--- if the first of two joined lists has a fault, that is the fault of both
+-- if the first of two lists has a fault, that is the fault of the joined list
 kept : (f : WorldFault) (fs gs : Conditions) → first_fault fs ≡ Some f → first_fault (fs ++ gs) ≡ Some f
 kept f [] gs h = absurd (cc)
 kept f (None ∷ fs) gs h = kept f fs gs h
@@ -37,7 +37,7 @@ stops_after e fs gs h s = subst (Stops e) (sym (passes fs gs h)) s
 pub passes_both : (fs gs : Conditions) → first_fault fs ≡ None → first_fault gs ≡ None → first_fault (fs ++ gs) ≡ None
 passes_both fs gs h s = passes fs gs h ∙ s
 
--- a call that gives the second list's part gives that of both, if the first list has no fault
+-- a call whose result is by the second list's fault is by the joined list's, if the first list has no fault
 pub gives_after : {X Y : Type 0} (view : X → Y) (r : Result X WorldFault) (fs gs : Conditions) (v : Y) → first_fault fs ≡ None → Gives view r (first_fault gs) v → Gives view r (first_fault (fs ++ gs)) v
 gives_after view (Ok x) fs gs v h g = (passes fs gs h ∙ g.0, g.1)
 gives_after view (Err e) fs gs v h g = stops_after e fs gs h g
@@ -53,7 +53,7 @@ pub stops_here : (e : WorldFault) (fault : Option WorldFault) (fs : Conditions) 
 stops_here Memory fault fs h = tt
 stops_here e fault fs h = rw h refl
 
--- a call that gives what one condition is about gives it for the list of this condition alone
+-- a call whose result is by one condition is by the list of this condition alone
 pub gives_last : {X Y : Type 0} (view : X → Y) (r : Result X WorldFault) (fault : Option WorldFault) (v : Y) → Gives view r fault v → Gives view r (first_fault (fault ∷ [])) v
 gives_last view r None v h = h
 gives_last view r (Some f) v h = h

@@ -1,4 +1,4 @@
--- A loop over regions keeps the numbers that it has seen in a map.
+-- Laws on finding region numbers that occur twice: a loop puts each number that it sees into a map, and looks there.
 use Rattle.std.proofs.Common.{◌≡◌, ℕ, ◌+◌, ◌<◌, ◌==◌, ◌||◌, Bool, true, false, cond, List, take, length, get_or, codes, Option, Some, None, refl, sym, ap, ◌∙◌}
 use Rattle.std.specs.Cmp.{nat_cmp_total, unsigned_tied}
 use Rattle.std.specs.FinMap.{FinMap, get, insert, get-insert}
@@ -28,7 +28,7 @@ seen_more m v ds i d below here seen n =
     ∙ ap (λ b. has_number n (take i ds) || b) (unsigned_tied n d.place.number ∙ ap (λ (e : RegionDraft). n == e.place.number) here)
     ∙ sym (list_any_more (λ e. n == e.place.number) ds i d below)
 
--- the condition on duplicate numbers, by whether the number was seen before
+-- the fault of a region's number: TwoNames if a region before it has the number, else none
 pub by_map : (all : List RegionDraft) (i : ℕ) (d : RegionDraft) (b : Bool) → has_number d.place.number (take i all) ≡ b → first_fault (twin_number_at all i d) ≡ cond b (Some (TwoNames (path (element_path (codes "region") i) (codes "number")))) None
 unfolding twin_number_at
 by_map all i d true h = rw h

@@ -63,8 +63,8 @@ fn neighbour(
     }
 }
 
-/// Checks the four neighbours of the i-th region of the file. Else BadNeighbour at the first that
-/// is wrong.
+/// Checks that each neighbour of the i-th region of the file has it on the opposite side. Else
+/// BadNeighbour at the first that hasn't.
 #[tactic(auto, unfolding(crate::specs::Neighbours::neighbours_at))]
 fn neighbours_of(
     alloc: Global,

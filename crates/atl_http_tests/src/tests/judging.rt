@@ -5,7 +5,7 @@ use atl_http::{Verdict, pieces_do_not_matter, verdict_on};
 use std::alloc::{AllocError, Global};
 use std::process::Abort;
 
-/// The bytes read so far, and the verdict: more are needed, a refusal, or a command.
+/// The bytes read so far, and the verdict: more are needed, a refusal, or a whole request (`asks`).
 static BYTES: [(&str, &str); 5] = [
     ("", "more"),
     ("GET /report/1 HTTP/1.0\r\n", "more"),

@@ -89,7 +89,7 @@ pub(crate) fn assert_replies(
     }
 }
 
-/// The same on a new campaign of the small world.
+/// Serves requests in turn on a new campaign of the small world, and asserts each reply.
 pub(crate) fn plays(rt: &impl Abort, alloc: Global, cases: &[Case]) -> Result<(), Fail> {
     let mut service = begun(alloc)?;
     assert_replies(rt, alloc, &mut service, cases);

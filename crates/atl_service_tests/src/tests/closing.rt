@@ -51,7 +51,7 @@ pub(crate) const AFTER_MONTH_ONE: [(&str, Option<i64>); 12] = [
     (MAIL_BYTES, None),
 ];
 
-/// The text of the books after such a month.
+/// The text of the books after month 1, in which the unit only works.
 const BOOKS_AFTER_WORK: &str = "money founding 500
 money joining 1000
 money income 1000

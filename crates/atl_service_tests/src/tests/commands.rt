@@ -153,7 +153,8 @@ fn is_run(rt: &impl Abort, alloc: Global, commands: &[Command], list: &AtOnce) -
     Ok(())
 }
 
-/// The same for an `AtOnce`, whose commands it makes.
+/// Makes the commands of an `AtOnce`, runs them as one list in a new campaign, and asserts the
+/// answers and the tables.
 fn at_once(rt: &impl Abort, alloc: Global, list: &AtOnce) -> Result<(), Fail> {
     let commands = commands_of(alloc, list.steps)?;
     is_run(rt, alloc, &commands, list)
@@ -179,7 +180,7 @@ static LISTS: [AtOnce; 2] = [
     },
 ];
 
-/// Asserts each list of `LISTS`.
+/// Runs each list of `LISTS` in a campaign of its own, and asserts the answers and the tables.
 fn are_run(rt: &impl Abort, alloc: Global) -> Result<(), Fail> {
     for list in LISTS.iter() {
         at_once(rt, alloc, list)?;

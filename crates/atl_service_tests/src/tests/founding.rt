@@ -94,7 +94,7 @@ fn founds_nothing<S: Alter + Drop>(
     assert_all_rows(rt, alloc, &mut conn, rows.as_str())
 }
 
-/// Asserts one row of `REFUSED`.
+/// Asserts that a founding by one row of `REFUSED` fails the check it names, and changes no row.
 fn is_refused_after(
     rt: &impl Abort,
     alloc: Global,
@@ -106,7 +106,7 @@ fn is_refused_after(
     founds_nothing(rt, alloc, conn, (world, pass), words)
 }
 
-/// Asserts each row of `REFUSED`.
+/// Asserts that the founding by each row of `REFUSED` fails the check it names.
 fn are_refused(rt: &impl Abort, alloc: Global) -> Result<(), Fail> {
     for refused in REFUSED.iter() {
         is_refused_after(rt, alloc, refused)?;

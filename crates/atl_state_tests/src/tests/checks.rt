@@ -35,7 +35,7 @@ const GOOD: Rows = Rows {
     bought: 0,
 };
 
-/// The same campaign with nothing in stock, in the first format.
+/// The campaign of `GOOD` with nothing in stock, in the first format.
 const OLD: Rows = Rows {
     asked: Format::First,
     format: 1,
@@ -86,7 +86,8 @@ static CASES: [(Rows, u64); 15] = [
     (Rows { reports: 1, ..GOOD }, 12),
 ];
 
-/// The same for the rows of the market and its books.
+/// Rows with changes to the market and its books, and the number of the first rule that they break,
+/// or 0.
 static MARKET_CASES: [(Rows, u64); 14] = [
     (GOOD, 0),
     (

@@ -20,7 +20,7 @@ struct Case {
     marks: usize,
 }
 
-/// Steps from units 1 and 3 of faction 1 and unit 2 of faction 2, all in region 3.
+/// Steps in turn. At first units 1 and 3 of faction 1, and unit 2 of faction 2, are in region 3.
 /// A boat 1 and a lodge 2 are there, without owners.
 static CASES: [Case; 13] = [
     // Who enters an ownerless structure owns it.

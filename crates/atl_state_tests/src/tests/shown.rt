@@ -349,7 +349,7 @@ pub(crate) fn assert_steps(
     Ok(())
 }
 
-/// The same, with all marks cleared before each step.
+/// Makes the steps of a table in turn, with all marks cleared before each, and asserts each row.
 pub(crate) fn assert_unmarked_steps(
     rt: &impl Abort,
     alloc: Global,

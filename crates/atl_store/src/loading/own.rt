@@ -69,7 +69,8 @@ fn world_from(alloc: Global, text: &str, format: Format) -> Result<World, LoadFa
     }
 }
 
-/// The only row with its world; Damaged if there isn't one row that keeps the first rule.
+/// The only row of `campaign`, with its world. Damaged by the first rule if there isn't just one
+/// row, with id 1, this format and the text of a world.
 fn check_own_rows(
     alloc: Global,
     rows: Vec<StoredCampaign>,
@@ -117,14 +118,15 @@ fn says(row: &Row, format: Format) -> bool
     }
 }
 
-/// Whether the rows that SQL shows are one, of the other format, whatever else it says.
+/// Whether SQL shows just one row, and of the other format, whatever else the row says.
 fn is_other(rows: &[Row], format: Format) -> bool
     ensures { IsTrue result ↔ (IsOther format rows.now) }
 {
     rows.len() == 1 && says(&rows[0], other(format))
 }
 
-/// The same, but OtherFormat if the rows are one of the other format.
+/// The campaign row and its world, from the rows that SQL shows of `campaign`; OtherFormat if they
+/// are one row of the other format.
 fn own_in(alloc: Global, rows: &[Row], format: Format) -> Result<(StoredCampaign, World), LoadFault>
     ensures { JudgesFormat format rows.now result }
 {

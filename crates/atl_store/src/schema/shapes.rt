@@ -43,7 +43,7 @@ pub(crate) fn is_strict(found: &Table, made: &TableDefinition) -> bool
         && is_without_more(found)
 }
 
-/// The same, and whether it has no check.
+/// Whether the table is as defined in tree, name and columns, and has no more but keys: no check.
 fn is_unchecked(found: &Table, made: &TableDefinition) -> bool
     ensures { IsTrue result ↔
         (found.now ≡ record (table made.now.tree made.now.name.now

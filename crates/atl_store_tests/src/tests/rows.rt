@@ -129,7 +129,7 @@ fn lines<T: Line>(alloc: Global, rows: &[T]) -> Result<String, AllocError> {
     Ok(text)
 }
 
-/// The rows of a table, or the fault of their read.
+/// The text of all rows of a table, or of the fault of reading them; fails in a transaction.
 fn rows_of<T: Line + HasSelect, S: Alter>(
     alloc: Global,
     conn: &mut Connection<S>,
@@ -143,7 +143,7 @@ fn rows_of<T: Line + HasSelect, S: Alter>(
     }
 }
 
-/// The rows of a table by its name, or the fault of their read.
+/// The text of all rows of the table with this name, or of the fault of reading them.
 pub(crate) fn read<S: Alter>(
     alloc: Global,
     conn: &mut Connection<S>,

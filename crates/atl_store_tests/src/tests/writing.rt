@@ -153,8 +153,10 @@ is_kept_campaign -> yes";
     play_new(&rt, rt.alloc(), script)
 }
 
-/// All units get another name by hand and a day more of each skill, and two of them another skill. Of unit 3, which is
-/// lent, all is as the campaign has it then, its name and its skills too. Ten units keep the names of the change by hand,
+/// A unit that was lent (`unit_mut`) is written whole, and no other unit is. By hand all units get
+/// another name and a day more of each skill, and two of them another skill. Of unit 3, which is
+/// lent, all is as the campaign has it then, its name and its skills too. Ten units keep the names
+/// of the change by hand,
 /// and four of them its days: 61, 451, 91, and 751 with 30.
 #[test]
 fn a_lent_unit_is_written_whole_and_alone(rt: HostRuntime) -> Result<(), Fail> {

@@ -72,7 +72,7 @@ fn add_idle<'m>(
     Ok(())
 }
 
-/// All orders of WORK, those of idle units too, by unit, line and faction.
+/// All orders of WORK, and one more for each idle unit, sorted by unit, line and faction.
 pub(crate) fn tasks<'m>(
     alloc: Global,
     plain: &Plain,
