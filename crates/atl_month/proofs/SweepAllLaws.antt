@@ -19,7 +19,7 @@ use Rattle.atl_records.specs.declared.books.Thing.TheVariants.{People}
 use Rattle.atl_records.specs.declared.records.Faction.{Faction}
 use Rattle.atl_records.specs.declared.records.Unit.{Unit}
 use Rattle.atl_records.specs.Every.{Every}
-use Rattle.atl_state.specs.Good.{HaveMen, IsSteady, NoneAreGone}
+use Rattle.atl_state.specs.Good.{HaveMen, IsSteady, UnitlessAreGone}
 use Rattle.atl_state.specs.Owners.{without_unit}
 use Rattle.atl_state.specs.Campaign.{CampaignValue, active, numbers_of, with_gone}
 use Rattle.atl_records.proofs.EveryLaws.{none_some}
@@ -223,7 +223,7 @@ not_false true h = refl
 not_false false h = absurd (h refl)
 
 -- after sweeping factions that include all without units, these are gone
-all_are_gone : (ns : List ℕ) (c : CampaignValue) → AreToGo ns c → NoneAreGone (fold after_sweeping_faction c ns)
+all_are_gone : (ns : List ℕ) (c : CampaignValue) → AreToGo ns c → UnitlessAreGone (fold after_sweeping_faction c ns)
 all_are_gone [] c listed = λ m f there none. not_false f.gone (listed m f there none)
 all_are_gone (n ∷ ns) c listed =
     all_are_gone ns (after_sweeping_faction c n) (λ m f there none stays.
@@ -287,7 +287,7 @@ module _ (w : WorldValue) (c : CampaignValue) (steady : IsSteady w c) where
       subst (λ (units : FinMap nat_cmp Unit). Every (λ n u. 1 ≤ u.holding.men) units) (sym (units_stay (active units_swept) units_swept))
       (all_have_men w (menless_units c) c steady (λ m v there none. passing_listed (λ (u : Unit). u.holding.men == 0) c.units m v there (let t : (v.holding.men == 0) ≡ true = grind (arith, nat_tests) in t)))
 
-  are_gone : NoneAreGone (sweep c)
+  are_gone : UnitlessAreGone (sweep c)
   are_gone = all_are_gone (active units_swept) units_swept (λ m f there none stays. passing_listed (λ (x : Faction). not x.gone) units_swept.factions m f there (ap not stays))
 
   pub sweep_leaves_well : LeavesWell IsSwept (loses_by most_moved) w c (sweep c)

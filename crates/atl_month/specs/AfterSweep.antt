@@ -1,10 +1,10 @@
 -- What holds of a campaign after the sweep. See docs/RULES.md, "Sweep".
 use Rattle.atl_tables.specs.Worlds.{WorldValue}
-use Rattle.atl_state.specs.Good.{HaveMen, IsSteady, NoneAreGone}
+use Rattle.atl_state.specs.Good.{HaveMen, IsSteady, UnitlessAreGone}
 use Rattle.atl_state.specs.Campaign.{CampaignValue}
 
 -- a campaign is steady, each unit has men, and each faction without units is gone
 pub record IsSwept (w : WorldValue) (c : CampaignValue) : Type 0 where
   pub steady : IsSteady w c
   pub men : HaveMen c
-  pub gone : NoneAreGone c
+  pub gone : UnitlessAreGone c

@@ -25,7 +25,7 @@ use Rattle.atl_service.specs.Service.{IsConsistent}
 use Rattle.atl_service.specs.declared.command.Cause.{Cause}
 use Rattle.atl_service.specs.declared.command.Cause.TheVariants.{World as BadWorld, BadPassText}
 use Rattle.atl_service.specs.declared.command.Cause.TheVariants as none
-use Rattle.atl_service.specs.Found.{Founds, FailsToFound, LeavesByCause, RefusesFounding, IsCause, Prepares, RefusesToWrite, of_creation}
+use Rattle.atl_service.specs.Found.{Founds, FailsToFound, LeavesByCause, RefusesFounding, MayBeCause, Prepares, RefusesToWrite, of_creation}
 use Rattle.atl_service.proofs.CauseLaws.{creation_failed, creation_lacked}
 
 module _ {S : Type 0} (g : Ghosts S) where
@@ -38,10 +38,10 @@ module _ {S : Type 0} (g : Ghosts S) where
   nothing_done conn text pass = record { tables = λ clean. spares_itself (state g conn); unfounded = λ bad. refl; crash = λ clean w is db may. inl may }
 
   -- a founding refused by a check before the tables are created leaves the connection as it was
-  pub spared : (conn : Held S) (text pass : List ℕ) (why : Cause) → ((is_there : Bool) → IsCause text pass is_there why) → RefusesFounding g conn text pass why conn
+  pub spared : (conn : Held S) (text pass : List ℕ) (why : Cause) → ((is_there : Bool) → MayBeCause text pass is_there why) → RefusesFounding g conn text pass why conn
   spared conn text pass why cause = record { cause = cause (has_campaign conn.schema); leaves = leaves why cause; later = later_itself conn }
     where
-      leaves : (why : Cause) → ((is_there : Bool) → IsCause text pass is_there why) → LeavesByCause g conn text pass conn why
+      leaves : (why : Cause) → ((is_there : Bool) → MayBeCause text pass is_there why) → LeavesByCause g conn text pass conn why
       leaves (BadWorld fault) is = refl
       leaves BadPassText is = refl
       leaves none.NotEmpty is = refl

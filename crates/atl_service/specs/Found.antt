@@ -36,17 +36,17 @@ IsWorldText text = (w : WorldValue) × (world_of text ≡ Ok w)
 
 -- Whether a founding may fail with this cause: that of the first check that fails, Store if none does, or Memory.
 -- `is_there` says whether a table `campaign` exists. Causes of opening and upgrading never apply.
-abbrev pub IsCause : List ℕ → List ℕ → Bool → Cause → Type 0
-IsCause text pass is_there (BadWorld fault) = world_of text ≡ Err fault
-IsCause text pass is_there BadPassText = IsWorldText text × (pass_ok pass ≡ false)
-IsCause text pass is_there NotEmpty = IsWorldText text × (pass_ok pass ≡ true) × (is_there ≡ true)
-IsCause text pass is_there NotACampaign = ⊥
-IsCause text pass is_there OldFormat = ⊥
-IsCause text pass is_there NotOld = ⊥
-IsCause text pass is_there (Damaged rule) = ⊥
-IsCause text pass is_there Differs = ⊥
-IsCause text pass is_there Store = IsWorldText text × (pass_ok pass ≡ true) × (is_there ≡ false)
-IsCause text pass is_there Memory = ⊤
+abbrev pub MayBeCause : List ℕ → List ℕ → Bool → Cause → Type 0
+MayBeCause text pass is_there (BadWorld fault) = world_of text ≡ Err fault
+MayBeCause text pass is_there BadPassText = IsWorldText text × (pass_ok pass ≡ false)
+MayBeCause text pass is_there NotEmpty = IsWorldText text × (pass_ok pass ≡ true) × (is_there ≡ true)
+MayBeCause text pass is_there NotACampaign = ⊥
+MayBeCause text pass is_there OldFormat = ⊥
+MayBeCause text pass is_there NotOld = ⊥
+MayBeCause text pass is_there (Damaged rule) = ⊥
+MayBeCause text pass is_there Differs = ⊥
+MayBeCause text pass is_there Store = IsWorldText text × (pass_ok pass ≡ true) × (is_there ≡ false)
+MayBeCause text pass is_there Memory = ⊤
 
 -- What a founding leaves that failed with Store or Memory: the tables are as before while the connection is open, and a crash leaves what it left before or the founded campaign.
 -- If the text is no world, or the pass text isn't good, nothing is changed at all.
@@ -74,7 +74,7 @@ LeavesByCause g old text pass new Memory = FailsToFound g old text pass new × L
 
 -- A founding was refused: its cause is the first check that fails, and the connection is left as that cause allows.
 pub record RefusesFounding {S : Type 0} (g : Ghosts S) (old : Held S) (text pass : List ℕ) (why : Cause) (new : Held S) : Type 0 where
-  pub cause : IsCause text pass (has_campaign old.schema) why
+  pub cause : MayBeCause text pass (has_campaign old.schema) why
   pub leaves : LeavesByCause g old text pass new why
   pub later : IsLater (state g old) (state g new)
 

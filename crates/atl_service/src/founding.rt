@@ -3,7 +3,7 @@
 ghost use Rattle.std.specs.Prelude.{◌≤◌, Bool, IfOk, IfErr};
 ghost use Rattle.atl_records.specs.Limits.{most_things};
 ghost use Rattle.atl_state.specs.Good.{IsGood};
-ghost use Rattle.atl_service.specs.Found.{Prepares, IsCause};
+ghost use Rattle.atl_service.specs.Found.{Prepares, MayBeCause};
 
 use crate::command::Cause;
 use atl_state::{Campaign, founded};
@@ -21,7 +21,7 @@ pub(crate) fn world_and_campaign(
     ensures good { IfOk result (λ made. IsGood made.0 made.1.value) }
     ensures things { IfOk result (λ made. made.1.value.books.things ≤ most_things) }
     ensures err { IfErr result
-        (λ why. (is_there : Bool) → IsCause world_text.now pass.now is_there why) }
+        (λ why. (is_there : Bool) → MayBeCause world_text.now pass.now is_there why) }
 {
     let world = read_world(alloc, world_text)?;
     if !pass_ok(pass) {

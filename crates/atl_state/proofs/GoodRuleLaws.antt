@@ -34,7 +34,7 @@ use Rattle.atl_records.specs.Every.{EachOf}
 use Rattle.atl_state.specs.Deciding.{JoinedNamesDiffer}
 use Rattle.atl_state.specs.Founding.{things_of}
 use Rattle.atl_state.specs.FromRows.{as_u32, faction_of, region_of, structure_of, unit_of, campaign_row_of, campaign_of}
-use Rattle.atl_state.specs.Good.{AreKnown, AreNumbered, AreDays, GoneHaveNone, NoneAreGone, AreOwned, AreAfloat, AreOfOneFaction, guards, IsMail, AreReported, amount_bound, IsGood}
+use Rattle.atl_state.specs.Good.{AreKnown, AreNumbered, AreDays, GoneHaveNone, UnitlessAreGone, AreOwned, AreAfloat, AreOfOneFaction, guards, IsMail, AreReported, amount_bound, IsGood}
 use Rattle.atl_records.specs.Limits.{entry_count, first_entry_count, entries_in, holding_limit, last_month, last_unit, men_limit, most_in_joining, most_in_month, most_structures, most_units}
 use Rattle.atl_state.specs.RowRules.{is_from, is_one_campaign_row, are_of_format, is_within, campaign_row_in_range, faction_in_range, region_in_range, unit_in_range, has_in_range, structure_in_range, books_in_range, books_bound, market_in_range, are_few, AreKeyed, AreRowsInRange, faction_named, AreRowsNamed, is_of_unit, is_of_market, is_entry_in, is_booked}
 use Rattle.atl_state.specs.Rows.{flag, rows_by, campaign_row, faction_row, region_row, unit_row, structure_row, mail_row, report_row, has_row, has_rows, books_rows, market_rows, is_zero, AreRowsOf}
@@ -319,7 +319,7 @@ module _ (f : Format) (w : WorldValue) (world : IsWorld w) (c : CampaignValue) (
   keeps Known = (said (AreKnown w) good.sound.steady.known, said (λ s. list_all (is_of_unit s) p.has ≡ true) of_units, of_markets)
   keeps Next = said AreNumbered good.sound.steady.next
   keeps Days = said AreDays good.sound.steady.days
-  keeps Gone = (said GoneHaveNone good.sound.steady.gone, said NoneAreGone good.sound.gone)
+  keeps Gone = (said GoneHaveNone good.sound.steady.gone, said UnitlessAreGone good.sound.gone)
   keeps Owners = said AreOwned good.sound.steady.owners
   keeps Water = said (AreAfloat w) good.sound.steady.water
   keeps Guards = said (AreOfOneFaction guards) good.sound.steady.guarded

@@ -30,7 +30,7 @@ use Rattle.atl_state.specs.Totals.{total, Balances}
 use Rattle.atl_state.specs.Founding.{things_of}
 use Rattle.atl_records.specs.Every.{Every}
 use Rattle.atl_state.proofs.GoodLaws.{posted-there}
-use Rattle.atl_state.specs.Good.{AreInRange, AreAmountsWithin, HaveMen, AreNamed, IsPlaced, AreKnown, IsNumbered, AreNumbered, AreDays, GoneHaveNone, NoneAreGone, AreOwned, IsAboard, AreAfloat, guards, AreOfOneFaction, IsMail, IsSteady, IsSound, amount_bound}
+use Rattle.atl_state.specs.Good.{AreInRange, AreAmountsWithin, HaveMen, AreNamed, IsPlaced, AreKnown, IsNumbered, AreNumbered, AreDays, GoneHaveNone, UnitlessAreGone, AreOwned, IsAboard, AreAfloat, guards, AreOfOneFaction, IsMail, IsSteady, IsSound, amount_bound}
 use Rattle.atl_state.specs.Joining.{joined, new_faction, first_unit, home_of, is_full, name_taken}
 use Rattle.atl_state.specs.Ordered.{put_number, first_above}
 use Rattle.atl_records.proofs.BookLaws.{booked-after_booking, AreBooks-after_booking, IsWithin-after_booking, IsSmall-within, share_of}
@@ -245,7 +245,7 @@ module _ (w : WorldValue) (name pass : List ℕ) (word : ℕ) (c : CampaignValue
         some_put c.next_unit (numbers_of c.next_faction c.units) (sym (numbers_where-insert_new (λ (u : Unit). u.faction == c.next_faction) c.units c.next_unit unit free_unit same) ∙ none)
 
     -- factions without units are gone, once a faction joined
-    joined-none : NoneAreGone c → NoneAreGone (joined w name pass word c)
+    joined-none : UnitlessAreGone c → UnitlessAreGone (joined w name pass word c)
     unfolding joined
     joined-none old = every-insert (λ n f. numbers_of n units ≡ [] → f.gone ≡ true) c.factions c.next_faction member own_unit (λ n f is none. old n f is (sym (same_units n f is) ∙ none))
 

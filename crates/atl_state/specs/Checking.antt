@@ -13,7 +13,7 @@ use Rattle.atl_state.specs.declared.checking.Rule.TheVariants.{OneRow, Ranges, N
 use Rattle.atl_state.specs.declared.parts.Parts.{Parts}
 use Rattle.atl_records.specs.Books.{amount_in, entry_index}
 use Rattle.atl_state.specs.FromRows.{campaign_of}
-use Rattle.atl_state.specs.Good.{AreKnown, AreNumbered, AreDays, GoneHaveNone, NoneAreGone, AreOwned, AreAfloat, AreOfOneFaction, guards, IsMail, AreReported, HasNoStocks, IsGood}
+use Rattle.atl_state.specs.Good.{AreKnown, AreNumbered, AreDays, GoneHaveNone, UnitlessAreGone, AreOwned, AreAfloat, AreOfOneFaction, guards, IsMail, AreReported, HasNoStocks, IsGood}
 use Rattle.atl_records.specs.Limits.{first_entry_count}
 use Rattle.atl_state.specs.Marks.{no_marks}
 use Rattle.atl_state.specs.RowRules.{is_one_campaign_row, are_of_format, AreRowsInRange, AreRowsNamed, is_of_unit, is_of_market, is_booked}
@@ -44,7 +44,7 @@ KeepsRule f w p Names = AreRowsNamed p
 KeepsRule f w p Known = AreKnown w (campaign_of w p) × IsTrue (list_all (is_of_unit (campaign_of w p)) p.has) × IsTrue (list_all (is_of_market w) p.markets)
 KeepsRule f w p Next = AreNumbered (campaign_of w p)
 KeepsRule f w p Days = AreDays (campaign_of w p)
-KeepsRule f w p Gone = GoneHaveNone (campaign_of w p) × NoneAreGone (campaign_of w p)
+KeepsRule f w p Gone = GoneHaveNone (campaign_of w p) × UnitlessAreGone (campaign_of w p)
 KeepsRule f w p Owners = AreOwned (campaign_of w p)
 KeepsRule f w p Water = AreAfloat w (campaign_of w p)
 KeepsRule f w p Guards = AreOfOneFaction guards (campaign_of w p)

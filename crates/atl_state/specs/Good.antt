@@ -150,8 +150,8 @@ abbrev pub GoneHaveNone : CampaignValue → Type 0
 GoneHaveNone c = Every (λ n f. f.gone ≡ true → numbers_of n c.units ≡ []) c.factions
 
 -- each faction without units is gone
-abbrev pub NoneAreGone : CampaignValue → Type 0
-NoneAreGone c = Every (λ n f. numbers_of n c.units ≡ [] → f.gone ≡ true) c.factions
+abbrev pub UnitlessAreGone : CampaignValue → Type 0
+UnitlessAreGone c = Every (λ n f. numbers_of n c.units ≡ [] → f.gone ≡ true) c.factions
 
 -- ---- of owners
 
@@ -233,7 +233,7 @@ pub record IsSound (w : WorldValue) (c : CampaignValue) : Type 0 where
   pub steady : IsSteady w c
   pub men : HaveMen c
   pub amounts : AreAmountsWithin c
-  pub gone : NoneAreGone c
+  pub gone : UnitlessAreGone c
   pub balances : Balances c
   pub mail : IsMail c
 

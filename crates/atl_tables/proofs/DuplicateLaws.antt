@@ -12,7 +12,7 @@ use Rattle.atl_tables.specs.Drafts.{HaveNames}
 use Rattle.atl_tables.specs.RegionTable.{market_twins}
 use Rattle.atl_tables.specs.Regions.{duplicate_numbers}
 use Rattle.atl_tables.specs.TerrainTable.{terrain_twins}
-use Rattle.atl_tables.specs.Titles.{twin_at, twins}
+use Rattle.atl_tables.specs.Titles.{no_twin_before, no_twins}
 use Rattle.atl_tables.specs.World.{titles_differ, names_differ}
 use Rattle.atl_tables.specs.declared.fault.WorldFault.{WorldFault}
 use Rattle.atl_tables.specs.declared.fault.WorldFault.TheVariants.{TwoNames}
@@ -52,8 +52,8 @@ module _ {A : Type 0} (title : A → List ℕ) where
   by_test false f h = refl
 
   -- if the condition on the i-th element holds, no element before it has its name
-  no_twin : (array key : List ℕ) (all : List A) (i : ℕ) (x : A) → first_fault (twin_at title array key all i x) ≡ None → is_before x (take i all) ≡ false
-  unfolding twin_at
+  no_twin : (array key : List ℕ) (all : List A) (i : ℕ) (x : A) → first_fault (no_twin_before title array key all i x) ≡ None → is_before x (take i all) ≡ false
+  unfolding no_twin_before
   no_twin array key all i x h = by_test (is_before x (take i all)) (TwoNames (path (element_path array i) key)) h
 
   -- x has another name than each element of a list, if it has another than the one at each index
@@ -75,8 +75,8 @@ module _ {A : Type 0} (title : A → List ℕ) where
       (differ_behind (front ++ x ∷ []) xs (λ k y e. ap (is_before y) (append_assoc front (x ∷ []) (take k xs)) ∙ h (suc k) y e))
 
   -- the names of an array differ, if its conditions on duplicates hold
-  pub differ : (array key : List ℕ) (all : List A) → first_fault (twins title array key all) ≡ None → NamesDiffer (map title all)
-  differ array key all h = differ_behind [] all (λ k x e. let same : 0 + k ≡ k = omega arith in no_twin array key all k x (rw same at (at_each (twin_at title array key all) 0 all h k x e)))
+  pub differ : (array key : List ℕ) (all : List A) → first_fault (no_twins title array key all) ≡ None → NamesDiffer (map title all)
+  differ array key all h = differ_behind [] all (λ k x e. let same : 0 + k ≡ k = omega arith in no_twin array key all k x (rw same at (at_each (no_twin_before title array key all) 0 all h k x e)))
 
 -- a list mapped by f keeps its names, if f keeps the name of each element
 pub names_kept : {A B : Type 0} (f : A → B) (n : A → List ℕ) (m : B → List ℕ) → ((x : A) → m (f x) ≡ n x) → (xs : List A) → map m (map f xs) ≡ map n xs
@@ -87,10 +87,10 @@ names_kept f n m h (x ∷ xs) = rw (h x, names_kept f n m h xs) refl
 titles_have_names : (all : WorldDraft) → first_fault (titles_differ all) ≡ None → HaveNames all
 unfolding titles_differ
 titles_have_names all h =
-    let terrains = twins (λ d. d.name) (codes "terrain") (codes "name") all.terrains in
-    let items = twins (λ d. d.name) (codes "item") (codes "name") all.items in
-    let skills = twins (λ s. s.name) (codes "skill") (codes "name") all.skills in
-    let kinds = twins (λ d. d.name) (codes "kind") (codes "name") all.kinds in
+    let terrains = no_twins (λ d. d.name) (codes "terrain") (codes "name") all.terrains in
+    let items = no_twins (λ d. d.name) (codes "item") (codes "name") all.items in
+    let skills = no_twins (λ s. s.name) (codes "skill") (codes "name") all.skills in
+    let kinds = no_twins (λ d. d.name) (codes "kind") (codes "name") all.kinds in
     let behind_terrains = back_none terrains (items ++ (skills ++ kinds)) h in
     let behind_items = back_none items (skills ++ kinds) behind_terrains in
     record {

@@ -9,7 +9,7 @@ use Rattle.atl_tables.specs.Faults.{Conditions, fault_of, value_or}
 use Rattle.atl_tables.specs.Keys.{Key, path, number_at, text_at, optional_array_at}
 use Rattle.atl_tables.specs.Limits.{most_amount, most_markets, most_price}
 use Rattle.atl_tables.specs.Sums.{by_number}
-use Rattle.atl_tables.specs.Titles.{known, item_number, twins}
+use Rattle.atl_tables.specs.Titles.{known, item_number, no_twins}
 use Rattle.atl_tables.specs.declared.market_table.MarketDraft.{MarketDraft}
 use Rattle.atl_tables.specs.declared.world_draft.WorldDraft.{WorldDraft}
 use Rattle.atl_tables.specs.declared.world.Market.{Market}
@@ -65,7 +65,7 @@ markets_from at t = list_of market_from (market_path at) (optional_array_at most
 
 -- the conditions that no two markets of the region at a path are of the same item
 abbrev pub duplicate_items : List ℕ → List MarketDraft → Conditions
-duplicate_items at ds = twins (λ d. d.item) (market_path at) (codes "item") ds
+duplicate_items at ds = no_twins (λ d. d.item) (market_path at) (codes "item") ds
 
 -- the condition that `item` names an item
 unfoldable pub market_known : WorldDraft → MarketDraft → Conditions

@@ -11,12 +11,12 @@ use Rattle.atl_tables.specs.Names.{same_name}
 
 module _ {A : Type 0} (title : A → List ℕ) where
   -- the condition that no element before the i-th has its name, which is under this key; else TwoNames
-  unfoldable pub twin_at : List ℕ → List ℕ → List A → ℕ → A → Conditions
-  twin_at array key all i x = (if list_any (λ y. same_name (title y) (title x)) (take i all) then Some (TwoNames (path (element_path array i) key)) else None) ∷ []
+  unfoldable pub no_twin_before : List ℕ → List ℕ → List A → ℕ → A → Conditions
+  no_twin_before array key all i x = (if list_any (λ y. same_name (title y) (title x)) (take i all) then Some (TwoNames (path (element_path array i) key)) else None) ∷ []
 
   -- the conditions that no two elements of an array have the same name, ignoring ASCII case
-  abbrev pub twins : List ℕ → List ℕ → List A → Conditions
-  twins array key all = each (twin_at array key all) 0 all
+  abbrev pub no_twins : List ℕ → List ℕ → List A → Conditions
+  no_twins array key all = each (no_twin_before array key all) 0 all
 
   -- the index of the first element with this name, ignoring ASCII case
   unfoldable pub number_of : List A → List ℕ → Option ℕ

@@ -20,7 +20,7 @@ use Rattle.atl_tables.specs.RulesTable.{rules_conditions, rules_in, rules_known,
 use Rattle.atl_tables.specs.SkillTable.{skill_keys, skill_from}
 use Rattle.atl_tables.specs.Sums.{by_number}
 use Rattle.atl_tables.specs.TerrainTable.{terrain_keys, terrain_from, terrain_twins, terrain_known, terrain_of}
-use Rattle.atl_tables.specs.Titles.{twins}
+use Rattle.atl_tables.specs.Titles.{no_twins}
 use Rattle.atl_tables.specs.declared.fault.WorldFault.{WorldFault}
 use Rattle.atl_tables.specs.declared.fault.WorldFault.TheVariants.{NotToml, NoLand}
 use Rattle.atl_tables.specs.declared.format.Format.{Format}
@@ -71,32 +71,32 @@ world_of_tables all = record {
 
 -- ---- the conditions, in the order in which their faults count
 -- the conditions on the keys of items, skills and kinds: each has its type and range, and is there if it is needed
-unfoldable pub things_are_good : Members → Conditions
-things_are_good doc =
+unfoldable pub things_conditions : Members → Conditions
+things_conditions doc =
     list_conditions item_keys (codes "item") (optional_array_at most_items (codes "item") (codes "item") doc)
     ++ (list_conditions skill_keys (codes "skill") (optional_array_at most_skills (codes "skill") (codes "skill") doc)
     ++ list_conditions kind_keys (codes "kind") (optional_array_at most_kinds (codes "kind") (codes "kind") doc))
 
 -- the conditions on the keys of regions
-unfoldable pub regions_are_good : Format → Members → Conditions
-regions_are_good First doc = list_conditions old_region_keys (codes "region") (array_at most_regions (codes "region") doc)
-regions_are_good Second doc = list_conditions region_keys (codes "region") (array_at most_regions (codes "region") doc)
+unfoldable pub regions_conditions : Format → Members → Conditions
+regions_conditions First doc = list_conditions old_region_keys (codes "region") (array_at most_regions (codes "region") doc)
+regions_conditions Second doc = list_conditions region_keys (codes "region") (array_at most_regions (codes "region") doc)
 
 -- the conditions on the keys of all tables
-unfoldable pub keys_are_good : Format → Members → Conditions
-keys_are_good format doc =
+unfoldable pub keys_conditions : Format → Members → Conditions
+keys_conditions format doc =
     rules_conditions doc
     ++ (list_conditions terrain_keys (codes "terrain") (array_at most_terrains (codes "terrain") doc)
-    ++ (things_are_good doc
-    ++ regions_are_good format doc))
+    ++ (things_conditions doc
+    ++ regions_conditions format doc))
 
 -- the conditions that no two terrains, items, skills or kinds have the same name
 unfoldable pub titles_differ : WorldDraft → Conditions
 titles_differ all =
-    twins (λ d. d.name) (codes "terrain") (codes "name") all.terrains
-    ++ (twins (λ d. d.name) (codes "item") (codes "name") all.items
-    ++ (twins (λ s. s.name) (codes "skill") (codes "name") all.skills
-    ++ twins (λ d. d.name) (codes "kind") (codes "name") all.kinds))
+    no_twins (λ d. d.name) (codes "terrain") (codes "name") all.terrains
+    ++ (no_twins (λ d. d.name) (codes "item") (codes "name") all.items
+    ++ (no_twins (λ s. s.name) (codes "skill") (codes "name") all.skills
+    ++ no_twins (λ d. d.name) (codes "kind") (codes "name") all.kinds))
 
 -- the conditions that all names and numbers that must be unique are
 unfoldable pub names_differ : WorldDraft → Conditions
@@ -134,7 +134,7 @@ table_conditions all =
 
 -- all conditions on a document
 unfoldable pub conditions : Format → Members → Conditions
-conditions format doc = keys_are_good format doc ++ table_conditions (tables_of format doc)
+conditions format doc = keys_conditions format doc ++ table_conditions (tables_of format doc)
 
 -- ---- the world of a text in a format, or its first fault
 -- the world of a document in a format, or its first fault; NotToml without a document

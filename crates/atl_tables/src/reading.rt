@@ -10,7 +10,7 @@ ghost use Rattle.atl_tables.specs.OldWorlds.{OldWorldsAreBare};
 ghost use Rattle.atl_tables.specs.Parts.{AreWorldPartsOf, world_parts_of};
 ghost use Rattle.atl_tables.specs.Worlds.{IsWorld, is_land, land_of, world_of_parts};
 ghost use Rattle.atl_tables.specs.Sums.{numbers_where};
-ghost use Rattle.atl_tables.specs.World.{things_of, regions_in, tables_of, world_of_tables, things_are_good, regions_are_good, keys_are_good, titles_differ, names_differ, names_are_known, neighbours_are_mutual, is_some_land, table_conditions, conditions, world_by, world_of, old_world_of};
+ghost use Rattle.atl_tables.specs.World.{things_of, regions_in, tables_of, world_of_tables, things_conditions, regions_conditions, keys_conditions, titles_differ, names_differ, names_are_known, neighbours_are_mutual, is_some_land, table_conditions, conditions, world_by, world_of, old_world_of};
 
 use crate::elements::{list, optional_list};
 use crate::fault::WorldFault;
@@ -51,9 +51,9 @@ pub struct ThingDrafts {
 }
 
 /// The tables of items, skills and kinds of the document, else the first fault of a key.
-#[tactic(auto, unfolding(crate::specs::World::things_are_good, crate::specs::World::things_of))]
+#[tactic(auto, unfolding(crate::specs::World::things_conditions, crate::specs::World::things_of))]
 fn read_thing_drafts(alloc: Global, document: &Table) -> Result<ThingDrafts, WorldFault>
-    ensures value { Gives (λ t. t) result (first_fault (things_are_good (table_view document.now)))
+    ensures value { Gives (λ t. t) result (first_fault (things_conditions (table_view document.now)))
         (things_of (table_view document.now)) }
     ensures sound { IfOk result AreThingDrafts }
 {
@@ -68,14 +68,14 @@ fn read_thing_drafts(alloc: Global, document: &Table) -> Result<ThingDrafts, Wor
 }
 
 /// The regions of the document as a format reads them, else the first fault of a key.
-#[tactic(auto, unfolding(crate::specs::World::regions_are_good, crate::specs::World::regions_in))]
+#[tactic(auto, unfolding(crate::specs::World::regions_conditions, crate::specs::World::regions_in))]
 fn read_regions(
     alloc: Global,
     format: Format,
     document: &Table,
 ) -> Result<Sequence<RegionDraft>, WorldFault>
     ensures value { Gives (λ v. v) result
-        (first_fault (regions_are_good format (table_view document.now)))
+        (first_fault (regions_conditions format (table_view document.now)))
         (regions_in format (table_view document.now)) }
     ensures sound { IfOk result (λ v. All IsRegionDraft v) }
     ensures most { IfOk result (λ v. length v ≤ most_regions) }
@@ -90,10 +90,10 @@ fn read_regions(
 }
 
 /// All tables of the document, with names not looked up yet, else the first fault of a key.
-#[tactic(auto, unfolding(crate::specs::World::keys_are_good, crate::specs::World::tables_of))]
+#[tactic(auto, unfolding(crate::specs::World::keys_conditions, crate::specs::World::tables_of))]
 fn tables(alloc: Global, format: Format, document: &Table) -> Result<WorldDraft, WorldFault>
     ensures value { Gives (λ t. t) result
-        (first_fault (keys_are_good format (table_view document.now)))
+        (first_fault (keys_conditions format (table_view document.now)))
         (tables_of format (table_view document.now)) }
     ensures sound { IfOk result IsWorldDraft }
 {

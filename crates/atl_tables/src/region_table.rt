@@ -175,7 +175,7 @@ pub(crate) fn without_markets(
 
 /// Checks that no two markets of a region are of the same item.
 impl HasUniqueNames for RegionDraft {
-    ghost twins = { market_twins };
+    ghost no_twins = { market_twins };
 
     #[tactic(auto, unfolding(crate::specs::RegionTable::market_twins))]
     fn no_duplicates_inside(&self, alloc: Global, i: usize) -> Result<(), WorldFault> {

@@ -137,7 +137,7 @@ impl Draft for TerrainDraft {
 
 /// Checks that no two keys of a terrain's output are equal.
 impl HasUniqueNames for TerrainDraft {
-    ghost twins = { terrain_twins };
+    ghost no_twins = { terrain_twins };
 
     #[tactic(auto, unfolding(crate::specs::TerrainTable::terrain_twins))]
     fn no_duplicates_inside(&self, alloc: Global, i: usize) -> Result<(), WorldFault> {

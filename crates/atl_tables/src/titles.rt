@@ -7,7 +7,7 @@ ghost use Rattle.atl_tables.specs.Faults.{Conditions, first_fault};
 ghost use Rattle.atl_tables.specs.Results.{Gives};
 ghost use Rattle.atl_tables.specs.Keys.{path};
 ghost use Rattle.atl_tables.specs.Limits.{most_numbered};
-ghost use Rattle.atl_tables.specs.Titles.{twins, number_of, known, known_number_or_none};
+ghost use Rattle.atl_tables.specs.Titles.{no_twins, number_of, known, known_number_or_none};
 ghost use Rattle.atl_tables.specs.Names.{same_name};
 ghost use Rattle.atl_tables.specs.SeenNames.{has_name};
 
@@ -59,7 +59,7 @@ pub(crate) fn no_duplicate_names<T: Titled>(
     key: &str,
     items: &[T],
 ) -> Result<(), WorldFault>
-    ensures { Gives (λ u. u) result (first_fault (twins T.title_of array.now key.now items.now))
+    ensures { Gives (λ u. u) result (first_fault (no_twins T.title_of array.now key.now items.now))
         (tt {0}) }
 {
     let mut seen = BTreeSet::new(alloc);
@@ -74,12 +74,12 @@ pub(crate) fn no_duplicate_names<T: Titled>(
 
 /// A table that holds things with names, of which no two may be equal.
 pub(crate) trait HasUniqueNames: Drop {
-    ghost twins: { ℕ → Self → Conditions };
+    ghost no_twins: { ℕ → Self → Conditions };
 
     /// Checks that the i-th table of its array holds no two things with equal names. Else TwoNames
     /// at the second.
     fn no_duplicates_inside(&self, alloc: Global, i: usize) -> Result<(), WorldFault>
-        ensures { Gives (λ u. u) result (first_fault (twins i self.now)) (tt {0}) };
+        ensures { Gives (λ u. u) result (first_fault (no_twins i self.now)) (tt {0}) };
 }
 
 /// Checks that none of these tables holds two things with equal names. Else TwoNames at the first
@@ -88,7 +88,7 @@ pub(crate) fn no_duplicates_inside<T: HasUniqueNames>(
     alloc: Global,
     holders: &[T],
 ) -> Result<(), WorldFault>
-    ensures { Gives (λ u. u) result (first_fault (each T.twins 0 holders.now)) (tt {0}) }
+    ensures { Gives (λ u. u) result (first_fault (each T.no_twins 0 holders.now)) (tt {0}) }
 {
     for i in 0..holders.len() {
         holders[i].no_duplicates_inside(alloc, i)?;

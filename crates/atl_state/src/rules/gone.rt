@@ -1,6 +1,6 @@
 //! The rule that a faction is gone exactly when it has no unit.
 ghost use Rattle.std.specs.Prelude.{◌≡◌, true, [], ◌↔◌, IsTrue};
-ghost use Rattle.atl_state.specs.Good.{GoneHaveNone, NoneAreGone};
+ghost use Rattle.atl_state.specs.Good.{GoneHaveNone, UnitlessAreGone};
 ghost use Rattle.atl_state.specs.Campaign.{numbers_of};
 
 use crate::campaign::Campaign;
@@ -17,7 +17,7 @@ fn is_gone_without(campaign: &Campaign, number: u32, faction: &Faction) -> bool
 
 /// Whether each faction is gone exactly where it has no unit. It takes no memory.
 pub(crate) fn are_gone(campaign: &Campaign) -> bool
-    ensures { IsTrue result ↔ (GoneHaveNone campaign.now.value × NoneAreGone campaign.now.value) }
+    ensures { IsTrue result ↔ (GoneHaveNone campaign.now.value × UnitlessAreGone campaign.now.value) }
 {
     campaign.factions().all(|(number, faction)| is_gone_without(campaign, number, faction))
 }

@@ -1,5 +1,5 @@
 use Rattle.toml.specs.View.{table_view}
-use Rattle.atl_tables.specs.World.{conditions, keys_are_good, table_conditions, tables_of, world_of_tables}
+use Rattle.atl_tables.specs.World.{conditions, keys_conditions, table_conditions, tables_of, world_of_tables}
 use Rattle.atl_tables.proofs.FaultLaws.{exits, stops_on, gives_after}
 use Rattle.atl_tables.proofs.reading.from_document.Goals as goal
 
@@ -7,10 +7,10 @@ pub returns-in_err-all : goal.returns-in_err-all
 unfolding conditions
 returns-in_err-all c =
     let doc = table_view c.args.document.now in
-    exits _ _ _ _ _ c.from_residual.ensures.1 (stops_on c.in_err-all.field-0.0 (keys_are_good c.args.format doc) (table_conditions (tables_of c.args.format doc)) c.in_err-all.ensures.value)
+    exits _ _ _ _ _ c.from_residual.ensures.1 (stops_on c.in_err-all.field-0.0 (keys_conditions c.args.format doc) (table_conditions (tables_of c.args.format doc)) c.in_err-all.ensures.value)
 
 pub returns : goal.returns
 unfolding conditions
 returns c =
     let doc = table_view c.args.document.now in
-    gives_after (λ w. w) c.from_tables.result (keys_are_good c.args.format doc) (table_conditions (tables_of c.args.format doc)) (world_of_tables (tables_of c.args.format doc)) c.in_ok-all.ensures.value.0 (rw c.in_ok-all.ensures.value.1 c.from_tables.ensures)
+    gives_after (λ w. w) c.from_tables.result (keys_conditions c.args.format doc) (table_conditions (tables_of c.args.format doc)) (world_of_tables (tables_of c.args.format doc)) c.in_ok-all.ensures.value.0 (rw c.in_ok-all.ensures.value.1 c.from_tables.ensures)

@@ -8,7 +8,7 @@ use Rattle.atl_tables.specs.Keys.{optional_array_at}
 use Rattle.atl_tables.specs.KindTable.{kind_keys}
 use Rattle.atl_tables.specs.Limits.{most_items, most_skills, most_kinds}
 use Rattle.atl_tables.specs.SkillTable.{skill_keys}
-use Rattle.atl_tables.specs.World.{things_are_good, things_of}
+use Rattle.atl_tables.specs.World.{things_conditions, things_of}
 use Rattle.atl_tables.proofs.FaultLaws.{exits, stops_on, stops_after, passes_both}
 use Rattle.atl_tables.proofs.reading.read_thing_drafts.Goals as goal
 
@@ -22,28 +22,28 @@ abbrev kinds : Members → Conditions
 kinds doc = list_conditions kind_keys (codes "kind") (optional_array_at most_kinds (codes "kind") (codes "kind") doc)
 
 pub returns-in_err-items-clause-value : goal.returns-in_err-items-clause-value
-unfolding things_are_good
+unfolding things_conditions
 returns-in_err-items-clause-value c =
     let t = table_view c.args.document.now in
     let e = c.in_err-items.field-0.0 in
     exits _ _ _ _ _ c.from_residual.ensures.1 (stops_on e (items t) (skills t ++ kinds t) c.in_err-items.ensures.value)
 
 pub returns-in_err-skills-clause-value : goal.returns-in_err-skills-clause-value
-unfolding things_are_good
+unfolding things_conditions
 returns-in_err-skills-clause-value c =
     let t = table_view c.args.document.now in
     let e = c.in_err-skills.field-0.0 in
     exits _ _ _ _ _ c.from_residual-in_err-skills.ensures.1 (stops_after e (items t) (skills t ++ kinds t) c.in_ok-items.ensures.value.0 (stops_on e (skills t) (kinds t) c.in_err-skills.ensures.value))
 
 pub returns-in_err-kinds-clause-value : goal.returns-in_err-kinds-clause-value
-unfolding things_are_good
+unfolding things_conditions
 returns-in_err-kinds-clause-value c =
     let t = table_view c.args.document.now in
     let e = c.in_err-kinds.field-0.0 in
     exits _ _ _ _ _ c.from_residual-in_err-kinds.ensures.1 (stops_after e (items t) (skills t ++ kinds t) c.in_ok-items.ensures.value.0 (stops_after e (skills t) (kinds t) c.in_ok-skills.ensures.value.0 c.in_err-kinds.ensures.value))
 
 pub returns-clause-value : goal.returns-clause-value
-unfolding things_are_good things_of
+unfolding things_conditions things_of
 returns-clause-value c =
     let t = table_view c.args.document.now in
     rw (c.in_ok-items.ensures.value.1, c.in_ok-skills.ensures.value.1, c.in_ok-kinds.ensures.value.1) (passes_both (items t) (skills t ++ kinds t) c.in_ok-items.ensures.value.0 (passes_both (skills t) (kinds t) c.in_ok-skills.ensures.value.0 c.in_ok-kinds.ensures.value.0), refl)

@@ -7,7 +7,7 @@ use Rattle.atl_tables.specs.Keys.{array_at}
 use Rattle.atl_tables.specs.Limits.{most_terrains}
 use Rattle.atl_tables.specs.RulesTable.{rules_conditions}
 use Rattle.atl_tables.specs.TerrainTable.{terrain_keys}
-use Rattle.atl_tables.specs.World.{things_are_good, regions_are_good, keys_are_good, tables_of}
+use Rattle.atl_tables.specs.World.{things_conditions, regions_conditions, keys_conditions, tables_of}
 use Rattle.atl_tables.specs.declared.format.Format.{Format}
 use Rattle.atl_tables.proofs.FaultLaws.{exits, stops_on, stops_after, passes_both}
 use Rattle.atl_tables.proofs.reading.tables.Goals as goal
@@ -19,41 +19,41 @@ abbrev terrains : Members → Conditions
 terrains doc = list_conditions terrain_keys (codes "terrain") (array_at most_terrains (codes "terrain") doc)
 
 abbrev things : Members → Conditions
-things doc = things_are_good doc
+things doc = things_conditions doc
 
 abbrev regions : Format → Members → Conditions
-regions format doc = regions_are_good format doc
+regions format doc = regions_conditions format doc
 
 pub returns-in_err-rules-clause-value : goal.returns-in_err-rules-clause-value
-unfolding keys_are_good
+unfolding keys_conditions
 returns-in_err-rules-clause-value c =
     let t = table_view c.args.document.now in
     let e = c.in_err-rules.field-0.0 in
     exits _ _ _ _ _ c.from_residual.ensures.1 (stops_on e (rules t) (terrains t ++ (things t ++ regions c.args.format t)) c.in_err-rules.ensures.value)
 
 pub returns-in_err-terrains-clause-value : goal.returns-in_err-terrains-clause-value
-unfolding keys_are_good
+unfolding keys_conditions
 returns-in_err-terrains-clause-value c =
     let t = table_view c.args.document.now in
     let e = c.in_err-terrains.field-0.0 in
     exits _ _ _ _ _ c.from_residual-in_err-terrains.ensures.1 (stops_after e (rules t) (terrains t ++ (things t ++ regions c.args.format t)) c.in_ok-rules.ensures.value.0 (stops_on e (terrains t) (things t ++ regions c.args.format t) c.in_err-terrains.ensures.value))
 
 pub returns-in_err-things-clause-value : goal.returns-in_err-things-clause-value
-unfolding keys_are_good
+unfolding keys_conditions
 returns-in_err-things-clause-value c =
     let t = table_view c.args.document.now in
     let e = c.in_err-things.field-0.0 in
     exits _ _ _ _ _ c.from_residual-in_err-things.ensures.1 (stops_after e (rules t) (terrains t ++ (things t ++ regions c.args.format t)) c.in_ok-rules.ensures.value.0 (stops_after e (terrains t) (things t ++ regions c.args.format t) c.in_ok-terrains.ensures.value.0 (stops_on e (things t) (regions c.args.format t) c.in_err-things.ensures.value)))
 
 pub returns-in_err-regions-clause-value : goal.returns-in_err-regions-clause-value
-unfolding keys_are_good
+unfolding keys_conditions
 returns-in_err-regions-clause-value c =
     let t = table_view c.args.document.now in
     let e = c.in_err-regions.field-0.0 in
     exits _ _ _ _ _ c.from_residual-in_err-regions.ensures.1 (stops_after e (rules t) (terrains t ++ (things t ++ regions c.args.format t)) c.in_ok-rules.ensures.value.0 (stops_after e (terrains t) (things t ++ regions c.args.format t) c.in_ok-terrains.ensures.value.0 (stops_after e (things t) (regions c.args.format t) c.in_ok-things.ensures.value.0 c.in_err-regions.ensures.value)))
 
 pub returns-clause-value : goal.returns-clause-value
-unfolding keys_are_good tables_of
+unfolding keys_conditions tables_of
 returns-clause-value c =
     let t = table_view c.args.document.now in
     rw (c.in_ok-rules.ensures.value.1, c.in_ok-terrains.ensures.value.1, c.in_ok-things.ensures.value.1, c.in_ok-regions.ensures.value.1) (passes_both (rules t) (terrains t ++ (things t ++ regions c.args.format t)) c.in_ok-rules.ensures.value.0 (passes_both (terrains t) (things t ++ regions c.args.format t) c.in_ok-terrains.ensures.value.0 (passes_both (things t) (regions c.args.format t) c.in_ok-things.ensures.value.0 c.in_ok-regions.ensures.value.0)), refl)

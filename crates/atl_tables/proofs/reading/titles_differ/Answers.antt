@@ -1,22 +1,22 @@
 use Rattle.std.proofs.Common.{◌++◌, codes}
 use Rattle.atl_tables.specs.Faults.{Conditions}
-use Rattle.atl_tables.specs.Titles.{twins}
+use Rattle.atl_tables.specs.Titles.{no_twins}
 use Rattle.atl_tables.specs.World.{titles_differ}
 use Rattle.atl_tables.specs.declared.world_draft.WorldDraft.{WorldDraft}
 use Rattle.atl_tables.proofs.FaultLaws.{exits, stops_on, stops_after, gives_after}
 use Rattle.atl_tables.proofs.reading.titles_differ.Goals as goal
 
 abbrev terrains : WorldDraft → Conditions
-terrains all = twins (λ d. d.name) (codes "terrain") (codes "name") all.terrains
+terrains all = no_twins (λ d. d.name) (codes "terrain") (codes "name") all.terrains
 
 abbrev items : WorldDraft → Conditions
-items all = twins (λ d. d.name) (codes "item") (codes "name") all.items
+items all = no_twins (λ d. d.name) (codes "item") (codes "name") all.items
 
 abbrev skills : WorldDraft → Conditions
-skills all = twins (λ s. s.name) (codes "skill") (codes "name") all.skills
+skills all = no_twins (λ s. s.name) (codes "skill") (codes "name") all.skills
 
 abbrev kinds : WorldDraft → Conditions
-kinds all = twins (λ d. d.name) (codes "kind") (codes "name") all.kinds
+kinds all = no_twins (λ d. d.name) (codes "kind") (codes "name") all.kinds
 
 pub returns-in_err-no_duplicate_names : goal.returns-in_err-no_duplicate_names
 unfolding titles_differ

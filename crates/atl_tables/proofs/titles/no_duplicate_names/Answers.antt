@@ -3,7 +3,7 @@ use Rattle.std.specs.List.{list_any}
 use Rattle.atl_tables.specs.declared.fault.WorldFault.TheVariants.{TwoNames}
 use Rattle.atl_tables.specs.Faults.{first_fault}
 use Rattle.atl_tables.specs.Keys.{path, element_path}
-use Rattle.atl_tables.specs.Titles.{twin_at, twins}
+use Rattle.atl_tables.specs.Titles.{no_twin_before, no_twins}
 use Rattle.atl_tables.specs.Names.{same_name}
 use Rattle.atl_tables.proofs.EachLaws.{goes_on_at, ends_at}
 use Rattle.atl_tables.proofs.SeenLaws.{stands_before, stands_first, has_one_more}
@@ -11,8 +11,8 @@ use Rattle.atl_tables.proofs.titles.no_duplicate_names.Goals as goal
 
 -- what the test says of an element
 by_test : {A : Type 0} (title : A → List ℕ) (array key : List ℕ) (all : List A) (i : ℕ) (x : A) (b : Bool) → list_any (λ y. same_name (title y) (title x)) (take i all) ≡ b
-    → first_fault (twin_at title array key all i x) ≡ cond b (Some (TwoNames (path (element_path array i) key))) None
-unfolding twin_at
+    → first_fault (no_twin_before title array key all i x) ≡ cond b (Some (TwoNames (path (element_path array i) key))) None
+unfolding no_twin_before
 by_test title array key all i x true h = rw h
 by_test title array key all i x false h = rw h
 
@@ -25,7 +25,7 @@ returns-then-not-branch g c =
     let all = c.args.items.now in
     let i = c.loop-i.i in
     let test = stands_before title all i x c.loop-i.seen c.loop-i.invariant.seen _ (rw c.title.ensures at c.in_ok-is_new.ensures.new) c.if-not-branch.true in
-    rw (c.in_ok-path.ensures, c.as_str.ensures, c.in_ok-place.ensures) (ends_at (twin_at title array key all) all i x (first_fault (twins title array key all)) c.loop-i-test.true c.index-items-i.is c.loop-i.invariant.faults (TwoNames (path (element_path array i) key)) (by_test title array key all i x true test))
+    rw (c.in_ok-path.ensures, c.as_str.ensures, c.in_ok-place.ensures) (ends_at (no_twin_before title array key all) all i x (first_fault (no_twins title array key all)) c.loop-i-test.true c.index-items-i.is c.loop-i.invariant.faults (TwoNames (path (element_path array i) key)) (by_test title array key all i x true test))
 
 pub loop-i-preserved : goal.loop-i-preserved
 loop-i-preserved g c =
@@ -38,5 +38,5 @@ loop-i-preserved g c =
     let test = stands_first title all i x c.loop-i.seen c.loop-i.invariant.seen _ (rw c.title.ensures at c.in_ok-is_new.ensures.new) c.if-not-branch.false in
     record {
       seen = has_one_more title all i x c.loop-i.seen c.loop-i.invariant.seen c.is_new.new.seen c.loop-i-test.true c.index-items-i.is (rw c.title.ensures at c.in_ok-is_new.ensures.seen);
-      faults = goes_on_at (twin_at title array key all) all i x (first_fault (twins title array key all)) c.loop-i-test.true c.index-items-i.is c.loop-i.invariant.faults (by_test title array key all i x false test);
+      faults = goes_on_at (no_twin_before title array key all) all i x (first_fault (no_twins title array key all)) c.loop-i-test.true c.index-items-i.is c.loop-i.invariant.faults (by_test title array key all i x false test);
     }

@@ -2,11 +2,11 @@ use Rattle.std.proofs.Common.{◌≡◌, take, drop}
 use Rattle.atl_tables.specs.Each.{each}
 use Rattle.atl_tables.specs.Faults.{first_fault}
 use Rattle.atl_tables.specs.SeenNames.{HasNames}
-use Rattle.atl_tables.specs.Titles.{twin_at}
+use Rattle.atl_tables.specs.Titles.{no_twin_before}
 use Rattle.atl_tables.proofs.titles.no_duplicate_names.Given as goal
 
 abbrev pub invariant-loop-i : goal.invariant-loop-i
 invariant-loop-i g l = record {
   seen : HasNames g.T.Titled.title_of (take l.i l.items) l.seen;
-  faults : first_fault (each (twin_at g.T.Titled.title_of l.array l.key l.items) l.i (drop l.i l.items)) ≡ first_fault (each (twin_at g.T.Titled.title_of l.array l.key l.items) 0 l.items);
+  faults : first_fault (each (no_twin_before g.T.Titled.title_of l.array l.key l.items) l.i (drop l.i l.items)) ≡ first_fault (each (no_twin_before g.T.Titled.title_of l.array l.key l.items) 0 l.items);
 }

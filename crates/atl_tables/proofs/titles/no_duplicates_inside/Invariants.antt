@@ -4,4 +4,4 @@ use Rattle.atl_tables.specs.Faults.{first_fault}
 use Rattle.atl_tables.proofs.titles.no_duplicates_inside.Given as goal
 
 abbrev pub invariant-loop-i : goal.invariant-loop-i
-invariant-loop-i g l = first_fault (each g.T.HasUniqueNames.twins l.i (drop l.i l.holders)) ≡ first_fault (each g.T.HasUniqueNames.twins 0 l.holders)
+invariant-loop-i g l = first_fault (each g.T.HasUniqueNames.no_twins l.i (drop l.i l.holders)) ≡ first_fault (each g.T.HasUniqueNames.no_twins 0 l.holders)

@@ -7,17 +7,17 @@ use Rattle.atl_records.specs.declared.records.Faction.{Faction}
 use Rattle.atl_records.specs.declared.records.Unit.{Unit}
 use Rattle.atl_state.specs.Campaign.{CampaignValue, numbers_of}
 use Rattle.atl_records.specs.Every.{Every}
-use Rattle.atl_state.specs.Good.{GoneHaveNone, NoneAreGone}
+use Rattle.atl_state.specs.Good.{GoneHaveNone, UnitlessAreGone}
 use Rattle.atl_state.proofs.RuleLaws.{every_by_all}
 use Rattle.atl_state.proofs.rules.gone.are_gone.Goals as goal
 
 abbrev IsGoneWithout : FinMap nat_cmp Unit → ℕ → Faction → Type 0
 IsGoneWithout units n f = (f.gone ≡ true → numbers_of n units ≡ []) × (numbers_of n units ≡ [] → f.gone ≡ true)
 
-apart : (c : CampaignValue) → Every (IsGoneWithout c.units) c.factions → GoneHaveNone c × NoneAreGone c
+apart : (c : CampaignValue) → Every (IsGoneWithout c.units) c.factions → GoneHaveNone c × UnitlessAreGone c
 apart c every = (λ n f is. (every n f is).0, λ n f is. (every n f is).1)
 
-together : (c : CampaignValue) → GoneHaveNone c × NoneAreGone c → Every (IsGoneWithout c.units) c.factions
+together : (c : CampaignValue) → GoneHaveNone c × UnitlessAreGone c → Every (IsGoneWithout c.units) c.factions
 together c both n f is = (both.0 n f is, both.1 n f is)
 
 pub returns : goal.returns
