@@ -18,7 +18,7 @@ use Rattle.atl_records.specs.Books.{Account, AreBooks, BooksValue, amount_in}
 use Rattle.atl_records.specs.Holdings.{HoldingValue}
 use Rattle.atl_tables.specs.Formats.{format_number}
 use Rattle.atl_tables.specs.Worlds.{WorldValue}
-use Rattle.atl_state.specs.Checking.{Keeps}
+use Rattle.atl_state.specs.Checking.{KeepsRule}
 use Rattle.atl_state.specs.RowRules.{is_one_campaign_row, are_of_format}
 use Rattle.atl_state.specs.declared.checking.Rule.TheVariants.{OneRow}
 use Rattle.atl_state.specs.Rows.{rows_by, rows_of, amount_rows, is_zero, AreRowsOf}
@@ -295,5 +295,5 @@ no_markets First p none = nothing p.markets (none [] Markets (not_among (parts_i
 no_markets Second p none = refl
 
 -- the first rule holds of a row with id 1 and this format, if no row was read of a part that the format lacks
-pub keeps_one_row : (f : Format) (w : WorldValue) (p : Parts) (h : StoredCampaignRow) → h.id ≡ pos 1 → h.format ≡ pos (format_number f) → p.campaign ≡ h ∷ [] → ((text : List ℕ) (part : Part) → ¬ Has (parts_in f) part → rows_read text p part ≡ []) → Keeps f w p OneRow
+pub keeps_one_row : (f : Format) (w : WorldValue) (p : Parts) (h : StoredCampaignRow) → h.id ≡ pos 1 → h.format ≡ pos (format_number f) → p.campaign ≡ h ∷ [] → ((text : List ℕ) (part : Part) → ¬ Has (parts_in f) part → rows_read text p part ≡ []) → KeepsRule f w p OneRow
 keeps_one_row f w p h id format is none = (one_head f h p.campaign id format is, no_markets f p none)

@@ -18,7 +18,7 @@ use Rattle.atl_tables.specs.Formats.{format_number}
 use Rattle.atl_tables.specs.declared.format.Format.{Format}
 use Rattle.atl_tables.specs.declared.format.Format.TheVariants.{First, Second}
 use Rattle.atl_tables.specs.World.{world_by}
-use Rattle.atl_state.specs.Checking.{IsChecked, Keeps}
+use Rattle.atl_state.specs.Checking.{IsChecked, KeepsRule}
 use Rattle.atl_state.specs.Campaign.{MarkedCampaign}
 use Rattle.atl_state.specs.declared.checking.Rule.TheVariants.{OneRow}
 use Rattle.atl_state.specs.declared.parts.Parts.{Parts}
@@ -231,7 +231,7 @@ pub record IsMadeOf (head : StoredCampaignRow) (reads : ReadRows) (p : Parts) : 
 -- If the tables are the format's, they have exactly these rows, with a text of this world, and rowids that differ.
 pub record Gathered (f : Format) {S : Type 0} (g : Ghosts S) (old : Held S) (w : WorldValue) (p : Parts) : Type 0 where
   pub one : KeepsOneRow f g old
-  pub first : Keeps f w p OneRow
+  pub first : KeepsRule f w p OneRow
   pub text : List ℕ
   pub world : world_by f text ≡ Ok w
   pub typed : AreToldTyped g old (other_selects f)
