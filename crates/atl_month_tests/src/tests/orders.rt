@@ -50,7 +50,7 @@ fn told_of(alloc: Global, month: &Month) -> Result<String, Fail> {
 /// Mailings, and the orders that each of five phases gets of them, as `told_of` prints them.
 static ROWS: [(&[&str], &str); 9] = [
     (&[], "|||||"),
-    // Of month-long orders the last stands, whatever its verb.
+    // Of a unit's month-long orders the last counts, whatever its verb.
     (
         &["#ATLANTIS 1\nUNIT 1\nWORK\nSTUDY sailing"],
         "|||1 4 1 STUDY;||",
@@ -59,17 +59,17 @@ static ROWS: [(&[&str], &str); 9] = [
         &["#ATLANTIS 1\nUNIT 1\nSTUDY sailing\nUNIT 2\nWORK\nUNIT 1\nMOVE north"],
         "||||2 5 1 WORK;|",
     ),
-    // So with RECRUIT, and GIVE stands each time.
+    // Of a unit's RECRUIT orders only the last counts, and each GIVE counts.
     (
         &["#ATLANTIS 1\nUNIT 1\nRECRUIT 2\nGIVE 2 1 wood\nRECRUIT 3\nGIVE 2 1 wood\nPAY 2 1"],
         "|1 4 1 GIVE;1 6 1 GIVE;1 7 1 PAY;|1 5 1 RECRUIT;|||",
     ),
-    // Aliases without a unit are all unit 0.
+    // Orders for aliases that have no unit are for unit 0.
     (
         &["#ATLANTIS 1\nUNIT 4\nFORM 1\nWORK\nEND\nFORM 2\nSTUDY sailing"],
         "4 3 1 FORM;4 6 1 FORM;|||0 7 1 STUDY;||",
     ),
-    // By unit, then by line, then by faction.
+    // Orders are sorted by unit, then by line, then by faction.
     (
         &[
             "#ATLANTIS 3\nUNIT 2\nPAY 1 1\nUNIT 1\nPAY 2 1",
@@ -84,7 +84,7 @@ static ROWS: [(&[&str], &str); 9] = [
         ],
         "|1 5 3 PAY;2 3 1 PAY;2 3 3 PAY;2 5 1 PAY;||||",
     ),
-    // FORM by faction, then by line.
+    // FORM orders are sorted by faction, then by line.
     (
         &[
             "#ATLANTIS 2\nUNIT 1\nFORM 1\nEND",
@@ -92,7 +92,7 @@ static ROWS: [(&[&str], &str); 9] = [
         ],
         "9 3 1 FORM;8 6 1 FORM;1 3 2 FORM;|||||",
     ),
-    // A unit that two factions give orders has the slots of both.
+    // If two factions give a unit month-long orders, the last of each counts.
     (
         &[
             "#ATLANTIS 2\nUNIT 1\nWORK",

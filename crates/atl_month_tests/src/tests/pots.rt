@@ -45,7 +45,7 @@ static SHARED: [(&[Taker], (u16, u16), &str); 8] = [
         (100, 0),
         "1 27;2 34;3 39;",
     ),
-    // The takers of the two regions take turns.
+    // Units of the two regions alternate; each shares its own region's pot.
     (
         &[
             (1, Some(50)),
@@ -57,22 +57,22 @@ static SHARED: [(&[Taker], (u16, u16), &str); 8] = [
         (100, 100),
         "1 27;2 61;3 34;4 39;5 39;",
     ),
-    // A unit without a want is not listed.
+    // A unit without a want gets no share, not even 0.
     (
         &[(1, Some(50)), (1, None), (1, Some(60)), (1, Some(70))],
         (100, 0),
         "1 27;3 34;4 39;",
     ),
-    // One that wants 0 is.
+    // A unit that wants 0 gets a share of 0.
     (
         &[(1, Some(3)), (1, Some(0)), (1, Some(4))],
         (7, 0),
         "1 3;2 0;3 4;",
     ),
     (&[(1, Some(3)), (1, Some(4))], (0, 9), "1 0;2 0;"),
-    // What one region has left is not for the other.
+    // What is left of one region's pot doesn't go to the other region.
     (&[(1, Some(3)), (2, Some(4))], (9, 2), "1 3;2 2;"),
-    // Region 9 is not there.
+    // A unit in region 9, which the world doesn't have, gets no share.
     (&[(9, Some(5)), (1, Some(5))], (5, 5), "2 5;"),
 ];
 

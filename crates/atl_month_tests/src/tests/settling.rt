@@ -19,7 +19,7 @@ static SETTLED: [(&[(u8, u8, u16, u16)], &str); 11] = [
     (&[(1, 1, 3, 25)], "25 1;"),
     // A unit without men pays for others too, on both sides of it.
     (&[(1, 1, 0, 7), (1, 1, 1, 0), (1, 1, 0, 9)], "7 0;0 0;3 0;"),
-    // The first who is short is covered first, and the first who has something left gives first.
+    // Units that are short are covered in order, and units with money left give in order.
     (
         &[(1, 1, 1, 0), (1, 1, 1, 0), (1, 1, 0, 15)],
         "0 0;0 1;15 0;",
