@@ -1,5 +1,4 @@
--- Laws that the books of a good campaign have room for all that a phase may book. `agreeing` needs them to call its
--- seven
+-- Laws that the books of a good campaign have room for all that a phase may book. `agreeing` needs them for seven
 -- phases.
 use Rattle.std.proofs.Common.{◌≤◌, ℕ, Bool, true, false, arith}
 use Rattle.std.specs.Prelude.{if◌then◌else◌}
@@ -23,7 +22,8 @@ little : (b : Bool) (moved : ℕ) → moved ≤ (if b then most_moved else 0) �
 little true moved l = omega (arith, l)
 little false moved l = omega (arith, l)
 
--- The books of a good campaign have room for all that a phase may book, if the phase moves only its own entries.
+-- The books of a good campaign have room for all that a phase may book.
+-- The phase must move only its own entries, each by at most `most_moved`.
 room_of : (phase : PhaseSpec) → MovesItsOwn phase → (w : WorldValue) (c : CampaignValue) → IsGood w c → HaveRoom phase.moving c
 room_of phase own w c good = room_when_sound w c phase.moving (λ e t. little (may_move phase.moved e t) (phase.moving e t) (own e t)) good.sound
 

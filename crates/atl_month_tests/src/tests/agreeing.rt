@@ -92,7 +92,7 @@ static PLAYED: [Played; 7] = [
     Played::Upkeep,
 ];
 
-/// The campaign and the month after the phase SELL.
+/// The campaign and the month after SELL, for a good campaign and mailings read with its world.
 fn run_sell(
     alloc: Global,
     world: &World,
@@ -105,7 +105,7 @@ fn run_sell(
     SellPhase {}.run(alloc, world, campaign, month)
 }
 
-/// The campaign and the month after the phase BUY.
+/// The campaign and the month after BUY, for a good campaign and mailings read with its world.
 fn run_buy(
     alloc: Global,
     world: &World,
@@ -118,7 +118,7 @@ fn run_buy(
     BuyPhase {}.run(alloc, world, campaign, month)
 }
 
-/// The campaign and the month after the phase TAX.
+/// The campaign and the month after TAX, for a good campaign and mailings read with its world.
 fn run_tax(
     alloc: Global,
     world: &World,
@@ -131,7 +131,7 @@ fn run_tax(
     TaxPhase.run(alloc, world, campaign, month)
 }
 
-/// The campaign and the month after the phase RECRUIT.
+/// The campaign and the month after RECRUIT, for a good campaign and mailings read with its world.
 fn run_recruit(
     alloc: Global,
     world: &World,
@@ -144,7 +144,7 @@ fn run_recruit(
     RecruitPhase.run(alloc, world, campaign, month)
 }
 
-/// The campaign and the month after the phase PRODUCE.
+/// The campaign and the month after PRODUCE, for a good campaign and mailings read with its world.
 fn run_produce(
     alloc: Global,
     world: &World,
@@ -157,7 +157,7 @@ fn run_produce(
     ProducePhase.run(alloc, world, campaign, month)
 }
 
-/// The campaign and the month after the phase WORK.
+/// The campaign and the month after WORK, for a good campaign and mailings read with its world.
 fn run_work(
     alloc: Global,
     world: &World,
@@ -170,7 +170,7 @@ fn run_work(
     WorkPhase.run(alloc, world, campaign, month)
 }
 
-/// The campaign and the month after upkeep.
+/// The campaign and the month after upkeep, for a good campaign and mailings read with its world.
 fn run_upkeep(
     alloc: Global,
     world: &World,

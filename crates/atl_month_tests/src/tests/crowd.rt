@@ -330,7 +330,7 @@ fn money_of(number: u32) -> i64 {
     }
 }
 
-/// The row of a unit in the table `unit`.
+/// The row of a unit in the table `unit`, with what its number picks.
 fn unit(alloc: Global, number: u32) -> Result<StoredUnit, AllocError> {
     Ok(StoredUnit {
         number: i64::from(number),
@@ -450,7 +450,7 @@ fn all_in_stock(markets: &Sequence<StoredMarket>, item: u32) -> i64 {
 
 // ---- factions and books
 
-/// The campaign's own row.
+/// The campaign row, which has the next free numbers.
 fn head(alloc: Global) -> Result<Sequence<StoredCampaignRow>, AllocError> {
     let mut all = Sequence::new(alloc);
     all.push(StoredCampaignRow {

@@ -134,7 +134,8 @@ Exits: south 3.
 ",
         ..PLAIN
     },
-    // The observation of another faction's unit doesn't count. A unit without stealth is seen by all.
+    // The observation of another faction's unit doesn't count. A unit without stealth is always
+    // seen.
     Case {
         scene: Scene {
             people: &[
@@ -569,8 +570,8 @@ fn assert_cases(rt: &impl Abort, alloc: Global, cases: &[Case]) -> Result<(), Fa
     Ok(())
 }
 
-/// A report shows a unit with stealth only if it guards, is the faction's own, or is matched by
-/// observation in its region.
+/// A report shows a unit with stealth only if it guards, is the faction's own, or the faction's
+/// observation there is as high.
 #[test]
 fn hidden_units(rt: HostRuntime) -> Result<(), Fail> {
     assert_cases(&rt, rt.alloc(), &HIDDEN)

@@ -18,7 +18,7 @@ static FAULTS: [FaultyLine; 1] = [FaultyLine {
     fault: LineFault::UnknownOrder,
 }];
 
-/// Events of a month, and which faction each belongs to.
+/// An event of faction 1, and one of faction 2, which the report of faction 1 leaves out.
 static EVENTS: [Event; 2] = [
     Event {
         faction: 1,
