@@ -1,4 +1,5 @@
-//! The calls that are tried, and what each must come to with enough memory.
+//! The public calls that are tried with too little memory, and what each must answer and leave if
+//! memory is ample.
 use crate::setting::{all_commands, begun, close, founded, join, next_mail, report};
 use crate::texts::{books, rows, told};
 use atl_service::{Command, Service};
@@ -7,7 +8,7 @@ use atl_tables::let_go;
 use sqlite::{Alter, Connection};
 use std::alloc::{AllocError, Global};
 
-/// A public call that takes memory.
+/// A public call that needs memory and is tried with too little of it.
 #[derive(Clone, Copy, Debug, PartialEq, Eq)]
 pub enum Call {
     Found,
@@ -38,22 +39,23 @@ pub static CALLS: [Call; 11] = [
     Call::Check,
 ];
 
-/// The answer to the join: factions 1 and 2 and units 1 to 11 were there before.
+/// The wanted answer to the join, as text: faction 3 and unit 12, as factions 1 and 2 and units 1
+/// to 11 exist.
 const JOINED: &str = "joined 3 12";
 
-/// The answer to the mailing; DANCE is on its sixth line.
+/// The wanted answer to the mailing, as text: 11 orders, and DANCE on line 6 is unknown.
 const MAILED: &str = "mailed 11 [FaultyLine { line: 6, fault: UnknownOrder }]";
 
-/// The answer to the closing.
+/// The wanted answer to the command that closes month 1, as text.
 const CLOSED: &str = "month done 1";
 
-/// The answer to the report.
+/// The wanted answer to the command `Report`: the text that `ROWS` stores.
 const REPORTED: &str = "A report.";
 
-/// Lines of Avalon's report on the month. Of 100 money unit 1 pays 40, and sends 2 of its 5 men to
-/// the unit that it forms. Its 3 men take 30 money in tax, and of 90 it pays for one recruit. Unit
-/// 6 has 5 wood, gives 2 of it away and builds with 3. The 4 men of unit 2 get 30 days each and 30
-/// more, as all are taught. In the forest 15 men make as much wood.
+/// Lines that Avalon's report on the month must have. Of 100 money unit 1 pays 40, and sends 2 of
+/// its 5 men to the unit that it forms. Its 3 men take 30 money in tax, and of 90 it pays for one
+/// recruit. Unit 6 has 5 wood, gives 2 of it away and builds with 3. The 4 men of unit 2 get 30
+/// days each and 30 more, as all are taught. In the forest 15 men make as much wood.
 static OF_AVALON: [&str; 14] = [
     "Unit 1, line 4, FORM: done 12.",
     "Unit 1, line 7, FORM: done 13.",
@@ -71,23 +73,24 @@ static OF_AVALON: [&str; 14] = [
     "Unit 5, line 21, PRODUCE: done 15.",
 ];
 
-/// Lines of Bree's report. Unit 10 has 4 money, earns 20 and pays 20, so it has 4 left of the 10
-/// that unit 11 is short of.
+/// Lines that Bree's report on the month must have. Unit 10 has 4 money, earns 20 and pays 20, so
+/// it has 4 left of the 10 that unit 11 is short of.
 static OF_BREE: [&str; 2] = [
     "Unit 11, line 3, STUDY: fault 23 NoFee.",
     "Unit 11: 1 starved.",
 ];
 
-/// A call, and what it comes to with enough memory.
+/// A call, its commands, and the wanted answers, rows and books, as recorded with ample memory.
 pub struct Case {
     pub call: Call,
-    /// The commands of the call, or those that are run after it.
+    /// The commands that the call runs, or that are run after it to see that the service still
+    /// works.
     pub commands: Vec<Command>,
-    /// One command of each kind.
+    /// One command of each kind, to see that a closed service answers Closed to all.
     pub later: Vec<Command>,
-    /// The answer to each command, as text.
+    /// The answer to each command of `commands` with ample memory, as text.
     pub told: Vec<String>,
-    /// All rows of the campaign before the first command and after each.
+    /// All rows of the campaign before the first command and after each, with ample memory.
     pub rows: Vec<String>,
     /// The text of the books before the first command.
     pub books: String,
@@ -106,7 +109,8 @@ fn one(alloc: Global, command: Command) -> Result<Vec<Command>, AllocError> {
     Ok(commands)
 }
 
-/// The commands of a call, or those that are run after it.
+/// The commands that a call runs, or that are run after it; none for a call that isn't followed by
+/// commands.
 fn commands_of(alloc: Global, call: Call) -> Result<Vec<Command>, AllocError> {
     match call {
         Call::Join | Call::Books => one(alloc, join(alloc)?),
@@ -120,8 +124,8 @@ fn commands_of(alloc: Global, call: Call) -> Result<Vec<Command>, AllocError> {
     }
 }
 
-/// The wanted answer to the command of a call with an index from 0; None if any is right, as for
-/// the month's report.
+/// The wanted answer to the command with an index from 0 in a call; None if any answer is right, as
+/// for the month's report.
 fn wanted(call: Call, at: usize) -> Option<&'static str> {
     match (call, at) {
         (Call::Join | Call::Books | Call::RunAll, 0) => Some(JOINED),
@@ -142,8 +146,8 @@ fn reports(campaign: &Campaign, faction: u32, lines: &[&str]) -> bool {
     }
 }
 
-/// Whether the month was closed as wanted: both reports have their lines, unit 12 stays, and units
-/// 11 and 13 were swept.
+/// Whether month 1 had the wanted outcome: both reports have their lines, unit 12 exists, and units
+/// 11 and 13 were removed.
 fn is_month_right(campaign: Option<&Campaign>) -> bool {
     match campaign {
         Some(campaign) => {
@@ -158,7 +162,7 @@ fn is_month_right(campaign: Option<&Campaign>) -> bool {
 }
 
 impl Case {
-    /// A case before it is played.
+    /// A case whose commands haven't been run yet.
     fn new(alloc: Global, call: Call) -> Result<Case, AllocError> {
         Ok(Case {
             call,
@@ -170,7 +174,7 @@ impl Case {
         })
     }
 
-    /// Runs the commands, and keeps their answers and the rows.
+    /// Runs the commands with ample memory, and records the books, the answers and the rows.
     fn play<S: Alter>(&mut self, alloc: Global, service: &mut Service<S>) -> Option<()> {
         self.books = books(service)?;
         self.rows.push(rows(alloc, service.campaign())?).ok()?;
@@ -182,8 +186,8 @@ impl Case {
         Some(())
     }
 
-    /// Whether the commands were answered as wanted, and the month, if the call closes one, is the
-    /// wanted one.
+    /// Whether the recorded answers are the wanted ones and, if the call closes a month, the month
+    /// had the wanted outcome.
     fn is_right(&self, campaign: Option<&Campaign>) -> bool {
         let mut are_told = true;
         for (at, told) in self.told.iter().enumerate() {
@@ -194,7 +198,8 @@ impl Case {
         are_told && (self.call != Call::Close || is_month_right(campaign))
     }
 
-    /// The case of a call, played in a database; None if it doesn't come to what is wanted.
+    /// The case of a call, recorded in a database with ample memory; None if an outcome isn't the
+    /// wanted one.
     fn played<S: Alter + Drop>(alloc: Global, call: Call, conn: Connection<S>) -> Option<Case> {
         let mut case = Case::new(alloc, call).ok()?;
         let mut service = match call {
@@ -209,13 +214,14 @@ impl Case {
         }
     }
 
-    /// The case of a call, played in memory; None if it doesn't come to what is wanted.
+    /// The case of a call, recorded in a database in memory; None if an outcome isn't the wanted
+    /// one.
     pub fn of(alloc: Global, call: Call) -> Option<Case> {
         let conn = Connection::open_in_memory(alloc).ok()?;
         Case::played(alloc, call, conn)
     }
 
-    /// All rows after `commands` commands.
+    /// All rows of the campaign after the first `commands` commands, with ample memory.
     pub fn rows_after(&self, commands: usize) -> &str {
         match self.rows.get(commands) {
             Some(rows) => rows.as_str(),

@@ -1,7 +1,7 @@
-//! Tries each call that takes memory with too little of it, and prints for each whether it answers
-//! Memory and leaves all as before. Either only some blocks are left or, where the heap counts
-//! growths (tests/fuse.c), each growth is refused in turn; with a number on the command line only
-//! every growth of that step.
+//! Tests each call that needs memory with too little of it: the call must answer Memory and leave
+//! all as before. Either only some blocks are left or, where the heap counts growths
+//! (tests/fuse.c), each growth is refused in turn. With a number on the command line, only every
+//! growth of that step is refused. One line is printed for each call.
 #![tactic(auto)]
 
 mod cases;
@@ -18,12 +18,11 @@ use crate::trials::{Outcome, tried};
 use std::alloc::{AllocError, Global};
 use std::{env, io};
 
-/// How many calls of `deepen` are nested, so that the stack has more room than any tried call
-/// needs.
+/// How many calls of `deepen` are nested; the stack then has more room than any tried call needs.
 const DEPTH: u32 = 8_192;
 
-/// Calls itself `times` times with a block held in each call, which makes the stack grow; true if
-/// all blocks were had.
+/// Makes the stack grow by `times` nested calls, each of which holds a block; true if no block was
+/// refused.
 fn deepen(alloc: Global, times: u32) -> bool {
     if times == 0 {
         return true;
@@ -33,7 +32,8 @@ fn deepen(alloc: Global, times: u32) -> bool {
     held.is_ok() && is_deep
 }
 
-/// Tries a call with one block more left each time, until it is done.
+/// Tries a call with 0, 1, 2, .. free blocks until it succeeds, and prints the result; less must
+/// give Memory.
 fn with_blocks(rt: &HostRuntime, case: &Case, shortage: &mut Shortage) -> io::Result<()> {
     let call = case.call;
     for blocks in 0..2_000u32 {
@@ -49,7 +49,8 @@ fn with_blocks(rt: &HostRuntime, case: &Case, shortage: &mut Shortage) -> io::Re
     println!(rt; "{call:?}: never done")
 }
 
-/// Tries a call with each growth refused in turn, in steps of `step`, until none is refused.
+/// Tries a call with each growth refused in turn, in steps of `step`, until none is refused, and
+/// prints the result.
 fn with_refusals(
     rt: &HostRuntime,
     case: &Case,
@@ -75,7 +76,8 @@ fn with_refusals(
     println!(rt; "{call:?}: never done")
 }
 
-/// Tries a call with few blocks left or, if a step is given, with refused growths.
+/// Tries a call with few blocks left or, if a step is given, with refused growths, and prints the
+/// result.
 fn try_call(
     rt: &HostRuntime,
     call: Call,
@@ -89,7 +91,7 @@ fn try_call(
     }
 }
 
-/// The number on the command line, or 1.
+/// The step between refused growths: the number on the command line, or 1.
 fn step(rt: &HostRuntime) -> io::Result<u32> {
     match env::args(rt)?.nth(1) {
         Some(word) => Ok(word.as_str().parse::<u32>().unwrap_or(1).max(1)),
@@ -102,7 +104,7 @@ fn main(rt: HostRuntime) -> io::Result<()> {
     let Some(mut shortage) = Shortage::new(rt.alloc()) else {
         return println!(rt; "no room");
     };
-    // A drought takes all that the stack could grow into.
+    // A drought takes all memory that the stack could grow into, so the stack grows before it.
     if !deepen(rt.alloc(), DEPTH) {
         return println!(rt; "no stack");
     }

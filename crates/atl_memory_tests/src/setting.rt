@@ -1,5 +1,5 @@
-//! The campaign in which calls are tried (two factions, eleven units, a boat, and mail of both),
-//! and the commands.
+//! Makes the campaign in which calls are tried, and the commands. Two factions have eleven units
+//! and a boat, and both have sent mail.
 use atl_service::{Answer, Command, Service, found, open};
 use atl_tables::Sequence;
 use atl_test_files::old_file;
@@ -8,7 +8,7 @@ use atl_test_worlds::month::{OF_AVALON, OF_BREE, ROWS};
 use sqlite::{Alter, Connection, MemStore};
 use std::alloc::{AllocError, Global};
 
-/// Bree's second mailing, which replaces its first: eleven orders, and a faulty line.
+/// Bree's second mailing, which replaces its first one: eleven orders, and a faulty line.
 const NEXT_OF_BREE: &str = "#ATLANTIS 2 pb
 UNIT 8
 LEAVE
@@ -29,12 +29,12 @@ UNIT 11
 TEACH 10 NEW 1
 ";
 
-/// The bytes of a text.
+/// The bytes of a text as a sequence.
 fn bytes(alloc: Global, text: &str) -> Result<Sequence<u8>, AllocError> {
     Sequence::from_slice(alloc, text.as_bytes())
 }
 
-/// The command `Mail`.
+/// The command `Mail` of a faction, with its pass text and its mailing.
 fn mail(alloc: Global, faction: u32, pass: &str, text: &str) -> Result<Command, AllocError> {
     Ok(Command::Mail {
         faction,
@@ -43,7 +43,7 @@ fn mail(alloc: Global, faction: u32, pass: &str, text: &str) -> Result<Command, 
     })
 }
 
-/// The command by which a third faction joins.
+/// The command by which a third faction, Cork, joins.
 pub fn join(alloc: Global) -> Result<Command, AllocError> {
     Ok(Command::Join {
         name: bytes(alloc, "Cork")?,
@@ -74,7 +74,7 @@ pub fn report(alloc: Global) -> Result<Command, AllocError> {
     })
 }
 
-/// One command of each kind.
+/// One command of each kind: join, mail, close and report.
 pub fn all_commands(alloc: Global) -> Result<Vec<Command>, AllocError> {
     let mut commands = Vec::new(alloc);
     commands.push(join(alloc)?)?;
@@ -84,7 +84,7 @@ pub fn all_commands(alloc: Global) -> Result<Vec<Command>, AllocError> {
     Ok(commands)
 }
 
-/// The service of the island's campaign just founded.
+/// The service of the island's campaign just founded; None if the founding is refused.
 pub fn founded<S: Alter + Drop>(alloc: Global, conn: Connection<S>) -> Option<Service<S>> {
     match found(alloc, conn, ISLE, b"gm") {
         Ok(service) => Some(service),
@@ -92,7 +92,7 @@ pub fn founded<S: Alter + Drop>(alloc: Global, conn: Connection<S>) -> Option<Se
     }
 }
 
-/// The service of the island's campaign with the factions and units, without mail.
+/// The service of the island's campaign with the factions, units and boat of `ROWS`, without mail.
 fn filled<S: Alter + Drop>(alloc: Global, conn: Connection<S>) -> Option<Service<S>> {
     let mut conn = founded(alloc, conn)?.end();
     conn.execute_batch(ROWS).ok()?;
@@ -102,7 +102,7 @@ fn filled<S: Alter + Drop>(alloc: Global, conn: Connection<S>) -> Option<Service
     }
 }
 
-/// Whether a mailing is stored.
+/// Sends a mailing; the result is whether it is stored.
 fn is_kept<S: Alter>(service: &mut Service<S>, mail: Result<Command, AllocError>) -> bool {
     match &mail {
         Ok(mail) => matches!(&service.run(mail), Answer::Mailed { .. }),
@@ -110,7 +110,7 @@ fn is_kept<S: Alter>(service: &mut Service<S>, mail: Result<Command, AllocError>
     }
 }
 
-/// The service of the island's campaign with the units and the mail of both factions.
+/// The service of the island's campaign with the rows of `ROWS` and the mail of both factions.
 pub fn begun<S: Alter + Drop>(alloc: Global, conn: Connection<S>) -> Option<Service<S>> {
     let mut service = filled(alloc, conn)?;
     let are_kept = is_kept(&mut service, mail(alloc, 1, "pw", OF_AVALON))
@@ -118,7 +118,7 @@ pub fn begun<S: Alter + Drop>(alloc: Global, conn: Connection<S>) -> Option<Serv
     if are_kept { Some(service) } else { None }
 }
 
-/// A file of the first format with the campaign of a service.
+/// A database of the first format with the rows of a service's campaign.
 pub fn old_of<S: Alter + Drop>(alloc: Global, service: Service<S>) -> Option<Connection<MemStore>> {
     let mut conn = Connection::open_in_memory(alloc).ok()?;
     old_file(&mut conn, ISLE, service.campaign()?).ok()?;

@@ -1,22 +1,23 @@
-//! Two ways to run short of memory: one growth is refused, or only a few blocks are left.
+//! Makes memory short and ample again, in two ways: one growth is refused, or only a few blocks are
+//! left.
 use crate::drought::Drought;
 use crate::fuse;
 use atl_tables::let_go;
 use std::alloc::Global;
 
-/// How memory is short.
+/// How memory is short: one growth is refused, or few blocks are left.
 #[derive(Clone, Copy, Debug, PartialEq, Eq)]
 pub enum Limit {
-    /// The growth with this number is refused, by a heap that counts (`fuse`).
+    /// The growth with this number is refused, by a heap that counts growths (`fuse`).
     Growth(u32),
-    /// Only this many blocks are left.
+    /// Only this many blocks are left (`drought`).
     Blocks(u32),
 }
 
-/// A shortage that can begin and end, and whether it met a call.
+/// A shortage of memory that can begin and end, and whether a growth was refused in it.
 pub struct Shortage {
     pub limit: Limit,
-    /// Whether a growth was refused in the last call; None if it isn't known.
+    /// Whether a growth was refused between the last `begin` and `end`; None if it isn't known.
     pub was_refused: Option<bool>,
     drought: Drought,
 }
@@ -37,7 +38,7 @@ impl Shortage {
         })
     }
 
-    /// Makes memory short.
+    /// Makes memory short as `limit` says.
     pub fn begin(&mut self, alloc: Global) {
         match self.limit {
             Limit::Growth(growth) => {
@@ -47,7 +48,7 @@ impl Shortage {
         }
     }
 
-    /// Makes memory ample again.
+    /// Makes memory ample again, and records whether a growth was refused.
     pub fn end(&mut self, alloc: Global) {
         self.was_refused = match self.limit {
             Limit::Growth(_) => Some(fuse::has_refused(alloc)),

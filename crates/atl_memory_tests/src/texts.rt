@@ -1,21 +1,22 @@
-//! Turns rows and answers into texts, so that all of them are compared at once.
+//! Turns rows, books and answers into texts, so that each can be compared as a whole.
 use atl_service::{Answer, Service, open};
 use atl_state::{Campaign, Parts};
 use sqlite::{Alter, Connection};
 use std::alloc::Global;
 
-/// All rows, as `Debug` prints them.
+/// All rows as one text, as `Debug` prints them; None if memory is short.
 pub fn text_of(alloc: Global, parts: &Parts) -> Option<String> {
     format!(in alloc; "{parts:?}").ok()
 }
 
-/// All rows of a campaign, as `Debug` prints them.
+/// All rows of a campaign as one text, as `Debug` prints them; None without a campaign.
 pub fn rows(alloc: Global, campaign: Option<&Campaign>) -> Option<String> {
     let parts = campaign?.parts().ok()?;
     text_of(alloc, &parts)
 }
 
-/// All rows of the campaign in a database, as `Debug` prints them.
+/// All rows of the campaign in a database as one text, as `Debug` prints them; None if it can't be
+/// opened.
 pub fn rows_of<S: Alter + Drop>(alloc: Global, conn: Connection<S>) -> Option<String> {
     match open(alloc, conn) {
         Ok(service) => rows(alloc, service.campaign()),
@@ -23,12 +24,12 @@ pub fn rows_of<S: Alter + Drop>(alloc: Global, conn: Connection<S>) -> Option<St
     }
 }
 
-/// The text of a service's books.
+/// The text of a service's books; None without a campaign.
 pub fn books<S: Alter>(service: &Service<S>) -> Option<String> {
     service.books()?.ok()
 }
 
-/// An answer as text.
+/// An answer as text, for comparison; the text of a report is taken as it is.
 pub fn told(alloc: Global, answer: &Answer) -> Option<String> {
     match answer {
         Answer::Joined { faction, unit } => format!(in alloc; "joined {faction} {unit}").ok(),
@@ -42,7 +43,7 @@ pub fn told(alloc: Global, answer: &Answer) -> Option<String> {
     }
 }
 
-/// Whether a text was made, and is this one.
+/// Whether a text was made, and is the wanted one.
 pub fn is_text(made: Option<String>, wanted: &str) -> bool {
     match &made {
         Some(made) => made.as_str() == wanted,

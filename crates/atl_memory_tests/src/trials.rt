@@ -1,4 +1,5 @@
-//! Tries one call with too little memory, and checks its answer and what it leaves.
+//! Tries one call with memory short, and checks that it answers Memory and leaves all as before, or
+//! succeeds as with ample memory.
 use crate::cases::{Call, Case};
 use crate::setting::{begun, old_of};
 use crate::shortage::Shortage;
@@ -10,7 +11,8 @@ use atl_test_worlds::{ISLE, ISLE_WITH_MARKET};
 use sqlite::{Alter, Connection};
 use std::alloc::Global;
 
-/// What a call with memory short came to.
+/// What a call did with memory short: Memory with all as before, the outcome of ample memory, or
+/// something wrong.
 #[derive(Clone, Copy, PartialEq, Eq, Debug)]
 enum Came {
     /// The answer is Memory, and all is as before.
@@ -21,14 +23,14 @@ enum Came {
     Wrong(&'static str),
 }
 
-/// What a call with memory short came to, together with whether a growth was refused.
+/// What a call did with memory short, judged together with whether a growth was refused.
 #[derive(Clone, Copy, PartialEq, Eq, Debug)]
 pub enum Outcome {
     /// The answer is Memory, and all is as before.
     Held,
     /// The outcome is that of ample memory, and no growth was refused as far as is known.
     Done,
-    /// A growth was refused, and the outcome is nevertheless that of enough memory.
+    /// A growth was refused, and the outcome is nevertheless that of ample memory.
     MadeGood,
     /// The answer is Memory, although no growth was refused.
     Untrue,
@@ -36,7 +38,7 @@ pub enum Outcome {
     Wrong(&'static str),
 }
 
-/// The outcome of a call, from what it came to and whether a growth was refused.
+/// The outcome of a call, from what it did and whether a growth was refused.
 fn judged(was_refused: Option<bool>, came: Came) -> Outcome {
     match (was_refused, came) {
         (_, Came::Wrong(what)) => Outcome::Wrong(what),
@@ -47,7 +49,7 @@ fn judged(was_refused: Option<bool>, came: Came) -> Outcome {
     }
 }
 
-/// Memory, if all is as before.
+/// `Memory` if all is as before, else `Wrong`; for a call that answered Memory.
 fn held(is_as_before: bool) -> Came {
     if is_as_before {
         Came::Memory
@@ -56,7 +58,7 @@ fn held(is_as_before: bool) -> Came {
     }
 }
 
-/// Done, if the outcome is that of enough memory.
+/// `Done` if the outcome is that of ample memory, else `Wrong`; for a call that succeeded.
 fn done(is_as_wanted: bool) -> Came {
     if is_as_wanted {
         Came::Done
@@ -65,14 +67,14 @@ fn done(is_as_wanted: bool) -> Came {
     }
 }
 
-/// Whether a service and its tables have these rows.
+/// Whether the campaign of a service, and the tables of its database, have these rows.
 fn has_rows<S: Alter + Drop>(alloc: Global, service: Service<S>, wanted: &str) -> bool {
     is_text(rows(alloc, service.campaign()), wanted)
         && is_text(rows_of(alloc, service.end()), wanted)
 }
 
-/// Whether a service has no campaign and no books, still lends its world, and answers Closed to
-/// each kind of command.
+/// Whether a service is closed: it has no campaign and no books, still lends its world, and answers
+/// Closed to each kind of command.
 fn is_closed<S: Alter>(service: &mut Service<S>, case: &Case) -> bool {
     let mut is_closed = service.campaign().is_none()
         && service.books().is_none()
@@ -83,7 +85,7 @@ fn is_closed<S: Alter>(service: &mut Service<S>, case: &Case) -> bool {
     is_closed
 }
 
-/// Whether a service is closed, and its tables hold these rows.
+/// Whether a service is closed, and the tables of its database have these rows.
 fn is_left_closed<S: Alter + Drop>(
     alloc: Global,
     mut service: Service<S>,
@@ -93,19 +95,19 @@ fn is_left_closed<S: Alter + Drop>(
     is_closed(&mut service, case) && is_text(rows_of(alloc, service.end()), wanted)
 }
 
-/// How the answers to a case's commands end.
+/// How the answers to a case's commands end: all as with ample memory, Memory and then Closed, or
+/// otherwise.
 #[derive(Clone, Copy, PartialEq, Eq)]
 enum End {
     /// All are those of ample memory.
     Done,
-    /// The first ones, this many, are those of enough memory; then comes Memory, and then only
-    /// Closed.
+    /// This many answers are those of ample memory; then comes Memory, and after it only Closed.
     Memory(usize),
-    /// They are something else.
+    /// Some answer is none of these, or an answer is missing.
     Astray,
 }
 
-/// How answers end, compared with those of enough memory.
+/// How the answers to a case's commands end, compared with those of ample memory.
 fn end_of(alloc: Global, answers: &[Answer], wanted: &[String]) -> End {
     let mut end = End::Done;
     for (at, (answer, wanted)) in answers.iter().zip(wanted.iter()).enumerate() {
@@ -123,7 +125,7 @@ fn end_of(alloc: Global, answers: &[Answer], wanted: &[String]) -> End {
     }
 }
 
-/// What the answers to a case's commands and the service after them come to.
+/// What a call did, from the answers to a case's commands and the state of the service after them.
 fn ended<S: Alter + Drop>(
     alloc: Global,
     service: Service<S>,
@@ -137,7 +139,7 @@ fn ended<S: Alter + Drop>(
     }
 }
 
-/// Whether a service is as before, and the commands now come to what they come to with enough
+/// Whether a service has its rows as before, and the case's commands now have the outcome of ample
 /// memory.
 fn goes_on<S: Alter + Drop>(alloc: Global, mut service: Service<S>, case: &Case) -> bool {
     let is_as_before = is_text(rows(alloc, service.campaign()), case.rows_after(0));
@@ -147,7 +149,8 @@ fn goes_on<S: Alter + Drop>(alloc: Global, mut service: Service<S>, case: &Case)
     }
 }
 
-/// Tries a founding.
+/// Founds a campaign with memory short, and judges the result; after Memory there must be no
+/// tables.
 fn founds<S: Alter + Drop>(
     alloc: Global,
     conn: Connection<S>,
@@ -169,7 +172,8 @@ fn founds<S: Alter + Drop>(
     }
 }
 
-/// Tries an opening.
+/// Opens a service's database with memory short, and judges the result; after Memory its rows must
+/// be as before.
 fn opens<S: Alter + Drop>(
     alloc: Global,
     service: Service<S>,
@@ -192,8 +196,7 @@ fn opens<S: Alter + Drop>(
     }
 }
 
-/// Whether a file is still of the first format, and an upgrade now comes to what it comes to with
-/// enough memory.
+/// Whether a file is still of the first format, and an upgrade now has the outcome of ample memory.
 fn is_still_old<S: Alter + Drop>(alloc: Global, conn: Connection<S>, case: &Case) -> bool {
     match open(alloc, conn) {
         Err(
@@ -209,7 +212,8 @@ fn is_still_old<S: Alter + Drop>(alloc: Global, conn: Connection<S>, case: &Case
     }
 }
 
-/// Tries the upgrade of a file of the first format with a service's campaign.
+/// Upgrades a file of the first format with memory short, and judges the result; after Memory it
+/// must still be old.
 fn upgrades<S: Alter + Drop>(
     alloc: Global,
     service: Service<S>,
@@ -234,7 +238,8 @@ fn upgrades<S: Alter + Drop>(
     }
 }
 
-/// Runs one command with memory short, and judges the answer and what it leaves.
+/// Runs the first command of a case with memory short, and judges the answer and the service after
+/// it.
 fn runs<S: Alter + Drop>(
     alloc: Global,
     mut service: Service<S>,
@@ -253,7 +258,8 @@ fn runs<S: Alter + Drop>(
     }
 }
 
-/// Runs a list of commands with memory short, and judges the answers and what they leave.
+/// Runs all commands of a case by `run_all` with memory short, and judges the answers and the
+/// service after them.
 fn runs_all<S: Alter + Drop>(
     alloc: Global,
     mut service: Service<S>,
@@ -269,7 +275,7 @@ fn runs_all<S: Alter + Drop>(
     }
 }
 
-/// Asks for the text of the books with memory short, and judges it and what is left.
+/// Asks for the text of the books with memory short, and judges the text and the service after it.
 fn tells_books<S: Alter + Drop>(
     alloc: Global,
     service: Service<S>,
@@ -287,7 +293,7 @@ fn tells_books<S: Alter + Drop>(
     }
 }
 
-/// Asks a campaign for its rows with memory short, and judges them and what is left.
+/// Asks a campaign for its rows with memory short, and judges the rows and the campaign after it.
 fn gives_rows(alloc: Global, campaign: &Campaign, case: &Case, shortage: &mut Shortage) -> Came {
     shortage.begin(alloc);
     let parts = campaign.parts();
@@ -299,7 +305,7 @@ fn gives_rows(alloc: Global, campaign: &Campaign, case: &Case, shortage: &mut Sh
     }
 }
 
-/// Checks a campaign's rows with memory short, and judges the result.
+/// Checks a campaign's rows by `check` with memory short, and judges the result.
 fn checks(
     alloc: Global,
     world: &World,
@@ -320,7 +326,7 @@ fn checks(
     }
 }
 
-/// Tries the rows of a service's campaign, or the check of these rows, by the call of the case.
+/// Tries `parts` or `check`, as the case says, on the campaign of a service with memory short.
 fn reads<S: Alter + Drop>(
     alloc: Global,
     service: Service<S>,
@@ -336,7 +342,7 @@ fn reads<S: Alter + Drop>(
     }
 }
 
-/// Tries any call on a service.
+/// Tries the call of a case on a service with memory short; the call is any but a founding.
 fn called<S: Alter + Drop>(
     alloc: Global,
     service: Service<S>,
@@ -353,7 +359,7 @@ fn called<S: Alter + Drop>(
     }
 }
 
-/// Tries the call of a case in a database.
+/// Tries the call of a case in an empty database with memory short.
 fn tried_in<S: Alter + Drop>(
     alloc: Global,
     conn: Connection<S>,
@@ -369,7 +375,7 @@ fn tried_in<S: Alter + Drop>(
     }
 }
 
-/// What the call of a case comes to with memory short.
+/// Tries the call of a case with memory short, in a new database in memory, and judges the outcome.
 pub fn tried(alloc: Global, case: &Case, shortage: &mut Shortage) -> Outcome {
     let came = match Connection::open_in_memory(alloc) {
         Ok(conn) => tried_in(alloc, conn, case, shortage),

@@ -1,14 +1,14 @@
--- For these tests alone: which verbs belong to the two phases that only these tests have.
+-- For these tests alone: the verbs of two phases that only these tests have, one of WORK and one of STUDY.
 use Rattle.std.specs.Prelude.{Bool, true, false}
 use Rattle.atl_orders.specs.declared.verb.Verb.{Verb}
 use Rattle.atl_orders.specs.declared.verb.Verb.TheVariants.{Study, Work}
 
--- The verb is WORK.
+-- Whether a verb is WORK, the only verb of the tests' phase `Working`.
 abbrev pub is_working : Verb → Bool
 is_working Work = true
 is_working verb = false
 
--- The verb is STUDY.
+-- Whether a verb is STUDY, the only verb of the tests' phase `Studying`.
 abbrev pub is_studying : Verb → Bool
 is_studying Study = true
 is_studying verb = false

@@ -1,5 +1,5 @@
-//! Tests of the calls that the phases of a month rest on, and of reports. atl_phase_tests plays the
-//! phases themselves.
+//! Tests of reports, and of the calls that the phases of a month use. atl_phase_tests runs whole
+//! phases.
 #![tactic(auto)]
 
 #[cfg(test)]

@@ -1,4 +1,4 @@
-//! Inserts the rows of a campaign into the tables of the first format.
+//! Inserts the rows of a campaign into the nine tables of the first format.
 use atl_state::Parts;
 use atl_state::parts::{
     StoredBooks, StoredCampaignRow, StoredFaction, StoredHas, StoredMail, StoredRegion,
@@ -6,7 +6,7 @@ use atl_state::parts::{
 };
 use sqlite::{Alter, Connection, Error, params};
 
-/// A row that can be inserted into its table.
+/// A row that can be inserted into its table of the first format.
 trait Put {
     fn put<S: Alter>(&self, conn: &mut Connection<S>) -> Result<usize, Error>;
 }
@@ -105,7 +105,7 @@ impl Put for StoredBooks {
     }
 }
 
-/// Inserts each row of a table.
+/// Inserts all rows of one table.
 fn put_each<S: Alter, T: Put>(conn: &mut Connection<S>, rows: &[T]) -> Result<(), Error> {
     for row in rows {
         row.put(conn)?;
@@ -113,7 +113,7 @@ fn put_each<S: Alter, T: Put>(conn: &mut Connection<S>, rows: &[T]) -> Result<()
     Ok(())
 }
 
-/// Inserts the campaign's own row, with the world text.
+/// Inserts the campaign row, with the world text.
 fn put_head<S: Alter>(
     conn: &mut Connection<S>,
     world: &str,
@@ -137,7 +137,7 @@ fn put_head<S: Alter>(
     Ok(())
 }
 
-/// Inserts the rows of regions, units, what units have, and structures.
+/// Inserts the rows of four tables: regions, units, what units have, and structures.
 fn put_places<S: Alter>(conn: &mut Connection<S>, parts: &Parts) -> Result<(), Error> {
     put_each(conn, parts.regions.as_slice())?;
     put_each(conn, parts.units.as_slice())?;
@@ -145,7 +145,7 @@ fn put_places<S: Alter>(conn: &mut Connection<S>, parts: &Parts) -> Result<(), E
     put_each(conn, parts.structures.as_slice())
 }
 
-/// Inserts the rows of all nine tables.
+/// Inserts a campaign's rows of all nine tables, with the world text.
 pub(crate) fn put_all<S: Alter>(
     conn: &mut Connection<S>,
     world: &str,

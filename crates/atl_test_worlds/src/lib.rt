@@ -1,10 +1,11 @@
-//! World texts that several crates of tests share, and a month with orders (`month`).
+//! World texts that several crates of tests share, and the rows and mailings of a month on the
+//! island (`month`).
 #![tactic(auto)]
 
 pub mod month;
 
-/// The text of a world with one region: the money of who joins, how many find work, how many
-/// peasants, and text to append.
+/// The text of a world with one region: a beginner's money, its jobs, its peasants, and text to
+/// append.
 macro_rules! vale {
     ($start_money:literal, $places:literal, $peasants:literal, $more:literal) => {
         concat!(
@@ -43,19 +44,20 @@ money = 500
     };
 }
 
-/// The small world: one region, nothing else.
+/// The text of the small world: one region, without items, skills and markets.
 pub const SMALL: &str = vale!(1000, 100, 1000, "");
 
-/// The small world where who joins gets no money.
+/// The text of the small world where a faction that joins gets no money.
 pub const POOR: &str = vale!(0, 100, 1000, "");
 
-/// The small world where nobody finds work, and who joins gets money for half a month.
+/// The text of the small world without jobs, where a faction that joins gets money for half a
+/// month.
 pub const BARREN: &str = vale!(5, 0, 1000, "");
 
-/// The small world with three peasants.
+/// The text of the small world with only three peasants.
 pub const THREE_PEASANTS: &str = vale!(1000, 100, 3, "");
 
-/// The small world with a second region to the east.
+/// The text of the small world with a second region to the east.
 pub const TWO_REGIONS: &str = vale!(
     1000,
     100,
@@ -71,7 +73,7 @@ west = 1
 "#
 );
 
-/// The small world with an item (wood) and a skill (sailing).
+/// The text of the small world with an item (wood) and a skill (sailing).
 pub const WOOD_AND_SAILING: &str = vale!(
     1000,
     100,
@@ -86,7 +88,7 @@ fee = 10
 "#
 );
 
-/// The small world with an item (wood) and a market for it.
+/// The text of the small world with an item (wood) and a market for it.
 pub const MART: &str = vale!(
     1000,
     100,
@@ -230,10 +232,10 @@ south = 3
     };
 }
 
-/// The island without a market.
+/// The text of the island without a market.
 pub const ISLE: &str = isle!("", "");
 
-/// The island with a market of wood in its first region.
+/// The text of the island with a market of wood in its first region.
 pub const ISLE_WITH_MARKET: &str = isle!(
     r#"[[region.market]]
 item = "wood"
@@ -245,7 +247,8 @@ restock = 20
     ""
 );
 
-/// The island with markets in two regions: of both items in the first one, and of carts in the third one.
+/// The text of the island with markets in two regions: of wood and carts in the first one, and of
+/// carts in the third one.
 pub const ISLE_WITH_MARKETS: &str = isle!(
     r#"[[region.market]]
 item = "cart"

@@ -1,8 +1,9 @@
-//! A month on the island: SQL for the rows before it, and the mailings of two factions.
+//! A month on the island: SQL that adds two factions with units to a new campaign, and the mailings
+//! of both.
 
 /// SQL, one transaction, that adds two factions, eleven units and a boat to the tables of an island
-/// where nobody has joined. A unit of each faction is in the boat; all that they hold is booked
-/// under Joining.
+/// where nobody has joined. A unit of each faction is in the boat; all that the units hold is
+/// booked under Joining.
 pub const ROWS: &str =
     "BEGIN; INSERT INTO faction VALUES (1, 'Avalon', 'Avalon', 'pw', 0), (2, 'Bree', 'Bree', 'pb', 0);
 INSERT INTO report VALUES (1, 'A report.'), (2, 'A report.');
@@ -15,8 +16,8 @@ INSERT INTO structure VALUES (1, 0, 'Ship 1', 1, 10, 4);
 INSERT INTO books VALUES (2, 0, 904), (2, 1, 61), (2, 2, 6);
 UPDATE campaign SET next_faction = 3, next_unit = 12, next_structure = 2; COMMIT";
 
-/// A mailing of eighteen orders. Of the two units that it forms the first gets men, and the second
-/// gets none.
+/// Avalon's mailing of eighteen orders. Of the two units that it forms, the first gets men and the
+/// second gets none.
 pub const OF_AVALON: &str = "#ATLANTIS 1 pw
 UNIT 1
 NAME UNIT Watch
@@ -48,7 +49,7 @@ MOVE SOUTH
 #END
 ";
 
-/// A mailing of one order. Its unit can't pay for it, earns nothing either, and starves.
+/// Bree's mailing of one order. Its unit can't pay the fee, earns nothing, and starves.
 pub const OF_BREE: &str = "#ATLANTIS 2 pb
 UNIT 11
 STUDY carpentry

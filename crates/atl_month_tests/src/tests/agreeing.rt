@@ -1,5 +1,5 @@
-//! Tests that the phases that share pots, upkeep, and shares agree with a plain reference
-//! calculation (`reference`).
+//! Tests that seven phases and `share` give the results of a plain reference calculation
+//! (`reference`). The phases are SELL, BUY, TAX, RECRUIT, PRODUCE, WORK and upkeep.
 ghost use Rattle.atl_state.specs.Good.{IsGood};
 ghost use Rattle.atl_instant.specs.Fit.{AreFit};
 
@@ -28,7 +28,7 @@ fn assert_equal_lists<T: PartialEq>(rt: &impl Abort, what: &str, told: &[T], wan
     }
 }
 
-/// Asserts that goods, stocks and books are those of the reference.
+/// Asserts that goods, stocks and books of a campaign are those of the reference's campaign.
 fn assert_amounts(
     rt: &impl Abort,
     alloc: Global,
@@ -56,7 +56,8 @@ fn assert_amounts(
     Ok(())
 }
 
-/// Asserts that a campaign and the outcomes of its orders are those of the reference.
+/// Asserts that units, regions, goods, stocks, books and events after a phase are those of the
+/// reference.
 fn assert_campaign(
     rt: &impl Abort,
     alloc: Global,
@@ -73,14 +74,14 @@ fn assert_campaign(
 
 // ---- the phases
 
-/// A phase to compare: one that shares pots, or upkeep.
+/// A phase that is compared with the reference: one that shares pots, or upkeep.
 #[derive(Clone, Copy, Drop)]
 enum Played {
     Sharing(Sharing),
     Upkeep,
 }
 
-/// All phases to compare.
+/// All phases that are compared with the reference.
 static PLAYED: [Played; 7] = [
     Played::Sharing(Sharing::Trade(Trade::Sell)),
     Played::Sharing(Sharing::Trade(Trade::Buy)),
@@ -91,7 +92,7 @@ static PLAYED: [Played; 7] = [
     Played::Upkeep,
 ];
 
-/// The campaign and the month after the phase SELL.
+/// The campaign and the month after SELL, for a good campaign and mailings read with its world.
 fn run_sell(
     alloc: Global,
     world: &World,
@@ -104,7 +105,7 @@ fn run_sell(
     SellPhase {}.run(alloc, world, campaign, month)
 }
 
-/// The campaign and the month after the phase BUY.
+/// The campaign and the month after BUY, for a good campaign and mailings read with its world.
 fn run_buy(
     alloc: Global,
     world: &World,
@@ -117,7 +118,7 @@ fn run_buy(
     BuyPhase {}.run(alloc, world, campaign, month)
 }
 
-/// The campaign and the month after the phase TAX.
+/// The campaign and the month after TAX, for a good campaign and mailings read with its world.
 fn run_tax(
     alloc: Global,
     world: &World,
@@ -130,7 +131,7 @@ fn run_tax(
     TaxPhase.run(alloc, world, campaign, month)
 }
 
-/// The campaign and the month after the phase RECRUIT.
+/// The campaign and the month after RECRUIT, for a good campaign and mailings read with its world.
 fn run_recruit(
     alloc: Global,
     world: &World,
@@ -143,7 +144,7 @@ fn run_recruit(
     RecruitPhase.run(alloc, world, campaign, month)
 }
 
-/// The campaign and the month after the phase PRODUCE.
+/// The campaign and the month after PRODUCE, for a good campaign and mailings read with its world.
 fn run_produce(
     alloc: Global,
     world: &World,
@@ -156,7 +157,7 @@ fn run_produce(
     ProducePhase.run(alloc, world, campaign, month)
 }
 
-/// The campaign and the month after the phase WORK.
+/// The campaign and the month after WORK, for a good campaign and mailings read with its world.
 fn run_work(
     alloc: Global,
     world: &World,
@@ -169,7 +170,7 @@ fn run_work(
     WorkPhase.run(alloc, world, campaign, month)
 }
 
-/// The campaign and the month after upkeep.
+/// The campaign and the month after upkeep, for a good campaign and mailings read with its world.
 fn run_upkeep(
     alloc: Global,
     world: &World,
@@ -182,7 +183,7 @@ fn run_upkeep(
     UpkeepPhase.run(alloc, world, campaign, month)
 }
 
-/// The campaign and the month after a phase that shares pots.
+/// The campaign and the month after a phase that shares pots, run by the program.
 fn run_sharing(
     alloc: Global,
     world: &World,
@@ -203,7 +204,7 @@ fn run_sharing(
     }
 }
 
-/// The campaign and the month after a phase.
+/// The campaign and the month after any of the compared phases, run by the program.
 fn run_on(
     alloc: Global,
     world: &World,
@@ -220,7 +221,7 @@ fn run_on(
     }
 }
 
-/// Calculates a phase by the reference.
+/// Plays a phase on the reference's campaign by the reference calculation.
 fn reckon(
     alloc: Global,
     world: &World,
@@ -234,7 +235,7 @@ fn reckon(
     }
 }
 
-/// The reference's campaign after a phase.
+/// The reference's campaign after a phase, calculated from a campaign and a month.
 fn reckoned(
     alloc: Global,
     world: &World,
@@ -247,7 +248,7 @@ fn reckoned(
     Ok(plain)
 }
 
-/// Asserts that a phase on the crowd's campaign agrees with the reference.
+/// Asserts that a phase on the campaign of `crowd` gives the results of the reference.
 fn agrees(rt: &impl Abort, alloc: Global, world: &World, played: Played) -> Result<(), Fail> {
     let campaign = crowd(alloc, world)?;
     let month = crowd_month(alloc, world)?;
@@ -257,7 +258,7 @@ fn agrees(rt: &impl Abort, alloc: Global, world: &World, played: Played) -> Resu
     Ok(())
 }
 
-/// Asserts that each phase agrees.
+/// Asserts that each phase of `PLAYED` gives the results of the reference.
 fn all_agree(rt: &impl Abort, alloc: Global, world: &World) -> Result<(), Fail> {
     for played in PLAYED.iter() {
         agrees(rt, alloc, world, *played)?;
@@ -265,6 +266,7 @@ fn all_agree(rt: &impl Abort, alloc: Global, world: &World) -> Result<(), Fail> 
     Ok(())
 }
 
+/// Each phase that shares pots, and upkeep, gives the results of the reference for 300 units.
 #[test]
 fn phases_agree(rt: HostRuntime) -> Result<(), Fail> {
     let world = crowd_world(rt.alloc())?;
@@ -273,8 +275,8 @@ fn phases_agree(rt: HostRuntime) -> Result<(), Fail> {
 
 // ---- shares
 
-/// Wants to share: each with every pot from 0 to `MOST_SHARED`, which is more than any of them want
-/// together.
+/// Lists of wants. Each is tried with every pot from 0 to `MOST_SHARED`, which is more than the
+/// wants of any list together.
 static WANTS: [&[u64]; 6] = [
     &[50, 60, 70],
     &[1, 1, 1, 1, 1, 1, 1],
@@ -284,10 +286,10 @@ static WANTS: [&[u64]; 6] = [
     &[0, 0],
 ];
 
-/// The largest pot.
+/// The largest pot that the lists of `WANTS` share.
 const MOST_SHARED: u64 = 300;
 
-/// Asserts that the shares of one pot agree with the reference.
+/// Asserts that `share` splits one pot as the reference does.
 fn pot_agrees(rt: &impl Abort, alloc: Global, pot: u64, wants: &[u64]) -> Result<(), Fail> {
     if pot > MOST_SHARED || !are_small(wants) {
         return Err(Fail::new("a pot and wants that are small enough"));
@@ -298,7 +300,7 @@ fn pot_agrees(rt: &impl Abort, alloc: Global, pot: u64, wants: &[u64]) -> Result
     Ok(())
 }
 
-/// Asserts that the shares of each pot up to `MOST_SHARED` agree.
+/// Asserts that `share` splits each pot up to `MOST_SHARED` as the reference does.
 fn pots_agree(rt: &impl Abort, alloc: Global, wants: &[u64]) -> Result<(), Fail> {
     for pot in 0..=MOST_SHARED {
         pot_agrees(rt, alloc, pot, wants)?;
@@ -306,6 +308,7 @@ fn pots_agree(rt: &impl Abort, alloc: Global, wants: &[u64]) -> Result<(), Fail>
     Ok(())
 }
 
+/// `share` splits each pot up to `MOST_SHARED` among each list of `WANTS` as the reference does.
 #[test]
 fn shares_agree(rt: HostRuntime) -> Result<(), Fail> {
     for wants in WANTS.iter() {

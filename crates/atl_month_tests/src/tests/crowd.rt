@@ -1,6 +1,6 @@
-//! The campaign that `agreeing` plays: 300 units of four factions in twelve regions, and a month of
-//! their orders. What each unit has and orders is picked by its number from tables whose lengths
-//! have no common factor.
+//! The campaign of 300 units on which `agreeing` compares phases with the reference, and a month of
+//! orders. Four factions have them in twelve regions. What each unit has and orders is picked by
+//! its number from tables whose lengths have no common factor.
 ghost use Rattle.std.specs.Prelude.{◌≤◌, IfOk, length};
 ghost use Rattle.atl_state.specs.Good.{IsGood};
 ghost use Rattle.atl_instant.specs.Fit.{AreFit};
@@ -99,7 +99,7 @@ fee = 9
 /// How many items the world has.
 const ITEMS: u32 = 5;
 
-/// A market of a region.
+/// A market of a region: its item, its two prices, and its limit.
 #[derive(Clone, Copy, Drop)]
 struct Stall {
     item: u32,
@@ -148,13 +148,13 @@ static STALLS: [Stall; 5] = [
     },
 ];
 
-/// How many thirds of its limit a market has in stock.
+/// How many thirds of its limit a market has in stock, by region number plus item.
 static FILLED: [u32; 4] = [0, 1, 3, 2];
 
 /// How many skills the world has.
 const SKILLS: u32 = 4;
 
-/// Terrain, peasants and money of a region.
+/// Terrain, peasants and money of a region, by its number.
 static LANDS: [(&str, u32, u32); 7] = [
     ("plain", 2_950, 700),
     ("hill", 120, 0),
@@ -165,10 +165,10 @@ static LANDS: [(&str, u32, u32); 7] = [
     ("hill", 61, 880),
 ];
 
-/// Men of a unit.
+/// Men of a unit, by its number.
 static MEN: [i64; 11] = [1, 1, 2, 3, 5, 8, 13, 40, 90, 2, 1];
 
-/// Money of a unit.
+/// Money of a unit, by its number.
 static MONEY: [i64; 7] = [0, 3, 20, 150, 900, 0, 4_000];
 
 /// Each unit whose number is a multiple of this has `FULL_PURSE` of money.
@@ -177,13 +177,14 @@ const RICH: u32 = 37;
 /// Money that leaves a unit hardly any room for more.
 const FULL_PURSE: i64 = 999_999_990;
 
-/// Amounts of an item that a unit has; the last leaves hardly any room for more.
+/// Amounts of an item that a unit has, by unit number plus item; the last leaves hardly any room
+/// for more.
 static PIECES: [i64; 5] = [0, 2, 0, 30, 999_999_995];
 
-/// Days of a skill for each man of a unit.
+/// Days of a skill for each man of a unit, by unit number plus skill.
 static DAYS: [i64; 6] = [29, 30, 90, 0, 180, 450];
 
-/// Month-long orders, or none.
+/// Month-long orders of a unit, by its number; an empty text is no order.
 static MONTH_LONG: [&str; 9] = [
     "PRODUCE wood",
     "WORK",
@@ -196,7 +197,7 @@ static MONTH_LONG: [&str; 9] = [
     "PRODUCE wood",
 ];
 
-/// SELL orders, or none.
+/// SELL orders of a unit, by its number; an empty text is no order.
 static SOLD: [&str; 8] = [
     "SELL 3 wood",
     "SELL 40 grain",
@@ -208,7 +209,7 @@ static SOLD: [&str; 8] = [
     "SELL 9 cart",
 ];
 
-/// BUY orders, or none.
+/// BUY orders of a unit, by its number; an empty text is no order.
 static BOUGHT: [&str; 13] = [
     "BUY 2 grain",
     "BUY 5 wood",
@@ -225,11 +226,11 @@ static BOUGHT: [&str; 13] = [
     "BUY 1 cart",
 ];
 
-/// How many men a unit tries to recruit.
+/// How many men a unit tries to recruit, by its number.
 static RECRUITED: [u32; 5] = [1, 20, 3, 7, 400];
 
-/// The orders of each unit whose number is a multiple of this are for the next unit, which is
-/// another faction's.
+/// Each unit whose number is a multiple of this orders the next unit, which is another faction's,
+/// and not itself.
 const ASTRAY: u32 = 29;
 
 /// The number of Joining among the entries of the books.
@@ -329,7 +330,7 @@ fn money_of(number: u32) -> i64 {
     }
 }
 
-/// The row of a unit.
+/// The row of a unit in the table `unit`, with what its number picks.
 fn unit(alloc: Global, number: u32) -> Result<StoredUnit, AllocError> {
     Ok(StoredUnit {
         number: i64::from(number),
@@ -343,7 +344,7 @@ fn unit(alloc: Global, number: u32) -> Result<StoredUnit, AllocError> {
     })
 }
 
-/// The rows of the units.
+/// The rows of all units in the table `unit`.
 fn units(alloc: Global) -> Result<Sequence<StoredUnit>, AllocError> {
     let mut units = Sequence::new(alloc);
     for number in 1..=UNITS {
@@ -352,7 +353,7 @@ fn units(alloc: Global) -> Result<Sequence<StoredUnit>, AllocError> {
     Ok(units)
 }
 
-/// Adds a row of what a unit has, unless the amount is 0.
+/// Adds a row to the table `has`, an amount of an item or days of a skill, unless the amount is 0.
 fn add_good(
     number: u32,
     sort: i64,
@@ -394,7 +395,7 @@ fn add_days(number: u32, has: &mut Sequence<StoredHas>) -> Result<(), AllocError
     Ok(())
 }
 
-/// The rows of what the units have.
+/// The rows of the table `has`: items and days of study of all units.
 fn has(alloc: Global) -> Result<Sequence<StoredHas>, AllocError> {
     let mut has = Sequence::new(alloc);
     for number in 1..=UNITS {
@@ -436,7 +437,7 @@ fn stocks(alloc: Global) -> Result<Sequence<StoredMarket>, AllocError> {
     Ok(markets)
 }
 
-/// The sum of an item over all stocks.
+/// How much of an item all markets have in stock together.
 fn all_in_stock(markets: &Sequence<StoredMarket>, item: u32) -> i64 {
     let mut all: i64 = 0;
     for row in markets.as_slice() {
@@ -449,7 +450,7 @@ fn all_in_stock(markets: &Sequence<StoredMarket>, item: u32) -> i64 {
 
 // ---- factions and books
 
-/// The campaign's own row.
+/// The campaign row, which has the next free numbers.
 fn head(alloc: Global) -> Result<Sequence<StoredCampaignRow>, AllocError> {
     let mut all = Sequence::new(alloc);
     all.push(StoredCampaignRow {
@@ -485,7 +486,7 @@ fn factions(alloc: Global) -> Result<Sequence<StoredFaction>, AllocError> {
     Ok(all)
 }
 
-/// The rows of the reports.
+/// The rows of the factions' reports, all with one text.
 fn reports(alloc: Global) -> Result<Sequence<StoredReport>, AllocError> {
     let mut all = Sequence::new(alloc);
     for number in 1..=FACTIONS {
@@ -497,7 +498,7 @@ fn reports(alloc: Global) -> Result<Sequence<StoredReport>, AllocError> {
     Ok(all)
 }
 
-/// Adds a row of the books for an amount of a thing under Joining, unless it is 0.
+/// Adds a row of the books for an amount of a thing under Joining, unless the amount is 0.
 fn book(thing: i64, amount: i64, books: &mut Sequence<StoredBooks>) -> Result<(), AllocError> {
     if amount == 0 {
         return Ok(());
@@ -509,7 +510,7 @@ fn book(thing: i64, amount: i64, books: &mut Sequence<StoredBooks>) -> Result<()
     })
 }
 
-/// The sums of money and of men over all units.
+/// The money and the men of all units together.
 fn money_and_men() -> (i64, i64) {
     let mut money: i64 = 0;
     let mut men: i64 = 0;
@@ -520,7 +521,7 @@ fn money_and_men() -> (i64, i64) {
     (money, men)
 }
 
-/// The sum of an item over all units.
+/// How much of an item all units have together.
 fn all_pieces(item: u32) -> i64 {
     let mut all: i64 = 0;
     for number in 1..=UNITS {
@@ -545,7 +546,8 @@ fn book_all(
     Ok(())
 }
 
-/// Replaces the rows of a campaign just founded by those of the crowd.
+/// Replaces the rows of a campaign just founded by those of the crowd, and adds the crowd's
+/// holdings to the books.
 fn fill(alloc: Global, parts: &mut Parts) -> Result<(), AllocError> {
     parts.markets = stocks(alloc)?;
     book_all(&parts.markets, &mut parts.books)?;
@@ -557,21 +559,22 @@ fn fill(alloc: Global, parts: &mut Parts) -> Result<(), AllocError> {
     Ok(())
 }
 
-/// All rows of the crowd's campaign.
+/// All rows of the crowd's campaign, made from a founding.
 fn rows(alloc: Global, world: &World) -> Result<Parts, AllocError> {
     let mut parts = founded(alloc, world, b"gm")?.parts()?;
     fill(alloc, &mut parts)?;
     Ok(parts)
 }
 
-/// The campaign that `check` makes of rows; nothing of it is marked.
+/// The campaign that `check` makes of rows, with nothing marked; rows that `check` refuses are a
+/// failure.
 pub(crate) fn checked(alloc: Global, world: &World, rows: Parts) -> Result<Campaign, Fail>
     ensures { IfOk result (λ campaign. IsGood world.now campaign.value) }
 {
     Ok(check(alloc, world, rows)?)
 }
 
-/// The campaign of the crowd.
+/// The campaign of 300 units, with nothing marked.
 pub(crate) fn crowd(alloc: Global, world: &World) -> Result<Campaign, Fail>
     ensures { IfOk result (λ campaign. IsGood world.now campaign.value) }
 {
@@ -581,7 +584,8 @@ pub(crate) fn crowd(alloc: Global, world: &World) -> Result<Campaign, Fail>
 
 // ---- the month
 
-/// The unit that a unit's orders are for: itself, or the next one (`ASTRAY`).
+/// The unit that gets the orders of a unit's number: the unit itself, or the next one if the number
+/// is a multiple of `ASTRAY`.
 fn told_unit(number: u32) -> u32 {
     if number % ASTRAY == 0 {
         number.wrapping_add(1)
@@ -590,7 +594,7 @@ fn told_unit(number: u32) -> u32 {
     }
 }
 
-/// Appends the orders of a unit to its faction's mailing.
+/// Appends the orders that a unit's number picks to its faction's mailing.
 fn add_orders(alloc: Global, number: u32, mailing: &mut String) -> Result<(), AllocError> {
     let unit = told_unit(number);
     let men = dealt(&RECRUITED, number);
@@ -602,7 +606,7 @@ fn add_orders(alloc: Global, number: u32, mailing: &mut String) -> Result<(), Al
     mailing.push_str(orders.as_str())
 }
 
-/// The mailing of a faction.
+/// The mailing of a faction: the orders that each of its units picks.
 fn mailing(alloc: Global, faction: u32) -> Result<String, AllocError> {
     let mut mailing = format!(in alloc; "#ATLANTIS {faction}\n")?;
     for number in 1..=UNITS {
@@ -613,7 +617,7 @@ fn mailing(alloc: Global, faction: u32) -> Result<String, AllocError> {
     Ok(mailing)
 }
 
-/// The texts as references.
+/// The texts as references, in the same order.
 fn lent(alloc: Global, texts: &[String]) -> Result<Vec<&str>, AllocError> {
     let mut all = Vec::new(alloc);
     for text in texts {
@@ -622,7 +626,7 @@ fn lent(alloc: Global, texts: &[String]) -> Result<Vec<&str>, AllocError> {
     Ok(all)
 }
 
-/// The month of the mailings of all factions.
+/// The month in which all four factions have sent their mailings.
 pub(crate) fn crowd_month(alloc: Global, world: &World) -> Result<Month, Fail>
     ensures { IfOk result (λ month. AreFit world.now month.readings) }
 {

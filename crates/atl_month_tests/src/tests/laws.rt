@@ -15,7 +15,8 @@ use atl_month::{
 };
 use atl_report::{only_what_is_seen_is_told, others_events_are_not_told};
 
-/// Asserts nothing: the clause of each law is proved.
+/// Each law of the crates under test can be called. Nothing is asserted: the clause of each law is
+/// proved.
 #[test]
 fn states_laws_of_the_month() {
     mailings_have_no_order();

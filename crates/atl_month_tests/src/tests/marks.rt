@@ -1,5 +1,5 @@
-//! Tests of what closing a month marks of units: the rows of all that change, and only those of
-//! their goods that change.
+//! Tests of what closing a month marks: each unit that changes, and of its goods only those that
+//! change.
 ghost use Rattle.std.specs.Prelude.{IfOk};
 ghost use Rattle.atl_state.specs.Good.{IsGood};
 
@@ -15,7 +15,7 @@ use std::alloc::{AllocError, Global};
 use std::process::Abort;
 use std::test::Fail;
 
-/// A faction joins, and its report is stored.
+/// Makes a faction join with 0 as the word of the dice, and stores an empty report for it.
 fn join(alloc: Global, world: &World, campaign: &mut Campaign, name: &str) -> Result<(), Fail>
     requires { IsGood world.now campaign.old.value }
 {
@@ -52,10 +52,11 @@ fn two_factions(alloc: Global, world: &World) -> Result<Campaign, Fail>
     joined(alloc, world, campaign, "Bree")
 }
 
-/// A mailing by which unit 1 takes a name, pays unit 2 and recruits a man.
+/// A mailing in which unit 1 changes its name, pays unit 2, and recruits a man.
 static PAYING: [&str; 1] = ["#ATLANTIS 1\nUNIT 1\nNAME UNIT Watch\nPAY 2 10\nRECRUIT 1\n"];
 
-/// The campaign after a month of these mailings, with a word of the dice for each region.
+/// The campaign after a first month of these mailings is closed, with a word of the dice for each
+/// region.
 fn after_month(
     alloc: Global,
     world: &World,
@@ -73,7 +74,7 @@ fn after_month(
     Ok(campaign)
 }
 
-/// The campaign of two factions after a month of `PAYING`.
+/// The campaign of `two_factions` after a month of the mailing `PAYING`.
 fn paid(alloc: Global, world: &World) -> Result<Campaign, Fail> {
     let campaign = two_factions(alloc, world)?;
     after_month(alloc, world, campaign, &PAYING, &[0])
@@ -92,6 +93,7 @@ fn has_a_recruit(campaign: &Campaign) -> bool {
     }
 }
 
+/// A new name, PAY, RECRUIT and upkeep mark the units and their rows, and none of their goods.
 #[test]
 fn names_pay_recruits_and_upkeep_mark_no_goods(rt: HostRuntime) -> Result<(), Fail> {
     let world = small_world(rt.alloc())?;
@@ -109,7 +111,7 @@ const WOOD: i64 = 20;
 /// How many days of carpentry unit 1 has.
 const CARPENTRY: i64 = 30;
 
-/// Adds rows for wood, booked under Joining, and for days of carpentry of unit 1.
+/// Adds rows by which unit 1 has wood and days of carpentry; the wood is booked under Joining.
 fn equip(rows: &mut Parts) -> Result<(), AllocError> {
     rows.has.push(StoredHas {
         unit: 1,
@@ -130,8 +132,8 @@ fn equip(rows: &mut Parts) -> Result<(), AllocError> {
     })
 }
 
-/// The campaign of two factions on the shore of the island, with a market of wood, after `equip`;
-/// nothing of it is marked.
+/// The campaign of `two_factions` with the goods of `equip`; nothing of it is marked. The world is
+/// the island with a market of wood.
 fn equipped(alloc: Global, world: &World) -> Result<Campaign, Fail>
     ensures { IfOk result (λ campaign. IsGood world.now campaign.value) }
 {
@@ -147,7 +149,7 @@ fn island_after_month(alloc: Global, world: &World, mailing: &str) -> Result<Cam
     after_month(alloc, world, campaign, &[mailing], &[0, 0, 0, 0])
 }
 
-/// Appends a list of numbers, ended by `|`.
+/// Appends a list of numbers to a text, and `|` after them.
 fn tell_numbers(
     alloc: Global,
     numbers: MarkedNumbers<'_>,
@@ -159,7 +161,7 @@ fn tell_numbers(
     told.push_str("|")
 }
 
-/// Appends the things of a unit, each as `unit:thing`.
+/// Appends the marked things of one unit to a text, each as `unit:thing`.
 fn tell_things_of(
     alloc: Global,
     unit: u32,
@@ -172,7 +174,7 @@ fn tell_things_of(
     Ok(())
 }
 
-/// Appends the things of all units, ended by `|`.
+/// Appends the marked things of all units to a text, each as `unit:thing`, and `|` after them.
 fn tell_things(
     alloc: Global,
     units: Entries<'_, Numbered<()>>,
@@ -184,8 +186,9 @@ fn tell_things(
     told.push_str("|")
 }
 
-/// What is marked of units: the units, their rows, those with all their goods, single items and
-/// single skills, each ended by `|`.
+/// What is marked of units, as five lists in a text, each ended by `|`.
+/// They are the marked units, marked rows, units with all their goods marked, single items, and
+/// single skills.
 fn marks_of(alloc: Global, campaign: &Campaign) -> Result<String, AllocError> {
     let mut told = String::new(alloc);
     tell_numbers(alloc, campaign.marked_units(), &mut told)?;
@@ -196,7 +199,8 @@ fn marks_of(alloc: Global, campaign: &Campaign) -> Result<String, AllocError> {
     Ok(told)
 }
 
-/// Asserts what `marks_of` says of a campaign; the message names the index of the row.
+/// Asserts which marks of units a campaign has, as `marks_of` prints them; the message names the
+/// index of the row.
 fn assert_marks(
     rt: &impl Abort,
     alloc: Global,
@@ -209,7 +213,8 @@ fn assert_marks(
     Ok(())
 }
 
-/// Mailings, and what a month of each marks of units; all units pay their upkeep.
+/// Mailings, and which units, rows and goods a month of each marks, as `marks_of` prints them. All
+/// units pay their upkeep.
 static MARKED: [(&str, &str); 6] = [
     ("#ATLANTIS 1\nUNIT 1\nWORK", "1 2 |1 2 ||||"),
     ("#ATLANTIS 1\nUNIT 1\nSTUDY lumberjack", "1 2 |1 2 |||1:0 |"),
@@ -225,7 +230,7 @@ static MARKED: [(&str, &str); 6] = [
     ),
 ];
 
-/// Asserts what each month of `MARKED` marks.
+/// Asserts that a month of each mailing of `MARKED` marks what its row lists.
 fn months_mark(rt: &impl Abort, alloc: Global, world: &World) -> Result<(), Fail> {
     for (row, (mailing, wanted)) in MARKED.iter().enumerate() {
         let campaign = island_after_month(alloc, world, mailing)?;
@@ -234,6 +239,7 @@ fn months_mark(rt: &impl Abort, alloc: Global, world: &World) -> Result<(), Fail
     Ok(())
 }
 
+/// Closing a month marks the units, rows, items and skills that change in it, and no others.
 #[test]
 fn months_mark_what_they_change(rt: HostRuntime) -> Result<(), Fail> {
     let world = read_world(rt.alloc(), ISLE_WITH_MARKET)?;

@@ -1,4 +1,4 @@
-//! The worlds of these tests, and months made of mailings.
+//! Makes the worlds of these tests, and months of mailings that are given as texts.
 ghost use Rattle.std.specs.Prelude.{◌≡◌, All, IfOk, map};
 ghost use Rattle.atl_orders.specs.Mailing.{IsReadWith};
 ghost use Rattle.atl_instant.specs.Month.{HaveOwnFactions};
@@ -22,7 +22,8 @@ pub(crate) fn small_world(alloc: Global) -> Result<World, Fail> {
     Ok(read_world(alloc, SMALL)?)
 }
 
-/// The mailings of some texts, in the same order; a text that is refused is a failure.
+/// The mailings that are read from some texts, in the same order; a text that is refused is a
+/// failure.
 fn mailings_of(alloc: Global, world: &World, texts: &[&str]) -> Result<Vec<Mailing>, Fail>
     ensures { IfOk result (λ mailings. All (IsReadWith world.now) mailings.items) }
 {
@@ -44,7 +45,8 @@ fn factions_of(alloc: Global, mailings: &[Mailing]) -> Result<Vec<u32>, AllocErr
     Ok(factions)
 }
 
-/// The mailings of some texts; two of one faction are a failure.
+/// The mailings that are read from some texts; a refused text, or two texts of one faction, are a
+/// failure.
 pub(crate) fn own_mailings(
     alloc: Global,
     world: &World,
@@ -61,7 +63,7 @@ pub(crate) fn own_mailings(
     Ok(mailings)
 }
 
-/// A month of these mailings, with 7 and 9 as the words of the dice.
+/// The month that is made of these texts, one mailing each, with 7 and 9 as the words of the dice.
 pub(crate) fn month(alloc: Global, world: &World, texts: &[&str]) -> Result<Month, Fail>
     ensures { IfOk result (λ month. AreFit world.now month.readings) }
 {

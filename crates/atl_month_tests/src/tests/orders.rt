@@ -1,4 +1,5 @@
-//! Tests of which orders of a month each phase gets, in which order, and of aliases and events.
+//! Tests of which orders of a month each phase gets and in which order, and of a month's aliases
+//! and events.
 use super::months::{month, world};
 use super::phases::{Studying, Working};
 use super::telling::assert_row;
@@ -11,7 +12,8 @@ use std::alloc::Global;
 use std::process::Abort;
 use std::test::Fail;
 
-/// Appends the orders of a phase: unit, line, faction and keyword of each.
+/// Appends the orders that a phase gets, each as unit, line, faction and keyword, and `|` after
+/// them.
 fn tell<P: PhaseVerbs>(
     alloc: Global,
     month: &Month,
@@ -33,7 +35,8 @@ fn tell<P: PhaseVerbs>(
     Ok(())
 }
 
-/// The orders that the phases of FORM, GIVE, RECRUIT, STUDY and WORK get, each phase ended by `|`.
+/// The orders that the phases of FORM, GIVE, RECRUIT, STUDY and WORK get, as text, each phase ended
+/// by `|`.
 fn told_of(alloc: Global, month: &Month) -> Result<String, Fail> {
     let mut told = String::new(alloc);
     tell(alloc, month, &FormPhase, Arrangement::ByFaction, &mut told)?;
@@ -44,10 +47,10 @@ fn told_of(alloc: Global, month: &Month) -> Result<String, Fail> {
     Ok(told)
 }
 
-/// Mailings, and the orders that each phase gets of them.
+/// Mailings, and the orders that each of five phases gets of them, as `told_of` prints them.
 static ROWS: [(&[&str], &str); 9] = [
     (&[], "|||||"),
-    // Of month-long orders the last stands, whatever its verb.
+    // Of a unit's month-long orders the last counts, whatever its verb.
     (
         &["#ATLANTIS 1\nUNIT 1\nWORK\nSTUDY sailing"],
         "|||1 4 1 STUDY;||",
@@ -56,17 +59,17 @@ static ROWS: [(&[&str], &str); 9] = [
         &["#ATLANTIS 1\nUNIT 1\nSTUDY sailing\nUNIT 2\nWORK\nUNIT 1\nMOVE north"],
         "||||2 5 1 WORK;|",
     ),
-    // So with RECRUIT, and GIVE stands each time.
+    // Of a unit's RECRUIT orders only the last counts, and each GIVE counts.
     (
         &["#ATLANTIS 1\nUNIT 1\nRECRUIT 2\nGIVE 2 1 wood\nRECRUIT 3\nGIVE 2 1 wood\nPAY 2 1"],
         "|1 4 1 GIVE;1 6 1 GIVE;1 7 1 PAY;|1 5 1 RECRUIT;|||",
     ),
-    // Aliases without a unit are all unit 0.
+    // Orders for aliases that have no unit are for unit 0.
     (
         &["#ATLANTIS 1\nUNIT 4\nFORM 1\nWORK\nEND\nFORM 2\nSTUDY sailing"],
         "4 3 1 FORM;4 6 1 FORM;|||0 7 1 STUDY;||",
     ),
-    // By unit, then by line, then by faction.
+    // Orders are sorted by unit, then by line, then by faction.
     (
         &[
             "#ATLANTIS 3\nUNIT 2\nPAY 1 1\nUNIT 1\nPAY 2 1",
@@ -81,7 +84,7 @@ static ROWS: [(&[&str], &str); 9] = [
         ],
         "|1 5 3 PAY;2 3 1 PAY;2 3 3 PAY;2 5 1 PAY;||||",
     ),
-    // FORM by faction, then by line.
+    // FORM orders are sorted by faction, then by line.
     (
         &[
             "#ATLANTIS 2\nUNIT 1\nFORM 1\nEND",
@@ -89,7 +92,7 @@ static ROWS: [(&[&str], &str); 9] = [
         ],
         "9 3 1 FORM;8 6 1 FORM;1 3 2 FORM;|||||",
     ),
-    // A unit that two factions give orders has the slots of both.
+    // If two factions give a unit month-long orders, the last of each counts.
     (
         &[
             "#ATLANTIS 2\nUNIT 1\nWORK",
@@ -99,7 +102,7 @@ static ROWS: [(&[&str], &str); 9] = [
     ),
 ];
 
-/// Asserts the orders that the phases get of a row's mailings.
+/// Asserts which orders the phases get of one row's mailings.
 fn row_tells(
     rt: &impl Abort,
     alloc: Global,
@@ -114,7 +117,7 @@ fn row_tells(
     Ok(())
 }
 
-/// Asserts each row of `ROWS`.
+/// Asserts which orders the phases get of each row of `ROWS`.
 fn rows_tell(rt: &impl Abort, alloc: Global, world: &World) -> Result<(), Fail> {
     for (row, (texts, wanted)) in ROWS.iter().enumerate() {
         row_tells(rt, alloc, world, row, texts, wanted)?;
@@ -122,7 +125,7 @@ fn rows_tell(rt: &impl Abort, alloc: Global, world: &World) -> Result<(), Fail> 
     Ok(())
 }
 
-/// Each phase gets its orders, in its order.
+/// Each phase gets the orders of its verbs that count, sorted by unit or, for FORM, by faction.
 #[test]
 fn orders_of_phases(rt: HostRuntime) -> Result<(), Fail> {
     let world = world(rt.alloc())?;
@@ -140,7 +143,7 @@ fn formed(alloc: Global, world: &World) -> Result<Month, Fail> {
     Ok(month)
 }
 
-/// Asserts the month-long orders that count.
+/// Asserts which month-long orders of some mailings count.
 fn month_long_are(
     rt: &impl Abort,
     alloc: Global,
@@ -161,7 +164,7 @@ fn month_long_are(
     Ok(())
 }
 
-/// Of the month-long orders of a unit only the last in a mailing counts.
+/// Only the last month-long order in a mailing for a unit counts, and TAX and GIVE are none.
 #[test]
 fn month_long_orders(rt: HostRuntime) -> Result<(), Fail> {
     let world = world(rt.alloc())?;
@@ -178,7 +181,7 @@ fn month_long_orders(rt: HostRuntime) -> Result<(), Fail> {
     )
 }
 
-/// Asserts the units of some aliases.
+/// Asserts which unit each alias of `formed` stands for; an alias without a unit has none.
 fn aliases_are(rt: &impl Abort, month: &Month) {
     assert!(rt; month.alias(1, 1) == Some(7));
     assert!(rt; month.alias(1, 2).is_none());
@@ -186,7 +189,7 @@ fn aliases_are(rt: &impl Abort, month: &Month) {
     assert!(rt; month.alias(3, 1).is_none());
 }
 
-/// Asserts the aliases of `formed`, and the orders that the phases get.
+/// Asserts the aliases of the month of `formed`, and which orders the phases get.
 fn formed_tells(rt: &impl Abort, alloc: Global, month: &Month) -> Result<(), Fail> {
     aliases_are(rt, month);
     let told = told_of(alloc, month)?;
@@ -199,7 +202,8 @@ fn formed_tells(rt: &impl Abort, alloc: Global, month: &Month) -> Result<(), Fai
     Ok(())
 }
 
-/// An alias is a faction's own, and stands for the unit that its FORM made.
+/// An alias belongs to one faction, and an order for it goes to the unit that the faction's FORM
+/// made.
 #[test]
 fn aliases_of_factions(rt: HostRuntime) -> Result<(), Fail> {
     let world = world(rt.alloc())?;
@@ -207,7 +211,7 @@ fn aliases_of_factions(rt: HostRuntime) -> Result<(), Fail> {
     formed_tells(&rt, rt.alloc(), &month)
 }
 
-/// An outcome of FORM: it made unit 7.
+/// The event of a FORM that made unit 7.
 const EVENT: Event = Event {
     faction: 1,
     unit: 4,
@@ -216,18 +220,19 @@ const EVENT: Event = Event {
     outcome: Outcome::Done(7),
 };
 
-/// Asserts the verb of an order, or that there is no order.
+/// Asserts that an order has this verb, or that both are None.
 fn assert_verb(rt: &impl Abort, told: Option<Verb>, wanted: Option<Verb>) {
     assert!(rt; told == wanted);
 }
 
-/// The verb of the order with an index in a faction's mailing.
+/// The verb of the order with an index in a faction's mailing; None if there is no such order.
 fn verb_at(month: &Month, faction: u32, place: usize) -> Option<Verb> {
     let entry = month.mailing(faction)?.entries.as_slice().get(place)?;
     Some(entry.order.verb)
 }
 
-/// Asserts the orders at some indexes, and the mailings.
+/// Asserts the verbs of orders at some indexes of the month of `formed`, and which factions have a
+/// mailing.
 fn orders_are(rt: &impl Abort, month: &Month) {
     assert_verb(rt, verb_at(month, 1, 1), Some(Verb::Work));
     assert_verb(rt, verb_at(month, 2, 1), Some(Verb::Study));
@@ -242,7 +247,7 @@ fn orders_are(rt: &impl Abort, month: &Month) {
     assert!(rt; month.mailing(3).is_none());
 }
 
-/// Asserts the events and the words of a month, before and after an event is added.
+/// Asserts the events of a month before and after one is added, and the words of the dice.
 fn events_are(rt: &impl Abort, mut month: Month) -> Result<(), Fail> {
     assert!(rt; month.events().is_empty());
     month.add_event(EVENT)?;
@@ -253,7 +258,7 @@ fn events_are(rt: &impl Abort, mut month: Month) -> Result<(), Fail> {
     Ok(())
 }
 
-/// A month lends its orders, mailings, words and events.
+/// A month gives access to its mailings, orders, words of the dice, and events.
 #[test]
 fn orders_and_events(rt: HostRuntime) -> Result<(), Fail> {
     let world = world(rt.alloc())?;

@@ -1,10 +1,10 @@
-//! Two phases for tests alone: one of STUDY, and one of WORK.
+//! Two phases that only these tests have: one with the verb STUDY alone, and one with WORK alone.
 ghost use Rattle.atl_month_tests.specs.Phases.{is_studying, is_working};
 
 use atl_instant::PhaseVerbs;
 use atl_orders::Verb;
 
-/// The phase of STUDY alone.
+/// A phase whose only verb is STUDY.
 pub(crate) struct Studying;
 
 impl PhaseVerbs for Studying {
@@ -15,7 +15,7 @@ impl PhaseVerbs for Studying {
     }
 }
 
-/// The phase of WORK alone.
+/// A phase whose only verb is WORK.
 pub(crate) struct Working;
 
 impl PhaseVerbs for Working {

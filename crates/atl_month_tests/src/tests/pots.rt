@@ -13,7 +13,7 @@ use std::alloc::{AllocError, Global};
 use std::process::Abort;
 use std::test::Fail;
 
-/// The pots of regions 1 and 2; all other regions have none.
+/// The pots of regions 1 and 2; a pot is how much there is to share. All other regions have none.
 #[derive(Drop)]
 struct Places {
     first: u16,
@@ -37,7 +37,7 @@ impl Pots for Places {
 /// A unit's region, and how much it wants, or None.
 type Taker = (u32, Option<u16>);
 
-/// The units in their order, the pots of the two regions, and each unit's number with its share.
+/// Units in their order, the pots of regions 1 and 2, and each unit's number with its share.
 static SHARED: [(&[Taker], (u16, u16), &str); 8] = [
     (&[], (100, 100), ""),
     (
@@ -45,7 +45,7 @@ static SHARED: [(&[Taker], (u16, u16), &str); 8] = [
         (100, 0),
         "1 27;2 34;3 39;",
     ),
-    // The takers of the two regions take turns.
+    // Units of the two regions alternate; each shares its own region's pot.
     (
         &[
             (1, Some(50)),
@@ -57,32 +57,32 @@ static SHARED: [(&[Taker], (u16, u16), &str); 8] = [
         (100, 100),
         "1 27;2 61;3 34;4 39;5 39;",
     ),
-    // A unit without a want is not listed.
+    // A unit without a want gets no share, not even 0.
     (
         &[(1, Some(50)), (1, None), (1, Some(60)), (1, Some(70))],
         (100, 0),
         "1 27;3 34;4 39;",
     ),
-    // One that wants 0 is.
+    // A unit that wants 0 gets a share of 0.
     (
         &[(1, Some(3)), (1, Some(0)), (1, Some(4))],
         (7, 0),
         "1 3;2 0;3 4;",
     ),
     (&[(1, Some(3)), (1, Some(4))], (0, 9), "1 0;2 0;"),
-    // What one region has left is not for the other.
+    // What is left of one region's pot doesn't go to the other region.
     (&[(1, Some(3)), (2, Some(4))], (9, 2), "1 3;2 2;"),
-    // Region 9 is not there.
+    // A unit in region 9, which the world doesn't have, gets no share.
     (&[(9, Some(5)), (1, Some(5))], (5, 5), "2 5;"),
 ];
 
-/// One man with nothing.
+/// A holding of one man, who has no money, items or days.
 fn one_man(alloc: Global) -> Result<Holding, Fail> {
     let name = Text::from_str(alloc, "A man")?;
     Ok(Holding::new(name, 1, 0, Numbered::new(alloc), Numbered::new(alloc)))
 }
 
-/// Adds a unit of one man of faction 1 to a region.
+/// Adds a unit of one man of faction 1 to a region, with the next free number.
 fn unit_comes(alloc: Global, campaign: &mut Campaign, region: u32) -> Result<(), Fail> {
     let holding = one_man(alloc)?;
     if campaign.next_unit() > LAST_UNIT || campaign.unit(campaign.next_unit()).is_some() {
@@ -97,7 +97,7 @@ fn unit_comes(alloc: Global, campaign: &mut Campaign, region: u32) -> Result<(),
     Ok(())
 }
 
-/// The campaign of two regions with these units, numbered from 1.
+/// The campaign of a world just founded, with a unit for each taker in its region, numbered from 1.
 fn campaign_of(alloc: Global, world: &World, takers: &[Taker]) -> Result<Campaign, Fail> {
     let mut campaign = founded(alloc, world, b"gm")?;
     for (region, _) in takers {
@@ -106,7 +106,7 @@ fn campaign_of(alloc: Global, world: &World, takers: &[Taker]) -> Result<Campaig
     Ok(campaign)
 }
 
-/// The wants of the units, by their numbers from 1.
+/// How much each unit wants, by unit numbers from 1; units that want None are left out.
 fn wants_of(alloc: Global, takers: &[Taker]) -> Result<Numbered<u32>, Fail>
     ensures { IfOk result (λ wants. AreWants wants) }
 {
@@ -121,7 +121,7 @@ fn wants_of(alloc: Global, takers: &[Taker]) -> Result<Numbered<u32>, Fail>
     Ok(wants)
 }
 
-/// The shares as text: each unit's number and its share.
+/// Shares as text: each unit's number and its share.
 fn told_of(alloc: Global, given: &Numbered<u32>) -> Result<String, AllocError> {
     let mut told = String::new(alloc);
     for (number, share) in given.iter() {
@@ -130,7 +130,7 @@ fn told_of(alloc: Global, given: &Numbered<u32>) -> Result<String, AllocError> {
     Ok(told)
 }
 
-/// The shares of some units in the pots, as text.
+/// What each taker gets of the pots of regions 1 and 2, as text.
 fn shares(
     alloc: Global,
     world: &World,
@@ -147,7 +147,7 @@ fn shares(
     Ok(told_of(alloc, &given)?)
 }
 
-/// Asserts each row of `SHARED`.
+/// Asserts what each taker gets in each row of `SHARED`.
 fn shares_all(rt: &impl Abort, alloc: Global, world: &World) -> Result<(), Fail> {
     for (row, (takers, pots, wanted)) in SHARED.iter().enumerate() {
         let told = shares(alloc, world, takers, *pots)?;
@@ -156,6 +156,7 @@ fn shares_all(rt: &impl Abort, alloc: Global, world: &World) -> Result<(), Fail>
     Ok(())
 }
 
+/// `pot_shares` splits each region's pot among the units of that region that have a want.
 #[test]
 fn pots_are_shared(rt: HostRuntime) -> Result<(), Fail> {
     let world = read_world(rt.alloc(), TWO_REGIONS)?;

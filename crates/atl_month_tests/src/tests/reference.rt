@@ -1,5 +1,5 @@
-//! A second calculation of upkeep and of the phases that share pots, to compare with, slow and
-//! simple.
+//! A second calculation of upkeep and of the phases that share pots, slow and simple, for
+//! `agreeing` to compare with.
 //! It uses prefix sums over plain lists, and looks at all units for each pot and each unit.
 pub(crate) mod plain;
 mod pots;

@@ -1,5 +1,5 @@
-//! Tests of atl_report by its public calls alone. The texts are written by hand from
-//! docs/FORMATS.md, "Reports" and "Books".
+//! Tests of atl_report's public calls: the texts of reports and of books. The wanted texts are
+//! written by hand from docs/FORMATS.md, "Reports" and "Books".
 mod books;
 mod compare;
 mod markets;

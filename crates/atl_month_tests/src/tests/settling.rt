@@ -1,5 +1,5 @@
-//! Tests of what upkeep takes from units of two factions and two regions, worked out by hand
-//! (docs/RULES.md, "Upkeep").
+//! Tests of how much money upkeep takes from each unit, and how many men starve. The results are
+//! worked out by hand (docs/RULES.md, "Upkeep").
 ghost use Rattle.std.specs.Prelude.{All, IfOk};
 ghost use Rattle.atl_month.specs.UpkeepSharing.{AreInOrder, IsUpkeepInput};
 
@@ -11,15 +11,15 @@ use std::test::Fail;
 /// What a man costs a month.
 const MAINTENANCE: u32 = 10;
 
-/// Region, faction, men and money of each unit; the money that each pays, and how many of its men
-/// starve.
+/// Region, faction, men and money of each unit, and the results: the money that each pays, and how
+/// many of its men starve.
 static SETTLED: [(&[(u8, u8, u16, u16)], &str); 11] = [
     (&[], ""),
     (&[(1, 1, 3, 25), (1, 1, 1, 18)], "25 0;15 0;"),
     (&[(1, 1, 3, 25)], "25 1;"),
     // A unit without men pays for others too, on both sides of it.
     (&[(1, 1, 0, 7), (1, 1, 1, 0), (1, 1, 0, 9)], "7 0;0 0;3 0;"),
-    // The first who is short is covered first, and the first who has something left gives first.
+    // Units that are short are covered in order, and units with money left give in order.
     (
         &[(1, 1, 1, 0), (1, 1, 1, 0), (1, 1, 0, 15)],
         "0 0;0 1;15 0;",
@@ -59,7 +59,8 @@ fn purses_of(alloc: Global, units: &[(u8, u8, u16, u16)]) -> Result<Vec<UpkeepIn
     Ok(purses)
 }
 
-/// What upkeep takes from each unit, as text: money paid and men starved.
+/// What upkeep takes from each unit, as text: the money that it pays, and how many of its men
+/// starve.
 fn told_of(alloc: Global, units: &[(u8, u8, u16, u16)]) -> Result<String, Fail> {
     let purses = purses_of(alloc, units)?;
     let mut told = String::new(alloc);
@@ -74,6 +75,8 @@ fn told_of(alloc: Global, units: &[(u8, u8, u16, u16)]) -> Result<String, Fail> 
     Ok(told)
 }
 
+/// Each unit pays its own upkeep, then its faction's units in the region pay for each other, and
+/// men left unpaid starve.
 #[test]
 fn upkeep_is_settled(rt: HostRuntime) -> Result<(), Fail> {
     for (row, (units, wanted)) in SETTLED.iter().enumerate() {

@@ -1,4 +1,4 @@
-//! Tests of the shares of single pots, worked out by hand (docs/RULES.md, "Shares").
+//! Tests of how `share` splits a single pot, worked out by hand (docs/RULES.md, "Shares").
 ghost use Rattle.std.specs.Prelude.{◌≤◌, All, IsTrue};
 
 use atl_market::share;
@@ -6,7 +6,7 @@ use std::alloc::Global;
 use std::process::Abort;
 use std::test::Fail;
 
-/// A pot, the wants, and the shares.
+/// A pot, what each of several takers wants of it, and what each gets.
 static SHARED: [(u64, &[u64], &[u64]); 8] = [
     (100, &[50, 60, 70], &[27, 34, 39]),
     (100, &[110, 70], &[61, 39]),
@@ -22,7 +22,7 @@ static SHARED: [(u64, &[u64], &[u64]); 8] = [
     ),
 ];
 
-/// Asserts the shares of a pot.
+/// Asserts what each taker gets of a pot; the message names the pot.
 pub(crate) fn assert_shares(rt: &impl Abort, pot: u64, told: &[u64], wanted: &[u64]) {
     assert_eq!(rt; told, wanted, "of {pot}");
 }
@@ -34,7 +34,7 @@ pub(crate) fn are_small(wants: &[u64]) -> bool
     wants.iter().all(|want| *want <= 999_999_999)
 }
 
-/// Asserts the shares of a row.
+/// Asserts how `share` splits one row's pot among the wants of the row.
 fn shares(
     rt: &impl Abort,
     alloc: Global,
@@ -50,7 +50,7 @@ fn shares(
     Ok(())
 }
 
-/// Asserts the shares of each row.
+/// Asserts how `share` splits the pot of each row of `SHARED`.
 fn shares_all(rt: &impl Abort, alloc: Global) -> Result<(), Fail> {
     for (pot, wants, wanted) in SHARED.iter() {
         shares(rt, alloc, *pot, wants, wanted)?;
@@ -58,12 +58,13 @@ fn shares_all(rt: &impl Abort, alloc: Global) -> Result<(), Fail> {
     Ok(())
 }
 
+/// `share` splits each pot of `SHARED` as worked out by hand.
 #[test]
 fn a_pot_is_shared(rt: HostRuntime) -> Result<(), Fail> {
     shares_all(&rt, rt.alloc())
 }
 
-/// The sum of all shares of the largest pot.
+/// How much all takers get together of a pot of 999,999,999.
 fn given_to_crowd(alloc: Global, wants: &[u64]) -> Result<u64, Fail> {
     if !are_small(wants) {
         return Err(Fail::new("wants that are small enough"));
@@ -75,6 +76,7 @@ fn given_to_crowd(alloc: Global, wants: &[u64]) -> Result<u64, Fail> {
     Ok(sum)
 }
 
+/// 100,000 takers that each want the largest pot get all of it together.
 #[test]
 fn a_crowd_gets_the_whole_pot(rt: HostRuntime) -> Result<(), Fail> {
     let wants = [999_999_999u64].repeat(rt.alloc(), 100_000)?;

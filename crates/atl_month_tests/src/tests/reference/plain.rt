@@ -1,9 +1,10 @@
-//! The campaign of the reference calculation: lists of numbers.
+//! The campaign of the reference calculation: lists of plain numbers for units, goods, regions,
+//! stocks and books.
 use atl_state::{Campaign, Entry, Event, Region, Thing, Unit};
 use atl_tables::let_go;
 use std::alloc::{AllocError, Global};
 
-/// A unit without its goods.
+/// A unit's numbers without its goods: faction, region, guard, men and money.
 #[derive(Clone, Copy, Drop, PartialEq, Eq)]
 pub(crate) struct Person {
     pub number: u32,
@@ -39,7 +40,7 @@ pub(crate) struct Stock {
     pub amount: u64,
 }
 
-/// The amount booked of a thing under an entry, both by their numbers.
+/// The amount booked of a thing under an entry; entry and thing are numbers of the table `books`.
 #[derive(Clone, Copy, Drop, PartialEq, Eq)]
 pub(crate) struct Booked {
     pub entry: u32,
@@ -47,7 +48,7 @@ pub(crate) struct Booked {
     pub amount: i64,
 }
 
-/// A campaign as lists, and the outcomes of its orders.
+/// A campaign as lists, and the events of the orders played on it.
 pub(crate) struct Plain {
     pub people: Vec<Person>,
     pub goods: Vec<Good>,
@@ -63,7 +64,7 @@ impl Drop for Plain {
     }
 }
 
-/// A unit without its goods.
+/// The numbers of a unit without its goods.
 fn person_of(number: u32, unit: &Unit) -> Person {
     Person {
         number,
@@ -75,7 +76,7 @@ fn person_of(number: u32, unit: &Unit) -> Person {
     }
 }
 
-/// All units of a campaign without their goods.
+/// The numbers of all units of a campaign, without their goods.
 fn people_of(alloc: Global, campaign: &Campaign) -> Result<Vec<Person>, AllocError> {
     let mut people = Vec::new(alloc);
     for (number, unit) in campaign.units() {
@@ -84,7 +85,7 @@ fn people_of(alloc: Global, campaign: &Campaign) -> Result<Vec<Person>, AllocErr
     Ok(people)
 }
 
-/// Adds the items of a unit.
+/// Appends the items of a unit to the goods.
 fn add_items(number: u32, unit: &Unit, goods: &mut Vec<Good>) -> Result<(), AllocError> {
     for (thing, amount) in unit.holding.items() {
         goods.push(Good {
@@ -97,7 +98,7 @@ fn add_items(number: u32, unit: &Unit, goods: &mut Vec<Good>) -> Result<(), Allo
     Ok(())
 }
 
-/// Adds the days of a unit.
+/// Appends a unit's days of study to the goods.
 fn add_days(number: u32, unit: &Unit, goods: &mut Vec<Good>) -> Result<(), AllocError> {
     for (thing, days) in unit.holding.days() {
         goods.push(Good {
@@ -110,7 +111,7 @@ fn add_days(number: u32, unit: &Unit, goods: &mut Vec<Good>) -> Result<(), Alloc
     Ok(())
 }
 
-/// The items and days of all units.
+/// The items and days of study of all units of a campaign.
 fn goods_of(alloc: Global, campaign: &Campaign) -> Result<Vec<Good>, AllocError> {
     let mut goods = Vec::new(alloc);
     for (number, unit) in campaign.units() {
@@ -120,7 +121,7 @@ fn goods_of(alloc: Global, campaign: &Campaign) -> Result<Vec<Good>, AllocError>
     Ok(goods)
 }
 
-/// All regions of a campaign.
+/// Peasants and money of all regions of a campaign.
 fn lands_of(alloc: Global, campaign: &Campaign) -> Result<Vec<Land>, AllocError> {
     let mut lands = Vec::new(alloc);
     for (number, region) in campaign.regions() {
@@ -133,7 +134,7 @@ fn lands_of(alloc: Global, campaign: &Campaign) -> Result<Vec<Land>, AllocError>
     Ok(lands)
 }
 
-/// Adds the stocks of a region.
+/// Appends the stocks of a region's markets to a list.
 fn add_stocks(number: u32, region: &Region, stocks: &mut Vec<Stock>) -> Result<(), AllocError> {
     for (item, amount) in region.stocks.iter() {
         stocks.push(Stock {
@@ -154,7 +155,7 @@ fn stocks_of(alloc: Global, campaign: &Campaign) -> Result<Vec<Stock>, AllocErro
     Ok(stocks)
 }
 
-/// All amounts of the books that aren't 0.
+/// All amounts of a campaign's books that aren't 0.
 fn books_of(alloc: Global, campaign: &Campaign) -> Result<Vec<Booked>, AllocError> {
     let mut books = Vec::new(alloc);
     let rows = campaign.parts()?;
@@ -176,7 +177,7 @@ fn rise(before: u64, after: u64) -> i64 {
 }
 
 impl Plain {
-    /// The lists of a campaign, without outcomes of orders.
+    /// The lists of a campaign, without events.
     pub fn of(alloc: Global, campaign: &Campaign) -> Result<Plain, AllocError> {
         let people = people_of(alloc, campaign)?;
         let goods = goods_of(alloc, campaign)?;
@@ -193,7 +194,7 @@ impl Plain {
         })
     }
 
-    /// The unit with a number, if it is there.
+    /// The unit with a number, or None if there is none.
     pub fn person(&self, number: u32) -> Option<Person> {
         for person in self.people.iter() {
             if person.number == number {
@@ -203,7 +204,7 @@ impl Plain {
         None
     }
 
-    /// The region with a number, if it is there.
+    /// The region with a number, or None if there is none.
     pub fn land(&self, number: u32) -> Option<Land> {
         for land in self.lands.iter() {
             if land.number == number {
@@ -213,7 +214,7 @@ impl Plain {
         None
     }
 
-    /// How much a unit has of an item, or its days of a skill.
+    /// How much a unit has of an item, or its days of a skill; 0 if it has none.
     pub fn amount(&self, unit: u32, is_skill: bool, thing: u32) -> u64 {
         for good in self.goods.iter() {
             if good.unit == unit && good.is_skill == is_skill && good.thing == thing {
@@ -223,7 +224,7 @@ impl Plain {
         0
     }
 
-    /// How much a region has in stock of an item.
+    /// How much a region has in stock of an item; 0 if it has none.
     pub fn stock(&self, region: u32, item: u32) -> u64 {
         for stock in self.stocks.iter() {
             if stock.region == region && stock.item == item {
@@ -253,7 +254,8 @@ impl Plain {
         }
     }
 
-    /// Sets how much a unit has of a thing; a new thing is added at the end.
+    /// Sets how much a unit has of an item, or its days of a skill; what the unit didn't have is
+    /// added at the end.
     pub fn set_amount(&mut self, new: Good) -> Result<(), AllocError> {
         let mut is_new = true;
         for good in self.goods.iter_mut() {
@@ -268,7 +270,7 @@ impl Plain {
         Ok(())
     }
 
-    /// Sets how much a region has in stock of an item; a new one is added at the end.
+    /// Sets how much a region has in stock of an item; what it didn't have is added at the end.
     pub fn set_stock(&mut self, new: Stock) -> Result<(), AllocError> {
         let mut is_new = true;
         for stock in self.stocks.iter_mut() {
@@ -283,7 +285,7 @@ impl Plain {
         Ok(())
     }
 
-    /// Books the difference of two amounts of a thing under an entry.
+    /// Books the change of an amount of a thing from `before` to `after` under an entry.
     pub fn book(
         &mut self,
         entry: Entry,
@@ -333,7 +335,7 @@ impl Plain {
         Ok(stocks)
     }
 
-    /// The goods that aren't 0, sorted by unit, items before skills, and thing.
+    /// The goods that aren't 0, sorted by unit, then items before skills, then by number.
     pub fn sorted_goods(&self, alloc: Global) -> Result<Vec<Good>, AllocError> {
         let mut goods = Vec::new(alloc);
         for good in self.goods.iter() {

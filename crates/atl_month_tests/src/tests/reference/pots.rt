@@ -1,4 +1,4 @@
-//! The pots of the reference calculation, shared with a look at all units for each pot.
+//! Shares pots in the reference calculation; for each pot it looks at all units.
 use super::plain::{Person, Plain};
 use super::shares::share;
 use atl_instant::PhaseOrder;
@@ -13,14 +13,14 @@ pub(crate) struct Pot {
     pub size: u64,
 }
 
-/// What an order comes to: a fault, or a thing and how much of it the unit wants.
+/// What an order asks for: a thing and how much of it the unit wants, or the order's fault.
 #[derive(Clone, Copy, Drop)]
 pub(crate) enum Claim {
     Fault(EventFault),
     Want(u32, u64),
 }
 
-/// An order, and what it comes to.
+/// An order with what it asks for, or its fault.
 #[derive(Clone, Copy, Drop)]
 pub(crate) struct Claimed<'m> {
     pub order: PhaseOrder<'m>,
@@ -35,7 +35,7 @@ pub(crate) struct Given {
     pub amount: u64,
 }
 
-/// The unit of an order, where the order's faction has it.
+/// The unit of an order, if it is of the order's faction; None if not, or if there is no such unit.
 pub(crate) fn own(plain: &Plain, order: PhaseOrder<'_>) -> Option<Person> {
     let person = plain.person(order.unit)?;
     if person.faction == order.faction {
@@ -45,7 +45,7 @@ pub(crate) fn own(plain: &Plain, order: PhaseOrder<'_>) -> Option<Person> {
     }
 }
 
-/// What a unit wants of a thing, where it wants some.
+/// How much a unit wants of a thing by its last order that asks for it; None if no order does.
 fn want_of(claims: &[Claimed<'_>], unit: u32, thing: u32) -> Option<u64> {
     let mut wanted = None;
     for claimed in claims {
@@ -59,7 +59,8 @@ fn want_of(claims: &[Claimed<'_>], unit: u32, thing: u32) -> Option<u64> {
     wanted
 }
 
-/// Appends a unit and its want to the lists, if it wants some of the pot.
+/// Appends a unit and its want to the lists, if it is in the pot's region and wants the pot's
+/// thing.
 fn note_taker(
     claims: &[Claimed<'_>],
     pot: Pot,
@@ -76,7 +77,7 @@ fn note_taker(
     Ok(())
 }
 
-/// Appends what each unit gets of a pot.
+/// Splits a pot among the units of its region that want its thing, and appends what each gets.
 fn add_shares(
     alloc: Global,
     plain: &Plain,
@@ -109,7 +110,7 @@ fn add_given(
     Ok(())
 }
 
-/// What the units get of all pots.
+/// What the units get of all pots, pot by pot.
 pub(crate) fn shared(
     alloc: Global,
     plain: &Plain,
@@ -123,7 +124,7 @@ pub(crate) fn shared(
     Ok(given)
 }
 
-/// What a unit was given; 0 where nothing was.
+/// How much a unit gets by its first share in a list; 0 if it has none.
 pub(crate) fn given_to(given: &[Given], unit: u32) -> u64 {
     for one in given {
         if one.unit == unit {
@@ -133,7 +134,7 @@ pub(crate) fn given_to(given: &[Given], unit: u32) -> u64 {
     0
 }
 
-/// The outcome of an order that got `told`: its fault, or done with that number.
+/// The outcome of an order: its fault, or that it was done, with the number `told`.
 pub(crate) fn outcome(claim: Claim, told: u64) -> Outcome {
     match claim {
         Claim::Fault(fault) => Outcome::Fault(fault.number()),

@@ -1,5 +1,5 @@
-//! PRODUCE in the reference calculation: units make items out of raw items or of what the terrain
-//! gives.
+//! PRODUCE in the reference calculation: units make items out of raw items or of the terrain's
+//! output.
 use super::plain::{Good, Person, Plain};
 use super::pots::{Claim, Given, Pot, own};
 use super::tax::MOST_MONEY;
@@ -12,13 +12,13 @@ use std::alloc::AllocError;
 /// The most that a unit may have of an item.
 const MOST_PIECES: u64 = MOST_MONEY;
 
-/// The highest level.
+/// The highest level of a skill.
 const MOST_LEVEL: u64 = 5;
 
-/// A level n takes this many days, times n times n + 1, for each man.
+/// Level n of a skill needs this many days, times n times n + 1, for each man.
 const LEVEL_DAYS: u64 = 15;
 
-/// The highest level that this many men have by their days together; 0 without men.
+/// The highest level of a skill that this many men have with these days together; 0 without men.
 fn level(days: u64, men: u64) -> u64 {
     let mut level = 0;
     for next in 1..=MOST_LEVEL {
@@ -41,14 +41,14 @@ fn level_of(plain: &Plain, person: Person, item: &Item) -> u64 {
     }
 }
 
-/// For how many of an item the unit's raw items are enough; None if the item takes none.
+/// For how many of an item the unit's raw items suffice; None if the item needs no raw items.
 fn raw_for(plain: &Plain, person: Person, item: &Item) -> Option<u64> {
     let raw = item.raw?;
     let held = plain.amount(person.number, false, u32::from(raw));
     held.checked_div(u64::from(item.raw_count))
 }
 
-/// The item that an order names.
+/// The number of the item that an order names.
 fn item_of(order: PhaseOrder<'_>) -> u32 {
     match &order.order.operands {
         Operands::Item(item) => u32::from(*item),
@@ -67,7 +67,7 @@ fn want(plain: &Plain, person: Person, number: u32, item: &Item) -> u64 {
     }
 }
 
-/// Why a unit can't produce an item, if it can't.
+/// Why a unit can't produce an item; None if it can.
 fn fault(plain: &Plain, person: Person, item: &Item) -> Option<EventFault> {
     if person.men == 0 {
         Some(EventFault::NoMen)
@@ -80,7 +80,7 @@ fn fault(plain: &Plain, person: Person, item: &Item) -> Option<EventFault> {
     }
 }
 
-/// What an order asks of its pot, or its fault.
+/// How many of which item a PRODUCE order asks for, or its fault.
 pub(crate) fn claim(world: &World, plain: &Plain, order: PhaseOrder<'_>) -> Claim {
     let number = item_of(order);
     let (Some(person), Some(item)) = (own(plain, order), world.items().get(number as usize)) else {
@@ -92,7 +92,7 @@ pub(crate) fn claim(world: &World, plain: &Plain, order: PhaseOrder<'_>) -> Clai
     }
 }
 
-/// What a region gives of an item.
+/// How many of an item the terrain of a region yields in a month.
 fn output(world: &World, region: u32, item: u32) -> u64 {
     let Some(terrain) = world.terrain_of(region) else {
         return 0;
@@ -103,8 +103,8 @@ fn output(world: &World, region: u32, item: u32) -> u64 {
     }
 }
 
-/// Adds a pot for each item of a region: what the terrain gives, or without bound for items made of
-/// raw ones.
+/// Adds a pot for each item to those of a region: the terrain's output, or no bound for items made
+/// of raw items.
 pub(crate) fn add_pots(world: &World, region: u32, pots: &mut Vec<Pot>) -> Result<(), AllocError> {
     let mut thing: u32 = 0;
     for item in world.items() {
@@ -141,7 +141,7 @@ fn set_item(
     })
 }
 
-/// Gives a unit what it made, and takes the raw items used.
+/// Gives a unit what it made, takes the raw items used, and books both.
 pub(crate) fn pay(world: &World, plain: &mut Plain, given: Given) -> Result<(), AllocError> {
     let Some(item) = world.items().get(given.thing as usize) else {
         return Ok(());

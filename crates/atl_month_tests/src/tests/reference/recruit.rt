@@ -1,4 +1,5 @@
-//! RECRUIT in the reference calculation: peasants join units, at a price.
+//! RECRUIT in the reference calculation: peasants of a region join units, which pay a price for
+//! each.
 use super::plain::{Land, Person, Plain};
 use super::pots::{Claim, Given, Pot, own};
 use atl_instant::PhaseOrder;
@@ -10,10 +11,10 @@ use std::alloc::AllocError;
 /// The most men of a unit.
 const MOST_MEN: u64 = 999_999;
 
-/// The number of the only thing to share here.
+/// The number of the only thing that RECRUIT shares: people.
 const PEOPLE: u32 = 0;
 
-/// The price of a recruit.
+/// The price of a recruit in a world.
 fn price(world: &World) -> u64 {
     u64::from(world.rules().recruit_price)
 }
@@ -26,14 +27,15 @@ fn asked(order: PhaseOrder<'_>) -> u64 {
     }
 }
 
-/// How many men a unit wants: what it asks for, as far as its money and its room allow.
+/// How many men a unit wants: what its order asks for, as far as its money and its room for men
+/// allow.
 fn want(world: &World, person: Person, order: PhaseOrder<'_>) -> u64 {
     let payable = person.money.checked_div(price(world)).unwrap_or(0);
     let room = MOST_MEN.saturating_sub(person.men);
     asked(order).min(payable).min(room)
 }
 
-/// What an order asks of its pot, or its fault.
+/// How many men a RECRUIT order asks for, or its fault.
 pub(crate) fn claim(world: &World, plain: &Plain, order: PhaseOrder<'_>) -> Claim {
     let Some(person) = own(plain, order) else {
         return Claim::Fault(EventFault::NotYours);
@@ -54,7 +56,7 @@ pub(crate) fn pot(world: &World, land: Land) -> Pot {
     }
 }
 
-/// Moves a unit's recruits out of the region, and takes their price.
+/// Moves a unit's recruits out of the region, takes their price from the unit, and books the price.
 pub(crate) fn pay(world: &World, plain: &mut Plain, given: Given) -> Result<(), AllocError> {
     let Some(person) = plain.person(given.unit) else {
         return Ok(());

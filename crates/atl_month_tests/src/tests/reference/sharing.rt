@@ -1,4 +1,5 @@
-//! Plays the phases that share pots by the reference calculation.
+//! Plays any phase that shares pots on the reference's campaign: orders, pots, shares, events and
+//! payments.
 use super::plain::{Land, Plain};
 use super::pots::{Claim, Claimed, Given, Pot, given_to, outcome, shared};
 use super::trade::Trade;
@@ -19,7 +20,7 @@ pub(crate) enum Sharing {
     Work,
 }
 
-/// The orders of a phase, by unit.
+/// The orders of a phase, sorted by unit; `work` is the order that idle units get in WORK.
 fn orders<'m>(
     alloc: Global,
     sharing: Sharing,
@@ -41,7 +42,7 @@ fn orders<'m>(
     }
 }
 
-/// What an order comes to.
+/// What an order of a phase asks for, or its fault.
 fn claim(sharing: Sharing, world: &World, plain: &Plain, order: PhaseOrder<'_>) -> Claim {
     match sharing {
         Sharing::Trade(trade) => trade::claim(trade, world, plain, order),
@@ -52,7 +53,7 @@ fn claim(sharing: Sharing, world: &World, plain: &Plain, order: PhaseOrder<'_>) 
     }
 }
 
-/// What each order of a phase comes to.
+/// Each order of a phase with what it asks for, or its fault.
 fn claims<'m>(
     alloc: Global,
     sharing: Sharing,
@@ -71,7 +72,7 @@ fn claims<'m>(
     Ok(claims)
 }
 
-/// Adds the pots of a region.
+/// Adds a region's pots in a phase.
 fn add_pots(
     sharing: Sharing,
     world: &World,
@@ -90,7 +91,7 @@ fn add_pots(
     Ok(())
 }
 
-/// The pots of all regions.
+/// The pots of all regions in a phase.
 fn pots(
     alloc: Global,
     sharing: Sharing,
@@ -104,7 +105,8 @@ fn pots(
     Ok(pots)
 }
 
-/// The number in the outcome of a unit's order that was carried out.
+/// The number in the event of a unit's order that was carried out: money earned by WORK, else its
+/// share.
 fn told_of(sharing: Sharing, world: &World, plain: &Plain, given: &[Given], unit: u32) -> u64 {
     match sharing {
         Sharing::Work => work::earned(world, plain, given, unit),
@@ -112,7 +114,7 @@ fn told_of(sharing: Sharing, world: &World, plain: &Plain, given: &[Given], unit
     }
 }
 
-/// Adds the outcome of each order.
+/// Adds the event of each order of a phase.
 fn tell(
     sharing: Sharing,
     world: &World,
@@ -129,7 +131,7 @@ fn tell(
     Ok(())
 }
 
-/// Gives a unit its share, and takes what it costs.
+/// Gives a unit its share in a phase, and takes what the share costs.
 fn pay(sharing: Sharing, world: &World, plain: &mut Plain, given: Given) -> Result<(), AllocError> {
     match sharing {
         Sharing::Trade(trade) => trade::pay(trade, world, plain, given)?,
@@ -141,7 +143,7 @@ fn pay(sharing: Sharing, world: &World, plain: &mut Plain, given: Given) -> Resu
     Ok(())
 }
 
-/// Gives each unit its share.
+/// Gives each unit its share in a phase, and takes what the shares cost.
 fn pay_all(
     sharing: Sharing,
     world: &World,
@@ -154,7 +156,7 @@ fn pay_all(
     Ok(())
 }
 
-/// Plays a phase on the reference's campaign.
+/// Plays a phase that shares pots on the reference's campaign, and adds its events.
 pub(crate) fn play(
     alloc: Global,
     sharing: Sharing,

@@ -8,10 +8,10 @@ use atl_tables::World;
 /// The most money of a unit.
 pub(crate) const MOST_MONEY: u64 = 999_999_999;
 
-/// The number of the only thing to share here.
+/// The number of the only thing that TAX shares: money.
 const MONEY: u32 = 0;
 
-/// What an order asks of its pot, or its fault.
+/// How much money a TAX order asks for, or its fault.
 pub(crate) fn claim(world: &World, plain: &Plain, order: PhaseOrder<'_>) -> Claim {
     let Some(person) = own(plain, order) else {
         return Claim::Fault(EventFault::NotYours);
@@ -37,7 +37,7 @@ pub(crate) fn pot(land: Land) -> Pot {
     }
 }
 
-/// Moves a unit's share out of the region.
+/// Moves a unit's share of the tax from the region to the unit.
 pub(crate) fn pay(plain: &mut Plain, given: Given) {
     let Some(person) = plain.person(given.unit) else {
         return;

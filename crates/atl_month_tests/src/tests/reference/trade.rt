@@ -1,5 +1,5 @@
-//! SELL and BUY in the reference calculation: units sell to the markets of their regions, and buy
-//! from them.
+//! SELL and BUY in the reference calculation: units sell items to the markets of their regions, and
+//! buy from them.
 use super::plain::{Good, Person, Plain, Stock};
 use super::pots::{Claim, Given, Pot, own};
 use super::tax::MOST_MONEY;
@@ -12,14 +12,14 @@ use std::alloc::AllocError;
 /// The most that a unit may have of an item.
 const MOST_PIECES: u64 = MOST_MONEY;
 
-/// Which of the two phases.
+/// Which of the two phases of trade: SELL or BUY.
 #[derive(Clone, Copy, Drop)]
 pub(crate) enum Trade {
     Sell,
     Buy,
 }
 
-/// How many of which item an order is about.
+/// How many of which item an order asks to sell or buy.
 fn asked(order: PhaseOrder<'_>) -> (u64, u16) {
     match &order.order.operands {
         Operands::Goods { amount, item } => (u64::from(*amount), *item),
@@ -34,7 +34,7 @@ fn most_sold(plain: &Plain, person: Person, market: &Market) -> u64 {
     held.min(room.checked_div(u64::from(market.pays)).unwrap_or(0))
 }
 
-/// How many of a market's item a unit can buy, as far as its money and its room allow.
+/// How many of a market's item a unit can buy, as far as its money and its room for items allow.
 fn most_bought(plain: &Plain, person: Person, market: &Market) -> u64 {
     let held = plain.amount(person.number, false, u32::from(market.item));
     let payable = person
@@ -44,7 +44,7 @@ fn most_bought(plain: &Plain, person: Person, market: &Market) -> u64 {
     payable.min(MOST_PIECES.saturating_sub(held))
 }
 
-/// Whether a unit has nothing to sell, or no money for one.
+/// Whether a unit has nothing to sell (SELL), or no money to buy one (BUY).
 fn is_short(trade: Trade, plain: &Plain, person: Person, market: &Market) -> bool {
     match trade {
         Trade::Sell => plain.amount(person.number, false, u32::from(market.item)) == 0,
@@ -52,7 +52,7 @@ fn is_short(trade: Trade, plain: &Plain, person: Person, market: &Market) -> boo
     }
 }
 
-/// What an order asks of its pot, or its fault.
+/// How many of which item an order of SELL or BUY asks for, or its fault.
 pub(crate) fn claim(trade: Trade, world: &World, plain: &Plain, order: PhaseOrder<'_>) -> Claim {
     let Some(person) = own(plain, order) else {
         return Claim::Fault(EventFault::NotYours);
@@ -85,7 +85,7 @@ fn pot(trade: Trade, plain: &Plain, region: u32, market: &Market) -> Pot {
     }
 }
 
-/// Adds the pots of a region's markets.
+/// Adds the pots of a region's markets in SELL or BUY.
 pub(crate) fn add_pots(
     trade: Trade,
     world: &World,
@@ -110,7 +110,7 @@ fn moved(trade: Trade, held: u64, stock: u64, pieces: u64) -> (u64, u64) {
     }
 }
 
-/// The money of a unit after its trade.
+/// The money of a unit after it sold or bought `pieces` at a market.
 fn money_behind(trade: Trade, person: Person, market: &Market, pieces: u64) -> u64 {
     match trade {
         Trade::Sell => person
@@ -122,7 +122,7 @@ fn money_behind(trade: Trade, person: Person, market: &Market, pieces: u64) -> u
     }
 }
 
-/// The entry of the books for the money of a trade.
+/// The entry of the books for the money of SELL or BUY.
 fn entry_of(trade: Trade) -> Entry {
     match trade {
         Trade::Sell => Entry::Sold,
@@ -130,7 +130,7 @@ fn entry_of(trade: Trade) -> Entry {
     }
 }
 
-/// Carries out a unit's trade: pieces and money.
+/// Carries out a unit's trade: moves the items and the money, and books the money.
 pub(crate) fn pay(
     trade: Trade,
     world: &World,

@@ -1,5 +1,5 @@
-//! Upkeep in the reference calculation, with a look at all units for each unit (docs/RULES.md,
-//! "Upkeep").
+//! Upkeep in the reference calculation (docs/RULES.md, "Upkeep"); for each unit it looks at all
+//! units.
 use super::plain::{Person, Plain};
 use atl_state::{Entry, Event, EventVerb, Outcome, Thing};
 use atl_tables::World;
@@ -7,7 +7,7 @@ use std::alloc::{AllocError, Global};
 
 /// Sums over a faction's units in a region: money left after their own upkeep, and money that they
 /// are short of.
-/// There are sums over all of them, and sums over those before one unit.
+/// There are sums over all of the units, and sums over those with a lower number than one unit.
 #[derive(Clone, Copy, Drop)]
 struct Purse {
     left: u64,
@@ -36,8 +36,8 @@ fn short_of(maintenance: u64, person: Person) -> u64 {
     due.saturating_sub(person.money)
 }
 
-/// Adds what a unit has left and is short of to the sums, and if `is_before` also to those before
-/// one unit.
+/// Adds what a unit has left and is short of to the sums; if `is_before`, also to the sums over
+/// lower numbers.
 fn add(maintenance: u64, purse: Purse, person: Person, is_before: bool) -> Purse {
     let (left, short) = (left_of(maintenance, person), short_of(maintenance, person));
     let (left_before, short_before) = if is_before { (left, short) } else { (0, 0) };
@@ -49,7 +49,7 @@ fn add(maintenance: u64, purse: Purse, person: Person, is_before: bool) -> Purse
     }
 }
 
-/// The sums of a unit's faction in its region.
+/// The sums over the units of a unit's faction in its region.
 fn purse_of(maintenance: u64, plain: &Plain, one: Person) -> Purse {
     let mut purse = Purse {
         left: 0,
@@ -65,14 +65,14 @@ fn purse_of(maintenance: u64, plain: &Plain, one: Person) -> Purse {
     purse
 }
 
-/// How much of an amount, handed out in order, goes to one that can take `own` after others that
-/// take `before`.
+/// How much of an amount, handed out in order, a taker of `own` gets after takers of `before`
+/// together.
 fn part(amount: u64, before: u64, own: u64) -> u64 {
     let with = before.wrapping_add(own);
     amount.min(with).wrapping_sub(amount.min(before))
 }
 
-/// What upkeep takes from a unit.
+/// How much money upkeep takes from a unit, and how many of its men starve.
 fn taken_from(maintenance: u64, plain: &Plain, person: Person) -> Taken {
     let purse = purse_of(maintenance, plain, person);
     let amount = purse.left.min(purse.short);
@@ -89,7 +89,7 @@ fn taken_from(maintenance: u64, plain: &Plain, person: Person) -> Taken {
     }
 }
 
-/// What upkeep takes from each unit.
+/// How much money upkeep takes from each unit, and how many of its men starve.
 fn all_taken(alloc: Global, maintenance: u64, plain: &Plain) -> Result<Vec<Taken>, AllocError> {
     let mut all = Vec::new(alloc);
     for person in plain.people.iter() {
@@ -98,7 +98,7 @@ fn all_taken(alloc: Global, maintenance: u64, plain: &Plain) -> Result<Vec<Taken
     Ok(all)
 }
 
-/// Reduces the days of a unit's skills to the part of the men who are left.
+/// Reduces the days of a unit's skills to the share of the men who don't starve.
 fn keep_days(plain: &mut Plain, one: Taken) {
     let men = one.person.men;
     let left = men.wrapping_sub(one.starved);
@@ -110,7 +110,7 @@ fn keep_days(plain: &mut Plain, one: Taken) {
     }
 }
 
-/// Takes the upkeep of a unit, and removes those who starve.
+/// Takes the upkeep of a unit, removes those who starve with their days, and books both.
 fn take(plain: &mut Plain, one: Taken) -> Result<(), AllocError> {
     let person = one.person;
     let men = person.men.wrapping_sub(one.starved);
@@ -121,7 +121,7 @@ fn take(plain: &mut Plain, one: Taken) -> Result<(), AllocError> {
     plain.book(Entry::Starved, Thing::People, person.men, men)
 }
 
-/// Takes the upkeep of each unit.
+/// Takes the upkeep of each unit, removes those who starve, and books both.
 fn take_all(plain: &mut Plain, all: &[Taken]) -> Result<(), AllocError> {
     for one in all {
         take(plain, *one)?;
@@ -129,7 +129,7 @@ fn take_all(plain: &mut Plain, all: &[Taken]) -> Result<(), AllocError> {
     Ok(())
 }
 
-/// Adds an event for each unit of which men starve.
+/// Adds an event for each unit some of whose men starve.
 fn tell(plain: &mut Plain, all: &[Taken]) -> Result<(), AllocError> {
     for one in all {
         if one.starved != 0 {
@@ -145,7 +145,7 @@ fn tell(plain: &mut Plain, all: &[Taken]) -> Result<(), AllocError> {
     Ok(())
 }
 
-/// Plays upkeep on the reference's campaign.
+/// Plays upkeep on the reference's campaign, and adds its events.
 pub(crate) fn play(alloc: Global, world: &World, plain: &mut Plain) -> Result<(), AllocError> {
     let maintenance = u64::from(world.rules().maintenance);
     let all = all_taken(alloc, maintenance, plain)?;

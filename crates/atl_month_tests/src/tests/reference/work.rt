@@ -8,7 +8,7 @@ use atl_state::{Entry, EventFault, Thing};
 use atl_tables::World;
 use std::alloc::{AllocError, Global};
 
-/// The number of the only thing to share here: jobs.
+/// The number of the only thing that WORK shares: jobs.
 const PLACES: u32 = 0;
 
 /// What a job in a region pays.
@@ -27,7 +27,7 @@ fn places(world: &World, region: u32) -> u64 {
     }
 }
 
-/// What an order asks of its pot, or its fault.
+/// How many jobs a WORK order asks for, or its fault.
 pub(crate) fn claim(world: &World, plain: &Plain, order: PhaseOrder<'_>) -> Claim {
     let Some(person) = own(plain, order) else {
         return Claim::Fault(EventFault::NotYours);
@@ -40,7 +40,7 @@ pub(crate) fn claim(world: &World, plain: &Plain, order: PhaseOrder<'_>) -> Clai
     Claim::Want(PLACES, person.men.min(paid))
 }
 
-/// Whether a unit with men has no month-long order of its own faction.
+/// Whether a unit has men, and no month-long order from its own faction.
 fn is_idle(person: Person, orders: &[PhaseOrder<'_>]) -> bool {
     for order in orders {
         if order.unit == person.number && order.faction == person.faction {
@@ -50,7 +50,7 @@ fn is_idle(person: Person, orders: &[PhaseOrder<'_>]) -> bool {
     person.men != 0
 }
 
-/// Appends an order of WORK for each unit with men that has no month-long order.
+/// Appends an order of WORK for each unit that has men and no month-long order from its faction.
 fn add_idle<'m>(
     plain: &Plain,
     orders: &[PhaseOrder<'m>],
@@ -96,7 +96,7 @@ pub(crate) fn tasks<'m>(
     Ok(tasks)
 }
 
-/// The pot of a region: its jobs.
+/// The pot of a region in WORK: its jobs.
 pub(crate) fn pot(world: &World, region: u32) -> Pot {
     Pot {
         region,
@@ -105,7 +105,7 @@ pub(crate) fn pot(world: &World, region: u32) -> Pot {
     }
 }
 
-/// What a unit earns by its share.
+/// What a unit earns by its jobs: its share times the region's wage.
 pub(crate) fn earned(world: &World, plain: &Plain, given: &[Given], unit: u32) -> u64 {
     match plain.person(unit) {
         Some(person) => given_to(given, unit).wrapping_mul(wage(world, person.region)),
@@ -113,7 +113,7 @@ pub(crate) fn earned(world: &World, plain: &Plain, given: &[Given], unit: u32) -
     }
 }
 
-/// Pays a unit what it earns.
+/// Pays a unit the wages of its jobs, and books them.
 pub(crate) fn pay(world: &World, plain: &mut Plain, given: Given) -> Result<(), AllocError> {
     let Some(person) = plain.person(given.unit) else {
         return Ok(());

@@ -1,4 +1,4 @@
-//! Tests of the text of the books, worked out by hand.
+//! Tests of the text of the books. The wanted texts are worked out by hand.
 ghost use Rattle.atl_state.specs.Good.{IsGood};
 
 use super::compare::assert_text;
@@ -11,7 +11,7 @@ use std::alloc::Global;
 use std::process::Abort;
 use std::test::Fail;
 
-/// A month after Avalon joined: its man worked for 12, 10 were spent on upkeep, and the region's
+/// A month after Avalon joined: its man earned 12 by work and paid 10 for upkeep, and the region's
 /// income was 1,000.
 const FIRST_MONTH: Scene = Scene {
     people: &[Person { money: 1002, ..MAN }],
@@ -40,7 +40,8 @@ people joining 1
 people total 1001
 ";
 
-/// The same month, in which the faction quit.
+/// A month in which Avalon quit: its 1,000 money is lost, its man left, and the region's income was
+/// 1,000.
 const QUITTING: Scene = Scene {
     regions: &[(1, 1000, 1500)],
     books: &[
@@ -114,7 +115,8 @@ people founding 1000
 people total 1000
 ";
 
-/// Units that made 7 and 13 wood, and one that made 2 carts out of 10 of its 12 wood.
+/// A campaign whose units made 20 wood, and 2 carts out of 10 of the 12 wood that they had joined
+/// with.
 const PRODUCTION: Scene = Scene {
     people: &[
         Person {
@@ -162,7 +164,7 @@ item \"cart\" made 2
 item \"cart\" total 2
 ";
 
-/// The text of the books of the island without units and items.
+/// The text of the books of the island without units: as at the founding.
 const OF_THE_ISLE: &str = "money founding 650
 money total 650
 people founding 1300
@@ -171,14 +173,14 @@ item \"wood\" total 0
 item \"cart\" total 0
 ";
 
-/// Scenes of the small world, and the text of their books.
+/// Scenes of the small world, and the wanted text of the books of each.
 static OF_SMALL: [(Scene, &str); 3] = [
     (FIRST_MONTH, OF_FIRST_MONTH),
     (QUITTING, OF_QUITTING),
     (EVERY_ENTRY, OF_EVERY_ENTRY),
 ];
 
-/// Scenes of the island, and the text of their books.
+/// Scenes of the island, and the wanted text of the books of each.
 static OF_ISLE: [(Scene, &str); 2] = [(PRODUCTION, OF_PRODUCTION), (NOBODY, OF_THE_ISLE)];
 
 /// Asserts the text of a campaign's books.
@@ -221,12 +223,14 @@ fn assert_cases(
     Ok(())
 }
 
+/// The text of the books lists each entry of money and people in order, and their totals.
 #[test]
 fn books_of_money_and_people(rt: HostRuntime) -> Result<(), Fail> {
     let world = read_world(rt.alloc(), SMALL)?;
     assert_cases(&rt, rt.alloc(), &world, &OF_SMALL)
 }
 
+/// The text of the books lists the entries of each item and its total, 0 too.
 #[test]
 fn books_of_items(rt: HostRuntime) -> Result<(), Fail> {
     let world = read_world(rt.alloc(), ISLE)?;

@@ -1,4 +1,5 @@
-//! The assertion of these tests: an `assert_eq!` costs much to prove, so it is written once.
+//! The one assertion of the tests of reports: an `assert_eq!` costs much to prove, so it is written
+//! once.
 use std::process::Abort;
 
 /// Asserts that a text is the wanted one.

@@ -1,5 +1,5 @@
-//! Tests of reports of regions with markets. The world is the island with two markets in region 4;
-//! its text has the cart's first.
+//! Tests of the lines on markets in a report. The world is the island with two markets in region 4;
+//! its text names the cart before the wood.
 use super::compare::assert_text;
 use super::scenes::{Built, LODGE, MAN, NOBODY, Person, Scene, campaign_of};
 use atl_report::{report_text, view};
@@ -9,7 +9,7 @@ use std::alloc::Global;
 use std::process::Abort;
 use std::test::Fail;
 
-/// The text of the markets of region 4, the last of the island.
+/// The text of two markets in region 4, to append to that of the island, whose last region this is.
 const MARKETS: &str = r#"[[region.market]]
 item = "cart"
 price = 500
@@ -24,19 +24,19 @@ limit = 30
 restock = 20
 "#;
 
-/// One man in region 4.
+/// A unit of one man in region 4, which has the markets.
 const MERCHANT: Person = Person { region: 4, ..MAN };
 
-/// A scene, and the wanted report of faction 1.
+/// A scene, and the wanted report of faction 1 on it.
 #[derive(Clone, Copy)]
 struct Case {
     scene: Scene,
     wanted: &'static str,
 }
 
-/// Scenes with markets, and their reports.
+/// Scenes of the island with markets, and the wanted report on each.
 static CASES: [Case; 4] = [
-    // Nothing is in stock.
+    // The markets have nothing in stock.
     Case {
         scene: Scene {
             people: &[MERCHANT],
@@ -52,7 +52,7 @@ Market cart: 0 in stock at 500, 12 wanted at 400.
 * Unit 1 \"Unit 1\": 1 men, 0 money.
 ",
     },
-    // Some, and all that there is room for.
+    // One market has some in stock, and the other is full.
     Case {
         scene: Scene {
             people: &[MERCHANT],
@@ -69,7 +69,7 @@ Market cart: 12 in stock at 500, 0 wanted at 400.
 * Unit 1 \"Unit 1\": 1 men, 0 money.
 ",
     },
-    // They stand before the structures.
+    // The lines on markets come before those on structures.
     Case {
         scene: Scene {
             people: &[Person {
@@ -97,7 +97,7 @@ Structure 1 \"Fair\", lodge, 20 of 20, owner 1.
 * Unit 1 \"Unit 1\": 1 men, 0 money, in 1.
 ",
     },
-    // Those of a region that isn't seen aren't told, and a region without any has no such line.
+    // The markets of a region that isn't seen have no line, and a region without markets has none.
     Case {
         scene: Scene {
             people: &[MAN],
@@ -114,7 +114,7 @@ Exits: east 2.
     },
 ];
 
-/// Asserts the report of a case.
+/// Asserts the report of faction 1 on the scene of a case.
 fn assert_case(rt: &impl Abort, alloc: Global, world: &World, case: &Case) -> Result<(), Fail> {
     let campaign = campaign_of(alloc, world, &case.scene)?;
     let seen = view(alloc, world, &campaign, 1)?;
@@ -123,7 +123,7 @@ fn assert_case(rt: &impl Abort, alloc: Global, world: &World, case: &Case) -> Re
     Ok(())
 }
 
-/// Asserts the report of each case.
+/// Asserts the report of faction 1 on the scene of each case.
 fn assert_cases(rt: &impl Abort, alloc: Global, world: &World) -> Result<(), Fail> {
     for case in CASES.iter() {
         assert_case(rt, alloc, world, case)?;
@@ -131,6 +131,8 @@ fn assert_cases(rt: &impl Abort, alloc: Global, world: &World) -> Result<(), Fai
     Ok(())
 }
 
+/// A report has a line for each market of a region that is seen, by item number, before the
+/// structures.
 #[test]
 fn markets(rt: HostRuntime) -> Result<(), Fail> {
     let text = format!(in rt.alloc(); "{ISLE}{MARKETS}")?;

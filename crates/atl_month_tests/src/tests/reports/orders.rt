@@ -1,4 +1,4 @@
-//! Tests of what a report says of orders, without any region.
+//! Tests of the lines on orders in a report: faulty lines and events. The faction sees no region.
 use super::compare::assert_text;
 use atl_orders::{FaultyLine, LineFault, Verb};
 use atl_report::{View, report_text};
@@ -9,14 +9,14 @@ use std::alloc::Global;
 use std::process::Abort;
 use std::test::Fail;
 
-/// The faulty lines and the events of a month, and the wanted report of faction 1.
+/// The faulty lines and the events of a month, and the wanted report of faction 1 on them.
 struct Case {
     faults: &'static [FaultyLine],
     events: &'static [Event],
     wanted: &'static str,
 }
 
-/// A faulty line with an unknown order.
+/// A faulty line with an order that is unknown.
 const UNKNOWN_ORDER: FaultyLine = FaultyLine {
     line: 5,
     fault: LineFault::UnknownOrder,
@@ -28,7 +28,7 @@ const BAD_NAME: FaultyLine = FaultyLine {
     fault: LineFault::BadName,
 };
 
-/// A unit worked for 12.
+/// An event of WORK: unit 1 earned 12.
 const WORKED: Event = Event {
     faction: 1,
     unit: 1,
@@ -37,7 +37,7 @@ const WORKED: Event = Event {
     outcome: Outcome::Done(12),
 };
 
-/// A QUIT with the wrong number.
+/// An event of a QUIT that failed with fault 11.
 const QUIT: Event = Event {
     faction: 1,
     unit: 1,
@@ -46,7 +46,7 @@ const QUIT: Event = Event {
     outcome: Outcome::Fault(11),
 };
 
-/// Three men of a unit starved.
+/// An event of upkeep: three men of unit 2 starved.
 const STARVED: Event = Event {
     faction: 1,
     unit: 2,
@@ -64,7 +64,7 @@ const UPKEEP: Event = Event {
     outcome: Outcome::Done(4_294_967_300),
 };
 
-/// An order for an alias that no unit has.
+/// An event of a GIVE for an alias that no unit has.
 const FORMED_BY_NOBODY: Event = Event {
     faction: 1,
     unit: 0,
@@ -73,7 +73,7 @@ const FORMED_BY_NOBODY: Event = Event {
     outcome: Outcome::Fault(1),
 };
 
-/// An event with a fault number that no fault has.
+/// An event with the number 99, which no fault has.
 const NAMELESS: Event = Event {
     faction: 1,
     unit: 1,
@@ -82,7 +82,7 @@ const NAMELESS: Event = Event {
     outcome: Outcome::Fault(99),
 };
 
-/// An event of another faction.
+/// An event of faction 2, which the report of faction 1 leaves out.
 const OF_ANOTHER: Event = Event {
     faction: 2,
     unit: 7,
@@ -91,7 +91,7 @@ const OF_ANOTHER: Event = Event {
     outcome: Outcome::Done(50),
 };
 
-/// Months, and the report of faction 1 on each.
+/// Faulty lines and events, and the wanted report of faction 1 on each.
 static CASES: [Case; 9] = [
     Case {
         faults: &[],
@@ -173,7 +173,7 @@ Unit 2: 3 starved.
     },
 ];
 
-/// The view of a faction that has no unit with men.
+/// The view of a faction that sees no region.
 fn nowhere(alloc: Global) -> Result<View, Fail> {
     Ok(View {
         month: 3,
@@ -183,7 +183,7 @@ fn nowhere(alloc: Global) -> Result<View, Fail> {
     })
 }
 
-/// Asserts the report of a case.
+/// Asserts the report on the faulty lines and events of a case.
 fn assert_case(
     rt: &impl Abort,
     alloc: Global,
@@ -196,7 +196,7 @@ fn assert_case(
     Ok(())
 }
 
-/// Asserts the report of each case.
+/// Asserts the report on the faulty lines and events of each case.
 fn assert_cases(rt: &impl Abort, alloc: Global, world: &World) -> Result<(), Fail> {
     let view = nowhere(alloc)?;
     for case in CASES.iter() {
@@ -205,13 +205,14 @@ fn assert_cases(rt: &impl Abort, alloc: Global, world: &World) -> Result<(), Fai
     Ok(())
 }
 
+/// A report lists a mailing's faulty lines and the faction's own events, or None if there are none.
 #[test]
 fn faults_and_events(rt: HostRuntime) -> Result<(), Fail> {
     let world = read_world(rt.alloc(), SMALL)?;
     assert_cases(&rt, rt.alloc(), &world)
 }
 
-/// The fault of an order is printed with its number, that of a join without.
+/// The fault of an order is printed with its number, and the fault of a join without one.
 #[test]
 fn printed_faults(rt: HostRuntime) -> Result<(), Fail> {
     let of_order = format!(in rt.alloc(); "{}", EventFault::NoWay)?;

@@ -1,4 +1,4 @@
-//! Campaigns for the tests of reports, made of rows that `check` accepts.
+//! Makes campaigns for the tests of reports, from rows that `check` accepts.
 ghost use Rattle.std.specs.Prelude.{IfOk};
 ghost use Rattle.atl_state.specs.Good.{IsGood};
 
@@ -53,7 +53,7 @@ pub(crate) const BOAT: i64 = 0;
 /// The number of the kind lodge.
 pub(crate) const LODGE: i64 = 1;
 
-/// A unit of faction 1 or 2, with the name of a new unit.
+/// A unit of faction 1 or 2, which has the name of a new unit.
 #[derive(Clone, Copy)]
 pub(crate) struct Person {
     pub faction: i64,
@@ -66,7 +66,7 @@ pub(crate) struct Person {
     pub has: &'static [((i64, i64), i64)],
 }
 
-/// One man of faction 1 in region 1, with nothing.
+/// A unit of one man of faction 1 in region 1, with nothing else.
 pub(crate) const MAN: Person = Person {
     faction: 1,
     region: 1,
@@ -77,7 +77,7 @@ pub(crate) const MAN: Person = Person {
     has: &[],
 };
 
-/// A structure, and how much of it is built.
+/// A structure: kind, name, region, how much of it is built, and its owner.
 #[derive(Clone, Copy)]
 pub(crate) struct Built {
     pub kind: i64,
@@ -87,23 +87,25 @@ pub(crate) struct Built {
     pub owner: i64,
 }
 
-/// The units, structures and amounts of a campaign that factions 1 and 2 have joined.
+/// Units, structures, regions, stocks and books of a campaign that factions 1 and 2 have joined.
 #[derive(Clone, Copy)]
 pub(crate) struct Scene {
     /// The units, numbered from 1.
     pub people: &'static [Person],
     /// The structures, numbered from 1.
     pub built: &'static [Built],
-    /// The regions with peasants and money; if there are none, all are as at the founding.
+    /// The regions with their peasants and money; if the list is empty, all regions are as at the
+    /// founding.
     pub regions: &'static [(i64, i64, i64)],
     /// The stocks: region, item and amount.
     pub stocks: &'static [(i64, i64, i64)],
-    /// What is booked: entry, thing and amount. If nothing is, all that units have is booked under
-    /// Joining, and all stocks under Stocked.
+    /// What is booked: entry, thing and amount. If the list is empty, the books are those of the
+    /// founding, and besides all that units have is booked under Joining, and all stocks under
+    /// Stocked.
     pub books: &'static [(i64, i64, i64)],
 }
 
-/// A campaign without units and structures; both factions are gone.
+/// A scene without units and structures, so that both factions are gone.
 pub(crate) const NOBODY: Scene = Scene {
     people: &[],
     built: &[],
@@ -127,7 +129,7 @@ fn heads(alloc: Global, scene: &Scene) -> Result<Sequence<StoredCampaignRow>, Fa
     Ok(all)
 }
 
-/// The row of a faction, which is gone if it has no unit.
+/// The row of a faction, which is marked as gone if it has no unit.
 fn faction(alloc: Global, number: i64, name: &str, scene: &Scene) -> Result<StoredFaction, Fail> {
     let there = scene.people.iter().any(|unit| unit.faction == number);
     Ok(StoredFaction {
@@ -147,7 +149,7 @@ fn factions(alloc: Global, scene: &Scene) -> Result<Sequence<StoredFaction>, Fai
     Ok(all)
 }
 
-/// The rows of the reports.
+/// The rows of both factions' reports, all with one text.
 fn reports(alloc: Global) -> Result<Sequence<StoredReport>, Fail> {
     let mut all = Sequence::new(alloc);
     for faction in 1..=2i64 {
@@ -159,7 +161,7 @@ fn reports(alloc: Global) -> Result<Sequence<StoredReport>, Fail> {
     Ok(all)
 }
 
-/// The row of a unit.
+/// The row of a unit in the table `unit`.
 fn unit(alloc: Global, number: i64, person: &Person) -> Result<StoredUnit, Fail> {
     let name = format!(in alloc; "Unit {number}")?;
     Ok(StoredUnit {
@@ -174,7 +176,7 @@ fn unit(alloc: Global, number: i64, person: &Person) -> Result<StoredUnit, Fail>
     })
 }
 
-/// The rows of the units, numbered from 1.
+/// The rows of all units in the table `unit`, numbered from 1.
 fn units(alloc: Global, people: &[Person]) -> Result<Sequence<StoredUnit>, Fail> {
     let mut all = Sequence::new(alloc);
     let mut number: i64 = 0;
@@ -185,7 +187,7 @@ fn units(alloc: Global, people: &[Person]) -> Result<Sequence<StoredUnit>, Fail>
     Ok(all)
 }
 
-/// Adds the rows of what a unit has.
+/// Adds the rows of the table `has` for one unit.
 fn has_of(all: &mut Sequence<StoredHas>, unit: i64, has: &[((i64, i64), i64)]) -> Result<(), Fail> {
     for ((sort, thing), amount) in has {
         all.push(StoredHas {
@@ -198,7 +200,7 @@ fn has_of(all: &mut Sequence<StoredHas>, unit: i64, has: &[((i64, i64), i64)]) -
     Ok(())
 }
 
-/// The rows of what the units have.
+/// The rows of the table `has` for all units.
 fn has(alloc: Global, people: &[Person]) -> Result<Sequence<StoredHas>, Fail> {
     let mut all = Sequence::new(alloc);
     let mut number: i64 = 0;
@@ -232,7 +234,7 @@ fn structures(alloc: Global, built: &[Built]) -> Result<Sequence<StoredStructure
     Ok(all)
 }
 
-/// The rows of the regions.
+/// The rows of the table `region`, from number, peasants and money.
 fn regions(alloc: Global, rows: &[(i64, i64, i64)]) -> Result<Sequence<StoredRegion>, Fail> {
     let mut all = Sequence::new(alloc);
     for (number, peasants, money) in rows {
@@ -245,7 +247,7 @@ fn regions(alloc: Global, rows: &[(i64, i64, i64)]) -> Result<Sequence<StoredReg
     Ok(all)
 }
 
-/// The rows of the stocks.
+/// The rows of the table `market`, from region, item and stock.
 fn markets(alloc: Global, rows: &[(i64, i64, i64)]) -> Result<Sequence<StoredMarket>, Fail> {
     let mut all = Sequence::new(alloc);
     for (region, item, stock) in rows {
@@ -258,7 +260,7 @@ fn markets(alloc: Global, rows: &[(i64, i64, i64)]) -> Result<Sequence<StoredMar
     Ok(all)
 }
 
-/// The rows of the books.
+/// The rows of the table `books`, from entry, thing and amount.
 fn books(alloc: Global, rows: &[(i64, i64, i64)]) -> Result<Sequence<StoredBooks>, Fail> {
     let mut all = Sequence::new(alloc);
     for (entry, thing, amount) in rows {
@@ -282,7 +284,8 @@ fn held(person: &Person, item: i64) -> i64 {
     sum
 }
 
-/// The sum of a thing over the units: 0 is money, 1 people, and 2 the first item.
+/// How much all units have together of a thing of the books: 0 is money, 1 people, and 2 the first
+/// item.
 fn brought(people: &[Person], thing: i64) -> i64 {
     let mut sum: i64 = 0;
     for person in people {
@@ -296,7 +299,7 @@ fn brought(people: &[Person], thing: i64) -> i64 {
     sum
 }
 
-/// Books all that the units have under Joining.
+/// Books the money, men and first two items of all units under Joining.
 fn book_joining(people: &[Person], all: &mut Sequence<StoredBooks>) -> Result<(), Fail> {
     for thing in 0..=3i64 {
         let amount = brought(people, thing);
@@ -311,7 +314,7 @@ fn book_joining(people: &[Person], all: &mut Sequence<StoredBooks>) -> Result<()
     Ok(())
 }
 
-/// Books the stocks under Stocked; no two stocks may be of one item.
+/// Books all stocks under Stocked; no two stocks may be of one item.
 fn book_stocks(stocks: &[(i64, i64, i64)], all: &mut Sequence<StoredBooks>) -> Result<(), Fail> {
     for (_, item, stock) in stocks {
         all.push(StoredBooks {
@@ -323,7 +326,7 @@ fn book_stocks(stocks: &[(i64, i64, i64)], all: &mut Sequence<StoredBooks>) -> R
     Ok(())
 }
 
-/// All rows of a scene's campaign.
+/// All rows of a scene's campaign, made from a founding.
 fn rows_of(alloc: Global, world: &World, scene: &Scene) -> Result<Parts, Fail> {
     let mut parts = founded(alloc, world, b"gm")?.parts()?;
     book_joining(scene.people, &mut parts.books)?;

@@ -1,5 +1,5 @@
-//! Tests of who sees whom, by whole reports worked out by hand (docs/RULES.md, "Sight"). The world
-//! is the island.
+//! Tests of which units and structures a report shows, by whole reports worked out by hand
+//! (docs/RULES.md, "Sight"). The world is the island.
 use super::compare::assert_text;
 use super::scenes::{
     BOAT, Built, CART, LODGE, LUMBERJACK, MAN, NOBODY, OBSERVATION, Person, SAILING, STEALTH,
@@ -14,11 +14,11 @@ use std::alloc::Global;
 use std::process::Abort;
 use std::test::Fail;
 
-/// A scene, and the wanted report of a faction.
+/// A scene, and the wanted report of a faction on it.
 #[derive(Clone, Copy)]
 struct Case {
     scene: Scene,
-    /// The units that have lost their men.
+    /// The units that lose all their men before the report is made.
     empty: &'static [u32],
     faction: u32,
     faults: &'static [FaultyLine],
@@ -26,7 +26,7 @@ struct Case {
     wanted: &'static str,
 }
 
-/// A case without units; the cases set what differs.
+/// A case of faction 1 without units, faulty lines and events; the cases set what differs.
 const PLAIN: Case = Case {
     scene: NOBODY,
     empty: &[],
@@ -36,21 +36,21 @@ const PLAIN: Case = Case {
     wanted: "",
 };
 
-/// One man in region 4 with 30 days of observation: level 1.
+/// A unit of faction 1 in region 4: one man with level 1 of observation (30 days).
 const WATCHER: Person = Person {
     region: 4,
     has: &[(OBSERVATION, 30)],
     ..MAN
 };
 
-/// One man in region 4 with 90 days of observation: level 2.
+/// A unit of faction 1 in region 4: one man with level 2 of observation (90 days).
 const KEEN_WATCHER: Person = Person {
     region: 4,
     has: &[(OBSERVATION, 90)],
     ..MAN
 };
 
-/// One man of faction 2 in region 4 with 90 days of stealth: level 2.
+/// A unit of faction 2 in region 4: one man with level 2 of stealth (90 days).
 const HIDER: Person = Person {
     faction: 2,
     region: 4,
@@ -58,9 +58,9 @@ const HIDER: Person = Person {
     ..MAN
 };
 
-/// Units that hide, and the report of faction 1 or 2.
+/// Scenes with units that hide, and the wanted report of faction 1 or 2.
 static HIDDEN: [Case; 9] = [
-    // A unit of level 2 is hidden from level 1.
+    // A unit with stealth 2 is hidden from observation 1.
     Case {
         scene: Scene {
             people: &[WATCHER, HIDER],
@@ -75,7 +75,7 @@ Exits: south 3.
 ",
         ..PLAIN
     },
-    // Level 2 sees it.
+    // Observation 2 sees a unit with stealth 2.
     Case {
         scene: Scene {
             people: &[KEEN_WATCHER, HIDER],
@@ -91,7 +91,7 @@ Exits: south 3.
 ",
         ..PLAIN
     },
-    // The best of the faction's units there counts, whichever it is.
+    // The highest observation of the faction's units in the region counts, whichever unit has it.
     Case {
         scene: Scene {
             people: &[WATCHER, HIDER, KEEN_WATCHER, WATCHER],
@@ -109,7 +109,7 @@ Exits: south 3.
 ",
         ..PLAIN
     },
-    // One in another region doesn't count.
+    // The observation of a unit in another region doesn't count.
     Case {
         scene: Scene {
             people: &[
@@ -134,7 +134,8 @@ Exits: south 3.
 ",
         ..PLAIN
     },
-    // One of another faction doesn't either. Who has learned no stealth is seen by all.
+    // The observation of another faction's unit doesn't count. A unit without stealth is always
+    // seen.
     Case {
         scene: Scene {
             people: &[
@@ -157,7 +158,7 @@ Exits: south 3.
 ",
         ..PLAIN
     },
-    // Who guards is seen by all.
+    // A unit that guards is seen by all.
     Case {
         scene: Scene {
             people: &[WATCHER, Person { guard: 1, ..HIDER }],
@@ -173,7 +174,7 @@ Exits: south 3.
 ",
         ..PLAIN
     },
-    // A structure is seen, and its owner only where he is.
+    // A structure is seen always, and its owner's number only if the owner is seen.
     Case {
         scene: Scene {
             people: &[
@@ -224,7 +225,7 @@ Structure 2 \"Ark\", boat, 10 of 10, owner 4.
 ",
         ..PLAIN
     },
-    // One's own units are seen, however well they hide.
+    // A faction's own units are seen, whatever their stealth.
     Case {
         scene: Scene {
             people: &[WATCHER, HIDER],
@@ -256,7 +257,7 @@ None.
     },
 ];
 
-/// One man of faction 2 in region 4 with 450 days of stealth: level 5.
+/// A unit of faction 2 in region 4: one man with level 5 of stealth (450 days).
 const KEEN_HIDER: Person = Person {
     faction: 2,
     region: 4,
@@ -264,9 +265,9 @@ const KEEN_HIDER: Person = Person {
     ..MAN
 };
 
-/// Units without men, which there are only within a month.
+/// Scenes with units without men, which exist only within a month, and the wanted reports.
 static EMPTY: [Case; 3] = [
-    // Such a unit has no level, so that another's is seen, and it doesn't guard.
+    // A unit without men has no stealth, so that another faction sees it, and it doesn't guard.
     Case {
         scene: Scene {
             people: &[
@@ -295,7 +296,7 @@ Exits: south 3.
 ",
         ..PLAIN
     },
-    // It observes nothing.
+    // A unit without men has no observation.
     Case {
         scene: Scene {
             people: &[WATCHER, HIDER, KEEN_WATCHER],
@@ -312,7 +313,7 @@ Exits: south 3.
 ",
         ..PLAIN
     },
-    // Where no other unit of the faction is, the region isn't seen.
+    // A region isn't seen if all the faction's units in it are without men.
     Case {
         scene: Scene {
             people: &[
@@ -336,13 +337,13 @@ Exits: north 4, west 2.
     },
 ];
 
-/// A faulty line of a mailing.
+/// A faulty line of faction 1's mailing.
 const FAULTS: [FaultyLine; 1] = [FaultyLine {
     line: 5,
     fault: LineFault::UnknownOrder,
 }];
 
-/// Events of a month, of several factions.
+/// Events of a month, of factions 1 and 2.
 const EVENTS: [Event; 4] = [
     Event {
         faction: 1,
@@ -374,7 +375,7 @@ const EVENTS: [Event; 4] = [
     },
 ];
 
-/// Reports with all kinds of lines.
+/// Scenes whose reports have all kinds of lines, and the wanted reports.
 static WHOLE: [Case; 2] = [
     Case {
         scene: Scene {
@@ -525,21 +526,21 @@ Structure 3 \"Ship 1\", boat, 10 of 10, owner 5.
     },
 ];
 
-/// Takes all men from a unit.
+/// Takes all men from a unit, if it exists.
 fn empty(campaign: &mut Campaign, number: u32) {
     if let Some(holding) = campaign.unit_mut(number) {
         holding.set_men(0);
     }
 }
 
-/// Takes all men from each of some units.
+/// Takes all men from each unit of a list.
 fn empty_all(campaign: &mut Campaign, numbers: &[u32]) {
     for number in numbers {
         empty(campaign, *number);
     }
 }
 
-/// Asserts the report on a campaign.
+/// Asserts the report of the case's faction on a campaign.
 fn tell(
     rt: &impl Abort,
     alloc: Global,
@@ -553,7 +554,7 @@ fn tell(
     Ok(())
 }
 
-/// Asserts the report of a case.
+/// Asserts the report of a case's faction on its scene, after some units have lost their men.
 fn assert_case(rt: &impl Abort, alloc: Global, world: &World, case: &Case) -> Result<(), Fail> {
     let mut campaign = campaign_of(alloc, world, &case.scene)?;
     empty_all(&mut campaign, case.empty);
@@ -569,16 +570,21 @@ fn assert_cases(rt: &impl Abort, alloc: Global, cases: &[Case]) -> Result<(), Fa
     Ok(())
 }
 
+/// A report shows a unit with stealth only if it guards, is the faction's own, or the faction's
+/// observation there is as high.
 #[test]
 fn hidden_units(rt: HostRuntime) -> Result<(), Fail> {
     assert_cases(&rt, rt.alloc(), &HIDDEN)
 }
 
+/// A unit without men has no level, doesn't guard, and lets its faction see nothing.
 #[test]
 fn units_without_men(rt: HostRuntime) -> Result<(), Fail> {
     assert_cases(&rt, rt.alloc(), &EMPTY)
 }
 
+/// Whole reports with structures, units, items, skills, faulty lines and events are as worked out
+/// by hand.
 #[test]
 fn all_sorts_of_lines(rt: HostRuntime) -> Result<(), Fail> {
     assert_cases(&rt, rt.alloc(), &WHOLE)

@@ -1,4 +1,4 @@
-//! A test of a whole report, of the small world that a faction has joined.
+//! A test of a whole report, in the small world after one faction has joined.
 ghost use Rattle.std.specs.Prelude.{IfOk};
 ghost use Rattle.atl_state.specs.Good.{IsGood};
 
@@ -12,13 +12,13 @@ use std::alloc::Global;
 use std::process::Abort;
 use std::test::Fail;
 
-/// A faulty line of a mailing.
+/// A faulty line of faction 1's mailing.
 static FAULTS: [FaultyLine; 1] = [FaultyLine {
     line: 5,
     fault: LineFault::UnknownOrder,
 }];
 
-/// Events of a month.
+/// An event of faction 1, and one of faction 2, which the report of faction 1 leaves out.
 static EVENTS: [Event; 2] = [
     Event {
         faction: 1,
@@ -36,7 +36,7 @@ static EVENTS: [Event; 2] = [
     },
 ];
 
-/// The wanted report.
+/// The wanted report of faction 1.
 const WHOLE: &str = "Atlantis report, month 0, faction 1 \"Avalon\".
 Orders:
 Line 5: 2 UnknownOrder.
@@ -46,21 +46,22 @@ Exits: none.
 * Unit 1 \"Unit 1\": 1 men, 1000 money.
 ";
 
-/// The campaign of a world just after its founding.
+/// The campaign of a world just founded.
 fn founded_in(alloc: Global, world: &World) -> Result<Campaign, Fail>
     ensures { IfOk result (λ campaign. IsGood world.now campaign.value) }
 {
     Ok(founded(alloc, world, b"gm")?)
 }
 
-/// Avalon joins, with 0 as the word of the dice; the answer is its number and its unit's.
+/// Makes Avalon join, with 0 as the word of the dice; the answer is the numbers of its faction and
+/// unit.
 fn avalon_joins(world: &World, campaign: &mut Campaign) -> Result<(u32, u32), Fail>
     requires { IsGood world.now campaign.old.value }
 {
     Ok(campaign.join(world, b"Avalon", b"pw", 0)?)
 }
 
-/// Asserts the report of faction 1.
+/// Asserts that the report of faction 1 on a campaign is `WHOLE`.
 fn assert_report(
     rt: &impl Abort,
     alloc: Global,
@@ -73,13 +74,14 @@ fn assert_report(
     Ok(())
 }
 
-/// Asserts the report of a faction that has just joined.
+/// Asserts the report of Avalon just after it has joined.
 fn joins_and_reads(rt: &impl Abort, alloc: Global, world: &World) -> Result<(), Fail> {
     let mut campaign = founded_in(alloc, world)?;
     avalon_joins(world, &mut campaign)?;
     assert_report(rt, alloc, world, &campaign)
 }
 
+/// A report has the faction's faulty lines and events, and then its region with its unit.
 #[test]
 fn orders_and_regions(rt: HostRuntime) -> Result<(), Fail> {
     let world = read_world(rt.alloc(), SMALL)?;
