@@ -25,10 +25,9 @@ impl<'a> Work for Closing<'a> {
     type Done = Answer;
 
     fn run<S: Alter>(&self, service: &mut Service<S>) -> Result<Answer, Failure> {
-        let request = Request::Close {
-            month: self.month,
-            pass: Sequence::from_slice(self.alloc, self.pass.as_bytes())?,
-        };
+        let month = self.month;
+        let pass = Sequence::from_slice(self.alloc, self.pass.as_bytes())?;
+        let request = Request::Close { month, pass };
         Ok(run_request(self.alloc, service, self.dice, request)?)
     }
 }

@@ -34,6 +34,9 @@ pub const COUNT: &str = "count";
 /// The name of the option for the seed of the dice.
 pub const SEED: &str = "seed";
 
+/// What `--help` says of that option.
+const SEED_HELP: &str = "The number that the campaign's dice come from: keep to the same one";
+
 /// An option whose value is a text, and what the help says of it.
 pub fn text<'a>(alloc: Global, name: &'a str, help: &'a str) -> Arg<'a> {
     Arg::new(alloc, name)
@@ -90,11 +93,7 @@ pub fn faction_pass<'a>(alloc: Global) -> Arg<'a> {
 
 /// The option for the seed of the dice.
 pub fn seed<'a>(alloc: Global) -> Arg<'a> {
-    long_number(
-        alloc,
-        SEED,
-        "The number that the campaign's dice come from: keep to the same one",
-    )
+    long_number(alloc, SEED, SEED_HELP)
 }
 
 /// The text that was given for this option.

@@ -192,11 +192,11 @@ put_in_turn {V} es = same_map nat_cmp_total nat_cmp-IsAntisymmetric _ _ (λ n.
 -- ---- entries that regions give, where a number gets one share at most
 
 module _ (f : ℕ → Entries) where
--- the entries of some regions, one region after the other
+  -- the entries of some regions, one region after the other
   abbrev from_all : List ℕ → Entries
   from_all rs = flat_map f rs
 
--- a number has the same value in the entries of any two regions that have it
+  -- a number has the same value in the entries of any two regions that have it
   abbrev GivesOne : ℕ → Type 0
   GivesOne n = (q r s t : ℕ) → find nat_cmp n (f q) ≡ Some s → find nat_cmp n (f r) ≡ Some t → s ≡ t
 

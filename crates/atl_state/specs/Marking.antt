@@ -1,7 +1,8 @@
 -- What is marked, as rows to be written, after each change of a campaign.
-use Rattle.std.specs.Prelude.{◌≡◌, ◌⊎◌, ◌==◌, ℕ, true, Option, Some, None, if◌then◌else◌}
+use Rattle.std.specs.Prelude.{◌≡◌, ◌⊎◌, ◌==◌, ℕ, Bool, true, Option, Some, None, if◌then◌else◌}
 use Rattle.std.specs.FinMap.{get, remove, keys}
-use Rattle.std.specs.FinSet.{insert, union, from_list}
+use Rattle.std.specs.FinSet.{FinSet, insert, union, from_list}
+use Rattle.std.specs.Ordering.{nat_cmp}
 use Rattle.atl_tables.specs.Tracking.{marked_with}
 use Rattle.atl_records.specs.declared.books.Entry.TheVariants.{Joining}
 use Rattle.atl_records.specs.declared.books.Thing.TheVariants.{Money, People}
@@ -11,7 +12,28 @@ use Rattle.atl_records.specs.declared.records.Unit.{Unit}
 use Rattle.atl_state.specs.Marks.{Marks, amount_marked, thing_marked}
 use Rattle.atl_state.specs.Owners.{heir, is_owned_by, placed}
 use Rattle.atl_state.specs.Campaign.{MarkedCampaign, with_owner}
-use Rattle.atl_state.specs.Regions.{region_to_restock}
+use Rattle.atl_state.specs.Regions.{MarkedRegions, region_to_restock}
+use Rattle.atl_state.specs.Roster.{Roster}
+
+-- the marks of a campaign, put together from those of its parts
+abbrev pub marks_of_parts : (factions : FinSet nat_cmp) → MarkedRegions → Roster → (structures mail reports books : FinSet nat_cmp) → Bool → Marks
+marks_of_parts factions regions units structures mail reports books row = record {
+  factions = factions;
+  regions = regions.rows;
+  markets = regions.markets;
+  stocks = regions.stocks;
+  stock_items = regions.items;
+  units = units.marks;
+  rows = units.rows;
+  goods = units.goods;
+  items = units.items;
+  skills = units.skills;
+  structures = structures;
+  mail = mail;
+  reports = reports;
+  books = books;
+  row = row;
+}
 
 -- the marks with unit n, its row and all its goods marked too, where the unit u is there
 abbrev pub whole_marked : Marks → ℕ → Option Unit → Marks

@@ -66,6 +66,7 @@ impl Drop for Campaign {
 impl Model for Campaign {
     ghost use Rattle.atl_state.specs.Campaign.{MarkedCampaign, marked_code};
     ghost use Rattle.atl_state.specs.KeptLists.{AreKept};
+    ghost use Rattle.atl_state.specs.Marking.{marks_of_parts};
 
     ghost Value = { MarkedCampaign };
 
@@ -73,21 +74,21 @@ impl Model for Campaign {
 
     ghost view = { λ a. record {
       value = record {
-        month = a.month; pass = a.pass;
-        next_faction = a.next_faction; next_unit = a.next_unit; next_structure = a.next_structure;
-        factions = a.factions.values; regions = a.regions.values; units = a.units.values;
-        structures = a.structures.values; mail = a.mail.values; reports = a.reports.values;
+        month = a.month;
+        pass = a.pass;
+        next_faction = a.next_faction;
+        next_unit = a.next_unit;
+        next_structure = a.next_structure;
+        factions = a.factions.values;
+        regions = a.regions.values;
+        units = a.units.values;
+        structures = a.structures.values;
+        mail = a.mail.values;
+        reports = a.reports.values;
         books = a.books;
       };
-      marks = record {
-        factions = a.factions.marks; structures = a.structures.marks;
-        regions = a.regions.rows; markets = a.regions.markets; stocks = a.regions.stocks;
-        stock_items = a.regions.items;
-        units = a.units.marks; rows = a.units.rows; goods = a.units.goods;
-        items = a.units.items; skills = a.units.skills;
-        mail = a.mail.marks; reports = a.reports.marks;
-        books = a.amounts_marked.numbers; row = a.row_marked;
-      };
+      marks = marks_of_parts a.factions.marks a.regions a.units a.structures.marks a.mail.marks
+          a.reports.marks a.amounts_marked.numbers a.row_marked;
     } };
 
     ghost invariant = { λ a. AreKept a.units.values a.lists a.books.things a.amounts_marked };

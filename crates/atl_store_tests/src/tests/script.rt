@@ -6,7 +6,9 @@ use super::calls::{
 };
 use super::campaigns::world_text;
 use super::compare::assert_text;
-use super::contents::{contents, limit_steps, query_number, run_statements, set_world_text, settle};
+use super::contents::{
+    contents, limit_steps, query_number, run_statements, set_world_text, settle,
+};
 use super::game::{Game, is_kept, is_kept_campaign, keep, keep_campaign, new_game};
 use super::rows::read;
 use super::setting::{begin, book, lend, numbers, remove, rename, report, set};
