@@ -17,7 +17,7 @@ most_kinds = 100
 abbrev pub most_regions : ℕ
 most_regions = 10000
 
--- markets of one region
+-- the most markets of one region
 abbrev pub most_markets : ℕ
 most_markets = 200
 
@@ -58,7 +58,7 @@ most_fraction = 1000
 abbrev pub most_growth : ℕ
 most_growth = 100
 
--- the largest weight of a man or an item, and of what one carries
+-- the largest weight of a man or an item, and the largest weight that one can carry
 abbrev pub most_weight : ℕ
 most_weight = 10000
 
