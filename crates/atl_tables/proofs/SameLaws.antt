@@ -1,4 +1,4 @@
--- Two maps of regions are equal but for markets exactly if their entries are.
+-- Two maps of regions are equal but for markets exactly if their entries are equal but for markets.
 use Rattle.std.proofs.Common.{◌≡◌, ℕ, List, ◌∷◌, map, sym, ap, ◌∙◌}
 use Rattle.std.specs.FinMap.{FinMap, entries, same_entries_map}
 use Rattle.std.specs.Ordering.{nat_cmp}
