@@ -1,4 +1,4 @@
--- Laws of the units that the words of a TEACH order name: the first unit and then the others, for a loop that reads them.
+-- Laws of the units that the words of a TEACH order name: the first unit, and then the others.
 use Rattle.std.proofs.Common.{◌≡◌, ℕ, ◌+◌, ◌<◌, ◌≤◌, Bool, true, false, cond, List, [], ◌∷◌, ◌++◌, length, codes, Option, Some, None, Result, Ok, Err, refl, sym, ap, ◌∙◌, arith}
 use Rattle.atl_orders.specs.Limits.{last_alias, most_number}
 use Rattle.atl_orders.specs.declared.order.UnitRef.{UnitRef}
@@ -42,7 +42,7 @@ alias_step : (o : Option ℕ) (ws : List WordText) → and_then_units (or_fault 
 alias_step None ws = refl
 alias_step (Some n) ws = refl
 
--- a choice of two results, each followed by the same step, is the choice followed by the step
+-- a choice of two results, each followed by `then_units`, is the choice followed by `then_units`
 choose : (t : Bool) (a b : Result (List UnitRef) LineFault) (c d : Result (UnitRef × List WordText) LineFault) → a ≡ c >>= then_units → b ≡ d >>= then_units → cond t a b ≡ cond t c d >>= then_units
 choose true a b c d p q = p
 choose false a b c d p q = q
@@ -53,12 +53,12 @@ unfolding units_of unit_at count_at
 units_step w [] = choose (is_word (codes "NEW") w) _ _ _ _ refl (number_step (not_zero (number_of most_number w.bytes)) [])
 units_step w (v ∷ ws) = choose (is_word (codes "NEW") w) _ _ _ _ (alias_step (not_zero (number_of last_alias v.bytes)) ws) (number_step (not_zero (number_of most_number w.bytes)) (v ∷ ws))
 
--- the units read so far, u, and then further units make the same list if u counts as read or as the first further one
+-- u at the end of the units read so far, or in front of the further units, gives the same list of units
 started : (units : Result (List UnitRef) LineFault) (front : List UnitRef) (u : UnitRef) → with_units (front ++ u ∷ []) units ≡ with_units front (units >>= λ us. Ok (u ∷ us))
 started (Ok us) front u = ap (λ l. Ok l) (append_assoc front (u ∷ []) us)
 started (Err f) front u = refl
 
--- a loop that reads units has the same result after one more unit is read
+-- if the words left begin with the unit u, the units read so far with u and the units of the rest give the same list
 pub one_more : (front : List UnitRef) (ws : List WordText) (u : UnitRef) (rest : List WordText) → unit_at ws ≡ found u rest → with_units (front ++ u ∷ []) (units_of rest) ≡ with_units front (units_of ws)
 one_more front [] u rest h = absurd (none u rest h)
 one_more front (w ∷ ws) u rest h = started (units_of rest) front u ∙ ap (with_units front) (sym (units_step w ws ∙ ap (λ r. r >>= then_units) h))

@@ -28,7 +28,7 @@ pub struct Word<'a> {
 pub struct Cursor<'a> {
     /// The whole text.
     pub text: &'a [u8],
-    /// What is left of the line.
+    /// The part of the line that is left to read.
     pub rest: &'a [u8],
     /// The index in the text at which the line ends.
     pub end: usize,

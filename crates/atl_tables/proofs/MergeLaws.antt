@@ -153,7 +153,7 @@ module _ (n : ℕ) where
   own_last [] ys u = own_last-only ys u
   own_last (x ∷ xs) ys u = own_last-step x xs (merged xs) (merged (xs ++ n ∷ [])) (own_last xs) ys u
 
-  -- if n at the end of the second list stays at the end of each merge with xs, it does of each with x ∷ xs, for x below n
+  -- if n at the end of a second list stays last in each merge with xs, it stays last in each with x ∷ xs, for x below n
   other_last-step : (x : ℕ) (xs : List ℕ) (on : List ℕ → List ℕ) → nat_cmp x n ≡ Less → on [] ≡ xs → ((ys : List ℕ) → on (ys ++ n ∷ []) ≡ on ys ++ n ∷ []) → (ys : List ℕ) → step x xs on (ys ++ n ∷ []) ≡ step x xs on ys ++ n ∷ []
   other_last-step x xs on l e h [] =
       ap (λ k. match_ordering k (x ∷ on (n ∷ [])) (x ∷ on []) (n ∷ x ∷ xs)) l ∙ ap (λ zs. x ∷ zs) (h [] ∙ ap (λ zs. zs ++ n ∷ []) e)

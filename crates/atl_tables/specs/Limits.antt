@@ -2,18 +2,23 @@
 use Rattle.std.specs.Prelude.{ℕ, ◌^◌}
 
 -- ---- how many of each a world has at most
+-- the most terrains of a world
 abbrev pub most_terrains : ℕ
 most_terrains = 20
 
+-- the most items of a world
 abbrev pub most_items : ℕ
 most_items = 200
 
+-- the most skills of a world
 abbrev pub most_skills : ℕ
 most_skills = 100
 
+-- the most kinds of structures of a world
 abbrev pub most_kinds : ℕ
 most_kinds = 100
 
+-- the most regions of a world
 abbrev pub most_regions : ℕ
 most_regions = 10000
 

@@ -27,7 +27,7 @@ use toml::Table;
 pub struct MarketDraft {
     /// The path of its table, as `region[0].market[1]`.
     pub place: Text,
-    /// The name of the item.
+    /// The name of the item that the market trades.
     pub item: Text,
     /// Money that a unit pays the market for one, from 1 to `MOST_PRICE`.
     pub price: u32,

@@ -56,7 +56,8 @@ pub struct Terrain {
     pub money_limit: u32,
     /// The most peasants that births bring a region to, at most `MOST_AMOUNT`.
     pub peasant_limit: u32,
-    /// How much of each item of the world, by its number, a region gives in a month, each at most `MOST_AMOUNT`.
+    /// How much of each item of the world, by its number, a region gives in a month, each at most
+    /// `MOST_AMOUNT`.
     pub output: Sequence<u32>,
 }
 
@@ -79,7 +80,8 @@ pub struct Item {
     pub skill: Option<u16>,
     /// The level of that skill that making it takes, from 1 to `LAST_LEVEL`.
     pub level: u32,
-    /// The number of the item that it is made of, another one. Without one it comes out of the output of terrains.
+    /// The number of the item that this item is made of, another one. Without one, this item comes
+    /// out of the output of terrains.
     pub raw: Option<u16>,
     /// How many raw items go into one, from 1 to `MOST_RAW_COUNT`.
     pub raw_count: u32,
@@ -99,7 +101,7 @@ pub struct Skill {
 pub struct Kind {
     /// As the file writes it; no two kinds' names are equal, ignoring ASCII case.
     pub name: Text,
-    /// Whether it is a ship, else it is a building.
+    /// Whether the structure is a ship, else it is a building.
     pub ship: bool,
     /// The number of the item that it is built of.
     pub material: u16,
@@ -111,7 +113,8 @@ pub struct Kind {
     pub level: u32,
     /// The most weight of men and goods with which it sails, at most `MOST_AMOUNT`.
     pub capacity: u32,
-    /// What men times their level of sailing, of all inside together, must come to for it to sail, at most `MOST_SIZE`.
+    /// The least sum of men times their level of sailing, over all units inside, with which a ship
+    /// sails, at most `MOST_SIZE`.
     pub crew: u32,
     /// The number of the skill that is studied better inside, where there is one.
     pub helps: Option<u16>,
@@ -121,7 +124,7 @@ pub struct Kind {
 /// limits.
 #[derive(Drop, Clone, Copy, Debug)]
 pub struct Market {
-    /// The number of the item.
+    /// The number of the item that the market trades.
     pub item: u16,
     /// Money that a unit pays the market for one, from 1 to `MOST_PRICE`.
     pub price: u32,
@@ -183,7 +186,7 @@ impl RegionPlan {
 /// A whole world, as a world file without fault describes it. Its terrains, items, skills and kinds
 /// are numbered from 0 in the order of the file, its regions are stored under their own numbers.
 /// There are at most `MOST_TERRAINS`, `MOST_ITEMS`, `MOST_SKILLS`, `MOST_KINDS` and `MOST_REGIONS`
-/// of them, some region is land, and each number of one in another is of one that is there.
+/// of them. Some region is land, and each number by which one thing refers to another exists.
 /// See docs/FORMATS.md, "The world file".
 pub struct World {
     rules: Rules,
@@ -301,7 +304,7 @@ impl World {
         self.regions.get(number)
     }
 
-    /// The numbers of the regions with land, in rising order.
+    /// The numbers of the regions with land, in ascending order.
     pub fn land(&self) -> &[u32]
         ensures value { result.now ≡ land_of self.now }
         ensures world { IsWorld self.now }
