@@ -29,7 +29,7 @@ use std::alloc::{AllocError, Global};
 pub struct Entry {
     /// The number of the order's line, from 1 on over the whole text.
     pub line: u32,
-    /// The unit that is to carry it out; for FORM the parent.
+    /// The unit that is to carry out the order; for FORM the parent of the new unit.
     pub target: UnitRef,
     /// What the unit is to do.
     pub order: Order,

@@ -6,7 +6,7 @@ use atl_tables::{Direction, Sequence};
 /// See docs/RULES.md, "Reading a mailing".
 #[derive(Drop, Clone, Copy, Debug, PartialEq, Eq)]
 pub enum UnitRef {
-    /// Its number, from 1 to `MOST_NUMBER`.
+    /// The unit's number, from 1 to `MOST_NUMBER`.
     Number(u32),
     /// The alias under which the mailing forms the unit, from 1 to `LAST_ALIAS`; its FORM may come
     /// later, or not at all.

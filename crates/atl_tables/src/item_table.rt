@@ -30,7 +30,7 @@ pub struct Recipe {
     pub level: u32,
     /// The name of the item that the item is made of, where there is one.
     pub raw: Option<Text>,
-    /// How many raw items go into one, from 1 to `MOST_RAW_COUNT`; 1 where the file has none.
+    /// How many raw items one item is made of, from 1 to `MOST_RAW_COUNT`; 1 where the file has none.
     pub raw_count: u32,
 }
 
@@ -42,11 +42,11 @@ impl Drop for Recipe {
 
 /// A table `[[item]]` as read, with the skill and the raw item by name.
 pub struct ItemDraft {
-    /// As the file writes it; it keeps the rule of names.
+    /// The item's name as the file writes it; it keeps the rule of names.
     pub name: Text,
-    /// The weight of one, at most `MOST_WEIGHT`.
+    /// The weight of one item, at most `MOST_WEIGHT`.
     pub weight: u32,
-    /// The weight of goods that one carries, at most `MOST_WEIGHT`.
+    /// The weight of goods that one item carries, at most `MOST_WEIGHT`.
     pub carry: u32,
     pub making: Recipe,
 }

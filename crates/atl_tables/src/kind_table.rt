@@ -21,7 +21,7 @@ use toml::Table;
 pub struct Building {
     /// The name of the item that the structure is built of.
     pub material: Text,
-    /// How much material makes it complete, from 1 to `MOST_SIZE`.
+    /// How much material makes the structure complete, from 1 to `MOST_SIZE`.
     pub size: u32,
     /// The name of the skill that builds the structure.
     pub skill: Text,
@@ -49,7 +49,7 @@ pub struct Purpose {
 
 /// A table `[[kind]]` as read, with the material and the skills by name.
 pub struct KindDraft {
-    /// As the file writes it; it keeps the rule of names.
+    /// The kind's name as the file writes it; it keeps the rule of names.
     pub name: Text,
     /// Whether the structure is a ship, else it is a building.
     pub ship: bool,

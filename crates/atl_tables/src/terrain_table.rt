@@ -36,7 +36,7 @@ pub struct Economy {
 
 /// A table `[[terrain]]` as read, with its output by names of items.
 pub struct TerrainDraft {
-    /// As the file writes it; it keeps the rule of names.
+    /// The terrain's name as the file writes it; it keeps the rule of names.
     pub name: Text,
     /// Whether the terrain is land, else it is water.
     pub land: bool,

@@ -336,7 +336,7 @@ fn many_elements(rt: HostRuntime) -> Result<(), Fail> {
     long_texts_are(&rt, rt.alloc(), &MANY)
 }
 
-/// A world text may nest 80 deep, and not deeper.
+/// Tables, arrays, headers and dotted keys of a world text may each be 80 deep, and not deeper.
 #[test]
 fn nested_texts(rt: HostRuntime) -> Result<(), Fail> {
     long_texts_are(&rt, rt.alloc(), &NESTED)

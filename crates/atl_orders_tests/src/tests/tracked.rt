@@ -191,8 +191,8 @@ fn puts_thirds(map: &mut MarkedMap<u32>) -> Result<(), Fail> {
     Ok(())
 }
 
-/// Asserts that the marked numbers come in ascending order from 1, with or without each third, and how
-/// many there are.
+/// Asserts that the marked numbers come in ascending order from 1, with or without each third, and
+/// how many there are.
 fn count_up(rt: &impl Abort, map: &MarkedMap<u32>, thirds: bool, count: usize) {
     assert_number(rt, map.marked(), count);
     let mut wanted = 1;
