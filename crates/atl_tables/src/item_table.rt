@@ -30,7 +30,7 @@ pub struct Recipe {
     pub level: u32,
     /// The name of the item that the item is made of, where there is one.
     pub raw: Option<Text>,
-    /// How many raw items one item is made of, from 1 to `MOST_RAW_COUNT`; 1 where the file has none.
+    /// How many raw items one item is made of, from 1 to `MOST_RAW_COUNT`; 1 if the file has none.
     pub raw_count: u32,
 }
 
