@@ -130,7 +130,7 @@ module _ (world : WorldValue) where
   one_more true n effect more h k = All-nil (IsEntry world)
   one_more false n effect more h k = All-append (IsEntry world) (entry_of (n, effect)) (flat_map entry_of more) (entry_sound n effect h) k
 
-  -- the orders of all lines are in bounds, if the state before them is
+  -- the orders of all lines are in bounds, if the reader's state before the first line is
   body_sound : (lines : List (List ℕ)) (n : ℕ) (place : ReaderState) (given : ℕ → Bool) → IsStateInBounds place → All (IsEntry world) (flat_map entry_of (effects world n place given lines))
   unfolding effects
   body_sound [] n place given h = All-nil (IsEntry world)

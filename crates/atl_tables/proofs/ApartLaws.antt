@@ -147,7 +147,7 @@ module _ (m l v : RoomySet) (n : ℕ) (seen : ◌≡◌ {A = RoomySet} (record {
   in_neither : set.contains v.numbers n ≡ false → (set.contains m.numbers n ≡ false) × (set.contains l.numbers n ≡ false)
   in_neither h = neither _ _ (sym (set.contains-union nat_cmp_total m.numbers l.numbers n) ∙ ap (λ (w : RoomySet). set.contains w.numbers n) seen ∙ h)
 
-  -- if n isn't marked, and the recent ones are fewer than their room, they are within it with n put in
+  -- if n isn't marked, and the recent marks are fewer than their room, then with n put in they are within the room
   pub fits_recent : set.contains v.numbers n ≡ false → set.len l.numbers < l.room → set.len (set.insert l.numbers n) ≤ l.room
   fits_recent missing room = let more = len-new l.numbers n (in_neither missing).1 in omega (arith, more, room)
 
@@ -166,7 +166,7 @@ module _ (m l v : RoomySet) (n : ℕ) (seen : ◌≡◌ {A = RoomySet} (record {
   one_more h = none_recent (set.insert (set.union m.numbers l.numbers) n) m.room l.room
       (let size = ap (λ (w : RoomySet). set.len (set.insert w.numbers n)) seen in let room = ap (λ (w : RoomySet). w.room) seen in omega (arith, size, room, h))
 
--- marks in two sets (`AreMarks`) stay such after a number is taken out of both
+-- marks in two sets (`AreMarks`) stay marks in two sets after a number is taken out of both
 pub mark_taken : (m l : RoomySet) (n : ℕ) → AreMarks m l → AreMarks (record m { numbers = set.remove m.numbers n }) (record l { numbers = set.remove l.numbers n })
 mark_taken m l n h =
     record { apart = apart_remove m.numbers l.numbers n h.apart; fits = omega (arith, len-less m.numbers n, len-less l.numbers n, h.fits) }

@@ -56,7 +56,7 @@ module _ (n : ℕ) where
       (λ e. ap (λ b. eq_by_cmp nat_cmp n x || b) (h ys) ∙ again (eq_by_cmp nat_cmp n x) (eq_by_cmp nat_cmp n y) (has xs) (has ys) (ap (eq_by_cmp nat_cmp n) (nat_cmp-IsAntisymmetric x y e)))
       (λ _. ap (λ b. eq_by_cmp nat_cmp n y || b) (has-step x xs on h ys) ∙ swapped (eq_by_cmp nat_cmp n y) (has (x ∷ xs)) (has ys))
 
-  -- n is in two merged lists exactly if it is in one of them
+  -- n is in the merge of two lists exactly if n is in one of the lists
   has-merged : (xs ys : List ℕ) → has (merged xs ys) ≡ (has xs || has ys)
   has-merged [] ys = refl
   has-merged (x ∷ xs) ys = has-step x xs (merged xs) (has-merged xs) ys
@@ -169,7 +169,7 @@ all_under : (xs : List ℕ) (n : ℕ) → ((k : ℕ) → k < length xs → get_o
 all_under [] n h = tt
 all_under (x ∷ xs) n h = (sym (nat_cmp_is x n Less (h 0 (omega arith))), all_under xs n (λ k l. h (suc k) (omega (arith, l))))
 
--- the first `count` numbers of a sorted list are less than n, if the last of them is
+-- the first `count` numbers of a sorted list are less than n, if the last of these numbers is less than n
 pub under_last : (xs : List ℕ) (count n : ℕ) → IsRising xs → count ≤ length xs → (0 < count → get_or xs (count - 1) 0 < n) → Under (take count xs) n
 under_last xs count n s l h = all_under (take count xs) n (λ k m.
     let within : k < count = omega (arith, m, length-take-le count xs l) in

@@ -21,7 +21,7 @@ module _ (m n : FinMap nat_cmp RegionPlan) where
   same_entries same = sym (entries-mapped without_market m) ∙ ap entries same ∙ entries-mapped without_market n
 
 module _ (k n : ℕ) (p q : RegionPlan) (es fs : List (ℕ × RegionPlan)) where
-  -- if two lists of entries are equal but for markets, so are their rests
+  -- if two lists of entries are equal but for markets, their rests are equal but for markets
   pub same_rest : bare ((k, p) ∷ es) ≡ bare ((n, q) ∷ fs) → bare es ≡ bare fs
   same_rest same = cc
 

@@ -65,14 +65,14 @@ both_hold : (a b : Bool) → a ≡ false → b ≡ true → (not a && b) ≡ tru
 both_hold true b e h = absurd (false≢true (sym e))
 both_hold false b e h = h
 
--- counts m and n, each less one if its test holds, are in order; then so are m and n
+-- m is at most n, if it is with one less of each whose test holds, and the test of m implies the test of n
 less_step : (a b : Bool) (m n : ℕ) → (a ≡ true → b ≡ true) → (b ≡ true → 1 ≤ n) → cond a (m - 1) m ≤ cond b (n - 1) n → m ≤ n
 less_step true true m n f g h = let l : 1 ≤ n = g refl in omega arith
 less_step true false m n f g h = absurd (false≢true (f refl))
 less_step false true m n f g h = omega arith
 less_step false false m n f g h = h
 
--- a set has no more numbers than one that has all of them, where a list has all of the first
+-- if a set t has all numbers of a set s, then s has no more numbers than t, where a list has all numbers of s
 fewer : (ks : List ℕ) (s t : set.FinSet nat_cmp) → ((q : ℕ) → set.contains s q ≡ true → list_any (eq_by_cmp nat_cmp q) ks ≡ true) → ((q : ℕ) → set.contains s q ≡ true → set.contains t q ≡ true) → set.len s ≤ set.len t
 fewer [] s t all h =
     let none : s ≡ set.empty = same s set.empty (λ q. false_from_ne_true _ (λ e. false≢true (all q e)) ∙ sym (set.contains-empty nat_cmp q)) in
@@ -87,7 +87,7 @@ fewer (k ∷ ks) s t all h =
     (λ q e. set.contains-remove nat_cmp_total t k q ∙ both_hold _ _ (other q e) (h q (was q e))) in
     less_step (set.contains s k) (set.contains t k) (set.len s) (set.len t) (h k) (some (set.len t) t k refl) (rw (set.len-remove nat_cmp_total s k, set.len-remove nat_cmp_total t k) at rest)
 
--- a set has no more numbers than one that has all of them
+-- if a set t has all numbers of a set s, then s has no more numbers than t
 pub len-within : (s t : set.FinSet nat_cmp) → ((q : ℕ) → set.contains s q ≡ true → set.contains t q ≡ true) → set.len s ≤ set.len t
 len-within s t h = fewer (set.items s) s t (λ q e. sym (set.contains-items s q) ∙ e) h
 

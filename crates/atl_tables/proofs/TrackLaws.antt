@@ -45,7 +45,7 @@ module _ {V : Type 0} where
       ∙ at n q (λ b. ((b || set.contains m q) || is_some (get v q)) ≡ (set.contains m q || is_some (get v q))) (λ e. sym (there v m n q h e)) refl
       ∙ sym (contains-held v m q))
 
-  -- a value taken out, and marked, leaves the numbers with a value or a mark as they were
+  -- if n has a value, to take it out and mark n leaves the set of numbers with a value or a mark as it was
   pub held-removed : (v : FinMap nat_cmp V) (m : set.FinSet nat_cmp) (n : ℕ) → is_some (get v n) ≡ true → held (remove v n) (set.insert m n) ≡ held v m
   held-removed v m n h = same _ _ (λ q.
       contains-held (remove v n) (set.insert m n) q ∙ ap (λ b. b || is_some (get (remove v n) q)) (set.contains-insert nat_cmp_total m n q)
@@ -53,7 +53,7 @@ module _ {V : Type 0} where
       ∙ at n q (λ b. ((b || set.contains m q) || is_some (cond b None (get v q))) ≡ (set.contains m q || is_some (get v q))) (λ e. sym (there v m n q h e)) refl
       ∙ sym (contains-held v m q))
 
-  -- a value put in for another, and marked, leaves the numbers with a value or a mark as they were
+  -- if n has a value, to replace it and mark n leaves the set of numbers with a value or a mark as it was
   pub held-lent : (v : FinMap nat_cmp V) (m : set.FinSet nat_cmp) (n : ℕ) (x : V) → is_some (get v n) ≡ true → held (insert v n x) (set.insert m n) ≡ held v m
   held-lent v m n x h = same _ _ (λ q.
       contains-held (insert v n x) (set.insert m n) q ∙ ap (λ b. b || is_some (get (insert v n x) q)) (set.contains-insert nat_cmp_total m n q)
@@ -61,7 +61,7 @@ module _ {V : Type 0} where
       ∙ at n q (λ b. ((b || set.contains m q) || is_some (cond b (Some x) (get v q))) ≡ (set.contains m q || is_some (get v q))) (λ e. sym (there v m n q h e)) refl
       ∙ sym (contains-held v m q))
 
-  -- all values taken out, and marked, leave the numbers with a value or a mark as they were
+  -- to take out all values and mark their numbers leaves the set of numbers with a value or a mark as it was
   pub held-cleared : (v : FinMap nat_cmp V) (m : set.FinSet nat_cmp) → held (empty {X = V} {R = nat_cmp}) (held v m) ≡ held v m
   held-cleared v m = same _ _ (λ q. contains-held empty (held v m) q ∙ ap (λ o. set.contains (held v m) q || is_some o) (get-empty {X = V} nat_cmp q) ∙ nothing_more (set.contains (held v m) q))
     where
@@ -171,7 +171,7 @@ module _ {V : Type 0} where
       ∙ same_parts _ _ _ _ (taken_back c.values n x fresh) (insert_twice (set.insert c.marks n) n (contains_inserted c.marks n) ∙ insert_twice c.marks n h)
   undone c n x false fresh h = same_parts _ _ _ _ (taken_back c.values n x fresh) (insert_undone c.marks n h)
 
-  -- a new value, put in and taken out again, leaves values and marks as they were
+  -- a value put in under a number without one, and taken out again, leaves values and marks as they were
   pub taken_out-undone : (c : MarkedMapValue V) (n : ℕ) (x : V) → get c.values n ≡ None → taken_out (with_value c n x) n (set.contains c.marks n) ≡ c
   taken_out-undone c n x fresh = undone c n x (set.contains c.marks n) fresh refl
 

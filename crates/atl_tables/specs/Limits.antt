@@ -26,7 +26,7 @@ most_regions = 10000
 abbrev pub most_markets : ℕ
 most_markets = 200
 
--- how many numbers of 16 bits there are: terrains, items, skills and kinds are each numbered in them from 0
+-- how many numbers of 16 bits there are; terrains, items, skills and kinds each have such numbers, from 0 on
 abbrev pub most_numbered : ℕ
 most_numbered = 2 ^ 16
 

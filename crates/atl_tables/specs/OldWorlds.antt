@@ -1,4 +1,4 @@
--- A law of worlds of the first format: they have no markets.
+-- The law that worlds of the first format have no markets.
 use Rattle.std.specs.Prelude.{◌≡◌, ℕ, List, Ok}
 use Rattle.atl_tables.specs.World.{old_world_of}
 use Rattle.atl_tables.specs.Worlds.{WorldValue, without_markets}

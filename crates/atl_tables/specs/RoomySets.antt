@@ -1,4 +1,4 @@
--- Sets of marked numbers, with the room that they have.
+-- Sets of marked numbers with room: how many numbers each can hold without taking memory.
 use Rattle.std.specs.Prelude.{◌≤◌, ℕ, refl}
 use Rattle.std.specs.Ordering.{nat_cmp}
 use Rattle.std.specs.Coded.{Coded, code_by, coded×, coded_ℕ}
