@@ -1,4 +1,4 @@
--- Readings of mailings keep the bounds of orders.
+-- Every mailing that is read has its faction, its orders and its line numbers in bounds.
 use Rattle.std.proofs.Common.{◌≡◌, ℕ, ◌+◌, ◌<◌, Bool, true, false, cond, List, [], ◌∷◌, ◌++◌, length, codes, Option, Some, None, Result, Ok, Err, nat_lt, refl, subst, arith}
 use Rattle.std.specs.List.{All, list_all, flat_map}
 use Rattle.std.proofs.lemmas.List.Elements.{All-nil, All-cons, All-append}
@@ -79,7 +79,7 @@ module _ (world : WorldValue) (given : ℕ → Bool) where
   forming_sound (Forming parent alias) ws h = (tt, h)
   forming_sound (Skipping parent) ws h = (tt, h)
 
-  -- the effect of an order for a unit is in bounds, if both are
+  -- the effect of an order for a unit is in bounds, if the order and the unit are
   for_unit : (unit : UnitRef) (r : Result OrderValue LineFault) → IsUnitRef unit → Sound world r → IsEffect world (effect_for unit r)
   for_unit unit (Ok order_value) h k = (h, k)
   for_unit unit (Err fault) h k = tt
@@ -116,7 +116,7 @@ module _ (world : WorldValue) (given : ℕ → Bool) where
   unfolding line_step
   line_sound place line h = tested_sound (list_all is_plain line) place (words line) h
 
--- ---- the whole
+-- ---- all lines, the header, and the whole text
 
 module _ (world : WorldValue) where
   -- the order of an effect in bounds is in bounds
@@ -130,7 +130,7 @@ module _ (world : WorldValue) where
   one_more true n effect more h k = All-nil (IsEntry world)
   one_more false n effect more h k = All-append (IsEntry world) (entry_of (n, effect)) (flat_map entry_of more) (entry_sound n effect h) k
 
-  -- the orders of all lines are in bounds, if the state before them is
+  -- the orders of all lines are in bounds, if the reader's state before the first line is
   body_sound : (lines : List (List ℕ)) (n : ℕ) (place : ReaderState) (given : ℕ → Bool) → IsStateInBounds place → All (IsEntry world) (flat_map entry_of (effects world n place given lines))
   unfolding effects
   body_sound [] n place given h = All-nil (IsEntry world)
@@ -139,18 +139,18 @@ module _ (world : WorldValue) where
       let sound = line_sound world given place line h in
       one_more (begins (codes "#END") (words line)) n s.effect (effects world (n + 1) s.place s.given rest) sound.0 (body_sound rest (n + 1) s.place s.given sound.1)
 
--- the order of line n comes before those of later lines
+-- the line numbers of orders stay strictly ascending with the order of line n in front of those of later lines
 rise_step : (world : WorldValue) (n m : ℕ) (effect : Effect) (rest : List EntryValue) → m < n → ((k : ℕ) → k < n + 1 → LinesRise k rest) → LinesRise m (entry_of (n, effect) ++ rest)
 rise_step world n m nothing rest h k = k m (omega arith)
 rise_step world n m (faulty fault) rest h k = k m (omega arith)
 rise_step world n m (says unit order_value) rest h k = (h, k n (omega arith))
 
--- the lines of orders rise, whether line n is `#END` or not
+-- the line numbers of orders are strictly ascending, whether line n is `#END` or not
 rise_test : (world : WorldValue) (t : Bool) (n m : ℕ) (effect : Effect) (more : List (ℕ × Effect)) → m < n → ((k : ℕ) → k < n + 1 → LinesRise k (flat_map entry_of more)) → LinesRise m (flat_map entry_of (cond t [] ((n, effect) ∷ more)))
 rise_test world true n m effect more h k = tt
 rise_test world false n m effect more h k = rise_step world n m effect (flat_map entry_of more) h k
 
--- the lines of the orders of all lines from n on rise, and are above each lesser m
+-- the line numbers of the orders of lines from n on are strictly ascending, and above each m below n
 body_rises : (world : WorldValue) (lines : List (List ℕ)) (n m : ℕ) (place : ReaderState) (given : ℕ → Bool) → m < n → LinesRise m (flat_map entry_of (effects world n place given lines))
 unfolding effects
 body_rises world [] n m place given h = tt
@@ -158,7 +158,7 @@ body_rises world (line ∷ rest) n m place given h =
     let s = line_step world place given line in
     rise_test world (begins (codes "#END") (words line)) n m s.effect (effects world (n + 1) s.place s.given rest) h (λ k l. body_rises world rest (n + 1) k s.place s.given l)
 
--- P holds of the value of a result; of a fault nothing is said
+-- P holds of the value of a result; a fault has no condition
 abbrev HoldsOf : {X : Type 0} → (X → Type 0) → Result X MailFault → Type 0
 HoldsOf P (Ok x) = P x
 HoldsOf P (Err e) = Unit {0}
@@ -173,12 +173,12 @@ faction_within [] n h = cc
 faction_within (w ∷ []) n h = cc
 faction_within (w ∷ v ∷ ws) n h = from_one last_faction (number_of last_faction v.bytes) n (number_within last_faction v.bytes) h
 
--- what a header line gives is in bounds, if its faction is
+-- what a header line gives is in bounds, if the faction that it names is
 line_headed : (n : ℕ) (rest : List (List ℕ)) (f : Option ℕ) → ((k : ℕ) → f ≡ Some k → IsWithin last_faction k) → HoldsOf IsHeaded (header_line n rest f)
 line_headed n rest None h = tt
 line_headed n rest (Some k) h = (h k refl, omega arith)
 
--- what a choice of two results gives is in bounds, if both are
+-- what a choice of two results gives is in bounds, if both results are
 test_headed : (t : Bool) (a b : Result HeaderValue MailFault) → HoldsOf IsHeaded a → HoldsOf IsHeaded b → HoldsOf IsHeaded (cond t a b)
 test_headed true a b h k = h
 test_headed false a b h k = k
@@ -189,21 +189,21 @@ unfolding header_from
 header_sound [] n = tt
 header_sound (line ∷ rest) n = test_headed (begins (codes "#ATLANTIS") (words line)) _ _ (line_headed n rest (faction_of (words line)) (faction_within (words line))) (header_sound rest (n + 1))
 
--- the reading of the lines after a header keeps the bounds, if the header does
+-- what the lines after a header give is in bounds, if the header is
 behind_sound : (world : WorldValue) (r : Result HeaderValue MailFault) → HoldsOf IsHeaded r → HoldsOf (IsReading world) (after_header world r)
 behind_sound world (Err fault) h = tt
 behind_sound world (Ok head) h = record { faction = h.0; entries = body_sound world head.rest head.next Nowhere no_alias tt; lines = body_rises world head.rest head.next 0 Nowhere no_alias h.1 }
 
--- a reading keeps the bounds, whether the text is too long or not
+-- what is read is in bounds, whether the text is too long or not
 test_sound : (world : WorldValue) (t : Bool) (r : Result Reading MailFault) → HoldsOf (IsReading world) r → HoldsOf (IsReading world) (cond t (Err TooLong) r)
 test_sound world true r h = tt
 test_sound world false r h = h
 
--- the reading of a text keeps the bounds, if it has no fault
+-- what a text gives is in bounds, if it is no fault
 reading_sound : (world : WorldValue) (text : List ℕ) → HoldsOf (IsReading world) (reading world text)
 unfolding reading
 reading_sound world text = test_sound world (nat_lt most_bytes (length text)) _ (behind_sound world (header_from 1 (lines text)) (header_sound (lines text) 1))
 
--- every reading of a text keeps the bounds
+-- everything that a text gives is in bounds: faction, orders and line numbers
 pub readings_keep_bounds : ReadingsKeepBounds
 readings_keep_bounds world text r e = subst (HoldsOf (IsReading world)) e (reading_sound world text)

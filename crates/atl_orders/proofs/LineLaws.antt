@@ -16,7 +16,7 @@ feed_step false b bs m h rest =
     let two : 1 + m + 1 ≡ suc (m + 1) = omega arith in
     ap (with_front b) (rest (omega arith)) ∙ sym (rw (two, one) refl)
 
--- a text with a line feed is split into what is before it and the pieces of what follows
+-- a text with a line feed is split into the bytes before the feed and the pieces of the text after it
 pub pieces-feed : (text : List ℕ) → position_or_len is_feed text < length text → pieces text ≡ take (position_or_len is_feed text) text ∷ pieces (drop (position_or_len is_feed text + 1) text)
 unfolding pieces
 pieces-feed [] h = absurd (omega arith)
@@ -33,7 +33,7 @@ unfolding pieces
 pieces-last [] h = refl
 pieces-last (b ∷ bs) h = last_step (is_feed b) b bs (position_or_len is_feed bs) h (pieces-last bs)
 
--- the lines of a text with a line feed are the one before it and those of what follows
+-- the lines of a text with a line feed are the line before the feed and the lines of the text after it
 pub lines-feed : (text : List ℕ) → position_or_len is_feed text < length text → lines text ≡ without_return (take (position_or_len is_feed text) text) ∷ lines (drop (position_or_len is_feed text + 1) text)
 lines-feed text h = ap (map without_return) (pieces-feed text h)
 
@@ -73,7 +73,7 @@ take_front text n = record { back = drop n text; whole = sym (take-append-drop n
 pub front_further : (text mid front : List ℕ) → StartsWith text mid → StartsWith mid front → StartsWith text front
 front_further text mid front a b = record { back = b.back ++ a.back; whole = a.whole ∙ ap (λ l. l ++ a.back) b.whole ∙ append_assoc front b.back a.back }
 
--- a line that starts the rest of a text ends at this index of the text
+-- a line with which the rest `left` of a text starts ends at the index by the lengths of text, rest and line
 pub line_place : (text left line : List ℕ) → EndsWith text left → StartsWith left line → EndsAt text (length text - length left + length line) line
 line_place text left line e s =
     let a : length text ≡ length e.front + length left = ap length e.whole ∙ length-append e.front left in
@@ -84,7 +84,7 @@ line_place text left line e s =
 pub starts_shorter : (text front : List ℕ) → StartsWith text front → length front ≤ length text
 starts_shorter text front s = omega (arith, ap length s.whole, length-append front s.back)
 
--- the rest of a rest of a text is at its end
+-- if a text ends with `left`, and `left` with `rest`, the text ends with `rest`
 pub rest_further : (text left : List ℕ) (rest : Option (List ℕ)) → EndsWith text left → IfSome rest (EndsWith left) → IfSome rest (EndsWith text)
 rest_further text left None e r = tt
 rest_further text left (Some rest) e r = ends_further text left rest e r

@@ -1,4 +1,4 @@
--- An order that is read keeps its bounds.
+-- Every order that is read is in bounds: numbers in range, names by the rule, and things of the world.
 use Rattle.std.proofs.Common.{◌≡◌, ℕ, ◌<◌, ◌≤◌, ◌&&◌, Bool, true, false, cond, eqb, List, [], ◌∷◌, length, codes, Option, Some, None, Result, Ok, Err, nat_le, nat_lt, refl, arith}
 use Rattle.std.specs.List.{All, list_all}
 use Rattle.std.specs.Char.{is_ascii_digit}
@@ -26,27 +26,27 @@ use Rattle.atl_orders.specs.Verbs.{row_of}
 use Rattle.atl_orders.specs.Orders.{OperandsValue, OrderValue, kind_of_name, read_alias, read_flag, read_number, read_unit, read_units, read_unit_and_number, read_unit_and_goods, read_goods, read_name, read_direction, read_kind, read_skill, read_item, read_operands, said_by}
 use Rattle.atl_orders.specs.Bounds.{IsWithin, IsNumber, IsAlias, IsUnitRef, AreOperandsOf, IsOrderOf}
 
--- P holds of the value of a result; of a fault nothing is said
+-- P holds of the value of a result; a fault has no condition
 abbrev pub Holds : {X : Type 0} → (X → Type 0) → Result X LineFault → Type 0
 Holds P (Ok x) = P x
 Holds P (Err e) = Unit {0}
 
--- what holds of each next step's value holds of the value of both steps
+-- if P holds of the first step's value, and Q of the next step's after it, Q holds of the value of both steps
 after : {A B : Type 0} (P : A → Type 0) (Q : B → Type 0) (r : Result A LineFault) (f : A → Result B LineFault) → Holds P r → ((x : A) → P x → Holds Q (f x)) → Holds Q (r >>= f)
 after P Q (Ok x) f h g = g x h
 after P Q (Err e) f h g = tt
 
--- what holds of a value that is there holds of it where a fault is given otherwise
+-- if P holds of an option's value, P holds of the result that is this value, or a fault without it
 found : {X : Type 0} (P : X → Type 0) (fault : LineFault) (o : Option X) → ((x : X) → o ≡ Some x → P x) → Holds P (or_fault fault o)
 found P fault None g = tt
 found P fault (Some x) g = g x refl
 
--- what holds of two results holds of a choice of them
+-- if P holds of two results, P holds of a choice of them
 either : {X : Type 0} (P : X → Type 0) (t : Bool) (a b : Result X LineFault) → Holds P a → Holds P b → Holds P (cond t a b)
 either P true a b h k = h
 either P false a b h k = k
 
--- of every result something trivial holds
+-- the condition that always holds is true of every result
 anything : {X : Type 0} (r : Result X LineFault) → Holds (λ _. Unit {0}) r
 anything (Ok x) = tt
 anything (Err e) = tt

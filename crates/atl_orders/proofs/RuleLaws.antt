@@ -1,4 +1,5 @@
--- What the function gives for a line, and for all lines after a header, is what the rules give, and nothing else.
+-- The functions for one line (`line_step`) and for all lines after a header (`effects`) give what the rules allow, and
+-- the rules allow nothing else.
 use Rattle.std.proofs.Common.{◌≡◌, ℕ, ◌+◌, ◌++◌, Bool, true, false, cond, List, [], ◌∷◌, codes, Option, Some, None, Result, Ok, Err, refl, ap, ◌∙◌}
 use Rattle.std.specs.List.{list_all, flat_map}
 use Rattle.atl_tables.specs.Worlds.{WorldValue}
@@ -22,16 +23,16 @@ use Rattle.atl_orders.specs.Rules.{step, outer, WordsSay, unit_named, unit_fault
 abbrev Counted : Type 0
 Counted = Result (ℕ × List WordText) LineFault
 
--- ---- what the function gives fits the rules
+-- ---- the rules allow what the function gives
 
 module _ (world : WorldValue) (given : ℕ → Bool) (w : WordText) (ws : List WordText) where
-  -- the step of a UNIT line fits a rule
+  -- the rules allow the step that the function gives a UNIT line
   unit_fits : (place : ReaderState) (r : Counted) → keyword_of w ≡ Some keywords.Unit → number_at ws ≡ r → WordsSay world place given w ws (unit_step given r)
   unfolding unit_step
   unit_fits place (Ok n) k h = unit_named k n.0 n.1 h refl
   unit_fits place (Err fault) k h = unit_faulty k fault h refl
 
-  -- the step of an END line fits a rule
+  -- the rules allow the step that the function gives an END line
   end_fits : (place : ReaderState) → keyword_of w ≡ Some keywords.End → WordsSay world place given w ws (end_step place given)
   unfolding end_step
   end_fits Nowhere k = end_alone k refl refl
@@ -39,19 +40,19 @@ module _ (world : WorldValue) (given : ℕ → Bool) (w : WordText) (ws : List W
   end_fits (Forming parent alias) k = block_closed k (At parent) refl refl
   end_fits (Skipping parent) k = block_closed k _ refl refl
 
-  -- the step of a FORM line with an alias fits a rule, whether the alias was given before or not
+  -- the rules allow the function's step of a FORM line with an alias, whether the alias was given before or not
   given_fits : (n : ℕ) (alias : ℕ) (rest : List WordText) (t : Bool) → keyword_of w ≡ Some keywords.Form → alias_at ws ≡ Ok (alias, rest) → given alias ≡ t → WordsSay world (At n) given w ws (block_step n given (Ok (alias, rest)))
   unfolding block_step
   given_fits n alias rest true k h g = rw g (form_again k n refl alias rest h g refl)
   given_fits n alias rest false k h g = rw g (form_new k n refl alias rest h g refl)
 
-  -- the step of a FORM line outside of blocks fits a rule
+  -- the rules allow the step that the function gives a FORM line outside of blocks
   block_fits : (n : ℕ) (r : Counted) → keyword_of w ≡ Some keywords.Form → alias_at ws ≡ r → WordsSay world (At n) given w ws (block_step n given r)
   unfolding block_step
   block_fits n (Ok a) k h = given_fits n a.0 a.1 (given a.0) k h refl
   block_fits n (Err fault) k h = form_faulty k n refl fault h refl
 
-  -- the step of a FORM line fits a rule
+  -- the rules allow the step that the function gives a FORM line
   form_fits : (place : ReaderState) → keyword_of w ≡ Some keywords.Form → WordsSay world place given w ws (form_step place given ws)
   unfolding form_step
   form_fits Nowhere k = form_nowhere k refl refl
@@ -59,13 +60,13 @@ module _ (world : WorldValue) (given : ℕ → Bool) (w : WordText) (ws : List W
   form_fits (Forming parent alias) k = form_nested k (At parent) refl refl
   form_fits (Skipping parent) k = form_nested k _ refl refl
 
-  -- the step of an order's line fits a rule
+  -- the rules allow the step that the function gives an order's line
   order_fits : (place : ReaderState) (verb : Verb) (t : Option UnitRef) (r : Result OrderValue LineFault) → keyword_of w ≡ Some (keywords.Order verb) → target place ≡ t → said_by world verb ws ≡ r → WordsSay world place given w ws (step (order_effect t r) place given)
   order_fits place verb None r k h e = order_nowhere verb k h refl
   order_fits place verb (Some unit) (Ok order_value) k h e = order_said verb k unit h order_value e refl
   order_fits place verb (Some unit) (Err fault) k h e = order_faulty verb k unit h fault e refl
 
-  -- the step of a line by its keyword fits a rule
+  -- the rules allow the step that the function gives a line by its keyword
   words_fit : (place : ReaderState) (k : Option Keyword) → keyword_of w ≡ k → WordsSay world place given w ws (keyword_step world place given k ws)
   unfolding keyword_step
   words_fit place None h = unknown h refl
@@ -74,19 +75,19 @@ module _ (world : WorldValue) (given : ℕ → Bool) (w : WordText) (ws : List W
   words_fit place (Some keywords.Form) h = form_fits place h
   words_fit place (Some (keywords.Order verb)) h = order_fits place verb (target place) (said_by world verb ws) h refl refl
 
--- the step of a line fits a rule, whether its bytes are allowed or not
+-- the rules allow the step that the function gives a line, whether its bytes are allowed or not
 tested_fits : (t : Bool) (l : List WordText) (world : WorldValue) (place : ReaderState) (given : ℕ → Bool) (line : List ℕ) → list_all is_plain line ≡ t → words line ≡ l → LineSays world place given line (cond t (words_step world place given l) (step (faulty BadByte) place given))
 unfolding words_step
 tested_fits false l world place given line a b = bad_byte a refl
 tested_fits true [] world place given line a b = no_word a b refl
 tested_fits true (w ∷ ws) world place given line a b = some_words a w ws b (words_fit world given w ws place (keyword_of w) refl)
 
--- the step of a line by the function fits a rule
+-- the rules allow the step that the function `line_step` gives a line
 pub line_fits : (world : WorldValue) (place : ReaderState) (given : ℕ → Bool) (line : List ℕ) → LineSays world place given line (line_step world place given line)
 unfolding line_step
 line_fits world place given line = tested_fits (list_all is_plain line) (words line) world place given line refl refl
 
--- ---- and nothing else does
+-- ---- the rules allow nothing else
 
 module _ (given : ℕ → Bool) where
   -- the rule for END in a block gives what the function gives
@@ -113,7 +114,7 @@ module _ (given : ℕ → Bool) where
   nested (Forming parent alias) out ws h = refl
   nested (Skipping parent) out ws h = refl
 
--- a step that fits a rule for words is the one that the function gives
+-- a step that the rules for words allow is the one that the function gives
 words_only : (world : WorldValue) (place : ReaderState) (given : ℕ → Bool) (w : WordText) (ws : List WordText) (s : LineStep) → WordsSay world place given w ws s → s ≡ keyword_step world place given (keyword_of w) ws
 unfolding keyword_step unit_step form_step block_step
 words_only world place given w ws s (unit_named k n rest h e) = rw (k, h) e
@@ -130,7 +131,7 @@ words_only world place given w ws s (order_faulty verb k unit t fault h e) = rw 
 words_only world place given w ws s (order_said verb k unit t order_value h e) = rw (k, t, h) e
 words_only world place given w ws s (unknown k e) = rw k e
 
--- a step that fits a rule for a line is the one that the function gives
+-- a step that the rules for a line allow is the one that the function gives
 pub line_only : (world : WorldValue) (place : ReaderState) (given : ℕ → Bool) (line : List ℕ) (s : LineStep) → LineSays world place given line s → s ≡ line_step world place given line
 unfolding line_step words_step
 line_only world place given line s (bad_byte a e) = rw a e
@@ -139,14 +140,14 @@ line_only world place given line s (some_words a w ws b r) = rw (a, b) (words_on
 
 -- ---- all lines
 
--- one more line fits the rules for lines, whether it is `#END` or not
+-- the rules for lines allow what the function gives for one line and the rest, whether the line is `#END` or not
 body_test : (t : Bool) (world : WorldValue) (n : ℕ) (place : ReaderState) (given : ℕ → Bool) (line : List ℕ) (rest : List (List ℕ)) (s : LineStep) (more : List (ℕ × Effect)) → begins (codes "#END") (words line) ≡ t → LineSays world place given line s
     → BodySays world (n + 1) s.place s.given rest (flat_map entry_of more) (flat_map fault_of more)
     → BodySays world n place given (line ∷ rest) (flat_map entry_of (cond t [] ((n, s.effect) ∷ more))) (flat_map fault_of (cond t [] ((n, s.effect) ∷ more)))
 body_test true world n place given line rest s more h r b = orders_ended n place given line rest h
 body_test false world n place given line rest s more h r b = one_line n place given line rest h s r _ _ b
 
--- the orders and faults of lines by the function fit the rules
+-- the rules for lines allow the orders and faults that the function gives
 pub body_fits : (world : WorldValue) (n : ℕ) (place : ReaderState) (given : ℕ → Bool) (lines : List (List ℕ)) → BodySays world n place given lines (entries_from world n place given lines) (faults_from world n place given lines)
 unfolding effects
 body_fits world n place given [] = text_ended n place given
@@ -154,7 +155,7 @@ body_fits world n place given (line ∷ rest) =
     let s = line_step world place given line in
     body_test (begins (codes "#END") (words line)) world n place given line rest s _ refl (line_fits world place given line) (body_fits world (n + 1) s.place s.given rest)
 
--- orders and faults of lines that fit the rules are those by the function
+-- orders and faulty lines that the rules allow for lines are those that the function gives
 only_body : (world : WorldValue) {n : ℕ} {place : ReaderState} {given : ℕ → Bool} {lines : List (List ℕ)} {entries : List EntryValue} {faults : List FaultyLine} → BodySays world n place given lines entries faults → (entries ≡ entries_from world n place given lines) × (faults ≡ faults_from world n place given lines)
 unfolding effects
 only_body world (text_ended n place given) = (refl, refl)
@@ -164,6 +165,6 @@ only_body world (one_line n place given line rest h s r entries faults b) =
     let more = only_body world b in
     rw (h, ← e) (ap (λ l. entry_of (n, s.effect) ++ l) more.0, ap (λ l. fault_of (n, s.effect) ++ l) more.1)
 
--- orders and faults of lines that fit the rules are those by the function
+-- orders and faulty lines that the rules allow for lines are those that the function gives
 pub body_only : (world : WorldValue) (n : ℕ) (place : ReaderState) (given : ℕ → Bool) (lines : List (List ℕ)) (entries : List EntryValue) (faults : List FaultyLine) → BodySays world n place given lines entries faults → (entries ≡ entries_from world n place given lines) × (faults ≡ faults_from world n place given lines)
 body_only world n place given lines entries faults b = only_body world b

@@ -8,7 +8,7 @@ use Rattle.atl_orders.specs.declared.fault.MailFault.TheVariants.{TooLong}
 use Rattle.atl_orders.specs.Lines.{lines}
 use Rattle.atl_orders.specs.Mailing.{HeaderValue, header_from, Reading, after_header, reading, IsMailingOf}
 
--- two readings are the same, if they are as results
+-- two readings a and b are equal, if Ok a and Ok b are
 one_reading : (a b : Reading) → ◌≡◌ {A = Result Reading MailFault} (Ok a) (Ok b) → a ≡ b
 one_reading a b e = cc
 
@@ -18,7 +18,7 @@ module _ (world : WorldValue) (text : List ℕ) (r : Reading) where
   sent (Ok h) is short e = record { short = short; header = (h.next, h.rest, is ∙ ap (λ n. Ok (record { faction = n; next = h.next; rest = h.rest })) (ap (λ (x : Reading). x.faction) (one_reading _ r e))) }
   sent (Err fault) is short e = cc
 
-  -- a text that is read is a mailing of its faction, by whether it is too long
+  -- a text that is read is a mailing of the faction that its header names, by the test whether it is too long
   tested : (long : Bool) → nat_lt most_bytes (length text) ≡ long → cond long (Err TooLong) (after_header world (header_from 1 (lines text))) ≡ Ok r → IsMailingOf r.faction text
   tested true is e = cc
   tested false is e = sent (header_from 1 (lines text)) refl (grind (arith, nat_tests)) e

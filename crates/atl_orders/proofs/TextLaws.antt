@@ -1,4 +1,4 @@
--- The reading of a whole text by the function is what the rules give, and nothing else.
+-- The function `reading` gives for a whole text what the rules allow, and the rules allow nothing else.
 use Rattle.std.proofs.Common.{◌≡◌, ℕ, suc, ◌+◌, ◌<◌, ◌≤◌, ◌++◌, Bool, true, false, cond, List, [], ◌∷◌, length, Option, Some, None, Result, Err, nat_lt, refl, sym, ap, ◌∙◌, arith}
 use Rattle.std.proofs.lemmas.Bool.Decides.{nat_tests}
 use Rattle.std.proofs.lemmas.List.Elements.{All-nil, All-cons, All-head, All-tail}
@@ -20,7 +20,8 @@ IsOutside line = is_header line ≡ false
 
 -- ---- the first header of lines
 
--- lines from the number n on have no header, or a first one, and the function gives what it gives
+-- lines from the number n on have no header, and `header_from` gives NoHeader; or they have a first header, and
+-- `header_from` gives what this header gives
 data Found (n : ℕ) (all : List (List ℕ)) : Type 0 where
   none : HaveNoHeader all → header_from n all ≡ Err NoHeader → Found n all
   one : (before : List (List ℕ)) (header : List ℕ) (behind : List (List ℕ)) → HaveHeader all before header behind
@@ -30,11 +31,11 @@ data Found (n : ℕ) (all : List (List ℕ)) : Type 0 where
 later : (n k : ℕ) → k + (n + 1) ≡ suc k + n
 later n k = omega arith
 
--- the number of the first line
+-- the number n of the first line, with none before it
 from_none : (n : ℕ) → 0 + n ≡ n
 from_none n = omega arith
 
--- a line that is no header, in front of lines, leaves their first header the first
+-- if a line that is no header is put in front of lines, their first header stays the first
 more : (n : ℕ) (line : List ℕ) (rest : List (List ℕ)) → IsOutside line → header_from n (line ∷ rest) ≡ header_from (n + 1) rest → Found (n + 1) rest → Found n (line ∷ rest)
 more n line rest h e (none a f) = none (All-cons IsOutside line rest h a) (e ∙ f)
 more n line rest h e (one before header behind is f) =
@@ -46,7 +47,7 @@ tested : (t : Bool) (n : ℕ) (line : List ℕ) (rest : List (List ℕ)) → is_
 tested true n line rest h e f = one [] line rest (record { whole = refl; leads = h; first = All-nil IsOutside }) (e ∙ ap (λ k. header_line k rest (faction_of (words line))) (sym (from_none n)))
 tested false n line rest h e f = more n line rest h e f
 
--- lines have no header, or a first one
+-- lines have no header or a first one, and `header_from` gives NoHeader or what the header gives
 found : (n : ℕ) (all : List (List ℕ)) → Found n all
 unfolding header_from
 found n [] = none (All-nil IsOutside) refl
@@ -71,32 +72,32 @@ numbered : (k : ℕ) → k + 1 + 1 ≡ k + 2
 numbered k = omega arith
 
 module _ (world : WorldValue) (text : List ℕ) where
-  -- what a text with a header gives fits the rules, whether the header names a faction or not
+  -- the rules allow what a text with a header gives, whether the header names a faction or not
   headed_fits : (o : Option ℕ) → length text ≤ most_bytes → (before : List (List ℕ)) (header : List ℕ) (behind : List (List ℕ)) → HaveHeader (lines text) before header behind → faction_of (words header) ≡ o → TextSays world text (after_header world (header_line (length before + 1) behind o))
   headed_fits None s before header behind is f = bad_header s before header behind is f refl
   headed_fits (Some faction) s before header behind is f =
       rw (numbered (length before)) (mailing s before header behind is faction f _ _ (body_fits world (length before + 2) Nowhere no_alias behind) refl)
 
-  -- what a text of allowed length gives fits the rules, whether it has a header or not
+  -- the rules allow what a text of allowed length gives, whether it has a header or not
   found_fits : length text ≤ most_bytes → Found 1 (lines text) → TextSays world text (after_header world (header_from 1 (lines text)))
   found_fits s (none a e) = rw e (no_header s a refl)
   found_fits s (one before header behind is e) = rw e (headed_fits (faction_of (words header)) s before header behind is refl)
 
-  -- what a text gives fits the rules, whether it is too long or not
+  -- the rules allow what a text gives, whether it is too long or not
   sized_fits : (t : Bool) → nat_lt most_bytes (length text) ≡ t → TextSays world text (cond t (Err TooLong) (after_header world (header_from 1 (lines text))))
   sized_fits true h = too_long (grind (arith, nat_tests)) refl
   sized_fits false h = found_fits (grind (arith, nat_tests)) (found 1 (lines text))
 
-  -- the reading of a text by the function fits the rules
+  -- the rules allow what the function `reading` gives for a text
   pub text_fits : TextSays world text (reading world text)
   unfolding reading
   text_fits = sized_fits (nat_lt most_bytes (length text)) refl
 
-  -- a text with too many bytes fails the test of its length
+  -- the test for more than most_bytes bytes is true of a text that has more
   long_is : most_bytes < length text → nat_lt most_bytes (length text) ≡ true
   long_is h = grind (arith, nat_tests)
 
-  -- a text with at most that many bytes passes the test of its length
+  -- the test for more than most_bytes bytes is false of a text that has at most most_bytes
   short_is : length text ≤ most_bytes → nat_lt most_bytes (length text) ≡ false
   short_is h = grind (arith, nat_tests)
 
@@ -104,7 +105,7 @@ module _ (world : WorldValue) (text : List ℕ) where
   first_is : (before : List (List ℕ)) (header : List ℕ) (behind : List (List ℕ)) → HaveHeader (lines text) before header behind → header_from 1 (lines text) ≡ header_line (length before + 1) behind (faction_of (words header))
   first_is before header behind is = ap (header_from 1) is.whole ∙ first_one 1 before header behind is.first is.leads
 
-  -- a reading of a text that fits the rules is the one by the function
+  -- a result that the rules allow for a text is the one that the function `reading` gives
   pub text_only : (read : Result Reading MailFault) → TextSays world text read → read ≡ reading world text
   unfolding reading
   text_only read (too_long h e) = rw (long_is h) e

@@ -1,4 +1,4 @@
--- The units of a TEACH order, which a loop reads one after another.
+-- Laws of the units that the words of a TEACH order name: the first unit, and then the others.
 use Rattle.std.proofs.Common.{◌≡◌, ℕ, ◌+◌, ◌<◌, ◌≤◌, Bool, true, false, cond, List, [], ◌∷◌, ◌++◌, length, codes, Option, Some, None, Result, Ok, Err, refl, sym, ap, ◌∙◌, arith}
 use Rattle.atl_orders.specs.Limits.{last_alias, most_number}
 use Rattle.atl_orders.specs.declared.order.UnitRef.{UnitRef}
@@ -23,7 +23,7 @@ as_unit c n = Ok (c n.0, n.1)
 abbrev found : UnitRef → List WordText → Result (UnitRef × List WordText) LineFault
 found u rest = Ok (u, rest)
 
--- no unit is read where no word is
+-- no unit is read from an empty list of words
 none : (u : UnitRef) (rest : List WordText) → unit_at [] ≡ found u rest → ⊥
 unfolding unit_at
 none u rest h = cc
@@ -32,17 +32,17 @@ none u rest h = cc
 abbrev pub then_units : UnitRef × List WordText → Result (List UnitRef) LineFault
 then_units x = units_of x.1 >>= λ us. Ok (x.0 ∷ us)
 
--- a unit by its number, and then the others, by reading the unit first
+-- to read a unit by its number in front of the others is to read the unit, and then the others
 number_step : (o : Option ℕ) (ws : List WordText) → and_then_units (or_fault BadNumber o >>= λ n. Ok (Number n)) (units_of ws) ≡ (or_fault BadNumber o >>= paired ws >>= as_unit Number) >>= then_units
 number_step None ws = refl
 number_step (Some n) ws = refl
 
--- a unit by its alias, and then the others, by reading the unit first
+-- to read a unit by its alias in front of the others is to read the unit, and then the others
 alias_step : (o : Option ℕ) (ws : List WordText) → and_then_units (or_fault BadAlias o >>= λ n. Ok (Alias n)) (units_of ws) ≡ (or_fault BadAlias o >>= paired ws >>= as_unit Alias) >>= then_units
 alias_step None ws = refl
 alias_step (Some n) ws = refl
 
--- a choice of two results, each followed by the same step, is the choice followed by the step
+-- a choice of two results, each followed by `then_units`, is the choice followed by `then_units`
 choose : (t : Bool) (a b : Result (List UnitRef) LineFault) (c d : Result (UnitRef × List WordText) LineFault) → a ≡ c >>= then_units → b ≡ d >>= then_units → cond t a b ≡ cond t c d >>= then_units
 choose true a b c d p q = p
 choose false a b c d p q = q
@@ -53,12 +53,12 @@ unfolding units_of unit_at count_at
 units_step w [] = choose (is_word (codes "NEW") w) _ _ _ _ refl (number_step (not_zero (number_of most_number w.bytes)) [])
 units_step w (v ∷ ws) = choose (is_word (codes "NEW") w) _ _ _ _ (alias_step (not_zero (number_of last_alias v.bytes)) ws) (number_step (not_zero (number_of most_number w.bytes)) (v ∷ ws))
 
--- the units read so far with one more are followed by the same others
+-- u at the end of the units read so far, or in front of the further units, gives the same list of units
 started : (units : Result (List UnitRef) LineFault) (front : List UnitRef) (u : UnitRef) → with_units (front ++ u ∷ []) units ≡ with_units front (units >>= λ us. Ok (u ∷ us))
 started (Ok us) front u = ap (λ l. Ok l) (append_assoc front (u ∷ []) us)
 started (Err f) front u = refl
 
--- a loop that reads units has the same result after one more unit is read
+-- if the words left begin with the unit u, the units read so far with u and the units of the rest give the same list
 pub one_more : (front : List UnitRef) (ws : List WordText) (u : UnitRef) (rest : List WordText) → unit_at ws ≡ found u rest → with_units (front ++ u ∷ []) (units_of rest) ≡ with_units front (units_of ws)
 one_more front [] u rest h = absurd (none u rest h)
 one_more front (w ∷ ws) u rest h = started (units_of rest) front u ∙ ap (with_units front) (sym (units_step w ws ∙ ap (λ r. r >>= then_units) h))
@@ -68,7 +68,7 @@ pub fault_stays : (front : List UnitRef) (ws : List WordText) (f : LineFault) �
 fault_stays front [] f p h = absurd (omega arith)
 fault_stays front (w ∷ ws) f p h = ap (with_units front) (units_step w ws ∙ ap (λ r. r >>= then_units) h)
 
--- a loop that reads units ends with those read, where no word is left
+-- a loop that reads units ends with the units read so far, if no word is left
 pub no_more : (front : List UnitRef) (ws : List WordText) → ws ≡ [] → with_units front (units_of ws) ≡ Ok front
 unfolding units_of
 no_more front [] h = ap (λ l. Ok l) (append-nil front)
@@ -79,7 +79,7 @@ read_rest : (o : Option ℕ) (f : LineFault) (c : ℕ → UnitRef) (left : List 
 read_rest None f c left u rest h = cc
 read_rest (Some k) f c left u rest h = let here : UnitRef × List WordText = (c k, left) in let there : UnitRef × List WordText = (u, rest) in let e : here ≡ there = cc in omega (arith, ap (λ (p : UnitRef × List WordText). length p.1) e)
 
--- a bound on the words left holds of a choice, if it holds of both
+-- a bound on how many words are left holds of a choice of two results, if it holds of both
 chosen : (t : Bool) (a b : Result (UnitRef × List WordText) LineFault) (u : UnitRef) (rest : List WordText) (n : ℕ) → (a ≡ found u rest → length rest ≤ n) → (b ≡ found u rest → length rest ≤ n) → cond t a b ≡ found u rest → length rest ≤ n
 chosen true a b u rest n p q h = p h
 chosen false a b u rest n p q h = q h
@@ -88,7 +88,7 @@ chosen false a b u rest n p q h = q h
 abbrev missing : Result (UnitRef × List WordText) LineFault
 missing = Err MissingWord
 
--- where the word is missing, no unit is read
+-- no unit is read if the word is missing, so any bound on the words left holds
 no_unit : (rest : List WordText) (u : UnitRef) (n : ℕ) → missing ≡ found u rest → length rest ≤ n
 no_unit rest u n h = cc
 

@@ -1,4 +1,4 @@
--- The words of a line, one by one, and where they are in the text.
+-- Laws of the words of a line, by its first byte, and of the index of a word in the text.
 use Rattle.std.proofs.Common.{◌≡◌, ℕ, zero, suc, ◌+◌, ◌*◌, ◌-◌, ◌<◌, ◌≤◌, Bool, ◌||◌, not, true, false, cond, eqb, List, [], ◌∷◌, ◌++◌, length, get_or, take, drop, min, Some, None, nat_lt, refl, sym, ap, ◌∙◌, arith}
 use Rattle.std.specs.List.{slice_range, position, position_or_len, before_first}
 use Rattle.std.specs.Option.{unwrap_or}
@@ -17,7 +17,7 @@ use Rattle.atl_orders.specs.Standing.{IsPartOf, EndsWith, EndsAt}
 
 -- ---- the index of the first that passes, or the length
 
--- an index that may be missing, or else the length
+-- n, as an option that has n only if n is less than m, with the default m, is n, if n is at most m
 placed : (t : Bool) (n m : ℕ) → nat_lt n m ≡ t → n ≤ m → unwrap_or (cond t (Some n) None) m ≡ n
 placed true n m h l = refl
 placed false n m h l = grind (arith, nat_tests)
@@ -44,7 +44,7 @@ pub words-nil : words [] ≡ []
 unfolding words_after
 words-nil = refl
 
--- a blank at the start of a line leaves its words the same
+-- a blank at the start of a line changes none of its words
 pub words-blank : (b : ℕ) (bs : List ℕ) → is_blank b ≡ true → words (b ∷ bs) ≡ words bs
 unfolding words_after
 words-blank b bs h = cond-true (is_blank b) _ _ h
@@ -124,18 +124,18 @@ stands_further line mid bytes behind a b =
 pub ends_at : (line : List ℕ) (n : ℕ) → EndsWith line (take (length line - n) (drop n line))
 ends_at line n = rw (take_rest line n) (ends_behind line n)
 
--- what a line ends with is no longer than it
+-- a line is at least as long as anything that it ends with
 pub ends_shorter : (line rest : List ℕ) → EndsWith line rest → length rest ≤ length line
 ends_shorter line rest e = omega (arith, ap length e.whole, length-append e.front rest)
 
--- a part of a line is no longer than what is left from its first byte, nor that than the line
+-- a part of a line is no longer than the line from the part's first byte on, and that is no longer than the line
 pub stands_shorter : (line bytes : List ℕ) (behind : ℕ) → IsPartOf line bytes behind → (length bytes ≤ behind) × (behind ≤ length line)
 stands_shorter line bytes behind s =
     let a : length line ≡ length s.front + length (bytes ++ s.back) = ap length s.whole ∙ length-append s.front (bytes ++ s.back) in
     let b : length (bytes ++ s.back) ≡ length bytes + length s.back = length-append bytes s.back in
     (omega (arith, s.behind_is), omega (arith, s.behind_is))
 
--- the end of a line that ends at an index of a text ends at that index, too
+-- if a line ends at an index of a text, anything that the line ends with ends at this index
 pub place_behind : (text : List ℕ) (place : ℕ) (line rest : List ℕ) → EndsAt text place line → EndsWith line rest → EndsAt text place rest
 place_behind text place line rest a e = record {
   front = a.front ++ e.front;

@@ -27,7 +27,7 @@ abbrev pub IsUnitRef : UnitRef → Type 0
 IsUnitRef (Number n) = IsNumber n
 IsUnitRef (Alias alias) = IsAlias alias
 
--- what the words after a verb name keeps its bounds, in this world
+-- the operands of an order are in bounds: numbers in range, names by the rule, and things that this world has
 abbrev pub AreOperandsOf : WorldValue → OperandsValue → Type 0
 AreOperandsOf world operands.Nothing = Unit {0}
 AreOperandsOf world (operands.Alias alias) = IsAlias alias
@@ -45,26 +45,26 @@ AreOperandsOf world (operands.Kind (Some kind)) = kind < length world.kinds
 AreOperandsOf world (operands.Skill skill) = skill < length world.skills
 AreOperandsOf world (operands.Item item) = item < length world.items
 
--- an order keeps its bounds, in this world
+-- the operands of an order are in bounds, in this world
 abbrev pub IsOrderOf : WorldValue → OrderValue → Type 0
 IsOrderOf world order_value = AreOperandsOf world order_value.operands
 
--- an order keeps its bounds, and so does the unit that it is for
+-- an order is in bounds, in this world, and the reference to the unit that it is for is in range
 pub record IsEntry (world : WorldValue) (e : EntryValue) : Type 0 where
   pub target : IsUnitRef e.target
   pub order : IsOrderOf world e.order_value
 
--- the lines of the orders rise, and all are above n
+-- the line numbers of the orders are strictly ascending, and all are above n
 abbrev pub LinesRise : ℕ → List EntryValue → Type 0
 LinesRise n [] = Unit {0}
 LinesRise n (e ∷ es) = (n < e.line) × LinesRise e.line es
 
--- the reading of a mailing: a faction in range, orders that keep their bounds, and lines that rise
+-- a mailing as read is in bounds: its faction in range, its orders in bounds, and their line numbers strictly ascending
 pub record IsReading (world : WorldValue) (r : Reading) : Type 0 where
   pub faction : IsWithin last_faction r.faction
   pub entries : All (IsEntry world) r.entries
   pub lines : LinesRise 0 r.entries
 
--- Every reading of a text keeps these bounds.
+-- Every text that is read as a mailing gives a faction, orders and line numbers that are in bounds (`IsReading`).
 abbrev pub ReadingsKeepBounds : Type 0
 ReadingsKeepBounds = (world : WorldValue) (text : List ℕ) (r : Reading) → reading world text ≡ Ok r → IsReading world r

@@ -27,7 +27,7 @@ fault_number fault = (line_fault fault).0
 abbrev pub fault_name : LineFault → List ℕ
 fault_name fault = (line_fault fault).1
 
--- the number of a mail fault, from 1 to 3; lack of memory has none
+-- the number of a mail fault, from 1 to 3; Memory has none
 abbrev pub mail_fault_number : MailFault → Option ℕ
 mail_fault_number TooLong = Some 1
 mail_fault_number NoHeader = Some 2

@@ -24,7 +24,7 @@ pub record EntryValue : Type 0 where
   pub target : UnitRef
   pub order_value : OrderValue
 
--- the effect of each line up to `#END`, with the line's number; the first line has the number n
+-- the effect of each line above the first `#END`, with the line's number; the first line has the number n
 unfoldable pub effects : WorldValue → ℕ → ReaderState → (ℕ → Bool) → List (List ℕ) → List (ℕ × Effect)
 effects world n place given [] = []
 effects world n place given (line ∷ rest) =
@@ -32,13 +32,13 @@ effects world n place given (line ∷ rest) =
     else (n, (line_step world place given line).effect)
     ∷ effects world (n + 1) (line_step world place given line).place (line_step world place given line).given rest
 
--- the order of a line as a list of one, or of none if the line gives no order
+-- the order that a line's effect gives, as a list of one entry, or of none if it gives no order
 abbrev pub entry_of : ℕ × Effect → List EntryValue
 entry_of (n, nothing) = []
 entry_of (n, faulty fault) = []
 entry_of (n, says unit order_value) = record { line = n; target = unit; order_value = order_value } ∷ []
 
--- the fault of a line as a list of one, or of none if the line has no fault
+-- the fault of a line's effect, as a list of one faulty line, or of none if there is no fault
 abbrev pub fault_of : ℕ × Effect → List FaultyLine
 fault_of (n, nothing) = []
 fault_of (n, faulty fault) = record { line = n; fault = fault } ∷ []
@@ -56,7 +56,7 @@ pub record HeaderValue : Type 0 where
   pub next : ℕ
   pub rest : List (List ℕ)
 
--- what the header at line n gives, if its faction is a number in range; else BadHeader
+-- what the header at line n gives: its faction and the lines after it; BadHeader if it names no faction
 abbrev pub header_line : ℕ → List (List ℕ) → Option ℕ → Result HeaderValue MailFault
 header_line n rest None = Err BadHeader
 header_line n rest (Some faction) = Ok (record { faction = faction; next = n + 1; rest = rest })
@@ -68,13 +68,13 @@ header_from n (line ∷ rest) =
     if begins (codes "#ATLANTIS") (words line) then header_line n rest (faction_of (words line))
     else header_from (n + 1) rest
 
--- the reading of a mailing: its faction, its orders, and its faulty lines
+-- what reading a mailing gives: its faction, its orders, and its faulty lines
 pub record Reading : Type 0 where
   pub faction : ℕ
   pub entries : List EntryValue
   pub faults : List FaultyLine
 
--- the reading of the lines after a header, or the fault of the header
+-- the faction, orders and faulty lines of a mailing, given its header; or the fault of the header
 abbrev pub after_header : WorldValue → Result HeaderValue MailFault → Result Reading MailFault
 after_header world (Err fault) = Err fault
 after_header world (Ok h) = Ok (record {
@@ -83,7 +83,7 @@ after_header world (Ok h) = Ok (record {
   faults = flat_map fault_of (effects world h.next Nowhere no_alias h.rest);
 })
 
--- the reading of a text, else TooLong, NoHeader or BadHeader
+-- the faction, orders and faulty lines that a text gives; else TooLong, NoHeader or BadHeader
 unfoldable pub reading : WorldValue → List ℕ → Result Reading MailFault
 reading world text =
     if nat_lt most_bytes (length text) then Err TooLong
@@ -96,19 +96,19 @@ pub record IsMailingOf (faction : ℕ) (text : List ℕ) : Type 0 where
 
 -- ---- what the code returns
 
--- an order that the code returned, with the name in it by its bytes
+-- an entry that the code returned, with the name in its order as bytes in place of a span of the text
 abbrev pub entry_value : List ℕ → Entry → EntryValue
 entry_value text e = record { line = e.line; target = e.target; order_value = order_value text e.order }
 
--- a mailing that the code returned, as a reading
+-- the faction, orders and faulty lines of a mailing that the code returned, with names as bytes
 abbrev pub reading_of : Mailing → Reading
 reading_of m = record { faction = m.faction; entries = map (entry_value m.text) m.entries; faults = m.faults }
 
--- a mailing is what the reading of its text gives with this world
+-- a mailing is exactly what its own text gives with this world
 abbrev pub IsReadWith : WorldValue → Mailing → Type 0
 IsReadWith world m = reading world m.text ≡ Ok (reading_of m)
 
--- A call returned exactly `read`, its value seen by `view`; or it returned Memory, which says nothing of `read`.
+-- A call returned exactly `read`, with its value mapped by `view`; or it returned Memory, and `read` can be anything.
 abbrev pub Reads : {X Y : Type 0} → (X → Y) → Result X MailFault → Result Y MailFault → Type 0
 Reads view (Ok x) read = read ≡ Ok (view x)
 Reads view (Err Memory) read = Unit {0}

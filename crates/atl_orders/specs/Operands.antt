@@ -12,12 +12,12 @@ use Rattle.atl_orders.specs.declared.fault.LineFault.{LineFault}
 use Rattle.atl_orders.specs.declared.fault.LineFault.TheVariants.{BadNumber, UnknownThing, MissingWord, BadAlias, BadDirection}
 use Rattle.atl_orders.specs.Words.{WordText, is_word, number_of}
 
--- the value, or this fault if there is none
+-- the value of an option as a result, or this fault if there is none
 abbrev pub or_fault : {X : Type 0} → LineFault → Option X → Result X LineFault
 or_fault fault None = Err fault
 or_fault fault (Some x) = Ok x
 
--- a number, unless it is 0
+-- an optional number, None if it is 0
 abbrev pub not_zero : Option ℕ → Option ℕ
 not_zero None = None
 not_zero (Some n) = if n == 0 then None else Some n
@@ -42,7 +42,7 @@ number_at ws = count_at most_number BadNumber ws
 abbrev pub alias_at : List WordText → Result (ℕ × List WordText) LineFault
 alias_at ws = count_at last_alias BadAlias ws
 
--- a unit by its number, or by NEW and an alias, and the words after it; else a fault
+-- a unit by its number, or by NEW and an alias, and the words after it; else MissingWord, BadNumber or BadAlias
 unfoldable pub unit_at : List WordText → Result (UnitRef × List WordText) LineFault
 unit_at ws = do
   w ← word_at ws
@@ -56,7 +56,7 @@ item_at world ws = do
   w ← word_at ws
   or_fault UnknownThing (item_named world w.0.bytes w.0.quoted)
 
--- an amount from 1 to 999,999,999, and then an item of the world; else a fault
+-- an amount from 1 to 999,999,999, and then an item of the world; else MissingWord, BadNumber or UnknownThing
 unfoldable pub amount_of_item_at : WorldValue → List WordText → Result (ℕ × ℕ) LineFault
 amount_of_item_at world ws = do
   amount ← number_at ws
@@ -92,15 +92,15 @@ direction_at ws = do
 
 -- ---- units up to the line's end
 
--- a unit by the word that writes its number; else BadNumber
+-- the unit whose number, from 1 to 999,999,999, this word writes; else BadNumber
 abbrev pub numbered : WordText → Result UnitRef LineFault
 numbered w = or_fault BadNumber (not_zero (number_of most_number w.bytes)) >>= λ n. Ok (Number n)
 
--- a unit by the word after NEW that writes its alias; else BadAlias
+-- the unit whose alias, from 1 to 9,999, this word after NEW writes; else BadAlias
 abbrev pub new_unit_ref : WordText → Result UnitRef LineFault
 new_unit_ref w = or_fault BadAlias (not_zero (number_of last_alias w.bytes)) >>= λ n. Ok (Alias n)
 
--- a list of units with one unit more in front, or the first fault
+-- the result of reading one unit, put in front of the result of reading further units; or the first fault
 abbrev pub and_then_units : Result UnitRef LineFault → Result (List UnitRef) LineFault → Result (List UnitRef) LineFault
 and_then_units unit units = unit >>= λ u. units >>= λ us. Ok (u ∷ us)
 

@@ -31,58 +31,58 @@ OperandsValue = Operands (List ℕ)
 
 -- ---- the words after a verb, one definition for each shape of the order table
 
--- the words of an alias, or their first fault
+-- the operands of a verb that takes an alias, read from the words after it; or their first fault
 unfoldable pub read_alias : List WordText → Result OperandsValue LineFault
 read_alias ws = do
   alias ← alias_at ws
   Ok (operands.Alias alias.0)
 
--- the words of a flag: 0 or 1, or their first fault
+-- the operands of a verb that takes a flag, 0 or 1, read from the words after it; or their first fault
 unfoldable pub read_flag : List WordText → Result OperandsValue LineFault
 read_flag ws = do
   w ← word_at ws
   n ← or_fault BadNumber (number_of 1 w.0.bytes)
   Ok (operands.Flag (n == 1))
 
--- the words of a number, or their first fault
+-- the operands of a verb that takes a number, read from the words after it; or their first fault
 unfoldable pub read_number : List WordText → Result OperandsValue LineFault
 read_number ws = do
   n ← number_at ws
   Ok (operands.Number n.0)
 
--- the words of a unit, or their first fault
+-- the operands of a verb that takes a unit, read from the words after it; or their first fault
 unfoldable pub read_unit : List WordText → Result OperandsValue LineFault
 read_unit ws = do
   unit ← unit_at ws
   Ok (operands.Unit unit.0)
 
--- the words of one unit or more, up to the line's end, or their first fault
+-- the operands of a verb that takes one unit or more, read from all words up to the line's end; or their first fault
 unfoldable pub read_units : List WordText → Result OperandsValue LineFault
 read_units ws = do
   units ← some_units_at ws
   Ok (operands.Units units)
 
--- the words of a unit and a number, or their first fault
+-- the operands of a verb that takes a unit and a number, read from the words after it; or their first fault
 unfoldable pub read_unit_and_number : List WordText → Result OperandsValue LineFault
 read_unit_and_number ws = do
   to ← unit_at ws
   number ← number_at to.1
   Ok (operands.UnitAndNumber to.0 number.0)
 
--- the words of a unit, an amount and an item, or their first fault
+-- the operands of a verb that takes a unit, an amount and an item, read from the words after it; or their first fault
 unfoldable pub read_unit_and_goods : WorldValue → List WordText → Result OperandsValue LineFault
 read_unit_and_goods world ws = do
   to ← unit_at ws
   goods ← amount_of_item_at world to.1
   Ok (operands.UnitAndGoods to.0 goods.0 goods.1)
 
--- the words of an amount and an item, or their first fault
+-- the operands of a verb that takes an amount and an item, read from the words after it; or their first fault
 unfoldable pub read_goods : WorldValue → List WordText → Result OperandsValue LineFault
 read_goods world ws = do
   goods ← amount_of_item_at world ws
   Ok (operands.Goods goods.0 goods.1)
 
--- what the word after NAME says is named: the unit, the faction, the building or the ship
+-- what the word after NAME says gets a new name: unit, faction, building or ship; None for another word
 abbrev pub kind_of_name : WordText → Option NameKind
 kind_of_name w =
     if is_word (codes "UNIT") w then Some kinds.Unit
@@ -95,7 +95,7 @@ kind_of_name w =
 abbrev pub name_by : NameKind → List ℕ → Result OperandsValue LineFault
 name_by what bytes = if name_ok bytes then Ok (operands.Name what bytes) else Err BadName
 
--- the words of what gets a new name, and the name, or their first fault
+-- the operands of NAME: what gets a new name, and the name, read from the words after it; or their first fault
 unfoldable pub read_name : List WordText → Result OperandsValue LineFault
 read_name ws = do
   w ← word_at ws
@@ -103,32 +103,32 @@ read_name ws = do
   v ← word_at w.1
   name_by what (name_of v.0.bytes v.0.quoted)
 
--- the words of a direction, or their first fault
+-- the operands of a verb that takes a direction, read from the words after it; or their first fault
 unfoldable pub read_direction : List WordText → Result OperandsValue LineFault
 read_direction ws = do
   d ← direction_at ws
   Ok (operands.Direction d)
 
--- the words of a kind of structure, or no word, or their first fault
+-- the operands of a verb that takes a kind of structure or nothing, read from the words after it; or their first fault
 unfoldable pub read_kind : WorldValue → List WordText → Result OperandsValue LineFault
 read_kind world [] = Ok (operands.Kind None)
 read_kind world (w ∷ ws) = do
   kind ← kind_at world (w ∷ ws)
   Ok (operands.Kind (Some kind))
 
--- the words of a skill, or their first fault
+-- the operands of a verb that takes a skill, read from the words after it; or their first fault
 unfoldable pub read_skill : WorldValue → List WordText → Result OperandsValue LineFault
 read_skill world ws = do
   skill ← skill_at world ws
   Ok (operands.Skill skill)
 
--- the words of an item, or their first fault
+-- the operands of a verb that takes an item, read from the words after it; or their first fault
 unfoldable pub read_item : WorldValue → List WordText → Result OperandsValue LineFault
 read_item world ws = do
   item ← item_at world ws
   Ok (operands.Item item)
 
--- what the words after a verb name, by the shape that the order table gives the verb; or their first fault
+-- the operands of a verb, read from the words after it by the verb's shape in the order table; or their first fault
 abbrev pub read_operands : WorldValue → Shape → List WordText → Result OperandsValue LineFault
 read_operands world shapes.Nothing ws = Ok operands.Nothing
 read_operands world shapes.Alias ws = read_alias ws
@@ -157,11 +157,11 @@ said_by world verb ws = do
 
 -- ---- orders that the code returns, in which a name is a span of the text
 
--- the bytes of the name in a span of a text
+-- the name that a span of a text means: in a span without quotes `_` is a space
 abbrev pub name_in : List ℕ → Span → List ℕ
 name_in text span = name_of (slice_range text span.start span.end) span.quoted
 
--- operands of the code, with the name by its bytes in the text
+-- operands that the code returned, with a name as its bytes in place of its span in the text
 abbrev pub named : List ℕ → Operands Span → OperandsValue
 named text operands.Nothing = operands.Nothing
 named text (operands.Alias alias) = operands.Alias alias
@@ -178,6 +178,6 @@ named text (operands.Kind kind) = operands.Kind kind
 named text (operands.Skill skill) = operands.Skill skill
 named text (operands.Item item) = operands.Item item
 
--- an order of the code, with the name by its bytes in the text
+-- an order that the code returned, with a name as its bytes in place of its span in the text
 abbrev pub order_value : List ℕ → Order Span → OrderValue
 order_value text order = order_of order.verb (named text order.operands)

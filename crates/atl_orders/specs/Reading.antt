@@ -52,17 +52,17 @@ target (At n) = Some (Number n)
 target (Forming parent alias) = Some (Alias alias)
 target (Skipping parent) = None
 
--- the reader's state after a block, by the unit that was named before it, if one was
+-- the reader's state after a block has ended, by the unit that was named before the block, if one was
 abbrev pub outside : Option ℕ → ReaderState
 outside None = Nowhere
 outside (Some n) = At n
 
--- the step of a UNIT line: its unit is named; on a fault no unit is
+-- the step of a UNIT line: further orders are for its unit; on a fault they are for no unit
 unfoldable pub unit_step : (ℕ → Bool) → Result (ℕ × List WordText) LineFault → LineStep
 unit_step given (Ok n) = record { effect = nothing; place = At n.0; given = given }
 unit_step given (Err fault) = record { effect = faulty fault; place = Nowhere; given = given }
 
--- the step of an END line: the open block ends; without one it is EndAlone
+-- the step of an END line: the open block ends; the fault is EndAlone if no block is open
 unfoldable pub end_step : ReaderState → (ℕ → Bool) → LineStep
 end_step Nowhere given = record { effect = faulty EndAlone; place = Nowhere; given = given }
 end_step (At n) given = record { effect = faulty EndAlone; place = At n; given = given }
@@ -73,7 +73,7 @@ end_step (Skipping parent) given = record { effect = nothing; place = outside pa
 abbrev pub form_value : ℕ → OrderValue
 form_value alias = order_of verbs.Form (operands.Alias alias)
 
--- the step of a FORM line outside blocks, of the unit `parent`; on a fault its block is skipped
+-- the step of a FORM line by the unit `parent`, outside blocks; on a fault the block that it opens is skipped
 unfoldable pub block_step : ℕ → (ℕ → Bool) → Result (ℕ × List WordText) LineFault → LineStep
 block_step parent given (Ok n) =
     if given n.0
@@ -81,24 +81,24 @@ block_step parent given (Ok n) =
     else record { effect = says (Number parent) (form_value n.0); place = Forming parent n.0; given = with_alias given n.0 }
 block_step parent given (Err fault) = record { effect = faulty fault; place = Skipping (Some parent); given = given }
 
--- the step of a FORM line: inside a block it is NestedForm
+-- the step of a FORM line: it opens a block; the fault is NestedForm inside a block, and NoUnit if no unit is named
 unfoldable pub form_step : ReaderState → (ℕ → Bool) → List WordText → LineStep
 form_step Nowhere given ws = record { effect = faulty NoUnit; place = Skipping None; given = given }
 form_step (At n) given ws = block_step n given (alias_at ws)
 form_step (Forming parent alias) given ws = record { effect = faulty NestedForm; place = Forming parent alias; given = given }
 form_step (Skipping parent) given ws = record { effect = faulty NestedForm; place = Skipping parent; given = given }
 
--- the effect of an order for this unit, or of the fault of its words
+-- the effect of an order's line for this unit: the order, or the fault of its words
 abbrev pub effect_for : UnitRef → Result OrderValue LineFault → Effect
 effect_for unit (Ok order_value) = says unit order_value
 effect_for unit (Err fault) = faulty fault
 
--- the effect of an order's line; NoUnit if no unit is named
+-- the effect of an order's line: the order for the unit that is named, or a fault; NoUnit if no unit is named
 abbrev pub order_effect : Option UnitRef → Result OrderValue LineFault → Effect
 order_effect None order_value = faulty NoUnit
 order_effect (Some unit) order_value = effect_for unit order_value
 
--- the step of a line by its keyword and the words after it; without a keyword it is UnknownOrder
+-- the step of a line by its keyword and the words after it; the fault is UnknownOrder if there is no keyword
 unfoldable pub keyword_step : WorldValue → ReaderState → (ℕ → Bool) → Option Keyword → List WordText → LineStep
 keyword_step world place given None ws = record { effect = faulty UnknownOrder; place = place; given = given }
 keyword_step world place given (Some keywords.Unit) ws = unit_step given (number_at ws)
@@ -106,12 +106,12 @@ keyword_step world place given (Some keywords.End) ws = end_step place given
 keyword_step world place given (Some keywords.Form) ws = form_step place given ws
 keyword_step world place given (Some (keywords.Order verb)) ws = record { effect = order_effect (target place) (said_by world verb ws); place = place; given = given }
 
--- the step of a line by its words
+-- the step of a line by its words; a line without words changes nothing
 unfoldable pub words_step : WorldValue → ReaderState → (ℕ → Bool) → List WordText → LineStep
 words_step world place given [] = record { effect = nothing; place = place; given = given }
 words_step world place given (w ∷ ws) = keyword_step world place given (keyword_of w) ws
 
--- the step of one line: what reading it gives
+-- the step of one line: its effect, the reader's state and the aliases after it; BadByte if a byte may not be in a line
 unfoldable pub line_step : WorldValue → ReaderState → (ℕ → Bool) → List ℕ → LineStep
 line_step world place given line =
     if list_all is_plain line then words_step world place given (words line)

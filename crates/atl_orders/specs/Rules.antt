@@ -1,4 +1,4 @@
--- The rules for reading a mailing: a line, all lines after the header, a text.
+-- The rules for reading a mailing, as relations: of one line, of all lines after the header, and of a text.
 -- See docs/RULES.md, "Reading a mailing".
 use Rattle.std.specs.Prelude.{◌≡◌, ℕ, ◌+◌, ◌<◌, ◌≤◌, ◌++◌, Bool, true, false, List, [], ◌∷◌, length, codes, Option, Some, None, Result, Ok, Err}
 use Rattle.std.specs.List.{All, list_all, flat_map}
@@ -35,13 +35,13 @@ outer (At n) = None
 outer (Forming parent alias) = Some (At parent)
 outer (Skipping parent) = Some (outside parent)
 
--- a word, the first of a line, is this keyword
+-- the first word of a line, w, is the keyword k
 abbrev pub Leads : WordText → Keyword → Type 0
 Leads w k = keyword_of w ≡ Some k
 
 -- the rules for a line with words, by the first word w: the line has the step s
 pub data WordsSay (world : WorldValue) (place : ReaderState) (given : ℕ → Bool) (w : WordText) (ws : List WordText) (s : LineStep) : Type 0 where
-  -- UNIT: the unit is named, and a block ends; on a fault no unit is
+  -- UNIT: further orders are for its unit, and an open block ends; on a fault they are for no unit
   unit_named : Leads w keywords.Unit → (n : ℕ) (rest : List WordText) → number_at ws ≡ Ok (n, rest)
       → s ≡ step nothing (At n) given → WordsSay world place given w ws s
   unit_faulty : Leads w keywords.Unit → (fault : LineFault) → number_at ws ≡ Err fault
@@ -51,7 +51,7 @@ pub data WordsSay (world : WorldValue) (place : ReaderState) (given : ℕ → Bo
       → s ≡ step nothing out given → WordsSay world place given w ws s
   end_alone : Leads w keywords.End → outer place ≡ None
       → s ≡ step (faulty EndAlone) place given → WordsSay world place given w ws s
-  -- FORM: inside a block it is faulty, and the block goes on; another fault opens a skipped block
+  -- FORM: inside a block it is faulty, and the block stays open; any other fault opens a block that is skipped
   form_nested : Leads w keywords.Form → (out : ReaderState) → outer place ≡ Some out
       → s ≡ step (faulty NestedForm) place given → WordsSay world place given w ws s
   form_nowhere : Leads w keywords.Form → place ≡ Nowhere
@@ -64,7 +64,7 @@ pub data WordsSay (world : WorldValue) (place : ReaderState) (given : ℕ → Bo
   form_new : Leads w keywords.Form → (n : ℕ) → place ≡ At n
       → (alias : ℕ) (rest : List WordText) → alias_at ws ≡ Ok (alias, rest) → given alias ≡ false
       → s ≡ step (says (Number n) (form_value alias)) (Forming n alias) (with_alias given alias) → WordsSay world place given w ws s
-  -- an order of the table: for the unit that is named, if its words have no fault
+  -- an order of the order table: it is for the unit that is named, if there is one and its words have no fault
   order_nowhere : (verb : Verb) → Leads w (keywords.Order verb) → target place ≡ None
       → s ≡ step (faulty NoUnit) place given → WordsSay world place given w ws s
   order_faulty : (verb : Verb) → Leads w (keywords.Order verb) → (unit : UnitRef) → target place ≡ Some unit
@@ -73,7 +73,7 @@ pub data WordsSay (world : WorldValue) (place : ReaderState) (given : ℕ → Bo
   order_said : (verb : Verb) → Leads w (keywords.Order verb) → (unit : UnitRef) → target place ≡ Some unit
       → (order_value : OrderValue) → said_by world verb ws ≡ Ok order_value
       → s ≡ step (says unit order_value) place given → WordsSay world place given w ws s
-  -- anything else
+  -- any other first word: UnknownOrder
   unknown : keyword_of w ≡ None
       → s ≡ step (faulty UnknownOrder) place given → WordsSay world place given w ws s
 
@@ -86,8 +86,8 @@ pub data LineSays (world : WorldValue) (place : ReaderState) (given : ℕ → Bo
   some_words : list_all is_plain line ≡ true → (w : WordText) (ws : List WordText) → words line ≡ w ∷ ws
       → WordsSay world place given w ws s → LineSays world place given line s
 
--- the rules for the lines after the header, of which the first has this number: they give these orders and these
--- faults
+-- the rules for the lines after the header: which orders and which faulty lines they give; the first line's number,
+-- the reader's state and the given aliases come in front of the lines
 pub data BodySays (world : WorldValue) : ℕ → ReaderState → (ℕ → Bool) → List (List ℕ) → List EntryValue → List FaultyLine → Type 0 where
   text_ended : (n : ℕ) (place : ReaderState) (given : ℕ → Bool) → BodySays world n place given [] [] []
   orders_ended : (n : ℕ) (place : ReaderState) (given : ℕ → Bool) (line : List ℕ) (rest : List (List ℕ))
@@ -106,7 +106,7 @@ is_header line = begins (codes "#ATLANTIS") (words line)
 abbrev pub HaveNoHeader : List (List ℕ) → Type 0
 HaveNoHeader lines = All (λ line. is_header line ≡ false) lines
 
--- `header` is the first header of these lines, with `before` above it and `behind` below
+-- `header` is the first header of these lines, with the lines `before` above it and the lines `behind` below it
 pub record HaveHeader (lines before : List (List ℕ)) (header : List ℕ) (behind : List (List ℕ)) : Type 0 where
   pub whole : lines ≡ before ++ header ∷ behind
   pub leads : is_header header ≡ true
@@ -128,7 +128,7 @@ pub data TextSays (world : WorldValue) (text : List ℕ) (read : Result Reading 
       → (entries : List EntryValue) (faults : List FaultyLine) → BodySays world (length before + 2) Nowhere no_alias behind entries faults
       → read ≡ Ok (record { faction = faction; entries = entries; faults = faults }) → TextSays world text read
 
--- The step of a line by the function `line_step` fits the rules, and no other step does.
+-- The step that the function `line_step` gives a line is the one that the rules `LineSays` allow, and no other.
 abbrev pub LineRules : Type 0
 LineRules =
     ((world : WorldValue) (place : ReaderState) (given : ℕ → Bool) (line : List ℕ)
@@ -136,15 +136,15 @@ LineRules =
     × ((world : WorldValue) (place : ReaderState) (given : ℕ → Bool) (line : List ℕ) (s : LineStep)
     → LineSays world place given line s → s ≡ line_step world place given line)
 
--- the orders that lines give by the function, of which the first has the number n
+-- the orders that lines give by the function `effects`, where the first line has the number n
 abbrev pub entries_from : WorldValue → ℕ → ReaderState → (ℕ → Bool) → List (List ℕ) → List EntryValue
 entries_from world n place given lines = flat_map entry_of (effects world n place given lines)
 
--- the faulty lines by the function, where the first line has the number n
+-- the faulty lines among lines by the function `effects`, where the first line has the number n
 abbrev pub faults_from : WorldValue → ℕ → ReaderState → (ℕ → Bool) → List (List ℕ) → List FaultyLine
 faults_from world n place given lines = flat_map fault_of (effects world n place given lines)
 
--- The orders and faults of lines by the function fit the rules, and no others do.
+-- The orders and faulty lines by the function `effects` are those that the rules `BodySays` allow, and no others.
 abbrev pub BodyRules : Type 0
 BodyRules =
     ((world : WorldValue) (n : ℕ) (place : ReaderState) (given : ℕ → Bool) (lines : List (List ℕ))
@@ -153,7 +153,7 @@ BodyRules =
     → BodySays world n place given lines entries faults
     → (entries ≡ entries_from world n place given lines) × (faults ≡ faults_from world n place given lines))
 
--- The reading of a text by the function `reading` fits the rules, and no other does.
+-- The result that the function `reading` gives a text is the one that the rules `TextSays` allow, and no other.
 abbrev pub TextRules : Type 0
 TextRules =
     ((world : WorldValue) (text : List ℕ) → TextSays world text (reading world text))

@@ -1,4 +1,4 @@
--- For proofs alone: where words and lines are in a text.
+-- For proofs alone: at which index of a text a word or a line is.
 use Rattle.std.specs.Prelude.{◌≡◌, ℕ, ◌++◌, List, length}
 use Rattle.atl_orders.specs.declared.words.Cursor.{Cursor}
 
@@ -7,7 +7,7 @@ pub record StartsWith (text front : List ℕ) : Type 0 where
   pub back : List ℕ
   pub whole : text ≡ front ++ back
 
--- the bytes are a part of the line, of which the first is `behind` bytes before the line's end
+-- the bytes are a part of the line, and from their first byte on the line has `behind` bytes
 pub record IsPartOf (line bytes : List ℕ) (behind : ℕ) : Type 0 where
   pub front : List ℕ
   pub back : List ℕ

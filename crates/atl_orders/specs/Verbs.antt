@@ -47,7 +47,7 @@ row_of Work = row (codes "WORK") shapes.Nothing (Some MonthLong)
 abbrev pub keyword : Verb → List ℕ
 keyword verb = (row_of verb).keyword
 
--- a row of the code's order table
+-- a row of the code's order table as a row of the definitions
 abbrev pub row_value : CodeRow → Row
 row_value r = row r.keyword.now r.shape r.slot
 

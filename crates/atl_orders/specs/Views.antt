@@ -1,4 +1,4 @@
--- For proofs alone: the values that the code works with, as values of the definitions.
+-- For proofs alone: values of the code (words, results, headers, orders) as values of the definitions.
 use Rattle.std.specs.Prelude.{◌≡◌, ℕ, ◌+◌, ◌++◌, Bool, false, List, [], map, length, Option, Some, None, Result, Ok, Err, slice_index_or}
 use Rattle.std.specs.Option.{option_copied}
 use Rattle.atl_orders.specs.declared.aliases.Aliases.{Aliases}
@@ -20,30 +20,30 @@ use Rattle.atl_orders.specs.Words.{WordText}
 abbrev pub word_text : Word → WordText
 word_text w = record { bytes = w.bytes.now; quoted = w.quoted }
 
--- the lines of what follows a line feed, none if no line feed was found
+-- the lines of the text that is left after a line feed; none if no line feed was found
 abbrev pub lines_of_rest : Option (List ℕ) → List (List ℕ)
 lines_of_rest None = []
 lines_of_rest (Some text) = lines text
 
--- a bound on how many lines are left
+-- a bound on how many lines are left to read; 0 if no text is left
 abbrev pub rest_size : Option (List ℕ) → ℕ
 rest_size None = 0
 rest_size (Some text) = length text + 1
 
--- a result with its value seen by `view`
+-- a result with its value mapped by `view`; a fault stays
 abbrev pub view_of_result : {X Y : Type 0} → (X → Y) → Result X LineFault → Result Y LineFault
 view_of_result view (Ok x) = Ok (view x)
 view_of_result view (Err e) = Err e
 
--- a call returned exactly `read`, its value seen by `view`
+-- a call returned exactly `read`, with its value mapped by `view`
 abbrev pub Gives : {X Y : Type 0} → (X → Y) → Result X LineFault → Result Y LineFault → Type 0
 Gives view result read = read ≡ view_of_result view result
 
--- the units read so far, and then those that `units` gives
+-- the units `front` and then those of the result `units`; or the fault of that result
 abbrev pub with_units : List UnitRef → Result (List UnitRef) LineFault → Result (List UnitRef) LineFault
 with_units front units = units >>= λ us. Ok (front ++ us)
 
--- the aliases that the code keeps, as a test of each number
+-- the aliases that FORM lines have given, as the code keeps them, as a test of each number
 abbrev pub alias_set : Aliases → ℕ → Bool
 alias_set aliases k = slice_index_or aliases.given.items k false
 
@@ -57,6 +57,6 @@ effect_of text (outcomes.Says unit order) = says unit (order_value text order)
 abbrev pub header_value : Header → HeaderValue
 header_value h = record { faction = h.faction; next = h.next; rest = lines_of_rest (option_copied h.rest) }
 
--- the orders that the code noted, with names by their bytes
+-- the orders that the code read from a mailing's body, with names as bytes
 abbrev pub body_entries : List ℕ → Body → List EntryValue
 body_entries text b = map (entry_value text) b.entries

@@ -1,4 +1,4 @@
--- The words of a line, and the numbers that they stand for. See docs/RULES.md, "Reading a mailing".
+-- The words of a line, and the numbers that words write. See docs/RULES.md, "Reading a mailing".
 use Rattle.std.specs.Prelude.{ℕ, zero, suc, ◌+◌, ◌-◌, Bool, true, false, ◌||◌, ◌&&◌, List, [], ◌∷◌, length, Option, Some, None, nat_le, nat_lt, ◌==◌, if◌then◌else◌}
 use Rattle.std.specs.List.{position_or_len, before_first, list_all}
 use Rattle.std.specs.Char.{is_ascii_digit}
@@ -24,7 +24,7 @@ is_quote b = b == quote
 abbrev pub ends_word : ℕ → Bool
 ends_word b = is_blank b || is_quote b || b == semicolon
 
--- the words of a part of a line, of which the first `skip` bytes still belong to the word before
+-- the words of a part of a line after its first `skip` bytes, which belong to the word before
 unfoldable pub words_after : ℕ → List ℕ → List WordText
 words_after skip [] = []
 words_after (suc skip) (b ∷ bs) = words_after skip bs

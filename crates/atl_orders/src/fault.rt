@@ -27,7 +27,7 @@ pub enum LineFault {
     /// A word is no alias from 1 to `LAST_ALIAS`. Or the alias of a FORM is that of an earlier FORM
     /// without fault.
     BadAlias = 7,
-    /// A FORM is inside a block, and the block goes on.
+    /// A FORM is inside a block, and the block stays open.
     NestedForm = 8,
     /// An END is outside of blocks.
     EndAlone = 9,
@@ -72,7 +72,7 @@ impl Error for LineFault {}
 pub struct FaultyLine {
     /// The line's number, from 1 on over the whole text.
     pub line: u32,
-    /// The one fault that counts.
+    /// The first fault of the line, which is the only one that is reported.
     pub fault: LineFault,
 }
 
@@ -84,9 +84,10 @@ pub enum MailFault {
     TooLong,
     /// No line begins with the word `#ATLANTIS`.
     NoHeader,
-    /// The second word of the first line that does is no number from 1 to `LAST_FACTION`.
+    /// The header, the first line that begins with `#ATLANTIS`, has no number from 1 to
+    /// `LAST_FACTION` as its second word.
     BadHeader,
-    /// Memory ran out. It says nothing of the text.
+    /// Memory ran out; the text may be a mailing or not.
     Memory,
 }
 

@@ -27,9 +27,9 @@ use std::alloc::{AllocError, Global};
 /// An order of a mailing, with its line's number and the unit that it is for.
 #[derive(Drop, Debug)]
 pub struct Entry {
-    /// The number of its line, from 1 on over the whole text.
+    /// The number of the order's line, from 1 on over the whole text.
     pub line: u32,
-    /// The unit that is to carry it out; for FORM the parent.
+    /// The unit that is to carry out the order; for FORM the parent of the new unit.
     pub target: UnitRef,
     /// What the unit is to do.
     pub order: Order,
@@ -39,7 +39,7 @@ pub struct Entry {
 /// See docs/RULES.md, "Reading a mailing".
 #[derive(Debug)]
 pub struct Mailing {
-    /// The number of the faction that it is of, from 1 to `LAST_FACTION`.
+    /// The number of the faction that sent the mailing, from 1 to `LAST_FACTION`.
     pub faction: u32,
     /// The bytes that were read, at most `MOST_BYTES`, which the names in orders are parts of.
     pub text: Sequence<u8>,
@@ -94,7 +94,7 @@ fn part(text: &[u8], start: usize, end: usize) -> &[u8]
     &behind[..end.saturating_sub(start).min(behind.len())]
 }
 
-/// The bytes of the name that a word stands for: in a word without quotes `_` is a space.
+/// The bytes of the name that a word means: in a word without quotes `_` is a space.
 fn letters_of(alloc: Global, bytes: &[u8], quoted: bool) -> Result<Vec<u8>, AllocError>
     ensures { IfOk result (λ letters. letters.items ≡ name_of bytes.now quoted) }
 {
@@ -121,9 +121,9 @@ fn faction_of(line: &[u8]) -> Option<u32>
 struct Header<'a> {
     /// The number of the faction, from 1 to `LAST_FACTION`.
     faction: u32,
-    /// The number of the line after it.
+    /// The number of the line after the header.
     next: u32,
-    /// The text from that line on, where there is one.
+    /// The text from the line after the header on, where there is such a line.
     rest: Option<&'a [u8]>,
 }
 
@@ -156,8 +156,8 @@ fn find_header(text: &[u8]) -> Result<Header<'_>, MailFault>
     Err(MailFault::NoHeader)
 }
 
-/// Whether a text is a mailing of a faction: it has at most `MOST_BYTES` bytes, and its header names the faction. It takes
-/// no memory. See docs/RULES.md, "Reading a mailing".
+/// Whether a text is a mailing of a faction: it has at most `MOST_BYTES` bytes, and its header
+/// names the faction. It takes no memory. See docs/RULES.md, "Reading a mailing".
 pub fn is_mailing_of(faction: u32, text: &[u8]) -> bool
     ensures { IsTrue result ↔ (IsMailingOf faction text.now) }
 {

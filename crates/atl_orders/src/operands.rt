@@ -56,7 +56,8 @@ pub fn alias_at(line: &[u8]) -> Result<(u32, &[u8]), LineFault>
     count_at(line, LAST_ALIAS, LineFault::BadAlias)
 }
 
-/// The next words as a unit, a number or NEW and an alias, and the rest of the line; else a fault.
+/// The next words as a unit (a number, or NEW and an alias), and the rest of the line. Else
+/// MissingWord, BadNumber or BadAlias.
 #[tactic(auto, unfolding(crate::specs::Operands::unit_at))]
 pub fn unit_at(line: &[u8]) -> Result<(UnitRef, &[u8]), LineFault>
     ensures { Gives (λ x. (x.0, words x.1.now)) result (unit_at (words line.now)) }
@@ -81,7 +82,8 @@ pub fn item_at(world: &World, line: &[u8]) -> Result<u16, LineFault>
         .ok_or(LineFault::UnknownThing)
 }
 
-/// The next words as an amount from 1 to 999,999,999 and the number of an item, else a fault.
+/// The next words as an amount from 1 to 999,999,999 and the number of an item. Else MissingWord,
+/// BadNumber or UnknownThing.
 #[tactic(auto, unfolding(crate::specs::Operands::amount_of_item_at))]
 pub fn amount_of_item_at(world: &World, line: &[u8]) -> Result<(u32, u16), LineFault>
     ensures { Gives (λ x. x) result (amount_of_item_at world.now (words line.now)) }

@@ -6,9 +6,10 @@ use atl_tables::{Direction, Sequence};
 /// See docs/RULES.md, "Reading a mailing".
 #[derive(Drop, Clone, Copy, Debug, PartialEq, Eq)]
 pub enum UnitRef {
-    /// Its number, from 1 to `MOST_NUMBER`.
+    /// The unit's number, from 1 to `MOST_NUMBER`.
     Number(u32),
-    /// The alias under which the mailing forms it, from 1 to `LAST_ALIAS`; its FORM may come later, or not at all.
+    /// The alias under which the mailing forms the unit, from 1 to `LAST_ALIAS`; its FORM may come
+    /// later, or not at all.
     Alias(u32),
 }
 
@@ -32,7 +33,7 @@ pub struct Span {
     pub start: usize,
     /// The index after the name's last byte.
     pub end: usize,
-    /// Whether it is in quotes, which aren't a part of it. If it isn't, `_` stands for a space.
+    /// Whether the name is in quotes, which the span leaves out. If it isn't, `_` means a space.
     pub quoted: bool,
 }
 

@@ -17,7 +17,7 @@ use crate::words::{Cursor, Word, is_same, next_word, number};
 use atl_tables::{World, word_ok};
 use std::alloc::{AllocError, Global};
 
-/// Reads the words of an alias, else MissingWord or BadAlias.
+/// Reads the operands of a verb that takes an alias, else MissingWord or BadAlias.
 #[tactic(auto, unfolding(crate::specs::Orders::read_alias))]
 fn read_alias(cursor: Cursor) -> Result<Operands, LineFault>
     ensures { Gives (named cursor.entry.text.now) result
@@ -27,7 +27,7 @@ fn read_alias(cursor: Cursor) -> Result<Operands, LineFault>
     Ok(Operands::Alias(alias))
 }
 
-/// Reads the words of a flag, 0 or 1, else MissingWord or BadNumber.
+/// Reads the operands of a verb that takes a flag, 0 or 1, else MissingWord or BadNumber.
 #[tactic(auto, unfolding(crate::specs::Orders::read_flag))]
 fn read_flag(cursor: Cursor) -> Result<Operands, LineFault>
     ensures { Gives (named cursor.entry.text.now) result (read_flag (words cursor.entry.rest.now)) }
@@ -37,7 +37,7 @@ fn read_flag(cursor: Cursor) -> Result<Operands, LineFault>
     Ok(Operands::Flag(flag == 1))
 }
 
-/// Reads the words of a number, else MissingWord or BadNumber.
+/// Reads the operands of a verb that takes a number, else MissingWord or BadNumber.
 #[tactic(auto, unfolding(crate::specs::Orders::read_number))]
 fn read_number(cursor: Cursor) -> Result<Operands, LineFault>
     ensures { Gives (named cursor.entry.text.now) result
@@ -47,7 +47,7 @@ fn read_number(cursor: Cursor) -> Result<Operands, LineFault>
     Ok(Operands::Number(number))
 }
 
-/// Reads the words of a unit, else MissingWord, BadNumber or BadAlias.
+/// Reads the operands of a verb that takes a unit, else MissingWord, BadNumber or BadAlias.
 #[tactic(auto, unfolding(crate::specs::Orders::read_unit))]
 fn read_unit(cursor: Cursor) -> Result<Operands, LineFault>
     ensures { Gives (named cursor.entry.text.now) result (read_unit (words cursor.entry.rest.now)) }
@@ -56,8 +56,8 @@ fn read_unit(cursor: Cursor) -> Result<Operands, LineFault>
     Ok(Operands::Unit(unit))
 }
 
-/// Reads the words of one unit or more, up to the line's end. Else MissingWord, BadNumber or
-/// BadAlias.
+/// Reads the operands of a verb that takes one unit or more, from all words up to the line's end.
+/// Else MissingWord, BadNumber or BadAlias.
 #[tactic(auto, unfolding(crate::specs::Orders::read_units, crate::specs::Operands::some_units_at))]
 fn read_units(alloc: Global, cursor: Cursor) -> Result<Result<Operands, LineFault>, AllocError>
     ensures { IfOk result (λ read.
@@ -72,7 +72,8 @@ fn read_units(alloc: Global, cursor: Cursor) -> Result<Result<Operands, LineFaul
     }
 }
 
-/// Reads the words of a unit and a number, else MissingWord, BadNumber or BadAlias.
+/// Reads the operands of a verb that takes a unit and a number. Else MissingWord, BadNumber or
+/// BadAlias.
 #[tactic(auto, unfolding(crate::specs::Orders::read_unit_and_number))]
 fn read_unit_and_number(cursor: Cursor) -> Result<Operands, LineFault>
     ensures { Gives (named cursor.entry.text.now) result
@@ -83,8 +84,8 @@ fn read_unit_and_number(cursor: Cursor) -> Result<Operands, LineFault>
     Ok(Operands::UnitAndNumber { to, number })
 }
 
-/// Reads the words of a unit, an amount and an item. Else MissingWord, BadNumber, BadAlias or
-/// UnknownThing.
+/// Reads the operands of a verb that takes a unit, an amount and an item. Else MissingWord,
+/// BadNumber, BadAlias or UnknownThing.
 #[tactic(auto, unfolding(crate::specs::Orders::read_unit_and_goods))]
 fn read_unit_and_goods(world: &World, cursor: Cursor) -> Result<Operands, LineFault>
     ensures { Gives (named cursor.entry.text.now) result
@@ -95,7 +96,8 @@ fn read_unit_and_goods(world: &World, cursor: Cursor) -> Result<Operands, LineFa
     Ok(Operands::UnitAndGoods { to, amount, item })
 }
 
-/// Reads the words of an amount and an item, else MissingWord, BadNumber or UnknownThing.
+/// Reads the operands of a verb that takes an amount and an item. Else MissingWord, BadNumber or
+/// UnknownThing.
 #[tactic(auto, unfolding(crate::specs::Orders::read_goods))]
 fn read_goods(world: &World, cursor: Cursor) -> Result<Operands, LineFault>
     ensures { Gives (named cursor.entry.text.now) result
@@ -105,7 +107,8 @@ fn read_goods(world: &World, cursor: Cursor) -> Result<Operands, LineFault>
     Ok(Operands::Goods { amount, item })
 }
 
-/// What the word after NAME says is named, `None` if it is none of the four words.
+/// What the word after NAME says gets a new name: unit, faction, building or ship; `None` for
+/// another word.
 fn kind_of_name(word: Word) -> Option<NameKind>
     ensures { result ≡ kind_of_name (word_text word.entry) }
 {
@@ -122,8 +125,8 @@ fn kind_of_name(word: Word) -> Option<NameKind>
     }
 }
 
-/// Reads the words of what gets a new name, and the name. Else MissingWord, UnknownThing or
-/// BadName.
+/// Reads the operands of NAME: what gets a new name, and the name. Else MissingWord, UnknownThing
+/// or BadName.
 #[tactic(auto, using(crate::proofs::WordLaws::place_fits, crate::proofs::WordLaws::place_behind, crate::proofs::WordLaws::stands_shorter, crate::proofs::WordLaws::ends_shorter), unfolding(crate::specs::Orders::read_name))]
 fn read_name(cursor: Cursor) -> Result<Operands, LineFault>
     requires { IsCursor cursor }
@@ -144,7 +147,7 @@ fn read_name(cursor: Cursor) -> Result<Operands, LineFault>
     Ok(Operands::Name { what, name })
 }
 
-/// Reads the words of a direction, else MissingWord or BadDirection.
+/// Reads the operands of a verb that takes a direction, else MissingWord or BadDirection.
 #[tactic(auto, unfolding(crate::specs::Orders::read_direction))]
 fn read_direction(cursor: Cursor) -> Result<Operands, LineFault>
     ensures { Gives (named cursor.entry.text.now) result
@@ -154,7 +157,7 @@ fn read_direction(cursor: Cursor) -> Result<Operands, LineFault>
     Ok(Operands::Direction(direction))
 }
 
-/// Reads the words of a kind of structure, or no word, else UnknownThing.
+/// Reads the operands of a verb that takes a kind of structure or nothing, else UnknownThing.
 #[tactic(auto, unfolding(crate::specs::Orders::read_kind))]
 fn read_kind(world: &World, cursor: Cursor) -> Result<Operands, LineFault>
     ensures { Gives (named cursor.entry.text.now) result
@@ -167,7 +170,7 @@ fn read_kind(world: &World, cursor: Cursor) -> Result<Operands, LineFault>
     Ok(Operands::Kind(Some(kind)))
 }
 
-/// Reads the words of a skill, else MissingWord or UnknownThing.
+/// Reads the operands of a verb that takes a skill, else MissingWord or UnknownThing.
 #[tactic(auto, unfolding(crate::specs::Orders::read_skill))]
 fn read_skill(world: &World, cursor: Cursor) -> Result<Operands, LineFault>
     ensures { Gives (named cursor.entry.text.now) result
@@ -177,7 +180,7 @@ fn read_skill(world: &World, cursor: Cursor) -> Result<Operands, LineFault>
     Ok(Operands::Skill(skill))
 }
 
-/// Reads the words of an item, else MissingWord or UnknownThing.
+/// Reads the operands of a verb that takes an item, else MissingWord or UnknownThing.
 #[tactic(auto, unfolding(crate::specs::Orders::read_item))]
 fn read_item(world: &World, cursor: Cursor) -> Result<Operands, LineFault>
     ensures { Gives (named cursor.entry.text.now) result

@@ -59,7 +59,7 @@ fn is_plain(line: &[u8]) -> bool
         .all(|byte| *byte == TAB || (SPACE <= *byte && *byte <= TILDE))
 }
 
-/// The keyword that a word is, in any case, `None` if it is none.
+/// The keyword that a word is, in any case: UNIT, END, FORM, or that of an order; else `None`.
 fn keyword_of(word: Word) -> Option<Keyword>
     ensures { result ≡ keyword_of (word_text word.entry) }
 {
@@ -87,7 +87,7 @@ fn unit_line(line: &[u8]) -> (LineResult, ReaderState)
     }
 }
 
-/// What an END line gives, and the next state.
+/// What an END line gives, and the next state: the open block ends, else EndAlone.
 #[tactic(auto, unfolding(crate::specs::Reading::end_step))]
 fn end_line(place: ReaderState) -> (LineResult, ReaderState)
     ensures { (given : _) (text : List ℕ) → end_step place given
@@ -158,7 +158,8 @@ fn target(place: ReaderState) -> Option<UnitRef>
     }
 }
 
-/// What the line of an order gives, by the words after its verb.
+/// What the line of an order gives: the order for the unit that is named, or a fault; NoUnit if no
+/// unit is named.
 fn order_line(
     alloc: Global,
     world: &World,

@@ -3,8 +3,8 @@
 ghost use Rattle.atl_orders.specs.Rules.{LineRules, BodyRules, TextRules};
 ghost use Rattle.atl_orders.specs.Bounds.{ReadingsKeepBounds};
 
-/// A law: the reading of a line, of all lines after a header, and of a whole text is what the rules
-/// give, and nothing else. The call does nothing. See docs/RULES.md, "Reading a mailing".
+/// A law: a line, all lines after a header, and a whole text are read as the rules allow, and the
+/// rules allow nothing else. The call does nothing. See docs/RULES.md, "Reading a mailing".
 pub fn rules_are_the_reading()
     ensures lines { LineRules }
     ensures mailings { BodyRules }

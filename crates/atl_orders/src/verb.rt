@@ -67,7 +67,7 @@ pub enum Shape {
     Item,
 }
 
-/// Verbs of which a unit carries out one order a month. That is the last of them in its mailing.
+/// A slot: verbs of which a unit carries out one order a month, the last such order in its mailing.
 #[derive(Drop, Clone, Copy, Debug, PartialEq, Eq)]
 pub enum Slot {
     /// The verbs that take the whole month.

@@ -15,9 +15,9 @@ use atl_tables::letters::{QUOTE, SPACE};
 /// A word of a line.
 #[derive(Drop, Clone, Copy, Debug)]
 pub struct Word<'a> {
-    /// Its bytes, without quotes around them.
+    /// The word's bytes, without the quotes around them.
     pub bytes: &'a [u8],
-    /// Whether it is in quotes.
+    /// Whether the word is in quotes.
     pub quoted: bool,
     /// How many bytes the line has from the word's first byte on.
     pub behind: usize,
@@ -28,7 +28,7 @@ pub struct Word<'a> {
 pub struct Cursor<'a> {
     /// The whole text.
     pub text: &'a [u8],
-    /// What is left of the line.
+    /// The part of the line that is left to read.
     pub rest: &'a [u8],
     /// The index in the text at which the line ends.
     pub end: usize,

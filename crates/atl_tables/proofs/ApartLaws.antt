@@ -105,13 +105,13 @@ one_of false b P f g h = g h
 pub len-both_below : (most : ℕ) (s t : Numbers) → ((k : ℕ) → set.contains s k ≡ true → k < most) → ((k : ℕ) → set.contains t k ≡ true → k < most) → set.len (set.union s t) ≤ most
 len-both_below most s t f g = len-below most (set.union s t) (λ k e. one_of _ _ _ (f k) (g k) (sym (set.contains-union nat_cmp_total s t k) ∙ e))
 
--- ---- none is in both
+-- ---- no number is in both sets
 
 -- a set has no number in common with the empty set
 apart_empty : (s : Numbers) → AreApart s set.empty
 apart_empty s = record { apart = λ n _. set.contains-empty nat_cmp n }
 
--- a number in a set is another one than a number that isn't
+-- a number that is in a set differs from a number that isn't in it
 other_key : (s : Numbers) (n q : ℕ) → set.contains s n ≡ false → set.contains s q ≡ true → eq_by_cmp nat_cmp q n ≡ false
 other_key s n q h e = false_from_ne_true _ (λ alike. false≢true (sym (ap (set.contains s) (same_key q n alike) ∙ h) ∙ e))
 
@@ -133,25 +133,25 @@ apart_remove s t n h = record {
 
 -- ---- marks in two sets
 
--- a set of marks, and no recent ones, if the set fits in its room
+-- a set that is no larger than its room, and no recent ones, are marks in two sets (`AreMarks`)
 pub none_recent : (s : Numbers) (room recent : ℕ) → set.len s ≤ room → AreMarks (record { numbers = s; room = room }) (record { numbers = set.empty; room = recent })
 none_recent s room recent h = record { apart = apart_empty s; fits = let none : set.len {R = nat_cmp} set.empty ≡ 0 = set.len-empty nat_cmp in omega (arith, none, h) }
 
--- no marks, and no recent ones
+-- the empty set with any room, and no recent ones, are marks in two sets (`AreMarks`)
 pub no_marks : (room recent : ℕ) → AreMarks (record { numbers = set.empty; room = room }) (record { numbers = set.empty; room = recent })
 no_marks room recent = none_recent set.empty room recent (let none : set.len {R = nat_cmp} set.empty ≡ 0 = set.len-empty nat_cmp in omega (arith, none))
 
--- a number that is marked in neither is put into one of them
+-- a number n is marked, where v is the set of all marks: those of m and the recent ones of l
 module _ (m l v : RoomySet) (n : ℕ) (seen : ◌≡◌ {A = RoomySet} (record { numbers = set.union m.numbers l.numbers; room = m.room }) v) (marks : AreMarks m l) where
   -- a number that isn't marked is in neither set
   in_neither : set.contains v.numbers n ≡ false → (set.contains m.numbers n ≡ false) × (set.contains l.numbers n ≡ false)
   in_neither h = neither _ _ (sym (set.contains-union nat_cmp_total m.numbers l.numbers n) ∙ ap (λ (w : RoomySet). set.contains w.numbers n) seen ∙ h)
 
-  -- a number that isn't marked fits among the recent ones, if these have room for one more
+  -- if n isn't marked, and the recent marks are fewer than their room, then with n put in they are within the room
   pub fits_recent : set.contains v.numbers n ≡ false → set.len l.numbers < l.room → set.len (set.insert l.numbers n) ≤ l.room
   fits_recent missing room = let more = len-new l.numbers n (in_neither missing).1 in omega (arith, more, room)
 
-  -- a number that isn't marked may be put among the recent ones, if all marks have room for it
+  -- if n isn't marked, and there is room for all marks and n, marks stay in two sets with n put among the recent ones
   pub one_recent : set.contains v.numbers n ≡ false → set.len (set.insert v.numbers n) ≤ v.room → AreMarks m (record l { numbers = set.insert l.numbers n })
   one_recent missing h =
       let more = len-new v.numbers n missing in
@@ -161,17 +161,17 @@ module _ (m l v : RoomySet) (n : ℕ) (seen : ◌≡◌ {A = RoomySet} (record {
       let recent = len-new l.numbers n (in_neither missing).1 in
       record { apart = apart_insert m.numbers l.numbers n marks.apart (in_neither missing).0; fits = omega (arith, more, all, size, room, recent, h) }
 
-  -- all marks, the recent ones and a new one may be put into the first set, if it has room for it
+  -- if there is room for all marks and n, they are marks in two sets with all of them put into the first
   pub one_more : set.len (set.insert v.numbers n) ≤ v.room → AreMarks (record { numbers = set.insert (set.union m.numbers l.numbers) n; room = m.room }) (record { numbers = set.empty; room = l.room })
   one_more h = none_recent (set.insert (set.union m.numbers l.numbers) n) m.room l.room
       (let size = ap (λ (w : RoomySet). set.len (set.insert w.numbers n)) seen in let room = ap (λ (w : RoomySet). w.room) seen in omega (arith, size, room, h))
 
--- a number may be taken out of both sets
+-- marks in two sets (`AreMarks`) stay marks in two sets after a number is taken out of both
 pub mark_taken : (m l : RoomySet) (n : ℕ) → AreMarks m l → AreMarks (record m { numbers = set.remove m.numbers n }) (record l { numbers = set.remove l.numbers n })
 mark_taken m l n h =
     record { apart = apart_remove m.numbers l.numbers n h.apart; fits = omega (arith, len-less m.numbers n, len-less l.numbers n, h.fits) }
 
--- of numbers at two indices of lists with no number in common, one that is at most the other is less
+-- if a number of xs is at most a number of ys, it is less, where xs and ys have no number in common
 pub stand_apart : (xs ys : List ℕ) (i j : ℕ) → AreApart (set.from_list xs) (set.from_list ys) → i < length xs → j < length ys → get_or xs i 0 ≤ get_or ys j 0 → get_or xs i 0 < get_or ys j 0
 stand_apart xs ys i j h l m le =
     elim (cases_order (get_or xs i 0) (get_or ys j 0)) [

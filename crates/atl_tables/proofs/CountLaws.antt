@@ -1,4 +1,4 @@
--- The numbers of the sorted entries of a map, which rise from one to the next.
+-- Laws of the sorted entries of a map: each number is less than the next one.
 use Rattle.std.proofs.Common.{◌≡◌, ℕ, ◌+◌, ◌≤◌, ◌<◌, true, List, [], ◌∷◌, refl, sym, arith}
 use Rattle.std.specs.declared.cmp.Ordering.TheVariants.{Less, Equal, Greater}
 use Rattle.std.specs.Ordering.{nat_cmp, is_lt}
@@ -6,7 +6,7 @@ use Rattle.std.specs.Cmp.{ranked}
 use Rattle.std.specs.FinMap.{is_sorted}
 use Rattle.std.proofs.lemmas.Bool.{and_parts, false≢true}
 
--- what comes before q in the order of numbers is less than q
+-- a number that comes before q by comparison is less than q
 below : (k q : ℕ) → is_lt (nat_cmp k q) ≡ true → k < q
 below k q h =
     elim (nat_cmp k q) as (λ r. nat_cmp k q ≡ r → is_lt r ≡ true → k < q) [

@@ -51,23 +51,23 @@ module _ {A : Type 0} (title : A → List ℕ) where
   by_test true f h = absurd (cc)
   by_test false f h = refl
 
-  -- if the condition on the i-th element holds, no element before it has its name
+  -- if the condition on duplicates of the i-th element, x, holds, no element before the i-th has the name of x
   no_twin : (array key : List ℕ) (all : List A) (i : ℕ) (x : A) → first_fault (no_twin_before title array key all i x) ≡ None → is_before x (take i all) ≡ false
   unfolding no_twin_before
   no_twin array key all i x h = by_test (is_before x (take i all)) (TwoNames (path (element_path array i) key)) h
 
-  -- x has another name than each element of a list, if it has another than the one at each index
+  -- x has another name than all elements of a list, if its name differs from that of the element at each index
   head_differs : (x : A) (xs : List A) → ((k : ℕ) (y : A) → slice_get xs k ≡ Some y → same_name (title x) (title y) ≡ false) → AllByRecursion (λ n. same_name (title x) n ≡ false) (map title xs)
   head_differs x [] h = tt
   head_differs x (y ∷ ys) h = (h 0 y refl, head_differs x ys (λ k. h (suc k)))
 
-  -- if no element of a list has the name of y, neither has the one in its middle
+  -- if no element of front ++ x ∷ rest has the name of y, x has another name than y
   in_middle : (front rest : List A) (x y : A) → is_before y (front ++ x ∷ rest) ≡ false → same_name (title x) (title y) ≡ false
   in_middle front rest x y h =
       let both = or_parts _ _ (sym (list_any-append (λ z. same_name (title z) (title y)) front (x ∷ rest)) ∙ h) in
       (or_parts _ _ both.1).0
 
-  -- the names of `xs` differ, if none is the name of an element before it, in `front` or in `xs`
+  -- the names of `xs` differ, if no element of `xs` has the name of one before it, in `front` or in `xs`
   differ_behind : (front xs : List A) → ((k : ℕ) (x : A) → slice_get xs k ≡ Some x → is_before x (front ++ take k xs) ≡ false) → NamesDiffer (map title xs)
   differ_behind front [] h = IsDistinct-from_apart same_name [] (λ i j d a b. absurd (omega (arith, b)))
   differ_behind front (x ∷ xs) h =

@@ -1,4 +1,4 @@
--- A loop over the elements of a list meets the conditions on them, one element after another.
+-- The conditions on the elements of a list, by its first element and the rest, for loops over the list.
 use Rattle.std.proofs.Common.{◌≡◌, ℕ, zero, suc, ◌+◌, ◌<◌, List, [], ◌∷◌, ◌++◌, length, map, drop, get_or, Option, None, sym, ap, ◌∙◌, subst, append_assoc}
 use Rattle.std.proofs.lemmas.List.{drop_more}
 use Rattle.atl_tables.specs.declared.fault.WorldFault.{WorldFault}
@@ -10,21 +10,21 @@ use Rattle.atl_tables.proofs.FaultLaws.{passes, stops_on}
 
 module _ {A : Type 0} (conditions : ℕ → A → Conditions) where
   module _ (i : ℕ) (x : A) (xs : List A) (total : Option WorldFault) (so_far : first_fault (each conditions i (x ∷ xs)) ≡ total) where
-    -- if the conditions on x hold, those on the rest have the fault of all
+    -- if the conditions on the first element x hold, the conditions on the rest have the fault of all
     pub goes_on : first_fault (conditions i x) ≡ None → first_fault (each conditions (i + 1) xs) ≡ total
     goes_on one = sym (passes (conditions i x) (each conditions (i + 1) xs) one) ∙ so_far
 
-    -- if a condition on x is broken, its fault is the fault of all
+    -- if a condition on the first element x is broken, its fault is the fault of all
     pub ends : (e : WorldFault) → Stops e (first_fault (conditions i x)) → Stops e total
     ends e one = subst (Stops e) so_far (stops_on e (conditions i x) (each conditions (i + 1) xs) one)
 
-  -- the same in a loop over the indices of a list
+  -- in a loop over the indices of a list: x is the i-th element, and the conditions from x on have the fault of all
   module _ (xs : List A) (i : ℕ) (x : A) (total : Option WorldFault) (below : i < length xs) (here : x ≡ get_or xs i x) (so_far : first_fault (each conditions i (drop i xs)) ≡ total) where
-    -- the conditions from the i-th element on, by that element and the rest
+    -- the conditions on x and on the elements after it have the fault of all
     from_here : first_fault (each conditions i (x ∷ drop (i + 1) xs)) ≡ total
     from_here = ap (λ ys. first_fault (each conditions i ys)) (sym (drop_more xs i x below ∙ ap (λ y. y ∷ drop (i + 1) xs) (sym here))) ∙ so_far
 
-    -- if the conditions on the i-th element hold, those from the next on have the fault of all
+    -- if the conditions on the i-th element hold, the conditions from the next element on have the fault of all
     pub goes_on_at : first_fault (conditions i x) ≡ None → first_fault (each conditions (i + 1) (drop (i + 1) xs)) ≡ total
     goes_on_at = goes_on i x (drop (i + 1) xs) total from_here
 
@@ -32,11 +32,11 @@ module _ {A : Type 0} (conditions : ℕ → A → Conditions) where
     pub ends_at : (e : WorldFault) → Stops e (first_fault (conditions i x)) → Stops e total
     ends_at = ends i x (drop (i + 1) xs) total from_here
 
--- a loop that maps a list has the mapped rest left, after the next element is mapped and appended
+-- if `front` and x ∷ xs mapped by f make a list, so do `front` with f x appended, and xs mapped by f
 pub mapped_on : {A B : Type 0} (f : A → B) (front : List B) (x : A) (xs : List A) (y : B) (total : List B) → front ++ map f (x ∷ xs) ≡ total → f x ≡ y → (front ++ y ∷ []) ++ map f xs ≡ total
 mapped_on f front x xs y total so_far one = append_assoc front (y ∷ []) (map f xs) ∙ ap (λ z. front ++ z ∷ map f xs) (sym one) ∙ so_far
 
--- if P holds at each index of a list, and of an element at the next index, it holds at each index of the longer list
+-- if P holds at each index of a list, and of y at the next index, P holds at each index of the list with y appended
 pub each_index_push : {A : Type 0} (P : ℕ → A → Type 0) (xs : List A) (y : A) → EachIndex P xs → P (length xs) y → EachIndex P (xs ++ y ∷ [])
 each_index_push P [] y all last zero x h = let same : y ≡ x = cc in subst (P 0) same last
 each_index_push P [] y all last (suc i) x h = absurd (cc)

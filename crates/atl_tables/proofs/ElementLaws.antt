@@ -1,4 +1,4 @@
--- A loop over the elements of an array meets the conditions on them, one element after another.
+-- The conditions and the values of an array's elements, by its first element and the rest, for loops over the array.
 use Rattle.std.proofs.Common.{◌≡◌, ℕ, ◌+◌, ◌<◌, List, [], ◌∷◌, ◌++◌, length, drop, get_or, Option, None, sym, ap, subst, ◌∙◌, append_assoc}
 use Rattle.toml.specs.Data.{Data, Items, item, Members}
 use Rattle.toml.specs.View.{view, items_view}
@@ -11,20 +11,20 @@ use Rattle.atl_tables.specs.Keys.{element_path}
 use Rattle.atl_tables.specs.Arrays.{element_table, element_conditions, elements_conditions, elements_of}
 use Rattle.atl_tables.proofs.FaultLaws.{passes, stops_on}
 
--- the elements from the i-th on are that element and those after it
+-- the elements of an array from the i-th on are the i-th, v, and those after it
 pub from_here : (vs : List Value) (i : ℕ) (v : Value) → i < length vs → v ≡ get_or vs i v → items_view (drop i vs) ≡ item (view v) (items_view (drop (i + 1) vs))
 from_here vs i v h e = items_view-drop vs i v h ∙ ap (λ (x : Value). item (view x) (items_view (drop (i + 1) vs))) (sym e)
 
 module _ (conditions : List ℕ → Members → Conditions) (key : List ℕ) (i : ℕ) (d : Data) (ds : Items) (total : Option WorldFault) where
-  -- if the conditions on an element hold, those on the rest have the fault of all
+  -- if the conditions on the first element hold, the conditions on the rest have the fault of all
   pub goes_on : first_fault (elements_conditions conditions key i (item d ds)) ≡ total → first_fault (element_conditions conditions (element_path key i) d) ≡ None → first_fault (elements_conditions conditions key (i + 1) ds) ≡ total
   goes_on so_far one = sym (passes (element_conditions conditions (element_path key i) d) (elements_conditions conditions key (i + 1) ds) one) ∙ so_far
 
-  -- if a condition on an element is broken, its fault is the fault of all
+  -- if a condition on the first element is broken, its fault is the fault of all
   pub ends : (e : WorldFault) → first_fault (elements_conditions conditions key i (item d ds)) ≡ total → Stops e (first_fault (element_conditions conditions (element_path key i) d)) → Stops e total
   ends e so_far one = subst (Stops e) so_far (stops_on e (element_conditions conditions (element_path key i) d) (elements_conditions conditions key (i + 1) ds) one)
 
--- a loop that reads elements has the values of the rest left, after the next value is appended
+-- if `front` and the values of all elements make a list, so do `front` with the first value appended, and the rest
 pub one_more : {A : Type 0} (record_of : List ℕ → Members → A) (key : List ℕ) (i : ℕ) (d : Data) (ds : Items) (front : List A) (x : A) (total : List A) → front ++ elements_of record_of key i (item d ds) ≡ total
     → record_of (element_path key i) (element_table (element_path key i) d) ≡ x → (front ++ x ∷ []) ++ elements_of record_of key (i + 1) ds ≡ total
 one_more record_of key i d ds front x total so_far one =

@@ -1,4 +1,4 @@
--- The fault of a list of conditions, as a function that reads in their order finds it.
+-- Laws of the first fault of lists of conditions, and of calls that return it (`Stops`, `Gives`, `Reads`).
 use Rattle.std.proofs.Common.{◌≡◌, [], ◌∷◌, ◌++◌, Option, Some, None, Result, Ok, Err, refl, sym, subst, ◌∙◌}
 use Rattle.std.specs.Result.{IsErrAnd}
 use Rattle.std.proofs.lemmas.Result.{err_from_is_err_and}
@@ -7,7 +7,7 @@ use Rattle.atl_tables.specs.declared.fault.WorldFault.TheVariants.{Memory}
 use Rattle.atl_tables.specs.Faults.{Conditions, fault_of, first_fault, unless, Reads}
 use Rattle.atl_tables.specs.Results.{Stops, Gives}
 
--- the error of a call that reads is the fault of each list that begins with the call's condition
+-- if a call reads r and returns an error, that is the fault of each list that begins with the fault of r
 pub stops_first : {X Y : Type 0} (view : X → Y) (e : WorldFault) (r : Result Y WorldFault) (fs : Conditions) → Reads view (Err e) r → Stops e (first_fault (fault_of r ∷ fs))
 stops_first view Memory r fs h = tt
 stops_first view e r fs h = rw h refl
@@ -24,40 +24,40 @@ kept f [] gs h = absurd (cc)
 kept f (None ∷ fs) gs h = kept f fs gs h
 kept f (Some x ∷ fs) gs h = h
 
--- a fault of the first list is the fault of both
+-- an error that is the fault of the first of two lists is the fault of the joined list
 pub stops_on : (e : WorldFault) (fs gs : Conditions) → Stops e (first_fault fs) → Stops e (first_fault (fs ++ gs))
 stops_on Memory fs gs h = tt
 stops_on e fs gs h = kept e fs gs h
 
--- if the first list has no fault, a fault of the second is the fault of both
+-- if the first of two lists has no fault, an error that is the fault of the second is that of the joined list
 pub stops_after : (e : WorldFault) (fs gs : Conditions) → first_fault fs ≡ None → Stops e (first_fault gs) → Stops e (first_fault (fs ++ gs))
 stops_after e fs gs h s = subst (Stops e) (sym (passes fs gs h)) s
 
--- if neither list has a fault, both together have none
+-- if neither of two lists has a fault, the joined list has none
 pub passes_both : (fs gs : Conditions) → first_fault fs ≡ None → first_fault gs ≡ None → first_fault (fs ++ gs) ≡ None
 passes_both fs gs h s = passes fs gs h ∙ s
 
--- a call whose result is by the second list's fault is by the joined list's, if the first list has no fault
+-- what a call gives for the fault of the second list it gives for that of the joined list, if the first has no fault
 pub gives_after : {X Y : Type 0} (view : X → Y) (r : Result X WorldFault) (fs gs : Conditions) (v : Y) → first_fault fs ≡ None → Gives view r (first_fault gs) v → Gives view r (first_fault (fs ++ gs)) v
 gives_after view (Ok x) fs gs v h g = (passes fs gs h ∙ g.0, g.1)
 gives_after view (Err e) fs gs v h g = stops_after e fs gs h g
 
--- a call that gives a part reads it
+-- a call that gives a value or a fault (`Gives`) reads the result with this value, unless there is the fault (`Reads`)
 pub reads : {X Y : Type 0} (view : X → Y) (r : Result X WorldFault) (fault : Option WorldFault) (v : Y) → Gives view r fault v → Reads view r (unless fault v)
 reads view (Ok x) fault v h = rw (h.0, h.1) refl
 reads view (Err Memory) fault v h = tt
 reads view (Err e) fault v h = rw h refl
 
--- a fault of the first condition is the fault of the list
+-- an error that is the fault of the first condition is the fault of the list
 pub stops_here : (e : WorldFault) (fault : Option WorldFault) (fs : Conditions) → Stops e fault → Stops e (first_fault (fault ∷ fs))
 stops_here Memory fault fs h = tt
 stops_here e fault fs h = rw h refl
 
--- a call whose result is by one condition is by the list of this condition alone
+-- what a call gives for one condition it gives for the list of this condition alone
 pub gives_last : {X Y : Type 0} (view : X → Y) (r : Result X WorldFault) (fault : Option WorldFault) (v : Y) → Gives view r fault v → Gives view r (first_fault (fault ∷ [])) v
 gives_last view r None v h = h
 gives_last view r (Some f) v h = h
 
--- if `?` returns the error of a call, and that is the fault of the conditions, the function gives that fault
+-- if `?` returns the error of a call, and that error is the fault of the conditions, the function gives the fault
 pub exits : {X Y : Type 0} (view : X → Y) (r : Result X WorldFault) (e : WorldFault) (fault : Option WorldFault) (v : Y) → IsErrAnd r (λ f. f ≡ e) → Stops e fault → Gives view r fault v
 exits view r e fault v h s = let p = err_from_is_err_and r h in rw (p.1, p.2) s

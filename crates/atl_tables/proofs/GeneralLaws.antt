@@ -1,4 +1,4 @@
--- General laws of truth values, numbers and keys of maps, which other crates cite, too.
+-- General laws of truth values, numbers and keys of maps, which other crates use, too.
 use Rattle.std.proofs.Common.{◌≡◌, ◌≢◌, ◌==◌, ◌∙◌, ◌+◌, ◌≤◌, ℕ, Bool, cond, true, false, T, nat_eq, refl, sym, arith}
 use Rattle.std.specs.Ordering.{nat_cmp, eq_by_cmp}
 use Rattle.std.specs.Cmp.{nat_cmp_total, unsigned_tied}
@@ -13,11 +13,11 @@ is_true false h = absurd h
 
 -- ---- numbers
 
--- two numbers are equal if the test says so
+-- two numbers are equal if the test `==` is true of them
 pub is_equal : (a b : ℕ) → (a == b) ≡ true → a ≡ b
 is_equal a b test = grind (arith, nat_tests)
 
--- two numbers are not equal if the test says so
+-- two numbers differ if the test `==` is false of them
 pub is_unequal : (a b : ℕ) → (a == b) ≡ false → a ≢ b
 is_unequal a b test = grind (arith, nat_tests)
 
@@ -25,7 +25,7 @@ is_unequal a b test = grind (arith, nat_tests)
 pub equal_itself : (a : ℕ) → (a == a) ≡ true
 equal_itself a = grind (arith, nat_tests)
 
--- the test of two numbers gives the same in either order
+-- the test whether two numbers are equal gives the same value in either order
 pub equal_turned : (a b : ℕ) → nat_eq a b ≡ nat_eq b a
 equal_turned a b = grind (arith, nat_tests)
 
@@ -35,7 +35,7 @@ equal_turned a b = grind (arith, nat_tests)
 pub key_itself : (n : ℕ) → eq_by_cmp nat_cmp n n ≡ true
 key_itself n = unsigned_tied n n ∙ equal_itself n
 
--- two keys are equal by comparison if the test of numbers says so, in either order
+-- whether two keys are equal by comparison is the test `==` of the numbers, in the other order
 pub key_turned : (q r : ℕ) → eq_by_cmp nat_cmp q r ≡ (r == q)
 key_turned q r = unsigned_tied q r ∙ equal_turned q r
 

@@ -1,4 +1,4 @@
--- The map of values by their own numbers.
+-- Laws of the map of values by their own numbers: how many entries it has, and what holds of each.
 use Rattle.std.proofs.Common.{◌≡◌, ◌≤◌, ℕ, zero, suc, ◌==◌, Bool, true, false, cond, List, [], ◌∷◌, length, Option, Some, refl, subst, sym, ap, ◌∙◌, arith}
 use Rattle.std.specs.Cmp.{nat_cmp_total, unsigned_tied}
 use Rattle.std.specs.FinMap.{FinMap, empty, get, len, get-empty, get-insert, len-empty}
@@ -18,14 +18,14 @@ module _ {V : Type 0} (number : V → ℕ) where
   few (v ∷ vs) = omega (arith, one_more (by_number number vs) (number v) v, few vs)
 
   module _ (P : ℕ → V → Type 0) where
-    -- what holds of u at its number, and of all other entries, holds of an entry after u is put in
+    -- if P holds of u at its number, and of the entry o under n, P holds of the entry under n after u is put in
     one : (b : Bool) (n : ℕ) (u v : V) (o : Option V) → (n == number u) ≡ b → P (number u) u → (o ≡ Some v → P n v) → cond b (Some u) o ≡ Some v → P n v
     one true n u v o e here rest h =
         let same : u ≡ v = cc in
         subst (P n) same (subst (λ k. P k u) (sym (is_equal n (number u) e)) here)
     one false n u v o e here rest h = rest h
 
-    -- what holds of each value at its own number holds of each entry of the map of them
+    -- if P holds of each value at its own number, P holds of each entry of the map of the values
     pub at_number : (vs : List V) → EachIndex (λ i v. P (number v) v) vs → (n : ℕ) (v : V) → get (by_number number vs) n ≡ Some v → P n v
     at_number [] all n v h = let e = get-empty {X = V} nat_cmp n in absurd (cc)
     at_number (u ∷ vs) all n v h =

@@ -1,4 +1,4 @@
--- Whether a word stands for a name, byte by byte.
+-- Laws of the test whether a word means a name, byte by byte and ignoring ASCII case.
 use Rattle.std.proofs.Common.{◌≡◌, ◌≢◌, ℕ, suc, ◌+◌, ◌<◌, ◌≤◌, Bool, true, false, ◌&&◌, eqb, List, [], ◌∷◌, length, get_or, drop, map, refl, sym, ap, ◌∙◌}
 use Rattle.std.specs.Str.{str_eq_ignore_ascii_case}
 use Rattle.std.specs.Char.{to_ascii_lowercase, eq_ignore_ascii_case}
@@ -6,7 +6,7 @@ use Rattle.std.proofs.lemmas.List.{drop_more, drop_all}
 use Rattle.std.proofs.lemmas.Bool.{and_right}
 use Rattle.atl_tables.specs.Lookup.{letter_of}
 
--- whether a name and the name that a word stands for are equal from the i-th byte on, ignoring ASCII case
+-- whether a name and the name that a word means are equal from the i-th byte on, ignoring ASCII case
 abbrev pub same_from : List ℕ → Bool → List ℕ → ℕ → Bool
 same_from name quoted word i = str_eq_ignore_ascii_case (drop i name) (map (letter_of quoted) (drop i word))
 
@@ -19,7 +19,7 @@ other_length (a ∷ xs) quoted (b ∷ ys) h =
     ap (λ t. eqb (to_ascii_lowercase a) (to_ascii_lowercase (letter_of quoted b)) && t) (other_length xs quoted ys (λ e. h (ap suc e)))
     ∙ and_right (eqb (to_ascii_lowercase a) (to_ascii_lowercase (letter_of quoted b))) false refl
 
--- a name and a word are equal from the i-th byte on if they are in this byte and from the next on
+-- a name and a word are equal from the i-th byte on exactly if the i-th bytes are, and the rests from i + 1 on
 step : (name : List ℕ) (quoted : Bool) (word : List ℕ) (i : ℕ) → i < length name → i < length word → same_from name quoted word i ≡ (eq_ignore_ascii_case (get_or name i 0) (letter_of quoted (get_or word i 0)) && same_from name quoted word (i + 1))
 step name quoted word i h k = rw (drop_more name i 0 h, drop_more word i 0 k) refl
 
@@ -31,6 +31,6 @@ same_letter name quoted word i h k e = sym (step name quoted word i h k ∙ ap (
 pub other_letter : (name : List ℕ) (quoted : Bool) (word : List ℕ) (i : ℕ) → i < length name → i < length word → eq_ignore_ascii_case (get_or name i 0) (letter_of quoted (get_or word i 0)) ≡ false → same_from name quoted word i ≡ false
 other_letter name quoted word i h k e = step name quoted word i h k ∙ ap (λ t. t && same_from name quoted word (i + 1)) e
 
--- at the end of both, nothing is left that differs
+-- a name and a word are equal from an index on that is past the end of both
 pub end_of_both : (name : List ℕ) (quoted : Bool) (word : List ℕ) (i : ℕ) → length name ≤ i → length word ≤ i → same_from name quoted word i ≡ true
 end_of_both name quoted word i h k = rw (drop_all i name h, drop_all i word k) refl

@@ -30,7 +30,7 @@ module _ {V W : Type 0} (f : V → W) where
   pub entries-mapped : (m : FinMap nat_cmp V) → entries (mapped f m) ≡ at_each (entries m)
   entries-mapped m = entries-from_sorted nat_cmp (at_each (entries m)) (subst T (sym (is_sorted-map (entries m))) (entries_sorted m))
 
-  -- what is found in mapped entries is the mapped value of what is found in the entries
+  -- under a number, mapped entries have f of the value that the entries have there
   find-map : (es : List (ℕ × V)) (n : ℕ) → find nat_cmp n (at_each es) ≡ option_map f (find nat_cmp n es)
   find-map [] n = refl
   find-map (e ∷ es) n =
@@ -40,12 +40,12 @@ module _ {V W : Type 0} (f : V → W) where
   pub get-mapped : (m : FinMap nat_cmp V) (n : ℕ) → get (mapped f m) n ≡ option_map f (get m n)
   get-mapped m n = get-entries (mapped f m) n ∙ ap (find nat_cmp n) (entries-mapped m) ∙ find-map (entries m) n ∙ ap (option_map f) (sym (get-entries m n))
 
-  -- the sum over mapped entries is the sum of g after f
+  -- the sum of g over the mapped entries is the sum of g after f over the entries
   weighed : (g : W → ℕ) (es : List (ℕ × V)) → sum_by (λ e. g e.1) (at_each es) ≡ sum_by (λ e. g (f e.1)) es
   weighed g [] = refl
   weighed g (e ∷ es) = sum_by-cons (λ (e : ℕ × W). g e.1) (e.0, f e.1) (at_each es) ∙ ap (λ n. g (f e.1) + n) (weighed g es) ∙ sym (sum_by-cons (λ (e : ℕ × V). g (f e.1)) e es)
 
-  -- the sum over a mapped map is the sum of g after f
+  -- the sum of g over a map with f applied to each value is the sum of g after f over the map
   pub sum_over-mapped : (g : W → ℕ) (m : FinMap nat_cmp V) → sum_over g (mapped f m) ≡ sum_over (λ v. g (f v)) m
   sum_over-mapped g m = ap (sum_by (λ e. g e.1)) (entries-mapped m) ∙ weighed g (entries m)
 
@@ -65,7 +65,7 @@ module _ {W : Type 0} where
   below_last q [] fs k w h = above q k (and_parts _ _ h).0
   below_last q (e ∷ es) fs k w h = below_last q es fs k w (and_parts _ _ h).1
 
-  -- an entry put into sorted entries that it comes after is the last
+  -- an entry that comes after all of the entries `es` is put in at their end
   put_last : (es fs : List (ℕ × W)) (k : ℕ) (w : W) → is_sorted nat_cmp (es ++ (k, w) ∷ fs) ≡ true → put nat_cmp k w es ≡ es ++ (k, w) ∷ []
   put_last [] fs k w h = refl
   put_last (e ∷ es) fs k w h =

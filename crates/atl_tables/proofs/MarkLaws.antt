@@ -1,4 +1,4 @@
--- Marked numbers in a sorted list, and the set of them.
+-- Laws of a sorted list of numbers and the set of its numbers: numbers put in, taken out and searched.
 use Rattle.std.proofs.Common.{◌≡◌, ℕ, suc, ◌+◌, ◌-◌, ◌<◌, ◌≤◌, Bool, true, false, cond, ◌||◌, List, [], ◌∷◌, length, get_or, refl, sym, ap, ◌∙◌, inl, inr, arith}
 use Rattle.std.specs.List.{list_any, insert, remove, AllByRecursion}
 use Rattle.std.specs.Prelude.{Result, Ok, Err, IfOk, IfErr}
@@ -78,13 +78,13 @@ rising-remove xs i s within = sorted_from_strictly_increasing (remove xs i) (λ 
     let rises = below_from_sorted xs (k + 1) (k + 1 + 1) 0 s (omega arith) (omega (arith, l, size)) in
     omega (arith, here, next, rises)))
 
--- ---- how many numbers its set has
+-- ---- how many numbers the set of a list has
 -- a number that is less than all of a list is not in it
 apart : (x : ℕ) (xs : List ℕ) → AllByRecursion (λ y. nat_cmp x y ≡ Less) xs → list_any (eq_by_cmp nat_cmp x) xs ≡ false
 apart x [] h = refl
 apart x (y ∷ xs) h = ap (λ r. is_eq r || list_any (eq_by_cmp nat_cmp x) xs) h.0 ∙ apart x xs h.1
 
--- if the first test fails, the count is one more
+-- if b is false, and m is n, then m + 1, which is chosen, is n + 1
 one_more : (b : Bool) (m n : ℕ) → b ≡ false → m ≡ n → cond b m (m + 1) ≡ suc n
 one_more true m n e h = absurd (false≢true (sym e))
 one_more false m n e h = omega arith
@@ -96,16 +96,16 @@ len-rising (x ∷ xs) s =
     set.len-insert nat_cmp_total (set.from_list xs) x
     ∙ one_more _ _ _ (set.contains-from_list nat_cmp_total xs x ∙ apart x xs (sorted_head nat_cmp x xs s)) (len-rising xs (sorted_tail nat_cmp x xs s))
 
--- ---- which numbers its set has
+-- ---- which numbers the set of a list has
 -- lists that are permutations of each other have the same set
 moved : (xs ys : List ℕ) → IsPermutation xs ys → set.from_list {R = nat_cmp} xs ≡ set.from_list ys
 moved xs ys p = same _ _ (λ q. set.contains-from_list nat_cmp_total xs q ∙ list_any-IsPermutation (eq_by_cmp nat_cmp q) xs ys p ∙ sym (set.contains-from_list nat_cmp_total ys q))
 
--- a number inserted into a list is put into its set
+-- the set of a list with n inserted is the set of the list with n put in
 pub from_list-insert : (xs : List ℕ) (n i : ℕ) → set.from_list {R = nat_cmp} (insert xs i n) ≡ set.insert (set.from_list xs) n
 from_list-insert xs n i = sym (moved (n ∷ xs) (insert xs i n) (IsPermutation-insert xs i n))
 
--- the set of a list is that without its i-th element, with this element put in
+-- the set of a list is the set of the list without its i-th element n, with n put in
 from_list-put_back : (xs : List ℕ) (n i : ℕ) → IsAt xs n i → set.from_list {R = nat_cmp} xs ≡ set.insert (set.from_list (remove xs i)) n
 from_list-put_back xs n i h = moved xs (n ∷ remove xs i) (IsPermutation-remove xs i n h.within (sym (get_or_default xs i n 0 h.within ∙ h.is)))
 
@@ -113,7 +113,7 @@ from_list-put_back xs n i h = moved xs (n ∷ remove xs i) (IsPermutation-remove
 pub contains-stands : (xs : List ℕ) (n i : ℕ) → IsAt xs n i → set.contains {R = nat_cmp} (set.from_list xs) n ≡ true
 contains-stands xs n i h = ap (λ s. set.contains s n) (from_list-put_back xs n i h) ∙ contains_inserted (set.from_list (remove xs i)) n
 
--- with a number that belongs at an index, and so isn't there, the set would have one number more
+-- if n belongs at an index of a sorted list, the list's set with n put in has one number more than the list
 pub len-belongs : (xs : List ℕ) (n i : ℕ) → IsRising xs → BelongsAt xs n i → set.len {R = nat_cmp} (set.insert (set.from_list xs) n) ≡ length xs + 1
 len-belongs xs n i s b = ap set.len (sym (from_list-insert xs n i)) ∙ len-rising (insert xs i n) (rising-insert xs n i s b) ∙ length-insert xs i n b.within
 
@@ -124,7 +124,7 @@ contains-belongs xs n i s b = false_from_ne_true _ (λ e.
     let as_many : set.len {R = nat_cmp} (set.insert (set.from_list xs) n) ≡ length xs = ap set.len (insert_twice (set.from_list xs) n e) ∙ len-rising xs s in
     omega (arith, more, as_many))
 
--- an element removed from a sorted list is taken out of its set
+-- the set of a sorted list with its i-th element n removed is the set of the list without n
 pub from_list-remove : (xs : List ℕ) (n i : ℕ) → IsRising xs → IsAt xs n i → set.from_list {R = nat_cmp} (remove xs i) ≡ set.remove (set.from_list xs) n
 from_list-remove xs n i s h =
     let back = from_list-put_back xs n i h in
@@ -146,12 +146,12 @@ rising-empty = tt
 not_falling : (xs : List ℕ) → IsRising xs → (i j : ℕ) → i ≤ j → j < length xs → get_or xs i 0 ≤ get_or xs j 0
 not_falling xs s i j l m = non_decreasing_from_sorted xs s i j 0 l m
 
--- the index at which a binary search finds a number is where it is
+-- if a binary search in a sorted list finds n, then n is at the index that the search returns
 pub searched-found : (xs : List ℕ) (n : ℕ) (r : Result ℕ ℕ) → IsRising xs → IsBinarySearchResult (λ y. nat_cmp y n) xs r → IfOk r (λ i. IsAt xs n i)
 searched-found xs n (Ok i) s h = let found = searched xs n (Ok i) h (not_falling xs s) in record { within = found.0; is = found.1 }
 searched-found xs n (Err i) s h = tt
 
--- the index that a binary search returns for a missing number is where it belongs
+-- if a binary search in a sorted list doesn't find n, then n belongs at the index that the search returns
 pub searched-missing : (xs : List ℕ) (n : ℕ) (r : Result ℕ ℕ) → IsRising xs → IsBinarySearchResult (λ y. nat_cmp y n) xs r → IfErr r (λ i. BelongsAt xs n i)
 searched-missing xs n (Ok i) s h = tt
 searched-missing xs n (Err i) s h = let missing = searched xs n (Err i) h (not_falling xs s) in record { within = missing.0; before = missing.1; behind = missing.2 }

@@ -1,4 +1,4 @@
--- Two sorted lists merged into one.
+-- Laws of two sorted lists merged into one: its numbers, its order, and the merge in place.
 use Rattle.std.proofs.Common.{◌≡◌, ℕ, suc, ◌+◌, ◌-◌, ◌<◌, ◌≤◌, Bool, true, false, ◌||◌, List, [], ◌∷◌, ◌++◌, length, get_or, take, drop, set, Option, refl, sym, ap, subst, ◌∙◌, inl, inr, arith}
 use Rattle.std.specs.Prelude.{IsTrue}
 use Rattle.std.proofs.lemmas.Bool.{cases_order, false≢true}
@@ -26,7 +26,7 @@ IsRising xs = IsStrictlySortedBy nat_cmp xs
 abbrev merged : List ℕ → List ℕ → List ℕ
 merged xs ys = sorted_merge nat_cmp true xs ys
 
--- x ∷ xs merged with a list, where `on` merges xs with one
+-- x ∷ xs merged with a list, where `on` merges xs with a list
 abbrev step : ℕ → List ℕ → (List ℕ → List ℕ) → List ℕ → List ℕ
 step x xs on ys = merge_step nat_cmp true x xs on ys
 
@@ -56,7 +56,7 @@ module _ (n : ℕ) where
       (λ e. ap (λ b. eq_by_cmp nat_cmp n x || b) (h ys) ∙ again (eq_by_cmp nat_cmp n x) (eq_by_cmp nat_cmp n y) (has xs) (has ys) (ap (eq_by_cmp nat_cmp n) (nat_cmp-IsAntisymmetric x y e)))
       (λ _. ap (λ b. eq_by_cmp nat_cmp n y || b) (has-step x xs on h ys) ∙ swapped (eq_by_cmp nat_cmp n y) (has (x ∷ xs)) (has ys))
 
-  -- n is in two merged lists exactly if it is in one of them
+  -- n is in the merge of two lists exactly if n is in one of the lists
   has-merged : (xs ys : List ℕ) → has (merged xs ys) ≡ (has xs || has ys)
   has-merged [] ys = refl
   has-merged (x ∷ xs) ys = has-step x xs (merged xs) (has-merged xs) ys
@@ -89,7 +89,7 @@ above_lower : (x y : ℕ) (ys : List ℕ) → nat_cmp x y ≡ Less → Above y y
 above_lower x y [] l a = tt
 above_lower x y (z ∷ ys) l a = (nat_cmp_total.trans x y z l a.0, above_lower x y ys l a.1)
 
--- x ∷ xs merged with a sorted list is sorted, if xs merged with each is
+-- if xs merged with any sorted list is sorted, then x ∷ xs merged with a sorted list is sorted
 rising-step : (x : ℕ) (xs : List ℕ) → IsRising (x ∷ xs) → ((ys : List ℕ) → IsRising ys → IsRising (merged xs ys)) → (ys : List ℕ) → IsRising ys → IsRising (merged (x ∷ xs) ys)
 unfolding IsStrictlySortedBy
 rising-step x xs s h [] t = s
@@ -136,7 +136,7 @@ all_longer Equal ts xs ys zs us vs ws a b c = b
 all_longer Greater ts xs ys zs us vs ws a b c = c
 
 module _ (n : ℕ) where
-  -- n at the end of x ∷ xs is at the end of a merge with a list of lesser numbers, if it is for xs
+  -- if n at the end of xs stays at the end of each merge with lesser numbers, so does n at the end of x ∷ xs
   own_last-step : (x : ℕ) (xs : List ℕ) (on more : List ℕ → List ℕ) → ((ys : List ℕ) → Under ys n → more ys ≡ on ys ++ n ∷ []) → (ys : List ℕ) → Under ys n → step x (xs ++ n ∷ []) more ys ≡ step x xs on ys ++ n ∷ []
   own_last-step x xs on more h [] u = refl
   own_last-step x xs on more h (y ∷ ys) u = all_longer (nat_cmp x y) (n ∷ []) _ _ _ _ _ _ (ap (λ zs. x ∷ zs) (h (y ∷ ys) u)) (ap (λ zs. x ∷ zs) (h ys u.1)) (ap (λ zs. y ∷ zs) (own_last-step x xs on more h ys u.1))
@@ -153,7 +153,7 @@ module _ (n : ℕ) where
   own_last [] ys u = own_last-only ys u
   own_last (x ∷ xs) ys u = own_last-step x xs (merged xs) (merged (xs ++ n ∷ [])) (own_last xs) ys u
 
-  -- n at the end of the second list is at the end of a merge with x ∷ xs, if it is for xs
+  -- if n at the end of a second list stays last in each merge with xs, it stays last in each with x ∷ xs, for x below n
   other_last-step : (x : ℕ) (xs : List ℕ) (on : List ℕ → List ℕ) → nat_cmp x n ≡ Less → on [] ≡ xs → ((ys : List ℕ) → on (ys ++ n ∷ []) ≡ on ys ++ n ∷ []) → (ys : List ℕ) → step x xs on (ys ++ n ∷ []) ≡ step x xs on ys ++ n ∷ []
   other_last-step x xs on l e h [] =
       ap (λ k. match_ordering k (x ∷ on (n ∷ [])) (x ∷ on []) (n ∷ x ∷ xs)) l ∙ ap (λ zs. x ∷ zs) (h [] ∙ ap (λ zs. zs ++ n ∷ []) e)
@@ -169,7 +169,7 @@ all_under : (xs : List ℕ) (n : ℕ) → ((k : ℕ) → k < length xs → get_o
 all_under [] n h = tt
 all_under (x ∷ xs) n h = (sym (nat_cmp_is x n Less (h 0 (omega arith))), all_under xs n (λ k l. h (suc k) (omega (arith, l))))
 
--- the first `count` numbers of a sorted list are less than n, if the last of them is
+-- the first `count` numbers of a sorted list are less than n, if the last of these numbers is less than n
 pub under_last : (xs : List ℕ) (count n : ℕ) → IsRising xs → count ≤ length xs → (0 < count → get_or xs (count - 1) 0 < n) → Under (take count xs) n
 under_last xs count n s l h = all_under (take count xs) n (λ k m.
     let within : k < count = omega (arith, m, length-take-le count xs l) in
@@ -177,11 +177,12 @@ under_last xs count n s l h = all_under (take count xs) n (λ k m.
     let rises : get_or xs k 0 ≤ get_or xs (count - 1) 0 = non_decreasing_from_sorted xs s k (count - 1) 0 (omega (arith, within)) (omega (arith, within, l)) in
     omega (arith, read, rises, h (omega (arith, within))))
 
--- after a number is put at an index of a list, the rest from there on begins with it
+-- after n is put at an index of a list, the rest of the list from this index on begins with n
 put_there : (xs : List ℕ) (place from n : ℕ) → place ≡ from → place < length xs → drop from (set xs place n) ≡ n ∷ drop (from + 1) xs
 put_there xs place from n e l = subst (λ p. drop p (set xs place n) ≡ n ∷ drop (p + 1) xs) e (drop-set xs place n l)
 
--- the largest number of the first list is put at its index of the merged list
+-- a merge in place still gives the merged list after the first list's largest number left, above all left of the
+-- second, is put at its index
 pub own_put : (xs ys now : List ℕ) (own less left place n : ℕ) → own ≡ less + 1 → place ≡ less + left → place < length now → less < length xs → n ≡ get_or xs less 0 → Under (take left ys) n
     → merged (take less xs) (take left ys) ++ drop (less + left) (set now place n) ≡ merged (take own xs) (take left ys) ++ drop (own + left) now
 own_put xs ys now own less left place n o p within short is under =
@@ -192,7 +193,8 @@ own_put xs ys now own less left place n o p within short is under =
     ∙ sym (append_assoc (merged (take less xs) (take left ys)) (n ∷ []) (drop (own + left) now))
     ∙ ap (λ zs. zs ++ drop (own + left) now) (sym first)
 
--- the largest number of the second list is put at its index of the merged list
+-- a merge in place still gives the merged list after the second list's largest number left, above all left of the
+-- first, is put at its index
 pub other_put : (xs ys now : List ℕ) (own left less place n : ℕ) → left ≡ less + 1 → place ≡ own + less → place < length now → less < length ys → n ≡ get_or ys less 0 → Under (take own xs) n
     → merged (take own xs) (take less ys) ++ drop (own + less) (set now place n) ≡ merged (take own xs) (take left ys) ++ drop (own + left) now
 other_put xs ys now own left less place n o p within short is under =
@@ -203,7 +205,7 @@ other_put xs ys now own left less place n o p within short is under =
     ∙ sym (append_assoc (merged (take own xs) (take less ys)) (n ∷ []) (drop (own + left) now))
     ∙ ap (λ zs. zs ++ drop (own + left) now) (sym first)
 
--- once no number of the second list is left to be put, the list is the merged list
+-- a merge in place is complete once no number of the second list is left: the list is the merged list
 pub all_put : (xs ys now all : List ℕ) (own left : ℕ) → left ≡ 0 → take own now ≡ take own xs → merged (take own xs) (take left ys) ++ drop (own + left) now ≡ all → now ≡ all
 all_put xs ys now all own left none kept h =
     let none_left : take left ys ≡ [] = ap (λ k. take k ys) none in

@@ -1,4 +1,4 @@
--- Names and pass texts are ASCII, and so they are UTF-8; a quoted word names itself.
+-- Names and pass texts are ASCII, and so they are UTF-8. A word in quotes is the name that it means.
 use Rattle.std.proofs.Common.{◌≡◌, ℕ, zero, suc, ◌<◌, Bool, true, List, [], ◌∷◌, get_or, refl, ap, arith}
 use Rattle.std.proofs.lemmas.Bool.{and_parts}
 use Rattle.std.proofs.lemmas.Bool.Decides.{nat_tests}
@@ -30,7 +30,7 @@ name_ok-IsUtf8 bs h = IsUtf8-from_ascii bs (all_small is_name_byte small_name bs
 pub pass_ok-IsUtf8 : (bs : List ℕ) → pass_ok bs ≡ true → IsUtf8 bs
 pass_ok-IsUtf8 bs h = IsUtf8-from_ascii bs (all_small is_pass_byte small_pass bs (and_parts _ _ h).1)
 
--- the name that a word in quotes stands for is the word
+-- the name that a word in quotes means is the word itself
 pub quoted_names_itself : (word : List ℕ) → name_of word true ≡ word
 quoted_names_itself [] = refl
 quoted_names_itself (b ∷ bs) = ap (λ l. b ∷ l) (quoted_names_itself bs)

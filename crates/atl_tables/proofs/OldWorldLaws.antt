@@ -1,4 +1,4 @@
--- A world that the first format reads has no markets.
+-- A world that a text gives in the first format has no markets.
 use Rattle.std.proofs.Common.{◌≡◌, ℕ, zero, suc, List, [], ◌∷◌, map, Option, Some, None, option_map, Ok, refl, sym, ap, subst, ◌∙◌}
 use Rattle.std.specs.Cmp.{nat_cmp_total}
 use Rattle.std.specs.FinMap.{FinMap, get, same_map, nat_cmp-IsAntisymmetric}
@@ -37,14 +37,14 @@ module _ (all : WorldDraft) where
   bare_plans (r ∷ rs) zero p h = let same : region_of all (as_draft r) ≡ p = cc in subst (λ (q : RegionPlan). without_market q ≡ q) same refl
   bare_plans (r ∷ rs) (suc i) p h = bare_plans rs i p h
 
-  -- the world of such regions is equal to itself with markets left out
+  -- the world of tables whose regions are all of the first format has no markets
   bare : (rs : List OldRegion) → all.regions ≡ map as_draft rs → without_markets (world_of_tables all) ≡ world_of_tables all
   unfolding world_of_tables regions_of
   bare rs read =
       let plans = subst (λ ds. EachIndex (λ i p. without_market p ≡ p) (map (region_of all) ds)) (sym read) (bare_plans rs) in
       ap (λ m. record (world_of_tables all) { regions = m }) (mapped_same without_market (regions_of all) (at_number (λ (p : RegionPlan). p.number) (λ n p. without_market p ≡ p) (map (region_of all) all.regions) plans))
 
--- the world that is returned, if there is no fault, is the one that was read
+-- if the result of x, unless there is a fault, is Ok w, then x is w
 given : (fault : Option WorldFault) (x w : WorldValue) → unless fault x ≡ Ok w → x ≡ w
 given None x w h = cc
 given (Some f) x w h = absurd (cc)

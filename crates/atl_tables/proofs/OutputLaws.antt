@@ -1,4 +1,4 @@
--- A loop over the amounts of an output reads them one after another, in byte order of the keys.
+-- Laws of a terrain's table `output`: its entries in byte order of the keys, and their amounts one after another.
 use Rattle.std.proofs.Common.{◌≡◌, ℕ, true, List, [], ◌∷◌, ◌++◌, map, Option, Result, Ok, String, Global, refl, sym, ap, ◌∙◌, append_assoc, string_bytes}
 use Rattle.std.specs.Map.{keys_of}
 use Rattle.std.specs.List.Sorted.{IsStrictlySortedBy}
@@ -21,18 +21,18 @@ put_first : (k : String Global) (d : Data) (es : List (String Global × Value)) 
 put_first k d [] h = refl
 put_first k d (e ∷ es) h = rw h refl
 
--- the entries of a table are in the byte order of their keys, as the definition puts them
+-- the entries of a table, in order of their keys, are those that `in_byte_order` gives
 pub entries_in_order : (es : List (String Global × Value)) → IsStrictlySortedBy string_cmp (keys_of es) → in_byte_order (members_view es) ≡ pairs es
 unfolding in_byte_order IsStrictlySortedBy
 entries_in_order [] h = refl
 entries_in_order (e ∷ es) h = rw (entries_in_order es h.1) (put_first e.0 (view e.1) es (is_before-sorted e.0 es h.0))
 
 module _ (at : List ℕ) (e : List ℕ × Data) (es : List (List ℕ × Data)) (n : ℕ) (one : amount_at at e ≡ Ok n) where
-  -- if the first amount is good, the conditions on the rest have the fault of all
+  -- if the first amount has no fault, the conditions on the amounts of the rest have the fault of all
   pub keys_on : (total : Option WorldFault) → first_fault (amounts_keys at (e ∷ es)) ≡ total → first_fault (amounts_keys at es) ≡ total
   keys_on total so_far = ap (λ (r : Result ℕ WorldFault). first_fault (fault_of r ∷ amounts_keys at es)) (sym one) ∙ so_far
 
-  -- a loop that reads amounts has the rest left, after the next amount is appended
+  -- if `front` and the amounts of e ∷ es make a list, so do `front` with e's amount n appended, and the amounts of es
   pub amounts_on : (front : List Output) (total : List Output) → front ++ amounts_from at (e ∷ es) ≡ total → (front ++ record { item = e.0; amount = n } ∷ []) ++ amounts_from at es ≡ total
   amounts_on front total so_far =
       append_assoc front (record { item = e.0; amount = n } ∷ []) (amounts_from at es)

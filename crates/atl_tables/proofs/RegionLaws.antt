@@ -11,14 +11,14 @@ use Rattle.atl_tables.specs.Faults.{first_fault}
 use Rattle.atl_tables.specs.Keys.{path, element_path}
 use Rattle.atl_tables.specs.Regions.{has_number, twin_number_at}
 
--- an option is there after a value may have been put in, if one was or it was there
+-- an option that is Some v if b is true, else o, has a value exactly if o has one or b is true
 is_some-put : {V : Type 0} (v : V) (b : Bool) (o : Option V) → is_some (cond b (Some v) o) ≡ (is_some o || b)
 is_some-put v true None = refl
 is_some-put v true (Some w) = refl
 is_some-put v false None = refl
 is_some-put v false (Some w) = refl
 
--- the map of the numbers seen has those of one more region after this region's is put in
+-- if a map has exactly the numbers of the first i regions, it has those of i + 1 with the i-th region's put in
 pub seen_more : {V : Type 0} (m : FinMap nat_cmp V) (v : V) (ds : List RegionDraft) (i : ℕ) (d : RegionDraft) → i < length ds → d ≡ get_or ds i d → ((n : ℕ) → is_some (get m n) ≡ has_number n (take i ds))
     → (n : ℕ) → is_some (get (insert m d.place.number v) n) ≡ has_number n (take (i + 1) ds)
 seen_more m v ds i d below here seen n =

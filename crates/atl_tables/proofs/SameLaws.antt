@@ -1,4 +1,4 @@
--- Two maps of regions are equal but for markets exactly if their entries are.
+-- Two maps of regions are equal but for markets exactly if their entries are equal but for markets.
 use Rattle.std.proofs.Common.{◌≡◌, ℕ, List, ◌∷◌, map, sym, ap, ◌∙◌}
 use Rattle.std.specs.FinMap.{FinMap, entries, same_entries_map}
 use Rattle.std.specs.Ordering.{nat_cmp}
@@ -21,7 +21,7 @@ module _ (m n : FinMap nat_cmp RegionPlan) where
   same_entries same = sym (entries-mapped without_market m) ∙ ap entries same ∙ entries-mapped without_market n
 
 module _ (k n : ℕ) (p q : RegionPlan) (es fs : List (ℕ × RegionPlan)) where
-  -- if two lists of entries are equal but for markets, so are their rests
+  -- if two lists of entries are equal but for markets, their rests are equal but for markets
   pub same_rest : bare ((k, p) ∷ es) ≡ bare ((n, q) ∷ fs) → bare es ≡ bare fs
   same_rest same = cc
 

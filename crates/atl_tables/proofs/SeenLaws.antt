@@ -1,4 +1,4 @@
--- A loop over things keeps the names that it has seen in a set.
+-- Laws of a set of the names seen so far, in ASCII lower case, by which a loop finds a name that comes twice.
 use Rattle.std.proofs.Common.{◌≡◌, ℕ, ◌+◌, ◌<◌, Bool, true, false, not, cond, ◌||◌, List, length, map, take, get_or, refl, sym, ap, ◌∙◌}
 use Rattle.std.proofs.lemmas.List.Folds.{list_any_more}
 use Rattle.std.proofs.lemmas.Map.Text.{btree_set_updates_text}
@@ -10,26 +10,26 @@ use Rattle.std.specs.declared.string.String.{String}
 use Rattle.atl_tables.specs.Names.{same_name}
 use Rattle.atl_tables.specs.SeenNames.{has_name, HasNames}
 
--- a choice of true is "or"
+-- true if b, and else `there`, is "there or b"
 or_of : (b there : Bool) → cond b true there ≡ (there || b)
 or_of true true = refl
 or_of true false = refl
 or_of false true = refl
 or_of false false = refl
 
--- a set that took a name in lower case has this name and those that it had
+-- a set of names, with a name put in by its lower case, has this name and those that it had
 pub has_more : {Z : Type 0} (seen grown : BTreeSet (String Z)) (lowered : String Z) (name : List ℕ) → Updates string_cmp seen grown lowered true → string_bytes lowered ≡ map to_ascii_lowercase name
     → (other : List ℕ) → has_name grown other ≡ (has_name seen other || same_name name other)
 unfolding same_name
 has_more seen grown lowered name put same other =
     rw same at (btree_set_updates_text (string_bytes lowered) seen grown true put (map to_ascii_lowercase other)) ∙ or_of (same_name name other) (has_name seen other)
 
--- a name that isn't new was there
+-- if a name isn't new, it was in the set
 there_before : (new there : Bool) → new ≡ not there → new ≡ false → there ≡ true
 there_before new true said h = refl
 there_before new false said h = sym h ∙ said
 
--- a name that is new wasn't there
+-- if a name is new, it wasn't in the set
 not_before : (new there : Bool) → new ≡ not there → new ≡ true → there ≡ false
 not_before new true said h = sym h ∙ said
 not_before new false said h = refl
@@ -43,7 +43,7 @@ module _ {A Z : Type 0} (title : A → List ℕ) (all : List A) (i : ℕ) (x : A
   pub stands_first : (new : Bool) → new ≡ not (has_name seen (title x)) → new ≡ true → list_any (λ y. same_name (title y) (title x)) (take i all) ≡ false
   stands_first new said h = sym (so_far (title x)) ∙ not_before new _ said h
 
-  -- the set has the names of the first i + 1 elements after the i-th one's is put in
+  -- the set of the names of the first i elements has those of the first i + 1 after the name of the i-th is put in
   pub has_one_more : (grown : BTreeSet (String Z)) → i < length all → x ≡ get_or all i x → ((other : List ℕ) → has_name grown other ≡ (has_name seen other || same_name (title x) other)) → HasNames title (take (i + 1) all) grown
   has_one_more grown below here put name =
       let more = list_any_more (λ y. same_name (title y) name) all i x below in

@@ -1,4 +1,4 @@
--- Sets of numbers.
+-- Laws of sets of numbers: when two are equal, numbers put in and taken out, unions, and how many numbers there are.
 use Rattle.std.proofs.Common.{◌≡◌, ℕ, zero, suc, ◌+◌, ◌-◌, ◌<◌, ◌≤◌, Bool, true, false, cond, not, ◌&&◌, ◌||◌, List, [], ◌∷◌, length, refl, sym, ap, ◌∙◌, arith}
 use Rattle.std.specs.List.{list_any}
 use Rattle.std.proofs.lemmas.Bool.{false≢true, and_parts, false_from_ne_true}
@@ -65,14 +65,14 @@ both_hold : (a b : Bool) → a ≡ false → b ≡ true → (not a && b) ≡ tru
 both_hold true b e h = absurd (false≢true (sym e))
 both_hold false b e h = h
 
--- counts m and n, each less one if its test holds, are in order; then so are m and n
+-- m ≤ n holds, if it holds with one less of m where a is true and of n where b is; a implies b, and b implies 1 ≤ n
 less_step : (a b : Bool) (m n : ℕ) → (a ≡ true → b ≡ true) → (b ≡ true → 1 ≤ n) → cond a (m - 1) m ≤ cond b (n - 1) n → m ≤ n
 less_step true true m n f g h = let l : 1 ≤ n = g refl in omega arith
 less_step true false m n f g h = absurd (false≢true (f refl))
 less_step false true m n f g h = omega arith
 less_step false false m n f g h = h
 
--- a set has no more numbers than one that has all of them, where a list has all of the first
+-- if a set t has all numbers of a set s, then s has no more numbers than t, where a list has all numbers of s
 fewer : (ks : List ℕ) (s t : set.FinSet nat_cmp) → ((q : ℕ) → set.contains s q ≡ true → list_any (eq_by_cmp nat_cmp q) ks ≡ true) → ((q : ℕ) → set.contains s q ≡ true → set.contains t q ≡ true) → set.len s ≤ set.len t
 fewer [] s t all h =
     let none : s ≡ set.empty = same s set.empty (λ q. false_from_ne_true _ (λ e. false≢true (all q e)) ∙ sym (set.contains-empty nat_cmp q)) in
@@ -87,7 +87,7 @@ fewer (k ∷ ks) s t all h =
     (λ q e. set.contains-remove nat_cmp_total t k q ∙ both_hold _ _ (other q e) (h q (was q e))) in
     less_step (set.contains s k) (set.contains t k) (set.len s) (set.len t) (h k) (some (set.len t) t k refl) (rw (set.len-remove nat_cmp_total s k, set.len-remove nat_cmp_total t k) at rest)
 
--- a set has no more numbers than one that has all of them
+-- if a set t has all numbers of a set s, then s has no more numbers than t
 pub len-within : (s t : set.FinSet nat_cmp) → ((q : ℕ) → set.contains s q ≡ true → set.contains t q ≡ true) → set.len s ≤ set.len t
 len-within s t h = fewer (set.items s) s t (λ q e. sym (set.contains-items s q) ∙ e) h
 
@@ -106,7 +106,7 @@ swapped false b c = refl
 pub union-empty : (s : set.FinSet nat_cmp) → set.union s set.empty ≡ s
 union-empty s = same _ _ (λ q. set.contains-union nat_cmp_total s set.empty q ∙ ap (λ b. set.contains s q || b) (set.contains-empty nat_cmp q) ∙ nothing_more _)
 
--- the union with a set that has k put in is the union with k put in
+-- the union of a set with another that has k put in is the union of both with k put in
 pub union-insert : (s t : set.FinSet nat_cmp) (k : ℕ) → set.union s (set.insert t k) ≡ set.insert (set.union s t) k
 union-insert s t k = same _ _ (λ q.
     set.contains-union nat_cmp_total s (set.insert t k) q ∙ ap (λ b. set.contains s q || b) (set.contains-insert nat_cmp_total t k q) ∙ swapped (set.contains s q) (eq_by_cmp nat_cmp q k) (set.contains t q)
@@ -117,7 +117,7 @@ pub joined : (a b c : Bool) → ((a || b) || c) ≡ (a || (b || c))
 joined true b c = refl
 joined false b c = refl
 
--- the union of a set that has k put in with another is the union with k put in
+-- the union of a set that has k put in with another set is the union of both with k put in
 pub insert-union : (s t : set.FinSet nat_cmp) (k : ℕ) → set.union (set.insert s k) t ≡ set.insert (set.union s t) k
 insert-union s t k = same _ _ (λ q.
     set.contains-union nat_cmp_total (set.insert s k) t q ∙ ap (λ b. b || set.contains t q) (set.contains-insert nat_cmp_total s k q) ∙ joined (eq_by_cmp nat_cmp q k) (set.contains s q) (set.contains t q)
@@ -144,16 +144,16 @@ first true b h = refl
 first false b h = absurd (false≢true h)
 
 -- ---- the numbers of a list, which come one after another
--- the union with a list's numbers is that of the set with the first put in, with the rest
+-- the union of a set with the numbers of k ∷ ks is that of the set with k put in, with the numbers of ks
 pub union-next : (s : set.FinSet nat_cmp) (k : ℕ) (ks : List ℕ) → set.union (set.insert s k) (set.from_list ks) ≡ set.union s (set.from_list (k ∷ ks))
 union-next s k ks = insert-union s (set.from_list ks) k ∙ sym (union-insert s (set.from_list ks) k)
 
--- a set with a list's first number put in has no more numbers than with all of the list
+-- a set with the first number of a list put in has no more numbers than with all numbers of the list put in
 pub len-next : (s t : set.FinSet nat_cmp) (k : ℕ) (ks : List ℕ) → set.union s (set.from_list (k ∷ ks)) ≡ t → set.len (set.insert s k) ≤ set.len t
 len-next s t k ks h =
     len-within (set.insert s k) t (λ q e. ap (λ u. set.contains u q) (sym (union-next s k ks ∙ h)) ∙ set.contains-union nat_cmp_total (set.insert s k) (set.from_list ks) q ∙ first _ _ e)
 
--- a count is at most one more than after a removal
+-- a count l is at most one more than r, which is l, or l less one
 one_less : (b : Bool) (l r : ℕ) → r ≡ cond b (l - 1) l → l ≤ r + 1
 one_less true l r e = omega (arith, e)
 one_less false l r e = omega (arith, e)

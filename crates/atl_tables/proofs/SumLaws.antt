@@ -14,7 +14,7 @@ use Rattle.atl_tables.specs.Sums.{sum_over, numbers_where}
 swapped : (a b : ℕ) → a + b ≡ b + a
 swapped a b = omega arith
 
--- a sum with its last addend moved to the end
+-- if b is c + d, then a + b is a + c and then d
 later : (a b c d : ℕ) → b ≡ c + d → a + b ≡ (a + c) + d
 later a b c d h = omega arith
 
@@ -22,17 +22,17 @@ later a b c d h = omega arith
 exchanged : (a b c : ℕ) → (a + c) + b ≡ (b + c) + a
 exchanged a b c = omega arith
 
--- equal sums stay equal if both get e
+-- two equal sums stay equal if e is added to the first addend of each
 under : (e a b c d : ℕ) → a + b ≡ c + d → (e + a) + b ≡ (e + c) + d
 under e a b c d h = omega arith
 
 module _ {X : Type 0} where
-  -- of two choices by one test the outer one counts
+  -- in the second branch of a choice, another choice by the same test gives its second branch
   twice : (b : Bool) (x y z : Option X) → cond b x z ≡ cond b x (cond b y z)
   twice true x y z = refl
   twice false x y z = refl
 
-  -- a value put in under k is the same whether or not there was another under k
+  -- the map with v put in under k is the same if the value under k, if any, is removed first
   pub put_over : (m : FinMap nat_cmp X) (k : ℕ) (v : X) → insert m k v ≡ insert (remove m k) k v
   put_over m k v = same_map nat_cmp_total nat_cmp-IsAntisymmetric _ _ (λ q.
       get-insert nat_cmp_total m k v q ∙ twice (eq_by_cmp nat_cmp q k) (Some v) None (get m q)
@@ -74,7 +74,7 @@ module _ {X : Type 0} where
         | Greater ↦ λ g. more e (put nat_cmp k v es) ∙ later (f e.1) _ (weighed f es) (f v) (put_new f k v es g) ∙ ap (λ n. n + f v) (sym (more e es))
       ] h
 
-  -- sums with u and with v under k differ by the f of these two
+  -- the sum with v under k, with f u added, is the sum with u under k, with f v added
   put_either : (f : X → ℕ) (k : ℕ) (u v : X) (es : List (ℕ × X)) → weighed f (put nat_cmp k v es) + f u ≡ weighed f (put nat_cmp k u es) + f v
   put_either f k u v [] = omega arith
   put_either f k u v (e ∷ es) =
@@ -89,7 +89,7 @@ module _ {X : Type 0} where
   pub sum_over-insert_new : (f : X → ℕ) (m : FinMap nat_cmp X) (k : ℕ) (v : X) → get m k ≡ None → sum_over f (insert m k v) ≡ sum_over f m + f v
   sum_over-insert_new f m k v h = ap (sum_by (λ e. f e.1)) (entries-insert nat_cmp_total m k v) ∙ put_new f k v (entries m) (sym (get-entries m k) ∙ h)
 
-  -- a value put in for another changes the sum over a map by the difference of their f
+  -- if v replaces u in a map, the new sum with f u added is the old sum with f v added
   pub sum_over-insert_known : (f : X → ℕ) (m : FinMap nat_cmp X) (k : ℕ) (u v : X) → get m k ≡ Some u → sum_over f (insert m k v) + f u ≡ sum_over f m + f v
   sum_over-insert_known f m k u v h =
       ap (λ n. sum_over f n + f u) (put_over m k v)
@@ -103,16 +103,16 @@ module _ {X : Type 0} where
   abbrev chosen : (p : X → Bool) → List (ℕ × X) → List ℕ
   chosen p es = map (λ e. e.0) (filter (λ e. p e.1) es)
 
-  -- the numbers that pass, after a choice whether the first does
+  -- the numbers of the entries that pass, with the first entry e if b is true
   chosen-cond : (p : X → Bool) (b : Bool) (e : ℕ × X) (es : List (ℕ × X)) → map (λ e. e.0) (cond b (e ∷ filter (λ e. p e.1) es) (filter (λ e. p e.1) es)) ≡ cond b (e.0 ∷ chosen p es) (chosen p es)
   chosen-cond p true e es = refl
   chosen-cond p false e es = refl
 
-  -- the numbers that pass, by whether the first does
+  -- the numbers of e ∷ es that pass are those of es, with the number of e in front if e passes
   pub chosen-cons : (p : X → Bool) (e : ℕ × X) (es : List (ℕ × X)) → chosen p (e ∷ es) ≡ cond (p e.1) (e.0 ∷ chosen p es) (chosen p es)
   chosen-cons p e es = chosen-cond p (p e.1) e es
 
-  -- the numbers that pass are the same with u and with v under k, if both pass or both fail
+  -- the numbers whose values pass are the same with u and with v under k, if both pass or both fail
   chosen-put : (p : X → Bool) (k : ℕ) (u v : X) → p u ≡ p v → (es : List (ℕ × X)) → chosen p (put nat_cmp k v es) ≡ chosen p (put nat_cmp k u es)
   chosen-put p k u v h [] = chosen-cons p (k, v) [] ∙ ap (λ b. cond b (k ∷ []) []) (sym h) ∙ sym (chosen-cons p (k, u) [])
   chosen-put p k u v h (e ∷ es) =
@@ -132,22 +132,22 @@ module _ {X : Type 0} where
         | Greater ↦ λ g. chosen-cons p e (put nat_cmp k v es) ∙ ap (λ ns. cond (p e.1) (e.0 ∷ ns) ns) (chosen-put_other p k v h es g) ∙ sym (chosen-cons p e es)
       ] g
 
-  -- the numbers that pass stay the same if a value is put in for one that passes or fails as it does
+  -- the numbers whose values pass stay the same if v replaces u, and both pass or both fail
   pub numbers_where-insert_known : (p : X → Bool) (m : FinMap nat_cmp X) (k : ℕ) (u v : X) → get m k ≡ Some u → p u ≡ p v → numbers_where p (insert m k v) ≡ numbers_where p m
   numbers_where-insert_known p m k u v h same =
       ap (numbers_where p) (put_over m k v) ∙ ap (chosen p) (entries-insert nat_cmp_total (remove m k) k v) ∙ chosen-put p k u v same (entries (remove m k))
       ∙ ap (chosen p) (sym (entries-insert nat_cmp_total (remove m k) k u)) ∙ ap (numbers_where p) (sym (put_back m k u h))
 
-  -- the numbers that pass stay the same if a new value fails the test
+  -- the numbers whose values pass stay the same if a value that fails is put in under a new number
   pub numbers_where-insert_other : (p : X → Bool) (m : FinMap nat_cmp X) (k : ℕ) (v : X) → get m k ≡ None → p v ≡ false → numbers_where p (insert m k v) ≡ numbers_where p m
   numbers_where-insert_other p m k v h fails =
       ap (chosen p) (entries-insert nat_cmp_total m k v) ∙ chosen-put_other p k v fails (entries m) (sym (get-entries m k) ∙ h)
 
-  -- a value put in for the same value leaves the map as it was
+  -- replacing a value by an equal one leaves the map as it was
   pub put_same : (m : FinMap nat_cmp X) (k : ℕ) (u v : X) → get m k ≡ Some u → v ≡ u → insert m k v ≡ m
   put_same m k u v h e = ap (insert m k) e ∙ put_over m k u ∙ sym (put_back m k u h)
 
-  -- on an error a value put in for the same value leaves the map as it was
+  -- if on an error a value is replaced by an equal one, then on an error the map is as it was
   pub put_same_err : {A E : Type 0} (r : Result A E) (m : FinMap nat_cmp X) (k : ℕ) (u v : X) → get m k ≡ Some u → OnErr r (v ≡ u) → OnErr r (insert m k v ≡ m)
   put_same_err (Ok a) m k u v h e = tt
   put_same_err (Err x) m k u v h e = put_same m k u v h e

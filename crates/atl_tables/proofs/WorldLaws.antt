@@ -1,4 +1,4 @@
--- The world that tables give is a world: its parts keep their bounds at each index.
+-- The world that good tables give is a world (`IsWorld`): its parts are in bounds at each index.
 use Rattle.std.proofs.Common.{◌≡◌, ◌<◌, ℕ, zero, suc, List, [], ◌∷◌, length, map, Some, refl, subst, sym, arith}
 use Rattle.std.specs.List.{All, slice_get}
 use Rattle.std.proofs.lemmas.List.{length-map}
@@ -23,7 +23,7 @@ use Rattle.atl_tables.proofs.DuplicateLaws.{names_kept}
 pub at_index : {A : Type 0} (P : A → Type 0) (xs : List A) → All P xs → (i : ℕ) (x : A) → slice_get xs i ≡ Some x → P x
 at_index P xs all i x h = subst P (get_or_from_slice_get xs i x x h) (All-get_or P xs i x (slice_get_within xs i x h) all)
 
--- if what P holds of is mapped to what Q holds of, Q holds at each index of the mapped list
+-- if f takes what P holds of to what Q holds of, Q holds at each index of a mapped list of which P holds
 mapped_indices : {A B : Type 0} (P : A → Type 0) (Q : B → Type 0) (f : A → B) → ((x : A) → P x → Q (f x)) → (xs : List A) → All P xs → EachIndex (λ i y. Q y) (map f xs)
 mapped_indices P Q f then [] all i y h = absurd (cc)
 mapped_indices P Q f then (x ∷ xs) all zero y h = let same : f x ≡ y = cc in subst Q same (then x (All-head P x xs all))

@@ -9,7 +9,7 @@ use Rattle.atl_tables.specs.declared.fault.WorldFault.{WorldFault}
 abbrev pub element_table : List ℕ → Data → Members
 element_table at d = value_or no_members (typed at (as_table d))
 
--- the conditions on one element: it is a table (else WrongType), and its keys keep theirs
+-- the conditions on one element of an array: it is a table, else WrongType; and its keys have no fault
 abbrev pub element_conditions : (List ℕ → Members → Conditions) → List ℕ → Data → Conditions
 element_conditions conditions at d = fault_of (typed at (as_table d)) ∷ conditions at (element_table at d)
 
@@ -23,7 +23,7 @@ abbrev pub elements_of : {A : Type 0} → (List ℕ → Members → A) → List 
 elements_of record_of key i no_items = []
 elements_of record_of key i (item d ds) = record_of (element_path key i) (element_table (element_path key i) d) ∷ elements_of record_of key (i + 1) ds
 
--- the conditions on an array, given the result of reading its key: that result has no fault, and no element has one
+-- the conditions on an array, given the result of reading its key: the result is no fault, and no element has a fault
 unfoldable pub list_conditions : (List ℕ → Members → Conditions) → List ℕ → Result Items WorldFault → Conditions
 list_conditions conditions key items = fault_of items ∷ elements_conditions conditions key 0 (value_or no_items items)
 

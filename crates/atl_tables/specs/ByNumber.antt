@@ -14,7 +14,7 @@ use Rattle.atl_tables.specs.declared.world.Terrain.{Terrain}
 abbrev pub terrain_of : WorldValue → (region : ℕ) → Option Terrain
 terrain_of w region = option_and_then (λ p. slice_get w.terrains p.terrain) (get w.regions region)
 
--- whether the world has a region with this number, and that is land
+-- whether the world has a region with this number, and the region's terrain is land
 abbrev pub is_land_at : WorldValue → (region : ℕ) → Bool
 is_land_at w region = option_map_or (is_land w.terrains) (get w.regions region) false
 

@@ -55,7 +55,7 @@ pub record AreRulesDraft (r : RulesDraft) : Type 0 where
 pub record IsOutput (o : Output) : Type 0 where
   pub amount : o.amount ≤ most_amount
 
--- the wage, places and limits of a terrain are in their ranges
+-- the wage, the number of work places, and the limits of money and peasants of a terrain are in their ranges
 pub record IsEconomy (e : Economy) : Type 0 where
   pub wage_least : 1 ≤ e.wage
   pub wage : e.wage ≤ most_price
@@ -109,7 +109,7 @@ pub record AreRegionBasics (p : RegionBasics) : Type 0 where
   pub peasants : p.peasants ≤ most_amount
   pub money : p.money ≤ most_amount
 
--- a table `[[region]]` of the first format keeps the bounds of its keys
+-- a table `[[region]]` of the first format has its basics (number, name, peasants, money) in their ranges
 pub record IsOldRegion (r : OldRegion) : Type 0 where
   pub place : AreRegionBasics r.place
 
@@ -122,12 +122,12 @@ pub record IsMarketDraft (d : MarketDraft) : Type 0 where
   pub limit : d.limit ≤ most_amount
   pub restock : d.restock ≤ most_amount
 
--- a table `[[region]]` keeps the bounds of its keys, and so does each of its markets
+-- a table `[[region]]` of the second format has its basics, and the numbers of its markets, in their ranges
 pub record IsRegionDraft (d : RegionDraft) : Type 0 where
   pub place : AreRegionBasics d.place
   pub markets : All IsMarketDraft d.markets
 
--- the tables of items, skills and kinds keep their bounds, and there are not too many of each
+-- items, skills and kinds as read: names by the rule, numbers in range, and no more of each than a world may have
 pub record AreThingDrafts (t : ThingDrafts) : Type 0 where
   pub items : All IsItemDraft t.items
   pub skills : All IsSkill t.skills

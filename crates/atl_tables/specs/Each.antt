@@ -1,4 +1,4 @@
--- The conditions on the elements of a list, joined in the order of the elements.
+-- The conditions on all elements of a list, in the order of the elements.
 use Rattle.std.specs.Prelude.{ℕ, ◌+◌, List, [], ◌∷◌, ◌++◌}
 use Rattle.atl_tables.specs.Faults.{Conditions}
 

@@ -3,7 +3,7 @@ use Rattle.std.specs.Prelude.{◌≡◌, List, [], ◌∷◌, Option, Some, None
 use Rattle.atl_tables.specs.declared.fault.WorldFault.{WorldFault}
 use Rattle.atl_tables.specs.declared.fault.WorldFault.TheVariants.{Memory}
 
--- conditions in the order in which their faults count: None if a condition holds, or its fault if it is broken
+-- conditions, in the order in which their faults count: None for one that holds, and the fault of one that is broken
 abbrev pub Conditions : Type 0
 Conditions = List (Option WorldFault)
 
@@ -23,12 +23,12 @@ first_fault [] = None
 first_fault (None ∷ fs) = first_fault fs
 first_fault (Some f ∷ fs) = Some f
 
--- the value, or the fault if there is one
+-- a result: the fault if there is one, else the value
 abbrev pub unless : {A : Type 0} → Option WorldFault → A → Result A WorldFault
 unless None x = Ok x
 unless (Some f) x = Err f
 
--- A call returned exactly `read`, its value seen by `view`; or it returned Memory, which says nothing of `read`.
+-- A call returned exactly `read`, with its value mapped by `view`; or it returned Memory, and `read` can be anything.
 abbrev pub Reads : {X Y : Type 0} → (X → Y) → Result X WorldFault → Result Y WorldFault → Type 0
 Reads view (Ok x) read = read ≡ Ok (view x)
 Reads view (Err Memory) read = Unit {0}

@@ -50,7 +50,7 @@ item_known all i d =
     ∷ known_number_or_none (path (element_path (codes "item") i) (codes "raw")) (λ name. other_than i (item_number all name)) d.making.raw
     ∷ []
 
--- the item of a table, with its skill and its raw item by number
+-- the item that a table `[[item]]` describes, with its skill and its raw item by number
 unfoldable pub item_of : WorldDraft → ItemDraft → Item
 item_of all d = record {
   name = d.name;

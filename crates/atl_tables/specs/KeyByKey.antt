@@ -10,19 +10,19 @@ pub record Says (A : Type 0) : Type 0 where
   pub conditions : Conditions
   pub value : A
 
--- how a table is read, by its path and its members
+-- a way to read a table: from its path and its members, the conditions on its keys and its value
 abbrev pub Table : Type 0 → Type 0
 Table A = List ℕ → Members → Says A
 
--- the conditions on the keys of the table t at a path
+-- the conditions on the keys of a table with members t, at the path `at`
 abbrev pub conditions_of : {A : Type 0} → Table A → List ℕ → Members → Conditions
 conditions_of table at t = (table at t).conditions
 
--- the value of the table t at a path
+-- the value of a table with members t, at the path `at`
 abbrev pub value_of : {A : Type 0} → Table A → List ℕ → Members → A
 value_of table at t = (table at t).value
 
--- reads some keys, and then further keys, which may depend on the value of the first
+-- reads some keys, and then further keys; how these are read may depend on the value of the first
 infixl 10 ◌>>=◌
 abbrev pub ◌>>=◌ : {A B : Type 0} → Table A → (A → Table B) → Table B
 first >>= next = λ at t. record {
@@ -30,11 +30,11 @@ first >>= next = λ at t. record {
   value = value_of (next (value_of first at t)) at t;
 }
 
--- reads no key, and gives this value
+-- reads no key and has no condition; the value is this one
 abbrev pub says : {A : Type 0} → A → Table A
 says x = λ at t. record { conditions = []; value = x }
 
--- reads keys as one part of a table, whose conditions are joined to one: the first of them that is broken
+-- reads keys as one part of a table: all conditions on them become one, whose fault is the first of theirs
 abbrev pub part : {A : Type 0} → Table A → Table A
 part table = λ at t. record { conditions = first_fault (conditions_of table at t) ∷ []; value = value_of table at t }
 
@@ -59,7 +59,7 @@ name_key key = one_key [] (name_at key)
 abbrev pub text_key : List ℕ → Table (List ℕ)
 text_key key = one_key [] (text_at key)
 
--- reads a key that is a text, or missing
+-- reads a key that is a text, or missing, which gives None
 abbrev pub optional_text_key : List ℕ → Table (Option (List ℕ))
 optional_text_key key = one_key None (optional_text_at key)
 

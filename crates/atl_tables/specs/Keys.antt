@@ -20,37 +20,37 @@ path at key = at ▸ codes "." ▸ key
 abbrev pub element_path : List ℕ → ℕ → List ℕ
 element_path key i = key ▸ codes "[" ▸ decimal i ▸ codes "]"
 
--- reads a key that must be there, else Missing
+-- reads the value of a key that must be in the table; the fault is Missing if it isn't
 abbrev pub present : {A : Type 0} → List ℕ → (Data → Result A WorldFault) → Option Data → Result A WorldFault
 present p read None = Err (Missing p)
 present p read (Some d) = read d
 
--- reads a key that may be missing, which gives the default
+-- reads the value of a key that may be missing; the default if it is missing
 abbrev pub or_else : {A : Type 0} → A → (Data → Result A WorldFault) → Option Data → Result A WorldFault
 or_else default read None = Ok default
 or_else default read (Some d) = read d
 
--- the same result, with its value as Some
+-- a result with its value x as Some x; a fault stays
 abbrev pub some_of : {A : Type 0} → Result A WorldFault → Result (Option A) WorldFault
 some_of (Ok x) = Ok (Some x)
 some_of (Err f) = Err f
 
--- reads a key that may be missing, which gives None
+-- reads the value of a key that may be missing; None if it is missing
 abbrev pub optional : {A : Type 0} → (Data → Result A WorldFault) → Option Data → Result (Option A) WorldFault
 optional read None = Ok None
 optional read (Some d) = some_of (read d)
 
--- the value if it has the type that is needed, else WrongType
+-- the value x of Some x; for None, which says that the value has the wrong type, WrongType
 abbrev pub typed : {A : Type 0} → List ℕ → Option A → Result A WorldFault
 typed p None = Err (WrongType p)
 typed p (Some x) = Ok x
 
--- an integer as a natural number, if it is from least to most
+-- an integer as a natural number if it is from least to most, else None
 abbrev pub within : ℕ → ℕ → ℤ → Option ℕ
 within least most (pos n) = if nat_le least n && nat_le n most then Some n else None
 within least most (negsuc n) = None
 
--- the value if it is in its range, else OutOfRange
+-- the value x of Some x; for None, which says that the value is out of its range, OutOfRange
 abbrev pub in_range : {A : Type 0} → List ℕ → Option A → Result A WorldFault
 in_range p None = Err (OutOfRange p)
 in_range p (Some x) = Ok x

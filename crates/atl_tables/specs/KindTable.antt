@@ -43,7 +43,7 @@ kind_at = do
 abbrev pub kind_keys : List ℕ → Members → Conditions
 kind_keys = conditions_of kind_at
 
--- the kind that a table `[[kind]]` gives, with its material and skills by name
+-- the kind of structure that a table `[[kind]]` gives, with its material and skills by name
 abbrev pub kind_from : List ℕ → Members → KindDraft
 kind_from = value_of kind_at
 
@@ -55,7 +55,7 @@ kind_known all i d =
     ∷ known_number_or_none (path (element_path (codes "kind") i) (codes "helps")) (skill_number all) d.purpose.helps
     ∷ []
 
--- the kind of a table, with its material and skills by number
+-- the kind of structure that a table `[[kind]]` describes, with its material and skills by number
 unfoldable pub kind_of : WorldDraft → KindDraft → Kind
 kind_of all d = record {
   name = d.name;

@@ -14,6 +14,6 @@ tilde = code "~"
 abbrev pub quote : ℕ
 quote = code "\""
 
--- the underscore, which stands for a space in a word without quotes
+-- the underscore, which means a space in a word without quotes
 abbrev pub underscore : ℕ
 underscore = code "_"

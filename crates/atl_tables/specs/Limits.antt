@@ -2,26 +2,31 @@
 use Rattle.std.specs.Prelude.{ℕ, ◌^◌}
 
 -- ---- how many of each a world has at most
+-- the most terrains of a world
 abbrev pub most_terrains : ℕ
 most_terrains = 20
 
+-- the most items of a world
 abbrev pub most_items : ℕ
 most_items = 200
 
+-- the most skills of a world
 abbrev pub most_skills : ℕ
 most_skills = 100
 
+-- the most kinds of structures of a world
 abbrev pub most_kinds : ℕ
 most_kinds = 100
 
+-- the most regions of a world
 abbrev pub most_regions : ℕ
 most_regions = 10000
 
--- markets of one region
+-- the most markets of one region
 abbrev pub most_markets : ℕ
 most_markets = 200
 
--- how many numbers of 16 bits there are: terrains, items, skills and kinds are each numbered in them from 0
+-- how many numbers of 16 bits there are; terrains, items, skills and kinds each have such numbers, from 0 on
 abbrev pub most_numbered : ℕ
 most_numbered = 2 ^ 16
 
@@ -58,7 +63,7 @@ most_fraction = 1000
 abbrev pub most_growth : ℕ
 most_growth = 100
 
--- the largest weight of a man or an item, and of what one carries
+-- the largest weight of a man or an item, and the largest weight that one can carry
 abbrev pub most_weight : ℕ
 most_weight = 10000
 

@@ -4,15 +4,15 @@ use Rattle.std.specs.Str.{str_eq_ignore_ascii_case}
 use Rattle.atl_tables.specs.Letters.{space, underscore}
 use Rattle.atl_tables.specs.Worlds.{WorldValue}
 
--- a byte of the name that a word stands for: in a word without quotes `_` is a space
+-- the byte of a name that a byte of a word means: in a word without quotes `_` means a space
 abbrev pub letter_of : Bool → ℕ → ℕ
 letter_of quoted b = if quoted then b else if b == underscore then space else b
 
--- the name that a word stands for
+-- the name that a word means: its bytes, in a word without quotes with a space for each `_`
 abbrev pub name_of : List ℕ → Bool → List ℕ
 name_of word quoted = map (letter_of quoted) word
 
--- the index of the first thing whose title is the name that the word stands for, ignoring ASCII case
+-- the index of the first thing whose title is the name that the word means, ignoring ASCII case
 abbrev pub index_named : {A : Type 0} → (A → List ℕ) → List A → List ℕ → Bool → Option ℕ
 index_named title things word quoted = position (λ thing. str_eq_ignore_ascii_case (title thing) (name_of word quoted)) things
 

@@ -40,7 +40,7 @@ market_keys at t =
     ∷ fault_of (restock_at at t)
     ∷ []
 
--- the market that a table gives, with its item by name; `place` is the path of the table
+-- the market that a table `[[region.market]]` gives, with its item by name; `place` is the path of the table
 unfoldable pub market_from : List ℕ → Members → MarketDraft
 market_from at t = record {
   place = at;
@@ -67,11 +67,11 @@ markets_from at t = list_of market_from (market_path at) (optional_array_at most
 abbrev pub duplicate_items : List ℕ → List MarketDraft → Conditions
 duplicate_items at ds = no_twins (λ d. d.item) (market_path at) (codes "item") ds
 
--- the condition that `item` names an item
+-- the condition that the key `item` of a market names an item of the world; else UnknownName
 unfoldable pub market_known : WorldDraft → MarketDraft → Conditions
 market_known all d = known (path d.place (codes "item")) (item_number all d.item) ∷ []
 
--- the market of a table, with its item by number
+-- the market that a table `[[region.market]]` describes, with its item by number
 unfoldable pub market_of : WorldDraft → MarketDraft → Market
 market_of all d = record {
   item = unwrap_or (item_number all d.item) 0;

@@ -1,4 +1,4 @@
--- Neighbours are mutual: each neighbour of a region is there, and has the region on its opposite side.
+-- The condition that neighbours are mutual: each neighbour of a region exists, and has the region on its opposite side.
 -- See docs/FORMATS.md, "The world file".
 use Rattle.std.specs.Prelude.{ℕ, Bool, false, ◌==◌, List, [], ◌∷◌, codes, Option, Some, None, option_and_then, if◌then◌else◌}
 use Rattle.std.specs.Ordering.{nat_cmp}

@@ -1,8 +1,8 @@
--- A law of worlds of the first format: they have no markets.
+-- The law that worlds of the first format have no markets.
 use Rattle.std.specs.Prelude.{◌≡◌, ℕ, List, Ok}
 use Rattle.atl_tables.specs.World.{old_world_of}
 use Rattle.atl_tables.specs.Worlds.{WorldValue, without_markets}
 
--- Every world that the first format reads from a text is equal to itself with its markets left out.
+-- Every world that a text gives in the first format has no markets: leaving them out changes nothing.
 abbrev pub OldWorldsAreBare : Type 0
 OldWorldsAreBare = (text : List ℕ) (w : WorldValue) → old_world_of text ≡ Ok w → without_markets w ≡ w

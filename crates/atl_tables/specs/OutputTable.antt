@@ -18,7 +18,7 @@ use Rattle.atl_tables.specs.declared.output_table.Output.{Output}
 use Rattle.atl_tables.specs.declared.world_draft.WorldDraft.{WorldDraft}
 
 -- ---- the entries of a table in byte order
--- entries sorted by key, with the entry of `key` put in where it belongs
+-- entries sorted by key, with the entry of `key` put in before the first entry with a greater key
 abbrev pub put_key : List ℕ → Data → List (List ℕ × Data) → List (List ℕ × Data)
 put_key key d [] = (key, d) ∷ []
 put_key key d (e ∷ es) = if is_lt (slice_cmp nat_cmp key e.0) then (key, d) ∷ e ∷ es else e ∷ put_key key d es
@@ -56,7 +56,7 @@ output_at = λ at t. record {
   value = amounts_from (output_path at) (in_byte_order (output_table at t));
 }
 
--- the condition that no key before the i-th is equal to it, ignoring ASCII case; else TwoNames
+-- the condition that no key before the i-th is equal to the i-th, ignoring ASCII case; else TwoNames
 unfoldable pub twin_key_at : List ℕ → List Output → ℕ → Output → Conditions
 twin_key_at at all i o = (if list_any (λ p. same_name p.item o.item) (take i all) then Some (TwoNames (path at o.item)) else None) ∷ []
 

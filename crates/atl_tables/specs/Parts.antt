@@ -1,4 +1,4 @@
--- For proofs alone: the parts of a world before its regions are put into a map; they are in the order of the file.
+-- For proofs alone: the parts of a world before its regions are put into a map. Regions are in the order of the file.
 use Rattle.std.specs.Prelude.{map, length}
 use Rattle.atl_tables.specs.EachIndex.{EachIndex}
 use Rattle.atl_tables.specs.ItemTable.{item_of}
@@ -20,7 +20,7 @@ world_parts_of all = record {
   regions = map (region_of all) all.regions;
 }
 
--- each part of a world keeps its bounds, by how many terrains, items and skills the file has
+-- each part of a world is in bounds, given how many terrains, items and skills the file has
 pub record AreWorldPartsOf (all : WorldDraft) (p : WorldParts) : Type 0 where
   pub rules : AreRules (length all.skills) p.rules
   pub terrains : EachIndex (λ i x. IsTerrain (length all.items) x) p.terrains

@@ -47,23 +47,23 @@ basics_from at t = record {
   money = value_or 0 (money_at at t);
 }
 
--- the key `north`, the number of a region or missing
+-- the key `north`: the number of the region to the north, None if it is missing
 abbrev pub north_at : Key (Option ℕ)
 north_at = optional_number_at 1 last_region (codes "north")
 
--- the key `south`, the number of a region or missing
+-- the key `south`: the number of the region to the south, None if it is missing
 abbrev pub south_at : Key (Option ℕ)
 south_at = optional_number_at 1 last_region (codes "south")
 
--- the key `east`, the number of a region or missing
+-- the key `east`: the number of the region to the east, None if it is missing
 abbrev pub east_at : Key (Option ℕ)
 east_at = optional_number_at 1 last_region (codes "east")
 
--- the key `west`, the number of a region or missing
+-- the key `west`: the number of the region to the west, None if it is missing
 abbrev pub west_at : Key (Option ℕ)
 west_at = optional_number_at 1 last_region (codes "west")
 
--- the conditions on the keys of the four sides
+-- the conditions on the keys of a region's four sides: north, south, east and west
 unfoldable pub side_keys : List ℕ → Members → Conditions
 side_keys at t =
     fault_of (north_at at t)
@@ -72,7 +72,7 @@ side_keys at t =
     ∷ fault_of (west_at at t)
     ∷ []
 
--- the numbers of the neighbours on the four sides
+-- the numbers of a region's neighbours on its four sides
 unfoldable pub sides_from : List ℕ → Members → Sides
 sides_from at t = record {
   north = value_or None (north_at at t);
@@ -81,23 +81,23 @@ sides_from at t = record {
   west = value_or None (west_at at t);
 }
 
--- the conditions on a whole table of the first format, which reads no markets
+-- the conditions on a whole table `[[region]]` of the first format, which reads no markets
 unfoldable pub old_region_keys : List ℕ → Members → Conditions
 old_region_keys at t = first_fault (basics_keys at t) ∷ side_keys at t
 
--- the region that a table gives in the first format
+-- the region that a table `[[region]]` gives in the first format, with its terrain by name
 unfoldable pub old_region_from : List ℕ → Members → OldRegion
 old_region_from at t = record { place = basics_from at t; sides = sides_from at t }
 
--- a region of the first format as one without markets
+-- a region of the first format as one of the second format without markets
 abbrev pub as_draft : OldRegion → RegionDraft
 as_draft r = record { place = r.place; sides = r.sides; markets = [] }
 
--- the conditions on a whole table of the second format, with its markets
+-- the conditions on a whole table `[[region]]` of the second format, with its markets
 unfoldable pub region_keys : List ℕ → Members → Conditions
 region_keys at t = first_fault (old_region_keys at t) ∷ markets_keys at t
 
--- the region that a table gives in the second format, with its terrain and its markets' items by name
+-- the region that a table `[[region]]` gives in the second format, with its terrain and its markets' items by name
 unfoldable pub region_from : List ℕ → Members → RegionDraft
 region_from at t = record { place = basics_from at t; sides = sides_from at t; markets = markets_from at t }
 
@@ -111,7 +111,7 @@ region_known all i d =
     known (path (element_path (codes "region") i) (codes "terrain")) (terrain_number all d.place.terrain)
     ∷ each (λ k m. market_known all m) 0 d.markets
 
--- the region of a table, with its terrain and its markets' items by number
+-- the region that a table `[[region]]` describes, with its terrain and its markets' items by number
 unfoldable pub region_of : WorldDraft → RegionDraft → RegionPlan
 region_of all d = record {
   number = d.place.number;

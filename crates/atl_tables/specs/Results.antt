@@ -1,14 +1,14 @@
--- For proofs alone: what a call that reads a part of the file returns: the first broken condition, or the value.
+-- For proofs alone: what a call that reads a part of the world file returns: its value, its first fault, or Memory.
 use Rattle.std.specs.Prelude.{◌≡◌, Option, Some, None, Result, Ok, Err}
 use Rattle.atl_tables.specs.declared.fault.WorldFault.{WorldFault}
 use Rattle.atl_tables.specs.declared.fault.WorldFault.TheVariants.{Memory}
 
--- the error e is the fault of the conditions; or it is Memory, which says nothing of them
+-- an error is the fault of the conditions; or it is Memory, and the conditions may hold or not
 abbrev pub Stops : WorldFault → Option WorldFault → Type 0
 Stops Memory fault = Unit {0}
 Stops e fault = fault ≡ Some e
 
--- a result is the value, and no condition is broken; or it is the fault of the conditions, or Memory
+-- a call returned the value, and no condition is broken; or it returned the fault of the conditions, or Memory
 abbrev pub Gives : {X Y : Type 0} → (X → Y) → Result X WorldFault → Option WorldFault → Y → Type 0
 Gives view (Ok x) fault value = (fault ≡ None) × (value ≡ view x)
 Gives view (Err e) fault value = Stops e fault

@@ -15,7 +15,7 @@ use Rattle.atl_tables.specs.declared.rules_table.SkillNames.{SkillNames}
 use Rattle.atl_tables.specs.declared.world_draft.WorldDraft.{WorldDraft}
 use Rattle.atl_tables.specs.declared.world.Rules.{Rules}
 
--- the keys for what men cost and bring
+-- the keys for maintenance, tax per man, and the price of a recruit
 unfoldable pub prices_at : Table Prices
 prices_at = do
   maintenance ← number_key 1 most_per_head (codes "maintenance")
@@ -47,7 +47,7 @@ skill_names_at = do
   sailing ← optional_text_key (codes "sailing")
   says (record { observation = observation; stealth = stealth; sailing = sailing })
 
--- all keys of the table, in order
+-- all keys of the table `[rules]`, in order
 unfoldable pub rules_at : Table RulesDraft
 rules_at = do
   prices ← part prices_at
@@ -60,15 +60,15 @@ rules_at = do
 abbrev pub rules_table : Members → Members
 rules_table doc = value_or no_members (table_at (codes "rules") doc)
 
--- the conditions on the table `[rules]`: it is there, and its keys keep theirs
+-- the conditions on the table `[rules]`: the document has it, and its keys have no fault
 unfoldable pub rules_conditions : Members → Conditions
 rules_conditions doc = fault_of (table_at (codes "rules") doc) ∷ conditions_of rules_at (codes "rules") (rules_table doc)
 
--- the rules of the document, with skills by name
+-- the rules that the table `[rules]` of the document gives, with skills by name
 unfoldable pub rules_in : Members → RulesDraft
 rules_in doc = value_of rules_at (codes "rules") (rules_table doc)
 
--- the conditions that `observation`, `stealth` and `sailing` name skills, where they are there
+-- the conditions that each of the keys `observation`, `stealth` and `sailing` names a skill, or is missing
 unfoldable pub rules_known : WorldDraft → Conditions
 rules_known all =
     known_number_or_none (path (codes "rules") (codes "observation")) (skill_number all) all.rules.skills.observation
@@ -76,7 +76,7 @@ rules_known all =
     ∷ known_number_or_none (path (codes "rules") (codes "sailing")) (skill_number all) all.rules.skills.sailing
     ∷ []
 
--- the rules of a world, with skills by number
+-- the rules that the table `[rules]` describes, with skills by number
 unfoldable pub rules_of : WorldDraft → Rules
 rules_of all = let r = all.rules in record {
   maintenance = r.prices.maintenance;

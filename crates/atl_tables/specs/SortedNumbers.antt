@@ -1,4 +1,4 @@
--- For proofs alone: the index of a number in a sorted list, and marks that are kept in two such lists.
+-- For proofs alone: the index of a number in a sorted list, and marks that are kept in two sets with room.
 use Rattle.std.specs.Prelude.{◌≡◌, ◌+◌, ◌<◌, ◌≤◌, ℕ, true, false, List, length, slice_index}
 use Rattle.std.specs.Ordering.{nat_cmp}
 use Rattle.std.specs.FinSet as set
@@ -9,8 +9,7 @@ pub record IsAt (xs : List ℕ) (n : ℕ) (i : ℕ) : Type 0 where
   pub within : i < length xs
   pub is : slice_index xs i ≡ n
 
--- a sorted list without n stays sorted if n is put at the index i: all before it are less, all from there on are
--- greater
+-- all numbers of the list before the index i are less than n, and all from i on are greater
 pub record BelongsAt (xs : List ℕ) (n : ℕ) (i : ℕ) : Type 0 where
   pub within : i ≤ length xs
   pub before : (k : ℕ) → k < i → slice_index xs k < n
@@ -20,7 +19,7 @@ pub record BelongsAt (xs : List ℕ) (n : ℕ) (i : ℕ) : Type 0 where
 pub record AreApart (s t : set.FinSet nat_cmp) : Type 0 where
   pub apart : (n : ℕ) → set.contains s n ≡ true → set.contains t n ≡ false
 
--- no number is in both sets, and the first has room for the numbers of both
+-- the marks are kept in two sets: no number is in both, and the first has room for the numbers of both
 pub record AreMarks (numbers recent : RoomySet) : Type 0 where
   pub apart : AreApart numbers.numbers recent.numbers
   pub fits : set.len numbers.numbers + set.len recent.numbers ≤ numbers.room

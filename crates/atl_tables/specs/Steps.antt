@@ -1,7 +1,7 @@
--- Steps that may fail, one after another: the first error ends them.
+-- Steps that may fail, one after another. The first error is the result.
 use Rattle.std.specs.Prelude.{Result, Ok, Err}
 
--- the next step on the value of a result, or the error of the result
+-- the result of the next step on the value of a result; or the error of the result
 infixl 10 ◌>>=◌
 abbrev pub ◌>>=◌ : {A B E : Type 0} → Result A E → (A → Result B E) → Result B E
 (Ok x) >>= next = next x

@@ -47,7 +47,7 @@ terrain_twins i d = each (twin_key_at (output_path (element_path (codes "terrain
 unfoldable pub terrain_known : WorldDraft → ℕ → TerrainDraft → Conditions
 terrain_known all i d = each (known_key_at all (output_path (element_path (codes "terrain") i))) 0 d.output
 
--- the terrain of a table; its output has an amount for each item of the world, by number
+-- the terrain that a table `[[terrain]]` describes; its output has an amount for each item of the world, by number
 unfoldable pub terrain_of : WorldDraft → TerrainDraft → Terrain
 terrain_of all d = record {
   name = d.name;

@@ -10,7 +10,7 @@ use Rattle.atl_tables.specs.Keys.{path, element_path}
 use Rattle.atl_tables.specs.Names.{same_name}
 
 module _ {A : Type 0} (title : A → List ℕ) where
-  -- the condition that no element before the i-th has its name, which is under this key; else TwoNames
+  -- the condition that no element before the i-th has the name of the i-th; else TwoNames, at the key of the name
   unfoldable pub no_twin_before : List ℕ → List ℕ → List A → ℕ → A → Conditions
   no_twin_before array key all i x = (if list_any (λ y. same_name (title y) (title x)) (take i all) then Some (TwoNames (path (element_path array i) key)) else None) ∷ []
 
@@ -39,7 +39,7 @@ abbrev pub known : List ℕ → Option ℕ → Option WorldFault
 known p None = Some (UnknownName p)
 known p (Some n) = None
 
--- the fault UnknownName, if a name is there and has no number
+-- the fault UnknownName at the path p, if there is a name and `number` finds no number for it
 abbrev pub known_number_or_none : List ℕ → (List ℕ → Option ℕ) → Option (List ℕ) → Option WorldFault
 known_number_or_none p number None = None
 known_number_or_none p number (Some name) = known p (number name)

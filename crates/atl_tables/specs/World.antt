@@ -38,7 +38,7 @@ things_of doc = record {
   kinds = list_of kind_from (codes "kind") (optional_array_at most_kinds (codes "kind") (codes "kind") doc);
 }
 
--- the regions of a document as a format reads them
+-- the regions of a document in a format, with a default in place of each fault; the first format reads no markets
 unfoldable pub regions_in : Format → Members → List RegionDraft
 regions_in First doc = map as_draft (list_of old_region_from (codes "region") (array_at most_regions (codes "region") doc))
 regions_in Second doc = list_of region_from (codes "region") (array_at most_regions (codes "region") doc)
@@ -70,19 +70,19 @@ world_of_tables all = record {
 }
 
 -- ---- the conditions, in the order in which their faults count
--- the conditions on the keys of items, skills and kinds: each has its type and range, and is there if it is needed
+-- the conditions on the keys of items, skills and kinds: each has its type and range, and is not missing if needed
 unfoldable pub things_conditions : Members → Conditions
 things_conditions doc =
     list_conditions item_keys (codes "item") (optional_array_at most_items (codes "item") (codes "item") doc)
     ++ (list_conditions skill_keys (codes "skill") (optional_array_at most_skills (codes "skill") (codes "skill") doc)
     ++ list_conditions kind_keys (codes "kind") (optional_array_at most_kinds (codes "kind") (codes "kind") doc))
 
--- the conditions on the keys of regions
+-- the conditions on the keys of regions in a format: each has its type and range, and is not missing if needed
 unfoldable pub regions_conditions : Format → Members → Conditions
 regions_conditions First doc = list_conditions old_region_keys (codes "region") (array_at most_regions (codes "region") doc)
 regions_conditions Second doc = list_conditions region_keys (codes "region") (array_at most_regions (codes "region") doc)
 
--- the conditions on the keys of all tables
+-- the conditions on the keys of all tables of a document in a format
 unfoldable pub keys_conditions : Format → Members → Conditions
 keys_conditions format doc =
     rules_conditions doc
@@ -90,7 +90,7 @@ keys_conditions format doc =
     ++ (things_conditions doc
     ++ regions_conditions format doc))
 
--- the conditions that no two terrains, items, skills or kinds have the same name
+-- the conditions that no two terrains, no two items, no two skills and no two kinds have the same name
 unfoldable pub titles_differ : WorldDraft → Conditions
 titles_differ all =
     no_twins (λ d. d.name) (codes "terrain") (codes "name") all.terrains
@@ -98,7 +98,7 @@ titles_differ all =
     ++ (no_twins (λ s. s.name) (codes "skill") (codes "name") all.skills
     ++ no_twins (λ d. d.name) (codes "kind") (codes "name") all.kinds))
 
--- the conditions that all names and numbers that must be unique are
+-- the conditions that names, region numbers, output keys of a terrain and market items of a region are unique
 unfoldable pub names_differ : WorldDraft → Conditions
 names_differ all =
     titles_differ all
@@ -124,7 +124,7 @@ abbrev pub is_some_land : List ℕ → Conditions
 is_some_land [] = Some NoLand ∷ []
 is_some_land (n ∷ ns) = None ∷ []
 
--- the conditions on tables whose keys are good
+-- the conditions on tables beyond their keys: unique names, known names, mutual neighbours, and some land
 abbrev pub table_conditions : WorldDraft → Conditions
 table_conditions all =
     names_differ all
@@ -132,7 +132,7 @@ table_conditions all =
     ++ (neighbours_are_mutual all
     ++ is_some_land (land_of (world_of_tables all))))
 
--- all conditions on a document
+-- all conditions on a document in a format, those on keys first
 unfoldable pub conditions : Format → Members → Conditions
 conditions format doc = keys_conditions format doc ++ table_conditions (tables_of format doc)
 

@@ -24,7 +24,7 @@ use Rattle.atl_tables.specs.Limits.{most_terrains, most_items, most_skills, most
 use Rattle.atl_tables.specs.Names.{name_ok, NamesDiffer}
 use Rattle.atl_tables.specs.Sums.{mapped, numbers_where}
 
--- a world: its rules, its terrains, items, skills and kinds, each at its number, and its regions by number
+-- a world: its rules; its terrains, items, skills and kinds as lists, indexed by number; and a map of regions by number
 pub record WorldValue : Type 0 where
   pub rules : Rules
   pub terrains : List Terrain
@@ -51,7 +51,7 @@ world_code =
 abbrev pub is_land : List Terrain → RegionPlan → Bool
 is_land terrains plan = option_map_or (λ t. t.land) (slice_get terrains plan.terrain) false
 
--- the numbers of the regions with land, in rising order
+-- the numbers of the regions with land, in ascending order
 abbrev pub land_of : WorldValue → List ℕ
 land_of w = numbers_where (is_land w.terrains) w.regions
 
@@ -113,7 +113,7 @@ pub record IsItem (items skills i : ℕ) (x : Item) : Type 0 where
   pub raw_count_least : 1 ≤ x.raw_count
   pub raw_count : x.raw_count ≤ most_raw_count
 
--- a skill is in bounds
+-- a skill is in bounds: its name keeps the rule of names, and its fee is at most most_price
 pub record IsSkill (s : Skill) : Type 0 where
   pub name : name_ok s.name ≡ true
   pub fee : s.fee ≤ most_price
@@ -164,7 +164,8 @@ pub record HasNeighbours (regions : FinMap nat_cmp RegionPlan) (number : ℕ) (n
   pub east : LeadsBack regions (λ q. q.west) number e
   pub west : LeadsBack regions (λ q. q.east) number w
 
--- a world: its parts are in bounds, neighbours are mutual, names differ, there are not too many things, and some land
+-- What is true of every world: its parts are in bounds, neighbours are mutual, names of each kind of thing differ,
+-- there are not too many of each, and some region is land.
 pub record IsWorld (w : WorldValue) : Type 0 where
   pub rules : AreRules (length w.skills) w.rules
   pub terrains : (i : ℕ) (t : Terrain) → slice_get w.terrains i ≡ Some t → IsTerrain (length w.items) t

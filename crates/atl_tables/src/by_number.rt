@@ -19,7 +19,7 @@ impl World {
         self.terrains().get(usize::from(plan.terrain))
     }
 
-    /// Whether the world has a region with this number, and it is land.
+    /// Whether the world has a region with this number, and the region's terrain is land.
     pub fn is_land_at(&self, region: u32) -> bool
         ensures { result ≡ is_land_at self.now region }
     {
@@ -39,7 +39,7 @@ impl World {
         self.region(region)?.beside(direction)
     }
 
-    /// The market of an item in a region, `None` if the region has no such market.
+    /// The market of an item in a region, both by number; `None` if the region has no such market.
     pub fn market(&self, region: u32, item: u16) -> Option<&Market>
         ensures value { option_copied result ≡ market_of self.now region item }
         ensures bounds { IfSome result

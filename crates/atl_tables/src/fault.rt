@@ -17,19 +17,19 @@ pub enum WorldFault {
     NotToml,
     /// A key, a table or an array that is needed isn't there.
     Missing(Text),
-    /// The value under a key is of another type.
+    /// The value under a key is of another type than the key needs.
     WrongType(Text),
     /// A number or a name breaks its rule, or an array has too few or too many elements.
     OutOfRange(Text),
-    /// The second of two equal names or numbers.
+    /// A name or a number that must be unique comes twice; the path is that of the second.
     TwoNames(Text),
-    /// A name refers to nothing: no thing has it.
+    /// A name refers to nothing: no thing of the world has this name.
     UnknownName(Text),
-    /// The neighbour isn't there, or doesn't have this region on its opposite side.
+    /// A region's neighbour isn't there, or doesn't have the region on its opposite side.
     BadNeighbour(Text),
     /// No region is land.
     NoLand,
-    /// Memory ran out. It says nothing of the text.
+    /// Memory ran out; the text may be good or not.
     Memory,
 }
 
@@ -68,7 +68,8 @@ impl WorldFault {
         self.number_and_name().1
     }
 
-    /// The path of the key that the fault is about, as `rules.growth`. `NotToml`, `NoLand` and `Memory` have none.
+    /// The path of the key that the fault is about, as `rules.growth`. `NotToml`, `NoLand` and
+    /// `Memory` have none.
     pub fn path(&self) -> Option<&Text>
         ensures { option_copied result ≡ fault_path self.now }
     {

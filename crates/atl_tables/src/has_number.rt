@@ -15,8 +15,8 @@ pub(crate) trait HasNumber: Drop {
         ensures { result ≡ place_of self.now };
 }
 
-/// The map of these values, each under its own number. Of two with the same number the first
-/// counts.
+/// The map of these values, each under its own number. Of two values with the same number the
+/// first counts.
 pub(crate) fn by_number<T: HasNumber>(
     alloc: Global,
     values: Vec<T>,

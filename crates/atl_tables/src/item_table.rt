@@ -23,13 +23,14 @@ use toml::Table;
 
 /// What making one item takes, with the skill and the raw item by name.
 pub struct Recipe {
-    /// The name of the skill that makes it, where there is one.
+    /// The name of the skill that makes the item, where there is one.
     pub skill: Option<Text>,
-    /// The level of that skill that it takes, from 1 to `LAST_LEVEL`; 1 where the file has none.
+    /// The level of the skill that making one takes, from 1 to `LAST_LEVEL`; 1 where the file has
+    /// none.
     pub level: u32,
-    /// The name of the item that it is made of, where there is one.
+    /// The name of the item that the item is made of, where there is one.
     pub raw: Option<Text>,
-    /// How many raw items go into one, from 1 to `MOST_RAW_COUNT`; 1 where the file has none.
+    /// How many raw items one item is made of, from 1 to `MOST_RAW_COUNT`; 1 if the file has none.
     pub raw_count: u32,
 }
 
@@ -41,11 +42,11 @@ impl Drop for Recipe {
 
 /// A table `[[item]]` as read, with the skill and the raw item by name.
 pub struct ItemDraft {
-    /// As the file writes it; it keeps the rule of names.
+    /// The item's name as the file writes it; it keeps the rule of names.
     pub name: Text,
-    /// The weight of one, at most `MOST_WEIGHT`.
+    /// The weight of one item, at most `MOST_WEIGHT`.
     pub weight: u32,
-    /// The weight of goods that one carries, at most `MOST_WEIGHT`.
+    /// The weight of goods that one item carries, at most `MOST_WEIGHT`.
     pub carry: u32,
     pub making: Recipe,
 }
@@ -110,7 +111,7 @@ impl Titled for ItemDraft {
     }
 }
 
-/// The number of the first item of this name, where that is another one than the i-th.
+/// The number of the first item of this name; `None` if there is none, or it is the i-th itself.
 #[tactic(auto, unfolding(crate::specs::Titles::number_of))]
 fn other_item(items: &[ItemDraft], i: usize, name: &Text) -> Option<u16>
     requires { length items.now ≤ most_numbered }
@@ -131,8 +132,8 @@ fn other_item(items: &[ItemDraft], i: usize, name: &Text) -> Option<u16>
     }
 }
 
-/// The number of the item that the i-th is made of, where the file names one. UnknownName where no item has the name, or
-/// the i-th is the first that has it.
+/// The number of the raw item of the i-th item, `None` where the file names none. UnknownName
+/// where no item has the name, or the i-th is the first that has it.
 fn raw_item(
     alloc: Global,
     items: &[ItemDraft],

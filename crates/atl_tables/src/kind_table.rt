@@ -19,13 +19,13 @@ use toml::Table;
 
 /// What building a structure takes, with its material and its skill by name.
 pub struct Building {
-    /// The name of the item that it is built of.
+    /// The name of the item that the structure is built of.
     pub material: Text,
-    /// How much material makes it complete, from 1 to `MOST_SIZE`.
+    /// How much material makes the structure complete, from 1 to `MOST_SIZE`.
     pub size: u32,
-    /// The name of the skill that builds it.
+    /// The name of the skill that builds the structure.
     pub skill: Text,
-    /// The level of that skill that it takes, from 1 to `LAST_LEVEL`.
+    /// The level of the skill that building the structure takes, from 1 to `LAST_LEVEL`.
     pub level: u32,
 }
 
@@ -40,7 +40,8 @@ impl Drop for Building {
 pub struct Purpose {
     /// The most weight with which a ship sails, at most `MOST_AMOUNT`; 0 where the file has none.
     pub capacity: u32,
-    /// What men times their level of sailing must come to for a ship to sail, at most `MOST_SIZE`; 0 where the file has none.
+    /// The least sum of men times their level of sailing with which a ship sails, at most
+    /// `MOST_SIZE`; 0 where the file has none.
     pub crew: u32,
     /// The name of the skill that is studied better inside, where there is one.
     pub helps: Option<Text>,
@@ -48,9 +49,9 @@ pub struct Purpose {
 
 /// A table `[[kind]]` as read, with the material and the skills by name.
 pub struct KindDraft {
-    /// As the file writes it; it keeps the rule of names.
+    /// The kind's name as the file writes it; it keeps the rule of names.
     pub name: Text,
-    /// Whether it is a ship, else it is a building.
+    /// Whether the structure is a ship, else it is a building.
     pub ship: bool,
     pub building: Building,
     pub purpose: Purpose,

@@ -10,5 +10,5 @@ pub const TILDE: u8 = b'~';
 /// The quotation mark, between two of which a word may be. No name has one.
 pub const QUOTE: u8 = b'"';
 
-/// The underscore, which stands for a space in a word without quotes.
+/// The underscore, which means a space in a word without quotes.
 pub const UNDERSCORE: u8 = b'_';

@@ -24,7 +24,7 @@ impl Titled for Kind {
     }
 }
 
-/// A byte of the name that a word stands for: in a word without quotes `_` is a space.
+/// The byte of a name that a byte of a word means: in a word without quotes `_` means a space.
 pub fn letter_of(byte: u8, quoted: bool) -> u8
     ensures { result ≡ letter_of quoted byte }
 {
@@ -35,7 +35,7 @@ pub fn letter_of(byte: u8, quoted: bool) -> u8
     }
 }
 
-/// Whether a word stands for this name, ignoring ASCII case.
+/// Whether a word means this name, ignoring ASCII case. In a word without quotes `_` is a space.
 #[tactic(auto, using(crate::proofs::LookupLaws::other_length, crate::proofs::LookupLaws::same_letter, crate::proofs::LookupLaws::other_letter, crate::proofs::LookupLaws::end_of_both))]
 fn is_named(name: &[u8], word: &[u8], quoted: bool) -> bool
     ensures { result ≡ str_eq_ignore_ascii_case name.now (name_of word.now quoted) }
@@ -72,14 +72,16 @@ impl World {
         index_named(self.items(), word, quoted).map(|place| place as u16)
     }
 
-    /// The number of the skill that a word names, found as by `item_named`.
+    /// The number of the skill that a word names, ignoring ASCII case, `None` if there is none. In
+    /// a word without quotes `_` is a space. It takes no memory.
     pub fn skill_named(&self, word: &[u8], quoted: bool) -> Option<u16>
         ensures { result ≡ skill_named self.now word.now quoted }
     {
         index_named(self.skills(), word, quoted).map(|place| place as u16)
     }
 
-    /// The number of the kind of structure that a word names, found as by `item_named`.
+    /// The number of the kind of structure that a word names, ignoring ASCII case, `None` if there
+    /// is none. In a word without quotes `_` is a space. It takes no memory.
     pub fn kind_named(&self, word: &[u8], quoted: bool) -> Option<u16>
         ensures { result ≡ kind_named self.now word.now quoted }
     {

@@ -118,8 +118,8 @@ impl<V: Drop> MarkedMap<V> {
         self.values.remove(number);
     }
 
-    /// Takes out a value that was inserted, if it is there. Its number stays marked if it was
-    /// marked before that. It takes no memory.
+    /// Takes out a value that was inserted, if it is there, to undo the insert. The number stays
+    /// marked only if `was_marked` says that it was marked before the insert. It takes no memory.
     pub fn take_out(&mut self, number: u32, was_marked: bool)
         ensures { self.new ≡ taken_out self.old number was_marked }
     {
@@ -131,7 +131,7 @@ impl<V: Drop> MarkedMap<V> {
         }
     }
 
-    /// The map of these values, with nothing marked.
+    /// The map of these values, with nothing marked and with room to mark each of them.
     pub fn of(alloc: Global, values: Numbered<V>) -> Result<Self, AllocError>
         ensures { IfOk result (λ made. made ≡ record { values = values; marks = set.empty }) }
     {
@@ -169,14 +169,14 @@ impl<V: Drop> MarkedMap<V> {
         &self.values
     }
 
-    /// How many values there are.
+    /// How many values the map has.
     pub fn len(&self) -> usize
         ensures { result ≡ map.len self.now.values }
     {
         self.values.len()
     }
 
-    /// The numbers with their values, in rising order.
+    /// The numbers with their values, in ascending order.
     pub fn iter(&self) -> Entries<'_, V>
         ensures { result ≡ map.entries self.now.values }
     {
@@ -190,7 +190,7 @@ impl<V: Drop> MarkedMap<V> {
         self.marks.contains(number)
     }
 
-    /// The marked numbers, in rising order. It takes no memory.
+    /// The marked numbers, in ascending order. It takes no memory.
     pub fn marked_numbers(&self) -> MarkedNumbers<'_>
         ensures { Lists self.now.marks result }
     {

@@ -1,4 +1,4 @@
-//! An iterator over the marked numbers of a `Marks`, in rising order.
+//! An iterator over the marked numbers of a `Marks`, in ascending order.
 ghost use Rattle.std.specs.Slice.Iter.{iter_rest};
 ghost use Rattle.std.specs.Iterator.{YieldsFirstBy};
 
@@ -6,7 +6,7 @@ use std::cmp::Ordering;
 use std::marker::Model;
 use std::slice::Iter;
 
-/// The marked numbers that are left to come, in rising order.
+/// The marked numbers that are left to come, in ascending order.
 #[derive(Drop)]
 pub struct MarkedNumbers<'a> {
     pub(crate) numbers: Iter<'a, u32>,

@@ -27,13 +27,13 @@ use toml::Table;
 pub struct MarketDraft {
     /// The path of its table, as `region[0].market[1]`.
     pub place: Text,
-    /// The name of the item.
+    /// The name of the item that the market trades.
     pub item: Text,
-    /// Money that a unit pays the market for one, from 1 to `MOST_PRICE`.
+    /// Money that a unit pays the market for one item, from 1 to `MOST_PRICE`.
     pub price: u32,
-    /// Money that the market pays a unit for one, from 1 to `MOST_PRICE`.
+    /// Money that the market pays a unit for one item, from 1 to `MOST_PRICE`.
     pub pays: u32,
-    /// The largest stock, at most `MOST_AMOUNT`.
+    /// The largest stock of the market, at most `MOST_AMOUNT`.
     pub limit: u32,
     /// How much comes into the stock in a month, at most `MOST_AMOUNT`.
     pub restock: u32,

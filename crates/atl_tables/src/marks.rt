@@ -16,8 +16,8 @@ use std::marker::Model;
 /// The most numbers that are recent: marked last, and not merged into the others yet.
 const RECENT_LIMIT: usize = 512;
 
-/// A set of marked numbers, with room for more. To mark one takes no memory, and to clear the set
-/// takes time in the number of marks.
+/// A set of marked numbers, with room for more. To mark a number for which there is room takes no
+/// memory, and to clear the set takes time in the number of marks.
 pub struct Marks {
     numbers: SortedNumbers,
     // The numbers that were marked last, few enough that it takes little time to add one.
@@ -150,7 +150,7 @@ impl Marks {
         self.numbers.len() + self.recent.len()
     }
 
-    /// The marked numbers, in rising order. It takes no memory.
+    /// The marked numbers, in ascending order. It takes no memory.
     pub fn iter(&self) -> MarkedNumbers<'_>
         ensures { Lists self.now.numbers result }
     {
@@ -161,7 +161,8 @@ impl Marks {
     }
 }
 
-/// Whether one more number fits among the recent ones, so that they need no merging.
+/// Whether one more number can be added to the recent ones without merging them: there is room for
+/// it, and they are fewer than `RECENT_LIMIT`.
 fn merges_recent(recent: &SortedNumbers) -> bool
     ensures { result ≡ true → set.len recent.now.numbers < recent.now.room }
 {

@@ -29,7 +29,7 @@ fn is_pass_byte(byte: u8) -> bool
     SPACE < byte && byte <= TILDE
 }
 
-/// Whether the name that a word stands for neither begins nor ends with a space.
+/// Whether the name that a word means neither begins nor ends with a space.
 fn has_open_ends(word: &[u8], quoted: bool) -> bool
     ensures { result ≡ has_open_ends (name_of word.now quoted) }
 {
@@ -41,7 +41,7 @@ fn has_open_ends(word: &[u8], quoted: bool) -> bool
     first != SPACE && last != SPACE
 }
 
-/// Whether the name that a word stands for has only bytes of names.
+/// Whether the name that a word means has only bytes that may be in a name.
 fn are_name_bytes(word: &[u8], quoted: bool) -> bool
     ensures { result ≡ list_all is_name_byte (name_of word.now quoted) }
 {
@@ -50,15 +50,15 @@ fn are_name_bytes(word: &[u8], quoted: bool) -> bool
         .all(|byte| is_name_byte(byte))
 }
 
-/// Whether a text has only bytes of pass texts.
+/// Whether a text has only bytes that may be in a pass text.
 fn are_pass_bytes(text: &[u8]) -> bool
     ensures { result ≡ list_all is_pass_byte text.now }
 {
     text.iter().all(|byte| is_pass_byte(*byte))
 }
 
-/// Whether the text that a word stands for keeps the rule of names. In a word without quotes `_` is
-/// a space. It takes no memory. See docs/RULES.md, "Names and pass texts".
+/// Whether the name that a word means keeps the rule of names. In a word without quotes `_` is a
+/// space. It takes no memory. See docs/RULES.md, "Names and pass texts".
 pub fn word_ok(word: &[u8], quoted: bool) -> bool
     ensures { result ≡ name_ok (name_of word.now quoted) }
 {

@@ -63,8 +63,8 @@ fn neighbour(
     }
 }
 
-/// Checks that each neighbour of the i-th region of the file has it on the opposite side. Else
-/// BadNeighbour at the first that hasn't.
+/// Checks that each neighbour of the i-th region of the file has this region on its opposite side.
+/// Else BadNeighbour at the first neighbour that hasn't.
 #[tactic(auto, unfolding(crate::specs::Neighbours::neighbours_at))]
 fn neighbours_of(
     alloc: Global,
@@ -88,8 +88,8 @@ fn neighbours_of(
     neighbour(alloc, "west", at, regions, East, number, sides.west)
 }
 
-/// Checks that the neighbours of all regions are mutual. Else BadNeighbour at the first that isn't,
-/// in the order of the file.
+/// Checks that the neighbours of all regions are mutual. Else BadNeighbour at the first neighbour
+/// that isn't, in the order of the file.
 pub(crate) fn mutual_neighbours(
     alloc: Global,
     regions: &Numbered<RegionPlan>,

@@ -74,14 +74,14 @@ impl<V: Drop> Numbered<V> {
         self.entries.clear();
     }
 
-    /// How many values there are.
+    /// How many values the map has.
     pub fn len(&self) -> usize
         ensures { result ≡ map.len self.now }
     {
         self.entries.len()
     }
 
-    /// The numbers with their values, in rising order.
+    /// The numbers with their values, in ascending order.
     pub fn iter(&self) -> Entries<'_, V>
         ensures { result ≡ map.entries self.now }
     {
@@ -129,7 +129,7 @@ impl<V: Drop> Numbered<Numbered<V>> {
     }
 }
 
-/// An iterator over the numbers of a map with their values, in rising order.
+/// An iterator over the numbers of a map with their values, in ascending order.
 #[derive(Drop)]
 pub struct Entries<'a, V> {
     inner: btree_map::Iter<'a, u32, V>,

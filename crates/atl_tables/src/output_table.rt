@@ -72,7 +72,8 @@ pub(crate) fn outputs(
     }
 }
 
-/// Checks that no two keys are equal, ignoring ASCII case, else TwoNames at the second.
+/// Checks that no two keys of an output are equal, ignoring ASCII case. Else TwoNames at the
+/// second.
 pub(crate) fn no_duplicate_keys(
     alloc: Global,
     at: &str,
@@ -90,7 +91,7 @@ pub(crate) fn no_duplicate_keys(
     Ok(())
 }
 
-/// Checks that each key names an item, else UnknownName at the first that doesn't.
+/// Checks that each key of an output names an item, else UnknownName at the first that doesn't.
 pub(crate) fn known_keys(
     alloc: Global,
     all: &WorldDraft,
@@ -108,7 +109,7 @@ pub(crate) fn known_keys(
     Ok(())
 }
 
-/// The amount of the item with this name, 0 if no key names it.
+/// The amount of the item with this name in an output, 0 if no key names the item.
 #[tactic(auto, unfolding(crate::specs::OutputTable::amount_of))]
 fn amount_of(outputs: &[Output], item: &Text) -> u32
     requires { All IsOutput outputs.now }

@@ -111,7 +111,8 @@ fn tables(alloc: Global, format: Format, document: &Table) -> Result<WorldDraft,
     })
 }
 
-/// Checks that no two terrains, items, skills or kinds have the same name, else TwoNames.
+/// Checks that no two terrains, no two items, no two skills and no two kinds have the same name,
+/// else TwoNames.
 #[tactic(auto, unfolding(crate::specs::World::titles_differ))]
 fn titles_differ(alloc: Global, all: &WorldDraft) -> Result<(), WorldFault>
     ensures { Gives (λ u. u) result (first_fault (titles_differ all.now)) (tt {0}) }
@@ -122,7 +123,8 @@ fn titles_differ(alloc: Global, all: &WorldDraft) -> Result<(), WorldFault>
     no_duplicate_names(alloc, "kind", "name", all.kinds.as_slice())
 }
 
-/// Checks that all names and numbers that must be unique are, else TwoNames.
+/// Checks that names of things, region numbers, output keys of a terrain and market items of a
+/// region are unique, else TwoNames.
 #[tactic(auto, unfolding(crate::specs::World::names_differ))]
 fn names_differ(alloc: Global, all: &WorldDraft) -> Result<(), WorldFault>
     ensures { Gives (λ u. u) result (first_fault (names_differ all.now)) (tt {0}) }
@@ -165,7 +167,7 @@ fn is_land(terrains: &[Terrain], plan: &RegionPlan) -> bool
     }
 }
 
-/// The numbers of the regions with land, in rising order.
+/// The numbers of the regions with land, in ascending order.
 fn land(
     alloc: Global,
     terrains: &[Terrain],

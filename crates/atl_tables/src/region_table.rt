@@ -24,15 +24,15 @@ use toml::Table;
 
 /// A region's number, name, terrain (by name), peasants and money.
 pub struct RegionBasics {
-    /// From 1 to `LAST_REGION`.
+    /// The region's number, from 1 to `LAST_REGION`.
     pub number: u32,
-    /// As the file writes it; it keeps the rule of names.
+    /// The region's name as the file writes it; it keeps the rule of names.
     pub name: Text,
-    /// The name of its terrain.
+    /// The name of the region's terrain.
     pub terrain: Text,
-    /// Peasants at founding, at most `MOST_AMOUNT`.
+    /// The region's peasants at founding, at most `MOST_AMOUNT`.
     pub peasants: u32,
-    /// Money at founding, at most `MOST_AMOUNT`.
+    /// The region's money at founding, at most `MOST_AMOUNT`.
     pub money: u32,
 }
 
@@ -185,7 +185,7 @@ impl HasUniqueNames for RegionDraft {
     }
 }
 
-/// Looks up the terrain and the items of the markets of a table `[[region]]`.
+/// Looks up the names in a table `[[region]]`: its terrain, and the items of its markets.
 impl Draft for RegionDraft {
     type Record = RegionPlan;
 

@@ -21,7 +21,7 @@ use crate::{keys, let_go};
 use std::alloc::Global;
 use toml::Table;
 
-/// The rules on what men cost and bring.
+/// The rules on maintenance, tax per man, and the price of a recruit.
 #[derive(Drop)]
 pub struct Prices {
     /// Money that each man costs a month, from 1 to `MOST_PER_HEAD`.
@@ -35,11 +35,11 @@ pub struct Prices {
 /// The rules on recruits, births and income of peasants in a month.
 #[derive(Drop)]
 pub struct PeasantRules {
-    /// Of this many one can be recruited, from 1 to `MOST_FRACTION`.
+    /// Of this many peasants one can be recruited in a month, from 1 to `MOST_FRACTION`.
     pub recruit_fraction: u32,
     /// The most births, in percent of the peasants, at most `MOST_GROWTH`.
     pub growth: u32,
-    /// Money that each earns its region, at most `MOST_PER_HEAD`.
+    /// Money that each peasant earns its region in a month, at most `MOST_PER_HEAD`.
     pub income: u32,
 }
 
@@ -79,7 +79,7 @@ pub struct RulesDraft {
     pub skills: SkillNames,
 }
 
-/// Reads the keys of the table `[rules]` for what men cost and bring.
+/// Reads the keys of the table `[rules]` for maintenance, tax per man, and the price of a recruit.
 impl Element for Prices {
     ghost conditions = { conditions_of prices_at };
 

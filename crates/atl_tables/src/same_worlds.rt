@@ -15,7 +15,7 @@ macro_rules! agree {
 
 /// A thing of a world that can be compared with another: a terrain, an item, a skill or a kind.
 trait Comparable: Drop {
-    /// Whether both are equal.
+    /// Whether two things are equal in all their fields.
     fn is_same(&self, other: &Self) -> bool
         ensures { IsTrue result ↔ (self.now ≡ other.now) };
 }

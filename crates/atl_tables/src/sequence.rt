@@ -65,14 +65,14 @@ impl<T: Drop> Sequence<T> {
         Ok(())
     }
 
-    /// How many values there are.
+    /// How many values the list has.
     pub fn len(&self) -> usize
         ensures { result ≡ length self.now }
     {
         self.items.len()
     }
 
-    /// The values in their order.
+    /// The values of the list, in order.
     pub fn as_slice(&self) -> &[T]
         ensures { result.now ≡ self.now }
     {

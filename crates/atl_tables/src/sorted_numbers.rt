@@ -64,8 +64,8 @@ impl SortedNumbers {
         self.numbers.reserve(more)
     }
 
-    /// Adds a number, for which there is room; if it is there already, nothing changes. It takes no
-    /// memory.
+    /// Adds a number, for which there is room. If the list has the number already, nothing changes.
+    /// It takes no memory.
     pub fn add(&mut self, number: u32)
         requires { set.len (set.insert self.old.numbers number) ≤ self.old.room }
         ensures { self.new ≡ record self.old { numbers = set.insert self.old.numbers number } }
@@ -136,7 +136,7 @@ impl SortedNumbers {
         self.numbers.capacity()
     }
 
-    /// The numbers, in rising order.
+    /// The numbers, in ascending order.
     pub fn as_slice(&self) -> &[u32]
         ensures { Lists self.now.numbers result.now }
     {
@@ -144,7 +144,8 @@ impl SortedNumbers {
     }
 }
 
-/// The index of a number in a sorted list, or `Err` of the index at which it belongs.
+/// The index of a number in a sorted list; if the list doesn't have the number, `Err` of the index
+/// at which it belongs.
 fn index_of(numbers: &[u32], number: u32) -> Result<usize, usize>
     requires { IsStrictlySortedBy nat_cmp numbers.now }
     ensures found { IfOk result (λ place. IsAt numbers.now number place) }
@@ -201,7 +202,7 @@ fn is_last_above(numbers: &[u32], count: usize, other: u32) -> bool
 }
 
 /// Merges the first `own` numbers of a list with the numbers of another one, in place. Both are
-/// sorted, and no number is in both. It goes from the largest down, so each number is moved once.
+/// sorted, and no number is in both. The largest is put first, so each number is moved once.
 fn merge(numbers: &mut [u32], own: usize, others: &[u32])
     requires size { length numbers.old ≡ own + length others.now }
     requires rising { IsStrictlySortedBy nat_cmp (take own numbers.old) }

@@ -20,7 +20,8 @@ use crate::world_draft::{Draft, WorldDraft};
 use std::alloc::Global;
 use toml::Table;
 
-/// The wage and the places of work in a region of a terrain, and its limits of money and peasants.
+/// The wage and the number of work places in a region of a terrain, and the most money and peasants
+/// that the region grows to.
 #[derive(Drop)]
 pub struct Economy {
     /// Money that a month of work pays a man, from 1 to `MOST_PRICE`.
@@ -35,9 +36,9 @@ pub struct Economy {
 
 /// A table `[[terrain]]` as read, with its output by names of items.
 pub struct TerrainDraft {
-    /// As the file writes it; it keeps the rule of names.
+    /// The terrain's name as the file writes it; it keeps the rule of names.
     pub name: Text,
-    /// Whether it is land, else it is water.
+    /// Whether the terrain is land, else it is water.
     pub land: bool,
     pub economy: Economy,
     /// What a region gives in a month, in the byte order of the items' names.
@@ -50,7 +51,7 @@ impl Drop for TerrainDraft {
     }
 }
 
-/// Reads the keys of a table `[[terrain]]` for its wage, places and limits.
+/// Reads the keys of a table `[[terrain]]` for wage, work places, and limits of money and peasants.
 impl Element for Economy {
     ghost conditions = { conditions_of economy_at };
 

@@ -72,7 +72,7 @@ pub(crate) fn no_duplicate_names<T: Titled>(
     Ok(())
 }
 
-/// A table that holds things with names, of which no two may be equal.
+/// A table that holds things with names, where no two names may be equal.
 pub(crate) trait HasUniqueNames: Drop {
     ghost no_twins: { ℕ → Self → Conditions };
 

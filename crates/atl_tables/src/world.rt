@@ -44,9 +44,9 @@ pub struct Rules {
 /// A terrain, such as a forest: whether it is land, and what a region of it pays, holds and gives.
 #[derive(Debug)]
 pub struct Terrain {
-    /// As the file writes it; no two terrains' names are equal, ignoring ASCII case.
+    /// The name as the file writes it; no two terrains' names are equal, ignoring ASCII case.
     pub name: Text,
-    /// Whether it is land, else it is water.
+    /// Whether the terrain is land, else it is water.
     pub land: bool,
     /// Money that a month of work pays a man, from 1 to `MOST_PRICE`.
     pub wage: u32,
@@ -56,7 +56,8 @@ pub struct Terrain {
     pub money_limit: u32,
     /// The most peasants that births bring a region to, at most `MOST_AMOUNT`.
     pub peasant_limit: u32,
-    /// How much of each item of the world, by its number, a region gives in a month, each at most `MOST_AMOUNT`.
+    /// How much of each item of the world, by its number, a region gives in a month, each at most
+    /// `MOST_AMOUNT`.
     pub output: Sequence<u32>,
 }
 
@@ -69,26 +70,27 @@ impl Drop for Terrain {
 /// An item of goods: its weight, and what making one takes.
 #[derive(Drop, Debug)]
 pub struct Item {
-    /// As the file writes it; no two items' names are equal, ignoring ASCII case.
+    /// The name as the file writes it; no two items' names are equal, ignoring ASCII case.
     pub name: Text,
-    /// The weight of one, at most `MOST_WEIGHT`.
+    /// The weight of one item, at most `MOST_WEIGHT`.
     pub weight: u32,
-    /// The weight of goods that one carries, at most `MOST_WEIGHT`.
+    /// The weight of goods that one item carries, at most `MOST_WEIGHT`.
     pub carry: u32,
     /// The number of the skill that makes it. Without one nobody can make it.
     pub skill: Option<u16>,
     /// The level of that skill that making it takes, from 1 to `LAST_LEVEL`.
     pub level: u32,
-    /// The number of the item that it is made of, another one. Without one it comes out of the output of terrains.
+    /// The number of the item that this item is made of, another one. Without one, this item comes
+    /// out of the output of terrains.
     pub raw: Option<u16>,
-    /// How many raw items go into one, from 1 to `MOST_RAW_COUNT`.
+    /// How many raw items one item is made of, from 1 to `MOST_RAW_COUNT`.
     pub raw_count: u32,
 }
 
 /// A skill that men study, and its fee.
 #[derive(Drop, Debug)]
 pub struct Skill {
-    /// As the file writes it; no two skills' names are equal, ignoring ASCII case.
+    /// The name as the file writes it; no two skills' names are equal, ignoring ASCII case.
     pub name: Text,
     /// Money that a month of study costs a man, at most `MOST_PRICE`.
     pub fee: u32,
@@ -97,21 +99,22 @@ pub struct Skill {
 /// A kind of structure: what building one takes, and what it is good for.
 #[derive(Drop, Debug)]
 pub struct Kind {
-    /// As the file writes it; no two kinds' names are equal, ignoring ASCII case.
+    /// The name as the file writes it; no two kinds' names are equal, ignoring ASCII case.
     pub name: Text,
-    /// Whether it is a ship, else it is a building.
+    /// Whether the structure is a ship, else it is a building.
     pub ship: bool,
-    /// The number of the item that it is built of.
+    /// The number of the item that the structure is built of.
     pub material: u16,
-    /// How much material makes it complete, from 1 to `MOST_SIZE`.
+    /// How much material makes the structure complete, from 1 to `MOST_SIZE`.
     pub size: u32,
-    /// The number of the skill that builds it.
+    /// The number of the skill that builds the structure.
     pub skill: u16,
     /// The level of that skill that building it takes, from 1 to `LAST_LEVEL`.
     pub level: u32,
-    /// The most weight of men and goods with which it sails, at most `MOST_AMOUNT`.
+    /// The most weight of men and goods with which a ship sails, at most `MOST_AMOUNT`.
     pub capacity: u32,
-    /// What men times their level of sailing, of all inside together, must come to for it to sail, at most `MOST_SIZE`.
+    /// The least sum of men times their level of sailing, over all units inside, with which a ship
+    /// sails, at most `MOST_SIZE`.
     pub crew: u32,
     /// The number of the skill that is studied better inside, where there is one.
     pub helps: Option<u16>,
@@ -121,13 +124,13 @@ pub struct Kind {
 /// limits.
 #[derive(Drop, Clone, Copy, Debug)]
 pub struct Market {
-    /// The number of the item.
+    /// The number of the item that the market trades.
     pub item: u16,
-    /// Money that a unit pays the market for one, from 1 to `MOST_PRICE`.
+    /// Money that a unit pays the market for one item, from 1 to `MOST_PRICE`.
     pub price: u32,
-    /// Money that the market pays a unit for one, from 1 to `MOST_PRICE`.
+    /// Money that the market pays a unit for one item, from 1 to `MOST_PRICE`.
     pub pays: u32,
-    /// The largest stock, at most `MOST_AMOUNT`.
+    /// The largest stock of the market, at most `MOST_AMOUNT`.
     pub limit: u32,
     /// How much comes into the stock in a month, at most `MOST_AMOUNT`.
     pub restock: u32,
@@ -136,9 +139,9 @@ pub struct Market {
 /// A region as the world file describes it. Each neighbour is a region of the world, and has this
 /// one on its opposite side.
 pub struct RegionPlan {
-    /// From 1 to `LAST_REGION`; no two regions have one number.
+    /// The region's number, from 1 to `LAST_REGION`; no two regions have one number.
     pub number: u32,
-    /// As the file writes it. Regions may share a name.
+    /// The name as the file writes it. Regions may share a name.
     pub name: Text,
     /// The number of its terrain.
     pub terrain: u16,
@@ -183,7 +186,7 @@ impl RegionPlan {
 /// A whole world, as a world file without fault describes it. Its terrains, items, skills and kinds
 /// are numbered from 0 in the order of the file, its regions are stored under their own numbers.
 /// There are at most `MOST_TERRAINS`, `MOST_ITEMS`, `MOST_SKILLS`, `MOST_KINDS` and `MOST_REGIONS`
-/// of them, some region is land, and each number of one in another is of one that is there.
+/// of them. Some region is land, and each number by which one thing refers to another exists.
 /// See docs/FORMATS.md, "The world file".
 pub struct World {
     rules: Rules,
@@ -301,7 +304,7 @@ impl World {
         self.regions.get(number)
     }
 
-    /// The numbers of the regions with land, in rising order.
+    /// The numbers of the regions with land, in ascending order.
     pub fn land(&self) -> &[u32]
         ensures value { result.now ≡ land_of self.now }
         ensures world { IsWorld self.now }

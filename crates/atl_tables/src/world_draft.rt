@@ -66,7 +66,7 @@ pub(crate) trait Draft: Drop {
     ghost is_sound: { WorldDraft → ℕ → Self.Record → Type 0 };
 
     /// The record of the i-th table of its array, with numbers in place of names. Else UnknownName
-    /// at the first name of nothing. `Memory` may come at any point.
+    /// at the first name that no thing has. `Memory` may come at any point.
     fn resolve(&self, alloc: Global, all: &WorldDraft, i: usize) -> Result<Self::Record, WorldFault>
         requires all { IsWorldDraft all.now }
         requires draft { is_draft self.now }
@@ -75,7 +75,7 @@ pub(crate) trait Draft: Drop {
         ensures sound { IfOk result (λ x. is_sound all.now i x) };
 }
 
-/// The records of all tables of an array, else UnknownName at the first name of nothing.
+/// The records of all tables of an array, else UnknownName at the first name that no thing has.
 pub(crate) fn resolve_all<D: Draft>(
     alloc: Global,
     all: &WorldDraft,

@@ -142,8 +142,8 @@ pub(crate) static KEY_CHANGES: [Change; 22] = [
     ("growth = 0", "growth = 99999999999999999999", "1 NotToml"),
 ];
 
-/// Edits of the same world: names twice, references to names that are missing, and a terrain's
-/// `output`.
+/// Edits of the world with an item, a skill and a kind: names twice, references to names that are
+/// missing, and a terrain's `output`.
 pub(crate) static NAME_CHANGES: [Change; 13] = [
     (
         "growth = 0",
@@ -200,7 +200,7 @@ pub(crate) static NAME_CHANGES: [Change; 13] = [
     ("wage = 12", "wage = 12\noutput = { Wood = 7 }", "none"),
 ];
 
-/// Edits of the key `name` of each thing of the same world.
+/// Edits of the key `name` of each thing of the world with an item, a skill and a kind.
 pub(crate) static TITLE_CHANGES: [Change; 19] = [
     ("name = \"plain\"", "", "2 Missing terrain[0].name"),
     ("name = \"wood\"", "", "2 Missing item[0].name"),
@@ -259,7 +259,7 @@ pub(crate) static TITLE_CHANGES: [Change; 19] = [
     ("name = \"Vale\"", "name = \"Va le\"", "none"),
 ];
 
-/// Edits of the truth values `land` and `ship` of the same world.
+/// Edits of the truth values `land` and `ship` of the world with an item, a skill and a kind.
 pub(crate) static TRUTH_CHANGES: [Change; 5] = [
     ("land = true", "", "2 Missing terrain[0].land"),
     ("land = true", "land = 1", "3 WrongType terrain[0].land"),
@@ -421,7 +421,7 @@ pub(crate) static OUTPUT_CHANGES: [Change; 6] = [
     ),
 ];
 
-/// Changes of the market of a world with an item, a skill and a kind.
+/// Edits of the market of a world with an item, a skill, a kind and one market.
 pub(crate) static MARKET_CHANGES: [Change; 12] = [
     ("item = \"wood\"", "", "2 Missing region[0].market[0].item"),
     (
@@ -473,7 +473,8 @@ pub(crate) static MARKET_CHANGES: [Change; 12] = [
     ),
 ];
 
-/// Changes of the same world with two markets of one item.
+/// Edits of the world with two equal markets: equal names and names of nothing, by which counts
+/// first.
 pub(crate) static TWIN_CHANGES: [Change; 3] = [
     (
         "item = \"wood\"",
@@ -492,7 +493,8 @@ pub(crate) static TWIN_CHANGES: [Change; 3] = [
     ),
 ];
 
-/// Changes of the same world without markets, which put an array in their place.
+/// Edits that give a region without markets a key `market`: a value of another type, or an inline
+/// array.
 pub(crate) static ARRAY_CHANGES: [Change; 13] = [
     (
         "money = 500",

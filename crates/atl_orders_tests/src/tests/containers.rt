@@ -80,7 +80,7 @@ pub(crate) fn filled(alloc: Global) -> Result<Numbered<u32>, Fail> {
     Ok(map)
 }
 
-/// Changes, takes out and reads entries that are there, and ones that are not.
+/// Changes, takes out and reads entries of a map, both those that it has and those that it hasn't.
 fn changes_entries(rt: &impl Abort, map: &mut Numbered<u32>) {
     assert!(rt; map.get(20) == Some(&2));
     assert!(rt; map.get(2).is_none());
@@ -92,7 +92,7 @@ fn changes_entries(rt: &impl Abort, map: &mut Numbered<u32>) {
     map.remove(2);
 }
 
-/// A `Numbered` keeps values by number, in rising order, through inserts, changes and removals.
+/// A `Numbered` keeps values by number, in ascending order, through inserts, changes and removals.
 #[test]
 fn numbered(rt: HostRuntime) -> Result<(), Fail> {
     assert_map(&rt, rt.alloc(), &Numbered::new(rt.alloc()), &[])?;

@@ -73,7 +73,7 @@ fn assert_changes(
     Ok(())
 }
 
-/// Each edit of the small world gets its first fault.
+/// The reader reports the first fault of each edit of the small world.
 #[test]
 fn faulty_worlds(rt: HostRuntime) -> Result<(), Fail> {
     assert_changes(&rt, rt.alloc(), SMALL, &SMALL_CHANGES)?;
@@ -92,7 +92,7 @@ fn things_are(rt: &impl Abort, alloc: Global, text: &str) -> Result<(), Fail> {
     assert_changes(rt, alloc, text, &OUTPUT_CHANGES)
 }
 
-/// Each edit of the world with an item, a skill and a kind gets its first fault.
+/// The reader reports the first fault of each edit of the world with an item, a skill and a kind.
 #[test]
 fn faulty_things(rt: HostRuntime) -> Result<(), Fail> {
     let text = small_with(rt.alloc(), MORE)?;
@@ -120,7 +120,7 @@ fn later_faults_are(rt: &impl Abort, alloc: Global) -> Result<(), Fail> {
     Ok(())
 }
 
-/// Each edit of worlds with markets gets its first fault, in both formats.
+/// The reader reports the first fault of each edit of worlds with markets, in both formats.
 #[test]
 fn faulty_markets(rt: HostRuntime) -> Result<(), Fail> {
     markets_are(&rt, rt.alloc(), 0, &ARRAY_CHANGES)?;
@@ -131,7 +131,7 @@ fn faulty_markets(rt: HostRuntime) -> Result<(), Fail> {
     later_faults_are(&rt, rt.alloc())
 }
 
-/// The text of a region, to be repeated.
+/// The text of a region, of which a test appends many.
 const REGION: &str = "[[region]]
 number = 1
 name = \"Vale\"
@@ -140,7 +140,7 @@ peasants = 1000
 money = 500
 ";
 
-/// The text of a terrain, to be repeated.
+/// The text of a terrain, of which a test appends many.
 const TERRAIN: &str = "[[terrain]]
 name = \"Plain\"
 land = true
@@ -150,13 +150,13 @@ money_limit = 0
 peasant_limit = 0
 ";
 
-/// The text of an item, to be repeated.
+/// The text of an item, of which a test appends many.
 const ITEM: &str = "[[item]]\nname = \"wood\"\nweight = 5\ncarry = 0\n";
 
-/// The text of a skill, to be repeated.
+/// The text of a skill, of which a test appends many.
 const SKILL: &str = "[[skill]]\nname = \"carpentry\"\nfee = 10\n";
 
-/// The text of a kind, to be repeated.
+/// The text of a kind, of which a test appends many.
 const KIND: &str = "[[kind]]
 name = \"lodge\"
 ship = false
@@ -185,31 +185,31 @@ const EMPTY: Long = Long {
     end: "",
 };
 
-/// n regions.
+/// The text appended for n regions.
 const MANY_REGIONS: Long = Long {
     open: REGION,
     ..EMPTY
 };
 
-/// n terrains.
+/// The text appended for n terrains.
 const MANY_TERRAINS: Long = Long {
     open: TERRAIN,
     ..EMPTY
 };
 
-/// n items.
+/// The text appended for n items.
 const MANY_ITEMS: Long = Long {
     open: ITEM,
     ..EMPTY
 };
 
-/// n skills.
+/// The text appended for n skills.
 const MANY_SKILLS: Long = Long {
     open: SKILL,
     ..EMPTY
 };
 
-/// n kinds.
+/// The text appended for n kinds.
 const MANY_KINDS: Long = Long {
     open: KIND,
     ..EMPTY
@@ -330,13 +330,13 @@ fn long_texts_are(
     Ok(())
 }
 
-/// Each list of a world has a greatest length.
+/// A list of a world is OutOfRange if it is longer than its limit, and not if it is at the limit.
 #[test]
 fn many_elements(rt: HostRuntime) -> Result<(), Fail> {
     long_texts_are(&rt, rt.alloc(), &MANY)
 }
 
-/// A world text may nest 80 deep.
+/// Tables, arrays, headers and dotted keys of a world text may each be 80 deep, and not deeper.
 #[test]
 fn nested_texts(rt: HostRuntime) -> Result<(), Fail> {
     long_texts_are(&rt, rt.alloc(), &NESTED)

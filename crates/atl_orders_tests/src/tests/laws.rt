@@ -1,8 +1,9 @@
-//! Calls each law of the crates under test once and asserts nothing: a law does nothing, and its clause is proved.
+//! Calls each law of the crates under test once and asserts nothing: a law does nothing, and its
+//! clause is proved.
 use atl_orders::{readings_keep_bounds, rules_are_the_reading};
 use atl_tables::old_worlds_have_no_markets;
 
-/// Asserts nothing: the clause of each law is proved.
+/// Each law can be called. Nothing is asserted, since the clause of each law is proved.
 #[test]
 fn states_laws_of_both_readers() {
     rules_are_the_reading();

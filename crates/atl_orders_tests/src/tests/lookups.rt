@@ -107,7 +107,7 @@ fn words_name(rt: &impl Abort, alloc: Global, world: &World) -> Result<(), Fail>
     Ok(())
 }
 
-/// Each word names its item, skill and kind, or none.
+/// Look-ups by a word find the item, the skill and the kind of that name, or none.
 #[test]
 fn names_in_orders(rt: HostRuntime) -> Result<(), Fail> {
     let world = world_with(rt.alloc(), NAMED)?;

@@ -161,7 +161,7 @@ static BAD_NAMES: [(&str, &str); 20] = [
     ("PROMOTE NEW 10000", "7 BadAlias"),
 ];
 
-/// The same for GIVE to QUIT.
+/// Faulty lines, from GIVE to QUIT, and the number and name of each line's first fault.
 static BAD_GOODS: [(&str, &str); 23] = [
     ("GIVE", "5 MissingWord"),
     ("GIVE 2", "5 MissingWord"),
@@ -188,7 +188,8 @@ static BAD_GOODS: [(&str, &str); 23] = [
     ("QUIT 1x", "3 BadNumber"),
 ];
 
-/// The same for STUDY to FORM, and for bytes that no line may have.
+/// Faulty lines, from STUDY to FORM and with bytes that no line may have, and the number and name
+/// of each line's first fault.
 static BAD_WORK: [(&str, &str); 20] = [
     ("STUDY", "5 MissingWord"),
     ("STUDY wood", "4 UnknownThing"),
@@ -212,8 +213,8 @@ static BAD_WORK: [(&str, &str); 20] = [
     ("UNIT 2 \"\x7f", "6 BadByte"),
 ];
 
-/// Asserts how each line is read as line 3 of a mailing, after `UNIT 7`; `front` stands before each
-/// wanted text.
+/// Asserts how each line is read as line 3 of a mailing, after `UNIT 7`; each wanted text begins
+/// with `front`.
 fn lines_tell(
     rt: &impl Abort,
     alloc: Global,
@@ -435,7 +436,8 @@ fn all_is_read(rt: &impl Abort, alloc: Global, world: &World) -> Result<(), Fail
     Ok(())
 }
 
-/// Each order, text and span is read as its table says.
+/// A mailing is read with the right orders, names and faults, and a text that is no mailing is
+/// refused.
 #[test]
 fn mailings(rt: HostRuntime) -> Result<(), Fail> {
     let world = world_with(rt.alloc(), THINGS)?;

@@ -96,7 +96,7 @@ fn assert_difference(
     Ok(())
 }
 
-/// Asserts what each edit of `CHANGES` says.
+/// Asserts for each edit of `CHANGES` whether the two worlds differ in their markets alone.
 fn all_differ(rt: &impl Abort, alloc: Global, text: &str) -> Result<(), Fail> {
     let world = read_world(alloc, text)?;
     for (from, to, alone) in CHANGES.iter() {

@@ -50,7 +50,7 @@ fn texts_are(rt: &impl Abort, rows: &[(&str, bool, bool)]) {
     }
 }
 
-/// Each text may be a name, or a pass text, as the table says.
+/// The rules of names and of pass texts accept and refuse the right texts.
 #[test]
 fn names_and_pass_texts(rt: HostRuntime) {
     texts_are(&rt, &TEXTS);

@@ -96,7 +96,8 @@ fn lists_are(rt: &impl Abort, alloc: Global, world: &World, wanted: &Shown) -> R
     assert_shown(rt, alloc, "kinds", world.kinds(), wanted.kinds)
 }
 
-/// A region's number, name, terrain, peasants and money, and its exits to the north, south, east and west.
+/// A region's number, name, terrain, peasants and money, and its neighbours to the north, south,
+/// east and west.
 fn plan_text(alloc: Global, plan: &RegionPlan) -> Result<String, Fail> {
     let exits = [plan.north, plan.south, plan.east, plan.west];
     Ok(format!(in alloc;

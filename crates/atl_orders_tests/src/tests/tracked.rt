@@ -26,7 +26,7 @@ enum Step {
 /// A call, how many values the map has after it, and which numbers are marked after it.
 type Row = (Step, usize, &'static [u32]);
 
-/// Calls from the map of 1, 20 and 30 on, by which numbers get marked.
+/// Calls by which numbers get marked, on the map of 1, 20 and 30.
 static CHANGES: [Row; 12] = [
     (Step::Remove(2), 3, &[]),
     (Step::Change(2, 5), 3, &[]),
@@ -42,8 +42,8 @@ static CHANGES: [Row; 12] = [
     (Step::TakeOut(8), 4, &[1, 4, 5, 20, 30]),
 ];
 
-/// Calls from the same map on, by which marks are set and cleared, also those of numbers without a
-/// value.
+/// Calls by which marks are set and cleared, also those of numbers without a value, on the map of
+/// 1, 20 and 30.
 static MARKS: [Row; 13] = [
     (Step::Remove(20), 2, &[20]),
     (Step::Unmark, 2, &[]),
@@ -60,8 +60,8 @@ static MARKS: [Row; 13] = [
     (Step::Unmark, 0, &[]),
 ];
 
-/// Calls from the same map on that lead back to it: a value is removed and inserted again, and a
-/// new one comes and goes.
+/// Calls on the map of 1, 20 and 30 that end with the same values: a value is removed and inserted
+/// again, and a new one is inserted and removed.
 static ROUND: [Row; 5] = [
     (Step::Remove(20), 2, &[20]),
     (Step::Insert(20, 2), 3, &[20]),
@@ -138,7 +138,7 @@ fn is_changed(rt: &impl Abort, alloc: Global, map: &MarkedMap<u32>) -> Result<()
     assert_map(rt, alloc, map.values(), &[1, 8, 4, 4, 20, 6, 30, 7])
 }
 
-/// Changes of a map mark the numbers changed.
+/// A change of a map marks the number whose value changed.
 #[test]
 fn tracked(rt: HostRuntime) -> Result<(), Fail> {
     let mut map = MarkedMap::of(rt.alloc(), filled(rt.alloc())?)?;
@@ -165,7 +165,7 @@ fn marks_of_what_is_gone(rt: HostRuntime) -> Result<(), Fail> {
 /// How many numbers the map of the last test has: one less than the prime 1009.
 const MANY: u32 = 1008;
 
-/// Marks each number from 1 to `MANY` once, in falling order or in a scattered one.
+/// Marks each number from 1 to `MANY` once, in descending order or in a scattered one.
 fn marks_each(map: &mut MarkedMap<u32>, falling: bool) {
     for step in 1..MANY + 1 {
         if falling {
@@ -191,8 +191,8 @@ fn puts_thirds(map: &mut MarkedMap<u32>) -> Result<(), Fail> {
     Ok(())
 }
 
-/// Asserts that the marked numbers come in rising order from 1, with or without each third, and how
-/// many there are.
+/// Asserts that the marked numbers come in ascending order from 1, with or without each third, and
+/// how many there are.
 fn count_up(rt: &impl Abort, map: &MarkedMap<u32>, thirds: bool, count: usize) {
     assert_number(rt, map.marked(), count);
     let mut wanted = 1;
@@ -217,7 +217,7 @@ fn mixes(rt: &impl Abort, map: &mut MarkedMap<u32>, falling: bool) -> Result<(),
     Ok(())
 }
 
-/// The marked numbers come in rising order, in whatever order they were marked.
+/// The marked numbers come in ascending order, in whatever order they were marked.
 #[test]
 fn marks_in_any_order(rt: HostRuntime) -> Result<(), Fail> {
     let mut map = MarkedMap::new(rt.alloc());
