@@ -1,4 +1,4 @@
--- What TEACH and STUDY leave to the units of a faction that sent no mailing.
+-- Laws of TEACH and STUDY: the units of a faction that sent no mailing keep their men, names and items.
 use Rattle.std.proofs.Common.{◌≡◌, ◌∷◌, [], List, ◌-◌, ◌*◌, ℕ, Some, None, refl, ap, subst, ◌∙◌, arith}
 use Rattle.std.specs.Prelude.{IfSome, fold}
 use Rattle.std.specs.FinMap.{get, values}
@@ -23,13 +23,13 @@ use Rattle.atl_action.specs.Teach.{TaughtMen, after_lessons, is_teaching, teach,
 
 -- ---- TEACH adds its events and changes nothing else of the month
 
--- the month with the same readings and aliases, in whose events as many men of each unit starved
+-- The month has the same readings and aliases, and by its events as many men of each unit starved.
 pub record IsTold (before after : MonthValue) : Type 0 where
   pub readings : after.readings ≡ before.readings
   pub aliases : after.aliases ≡ before.aliases
   pub starved : (n : ℕ) → starved_in after.events n ≡ starved_in before.events n
 
--- an order of TEACH changes only events, and none that says that men starved
+-- an order of TEACH keeps readings and aliases, and by its event no men starved
 lesson_told : (c : CampaignValue) (learning : Learning) (p : TaughtMen × MonthValue) (t : Task) → IsTold p.1 (teach_order c learning p t).1
 lesson_told c learning (taught, m) t = record {
   readings = refl;
@@ -71,7 +71,7 @@ studied_men w taught c f n x is other = tt
 study_spares : (taught : TaughtMen) → SparesMen (study_step taught)
 study_spares taught w a c t x own = studied_men w taught c t.faction t.unit x own.there t.order_value.operands
 
--- a unit that is unchanged has its name and items
+-- a unit that is unchanged keeps its name and its items
 items_of_unchanged : (u v : Unit) → IsUnchanged u v → HasItsItems u v
 items_of_unchanged u v same = record { name = ap (λ (x : Unit). x.holding.name) same; items = λ i. omega (arith, ap (λ (x : Unit). amount_of x.holding.items i) same) }
 

@@ -1,4 +1,4 @@
--- What MOVE and SAIL leave to the units of a faction that sent no mailing.
+-- Laws of MOVE and SAIL: the units of a faction that sent no mailing keep their men, names and items.
 use Rattle.std.proofs.Common.{ℕ, false, refl}
 use Rattle.std.specs.Prelude.{IfSome, fold, unwrap_or}
 use Rattle.std.specs.FinMap.{get}
@@ -17,7 +17,7 @@ use Rattle.atl_instant.proofs.PhaseSpecLaws.{PhaseLeavesUnmailed}
 use Rattle.atl_instant.proofs.UnmailedLaws.{HasItsItems, HaveTheirMen, OthersHaveMen, SparesMen, carried_leaves, items_of_no_worse, men_in_turn, men_same, men_twice, men_unless, others_men, own_faction, unmailed_spared}
 use Rattle.atl_instant.proofs.UnmailedStepLaws.{guard_men, place_men}
 
--- all units have their men after one of them is elsewhere, with its flag cleared
+-- all units keep their men when one of them goes elsewhere and its flag is cleared
 gone_men : (c : CampaignValue) (n r s : ℕ) → HaveTheirMen c (with_guard (with_place c n r s) n false)
 gone_men c n r s = let there = with_place c n r s in men_twice c there (with_guard there n false) (place_men c n r s) (guard_men there n false)
 
@@ -69,7 +69,7 @@ sailing_men w c f n x other = tt
 sail_spares : SparesMen sail_step
 sail_spares w a c t x own = sailing_men w c t.faction t.unit x t.order_value.operands
 
--- a unit that at most went along has its name and items
+-- a unit that satisfies `IsAtMostMoved` keeps its name and its items
 items_of_carried : (u v : Unit) → IsAtMostMoved u v → HasItsItems u v
 items_of_carried u v h = record { name = h.name; items = h.items }
 

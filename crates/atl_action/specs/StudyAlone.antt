@@ -31,7 +31,8 @@ taught_men w c m n = (after_lessons c (learners w c m) m).0 n
 abbrev pub unit_after_own_study : WorldValue → CampaignValue → MonthValue → (n skill : ℕ) → Unit → Option Unit
 unit_after_own_study w c m n skill u = get (study w (taught_men w c m n) n skill c u).0.units n
 
--- After the phase a unit is as its own faction's order of STUDY that counts makes it alone.
+-- A law: after the phase a unit with an own order of STUDY that counts is as this order alone makes it of the campaign
+-- as the phase began.
 -- The mailings can be read with the world.
 abbrev pub UnitsStudyAsBegun : Type 0
 UnitsStudyAsBegun =

@@ -1,4 +1,4 @@
--- GIVE and PAY leave a campaign well, and no unit but the giver worse off.
+-- Laws of GIVE and PAY: the campaign stays early, its books balanced, and no unit but the giver is worse off.
 use Rattle.std.proofs.Common.{◌≡◌, ◌≢◌, ◌==◌, ℕ, ◌+◌, ◌-◌, ◌≤◌, ◌<◌, Bool, true, false, cond, not, ◌&&◌, [], ◌∷◌, length, Option, Some, None, refl, sym, ap, subst, ◌∙◌, arith}
 use Rattle.std.specs.Prelude.{⊤, IfSome, nat_lt, if◌then◌else◌}
 use Rattle.std.proofs.lemmas.Bool.Decides.{nat_tests}
@@ -97,7 +97,7 @@ may_have_of w h (Item i) amount known most may = record {
   days = may.days;
 }
 
--- a unit with another amount of the gift guards only if it did before
+-- a unit with another amount of the gift has its guard flag set only if it was set before
 same_flag : (gift : Gift) (h : HoldingValue) (amount : ℕ) → (with_held_of gift h amount).guard ≡ true → h.guard ≡ true
 same_flag Money h amount g = g
 same_flag (Item i) h amount g = g
@@ -167,7 +167,8 @@ give_cases P c from to gift n u giver same move = by_receiver (get c.units to) r
     by_receiver (Some v) receiver = by_fault v receiver (give_fault gift n (to == from) u (Some v)) refl
 
 module _ (w : WorldValue) (c : CampaignValue) (early : IsEarly w c) (from to : ℕ) (gift : Gift) (n : ℕ) (u : Unit) (giver : get c.units from ≡ Some u) where
-  -- an order of GIVE or PAY is a step that leaves the campaign well
+  -- an order of GIVE or PAY keeps an early campaign early, in its month and with balanced books (`StepsWell`), if the
+  -- gift is of the world
   give_steps_well : IsKnown w gift → StepsWell IsEarly (λ d e t. 0) w c (give from to gift n c u).0
   give_steps_well known =
       give_cases (λ d. StepsWell IsEarly (λ d e t. 0) w c d) c from to gift n u giver (well_same w c early)
