@@ -21,13 +21,13 @@ module _ (w : WorldValue) (c : CampaignValue) where
   abbrev IfLearns : (ℕ → ℕ → Type 0) → Task → Type 0
   IfLearns P t = (s : ℕ) → skill_of t.order_value.operands ≡ Some s → learns w s t.faction (get c.units t.unit) ≡ true → P t.unit s
 
-  -- the map with the unit of an order under this skill, if the unit learns the skill; unchanged where the order names
-  -- no skill
+  -- the map with the unit of an order under this skill, if the unit learns the skill;
+  -- unchanged where the order names no skill
   abbrev with_skill : Learning → Task → Option ℕ → Learning
   with_skill learning t skill = option_map_or (λ s. if learns w s t.faction (get c.units t.unit) then insert learning t.unit s else learning) skill learning
 
-  -- if P holds of all that are learning, and of the unit of an order if it learns, it holds of all that are learning
-  -- after the order
+  -- if P holds of all that are learning, and of the unit of an order if it learns,
+  -- it holds of all that are learning after the order
   only_one : (P : ℕ → ℕ → Type 0) (t : Task) (learning : Learning) → IfLearns P t → Every P learning → Every P (with_learner w c learning t)
   only_one P t learning so old = by_skill (skill_of t.order_value.operands) refl
     where
@@ -39,8 +39,8 @@ module _ (w : WorldValue) (c : CampaignValue) where
       by_skill None says = old
       by_skill (Some s) says = by_test s says (learns w s t.faction (get c.units t.unit)) refl
 
-  -- if P holds of all that are learning, and of the unit of each of some orders if it learns, it holds after these
-  -- orders too
+  -- if P holds of all that are learning, and of the unit of each of some orders if it learns,
+  -- it holds after these orders too
   only_all : (P : ℕ → ℕ → Type 0) (ts : List Task) (learning : Learning) → AllByRecursion (IfLearns P) ts → Every P learning → Every P (fold (with_learner w c) learning ts)
   only_all P [] learning so old = old
   only_all P (t ∷ ts) learning so old = only_all P ts (with_learner w c learning t) so.1 (only_one P t learning so.0 old)
@@ -83,8 +83,8 @@ module _ (w : WorldValue) (c : CampaignValue) where
       let next = with_learner w c learning t in
       ((λ s says can. kept ts next t.unit (added t learning s says can)), each_all ts next)
 
--- the unit of each order of STUDY that counts satisfies `IsLearning` with the order's skill, if the unit learns by the
--- order
+-- the unit of each order of STUDY that counts satisfies `IsLearning` with the order's skill,
+-- if the unit learns by the order
 each_so : (w : WorldValue) (c : CampaignValue) (m : MonthValue) (ts : List Task) → AllByRecursion (Contains (study_tasks m)) ts → AllByRecursion (IfLearns w c (IsLearning w c m)) ts
 each_so w c m [] among = tt
 each_so w c m (t ∷ ts) among = ((λ s says can. record { order = t; stands = among.0; for_unit = refl; says = says; can = can }), each_so w c m ts among.1)

@@ -27,7 +27,7 @@ module _ (c : CampaignValue) where
       few true men had places before l = omega (arith, l)
       few false men had places before l = omega (arith, l)
 
-  -- so does an order of TEACH
+  -- if of no unit more men were taught than it has, this is also true after an order of TEACH
   once_taught : (aliases : Aliases) (learning : Learning) (taught : TaughtMen) (t : Task) → AreTaughtOnce c taught → AreTaughtOnce c (teach c aliases learning taught t).0
   unfolding teach
   once_taught aliases learning taught t old =
@@ -40,7 +40,7 @@ module _ (c : CampaignValue) where
       by_fault ns (Some fault) = old
       by_fault ns None = once_lesson taught (pupils_per_teacher * men_at c t.unit) ns old
 
-  -- so do all orders of TEACH
+  -- if of no unit more men were taught than it has, this is also true after some orders of TEACH
   once_all : (learning : Learning) (ts : List Task) (p : TaughtMen × MonthValue) → AreTaughtOnce c p.0 → AreTaughtOnce c (fold (teach_order c learning) p ts).0
   once_all learning [] p old = old
   once_all learning (t ∷ ts) p old = once_all learning ts (teach_order c learning p t) (once_taught p.1.aliases learning p.0 t old)

@@ -1,5 +1,5 @@
--- Laws of units that change only location and guard flag: their number, their factions and what they hold together stay
--- the same.
+-- Laws of units that change only location and guard flag:
+-- their number, their factions and what they hold together stay the same.
 use Rattle.std.proofs.Common.{◌≡◌, ◌==◌, ℕ, ◌+◌, Bool, true, false, Option, Some, None, refl, sym, ap, ◌∙◌, arith}
 use Rattle.std.specs.Prelude.{option_map, if◌then◌else◌}
 use Rattle.std.specs.Ordering.{nat_cmp}
@@ -21,8 +21,8 @@ use Rattle.atl_instant.proofs.OutcomeLaws.{false_true}
 use Rattle.atl_instant.proofs.StructureLaws.{at_number, get-changed}
 use Rattle.atl_action.proofs.TravelLaws.{IsSameUnit}
 
--- Before and after there are as many units, each faction has the same unit numbers, and all together hold as much of
--- each thing.
+-- Before and after there are as many units, each faction has the same unit numbers,
+-- and all together hold as much of each thing.
 pub record AreSamePeople (before after : FinMap nat_cmp Unit) : Type 0 where
   pub count : len after ≡ len before
   pub of_factions : (m : ℕ) → numbers_of m after ≡ numbers_of m before
@@ -46,8 +46,8 @@ cancelled : (a b p q : ℕ) → a + p ≡ b + q → q ≡ p → a ≡ b
 cancelled a b p q e f = omega arith
 
 module _ (f : Unit → Unit) (same : (u : Unit) → IsSameUnit u (f u)) (m : FinMap nat_cmp Unit) (k : ℕ) where
-  -- a change of unit k, which may be there or not, keeps the people (`AreSamePeople`), if f changes only location and
-  -- flag
+  -- a change of unit k, which may be there or not, keeps the people (`AreSamePeople`),
+  -- if f changes only location and flag
   changed_by : (o : Option Unit) → get m k ≡ o → AreSamePeople m (changed_at f m k o)
   changed_by None is = people_same m
   changed_by (Some u) is = record {
@@ -98,8 +98,8 @@ module _ (structure to : ℕ) where
   elsewhere_by m n k true t (Some x) = rw t refl
   elsewhere_by m n k false t (Some x) = rw t refl
 
-  -- a look-up of unit k after unit n went elsewhere: the unit as it was, but if k is n, in its new location with its
-  -- flag cleared
+  -- a look-up of unit k after unit n went elsewhere:
+  -- the unit as it was, but if k is n, in its new location with its flag cleared
   pub elsewhere_at : (m : FinMap nat_cmp Unit) (n k : ℕ) → get (elsewhere m n) k ≡ option_map (gone_if (k == n)) (get m k)
   elsewhere_at m n k =
       get-changed flag_off (changed put_there m n) n k ∙ ap (option_map (at_number flag_off (changed put_there m n) n k)) (get-changed put_there m n k)
@@ -109,8 +109,8 @@ module _ (structure to : ℕ) where
   inside_changed : (f : Unit → Unit) (m : FinMap nat_cmp Unit) (n q : ℕ) (v : Unit) → get m n ≡ Some v → (v.structure == q) ≡ ((f v).structure == q) → numbers_inside q (changed f m n) ≡ numbers_inside q m
   inside_changed f m n q v is same = ap (λ o. numbers_inside q (changed_at f m n o)) is ∙ inside_as_before q m (insert m n (f v)) (numbers_where-insert_known (λ (x : Unit). x.structure == q) m n v (f v) is same)
 
-  -- each structure has the same units inside after unit n went elsewhere, if unit n was inside structure `structure`
-  -- already
+  -- each structure has the same units inside after unit n went elsewhere,
+  -- if unit n was inside structure `structure` already
   pub elsewhere_inside : (m : FinMap nat_cmp Unit) (n q : ℕ) (v : Unit) → get m n ≡ Some v → v.structure ≡ structure → numbers_inside q (elsewhere m n) ≡ numbers_inside q m
   elsewhere_inside m n q v is here =
       inside_changed flag_off (changed put_there m n) n q (at_number put_there m n n v) (get-changed put_there m n n ∙ ap (option_map (at_number put_there m n n)) is) refl
@@ -128,8 +128,8 @@ module _ (structure to : ℕ) where
 
 -- ---- the totals
 
--- the totals of the campaign stay the same, if the units are the same people (`AreSamePeople`) and the regions are
--- unchanged
+-- the totals of the campaign stay the same, if the units are the same people
+-- (`AreSamePeople`) and the regions are unchanged
 pub total_people : (c d : CampaignValue) → AreSamePeople c.units d.units → d.regions ≡ c.regions → (t : Thing) → total d t ≡ total c t
 unfolding total
 total_people c d people regions t =

@@ -106,7 +106,7 @@ module _ (ship to : ℕ) where
   mapped_none None = refl
   mapped_none (Some x) = refl
 
-  -- a look-up among the units after those of a list went along
+  -- a look-up after the units of a list went along with the ship: gone with it, if listed, and unchanged otherwise
   all_at : (m : FinMap nat_cmp Unit) (ns : List ℕ) (k : ℕ) → get (fold (elsewhere ship to) m ns) k ≡ option_map (gone_if ship to (list_any (λ n. k == n) ns)) (get m k)
   all_at m [] k = mapped_none (get m k)
   all_at m (n ∷ ns) k =
@@ -158,7 +158,7 @@ module _ (w : WorldValue) (c : CampaignValue) (ship to : ℕ) (steady : IsSteady
   abbrev ns : List ℕ
   ns = numbers_inside ship c.units
 
-  -- the units after those inside went along
+  -- the units after those inside the ship went along
   abbrev units : FinMap nat_cmp Unit
   units = fold (elsewhere ship to) c.units ns
 
@@ -299,8 +299,8 @@ module _ (w : WorldValue) (c : CampaignValue) (ship to : ℕ) (steady : IsSteady
       guarding = λ k v there. guards_stay ship to (v.structure == ship) v;
     }
 
-    -- if a complete ship sails to a region that is there, the campaign stays steady, in its month and with balanced
-    -- books (`StepsWell`)
+    -- if a complete ship sails to a region that is there, the campaign stays steady,
+    -- in its month and with balanced books (`StepsWell`)
     pub sailed_well : StepsWell IsSteady books_nothing w c (after_sailing c ship to)
     sailed_well =
         subst (StepsWell IsSteady books_nothing w c) (sym sailed_is)
@@ -327,7 +327,7 @@ module _ (w : WorldValue) (c : CampaignValue) (ship to : ℕ) (steady : IsSteady
       }
   carried_by v false t = record { faction = refl; structure = refl; region = λ none. refl; name = refl; guard = λ none. refl; no_flag = λ off. off; men = omega arith; money = omega arith; items = λ i. omega arith; days = λ s. omega arith }
 
-  -- each unit at most went along
+  -- after sailing each unit is still there and satisfies `IsAtMostMoved`
   pub sailed_spares : (k : ℕ) (v : Unit) → get c.units k ≡ Some v → IsUnaffected IsAtMostMoved (after_sailing c ship to) k v
   sailed_spares k v there =
       subst (λ d. IsUnaffected IsAtMostMoved d k v) (sym sailed_is)
@@ -363,7 +363,7 @@ module _ (w : WorldValue) (c : CampaignValue) (ship to : ℕ) (steady : IsSteady
 carried_same : (v : Unit) → IsAtMostMoved v v
 carried_same v = record { faction = refl; structure = refl; region = λ none. refl; name = refl; guard = λ none. refl; no_flag = λ off. off; men = omega arith; money = omega arith; items = λ i. omega arith; days = λ s. omega arith }
 
--- a unit that at most went along in each of two changes did so in both
+-- if a unit satisfies `IsAtMostMoved` in each of two changes, it does so in both together
 carried_twice : (u v x : Unit) → IsAtMostMoved u v → IsAtMostMoved v x → IsAtMostMoved u x
 carried_twice u v x one two = record {
   faction = two.faction ∙ one.faction;
@@ -395,8 +395,8 @@ way_there : (w : WorldValue) (from : ℕ) (to : Option ℕ) → not (is_way w fr
 way_there w from None t = false_true (sym t)
 way_there w from (Some r) t = region_there w r (and_parts (is_region w r) (not (is_land_at w from && is_land_at w r)) (not-false (is_way w from (Some r)) t)).0
 
--- P holds of the result of an order of SAIL, if it holds of each outcome without a change, and of each campaign in
--- which a complete ship
+-- P holds of the result of an order of SAIL, if it holds of each outcome without a change,
+-- and of each campaign in which a complete ship
 -- sailed to a region of the world
 sail_cases : (P : CampaignValue × Outcome → Type 0) (w : WorldValue) (c : CampaignValue) (n : ℕ) (u : Unit) (direction : Direction) → ((outcome : Outcome) → P (c, outcome))
     → ((to : ℕ) (x : Structure) → get c.structures u.structure ≡ Some x → is_ship w x ≡ true → x.done ≡ size_of w x.kind → IsThere w.regions to → P (after_sailing c u.structure to, Done 0)) → P (sail w n direction c u)
@@ -455,7 +455,7 @@ sail_orderly = record {
     spared w c n x steady k v there (operands.Direction direction) = sail_spares w c n x direction steady k v there
     spared w c n x steady k v there other = tt
 
--- if each unit is spared as one that no order concerns, each at most went along
+-- if SAIL spares all units that no order concerns, as no order concerns any, all satisfy `IsAtMostMoved`
 pub all_carried : (w : WorldValue) (m : MonthValue) (c d : CampaignValue) → spares_others concerns_nobody IsAtMostMoved is_sailing w m c d → AreAtMostMoved c d
 all_carried w m c d keeps n u there = keeps n u there (λ k d l nobody. nobody)
 
@@ -509,16 +509,16 @@ module _ (w : WorldValue) (begun : CampaignValue) (number faction : ℕ) where
         is_in : (k : ℕ) → IsListed k (numbers_inside s begun.units) → inside begun k ≡ s
         is_in k listed = let (v, there, here) = listed_is_inside s begun.units k listed in ap structure_in there ∙ here
 
-    -- an order of SAIL for a unit inside the structure of unit `number` has the fault that it would have had as the
-    -- phase began
+    -- an order of SAIL for a unit inside the structure of unit `number` has the
+    -- fault that it would have had as the phase began
     fault_same : (n : ℕ) (u : Unit) (to : Option ℕ) → u.structure ≡ s → sail_fault w c n u (get c.structures u.structure) to ≡ sail_fault w begun n u (get begun.structures u.structure) to
     fault_same n u to here =
         ap (λ ship. fault_with w n u to ship (sum_inside (crew_of w) c u.structure) (sum_inside (load_of w) c u.structure)) (subst (λ q. get c.structures q ≡ get begun.structures q) (sym here) same.structure)
         ∙ ap (λ crew. fault_with w n u to (get begun.structures u.structure) crew (sum_inside (load_of w) c u.structure)) (subst (λ q. sum_inside (crew_of w) c q ≡ sum_inside (crew_of w) begun q) (sym here) (sum_inside_same (crew_of w)))
         ∙ ap (fault_with w n u to (get begun.structures u.structure) (sum_inside (crew_of w) begun u.structure)) (subst (λ q. sum_inside (load_of w) c q ≡ sum_inside (load_of w) begun q) (sym here) (sum_inside_same (load_of w)))
 
-    -- an order for a unit inside the structure of unit `number` has the outcome that it would have had as the phase
-    -- began
+    -- an order for a unit inside the structure of unit `number` has the
+    -- outcome that it would have had as the phase began
     told_same : (n : ℕ) (u : Unit) (direction : Direction) → u.structure ≡ s → (sail w n direction c u).1 ≡ (sail w n direction begun u).1
     unfolding sail
     told_same n u direction here =
@@ -526,8 +526,8 @@ module _ (w : WorldValue) (begun : CampaignValue) (number faction : ℕ) where
         ap (λ o. (unless c o (after_sailing c u.structure (unwrap_or to 0), Done 0)).1) (fault_same n u to here)
         ∙ unless_told c begun (after_sailing c u.structure (unwrap_or to 0)) (after_sailing begun u.structure (unwrap_or to 0)) (sail_fault w begun n u (get begun.structures u.structure) to)
 
-    -- a faction's order for unit n, which is inside the structure of unit `number`, has the outcome that it would have
-    -- had as the phase began
+    -- a faction's order for unit n, which is inside the structure of unit `number`,
+    -- has the outcome that it would have had as the phase began
     carried_same_told : (f n : ℕ) (direction : Direction) → inside begun n ≡ s → (faction_effect (sail w n direction) c f n).1 ≡ (faction_effect (sail w n direction) begun f n).1
     carried_same_told f n direction here = ap (λ o. (effect_on (sail w n direction) c (of_faction f o)).1) (same.units n here) ∙ by_unit (get begun.units n) here
       where

@@ -124,8 +124,8 @@ module _ (w : WorldValue) (c : CampaignValue) (n : ℕ) (u : Unit) (s cost days 
       by_amount true a b e = e
       by_amount false a b e = omega arith
 
-  -- if a unit pays and reaches at most 450 days for each man, the campaign stays steady, in its month and with balanced
-  -- books (`StepsWell`)
+  -- if a unit pays and reaches at most 450 days for each man, the campaign stays steady,
+  -- in its month and with balanced books (`StepsWell`)
   studied_well : s < length w.skills → days ≤ most_days * u.holding.men → StepsWell IsSteady study_reserve w c behind
   studied_well known most = record {
     holds_still = steady_behind known most;

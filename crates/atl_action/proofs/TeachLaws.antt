@@ -16,7 +16,7 @@ use Rattle.atl_action.specs.Teach.{TaughtMen, first_mentions, taught_in_lesson, 
 abbrev pub AreOthers : ℕ → List ℕ → Type 0
 AreOthers n = AllByRecursion (λ y. nat_eq n y ≡ false)
 
--- if no number of a list is n, none of those that pass a test is
+-- if no number of a list is n, none of its numbers that pass a test is n
 filtered_others : (n : ℕ) (p : ℕ → Bool) (ns : List ℕ) → AreOthers n ns → AreOthers n (filter p ns)
 filtered_others n p [] all = tt
 filtered_others n p (k ∷ ns) all = by_test (p k) (filtered_others n p ns all.1)
@@ -127,14 +127,16 @@ module _ (c : CampaignValue) (taught after : TaughtMen) (n given : ℕ) (here : 
         by_listed true = ap (λ d. taught k + d) (rest_is_dealt places given (untaught_men c taught n) (sum_by (untaught_men c taught) (before_first (λ j. k == j) ns)) (untaught_men c taught k) is)
         by_listed false = refl
 
-    -- after unit n got its part, a lesson to the others for the men still left to teach makes the same as the whole lesson
+    -- unit n's part and then a lesson to the other units, for the men still left to teach,
+    -- make the same as the whole lesson
     pub rest_taught : (k : ℕ) → after k + taught_in_lesson c after (places - given) ns k ≡ taught k + taught_in_lesson c taught places (n ∷ ns) k
     rest_taught k = elim (cases_eq k n) [
       | inl same ↦ subst (λ j. after j + taught_in_lesson c after (places - given) ns j ≡ taught j + taught_in_lesson c taught places (n ∷ ns) j) (sym same) at_first
       | inr apart ↦ at_other k apart
     ]
 
--- the men taught so far and those of the rest are as many as in the whole lesson
+-- after the first unit's part the men taught so far, and those of the rest of the lesson,
+-- are as many as in the whole lesson
 pub men_so_far : (places left given want rest total : ℕ) → left ≤ places → given ≡ min left want → (places - left) + min (want + rest) left ≡ total
     → (places - (left - given)) + min rest (left - given) ≡ total
 men_so_far places left given want rest total few is all = grind (arith, few, is, all)

@@ -1,5 +1,5 @@
--- Laws of steady campaigns: they stay so when units change region, structure and guard flag, and structures change
--- region and owner.
+-- Laws of steady campaigns: they stay so when units change region, structure and guard flag,
+-- and structures change region and owner.
 use Rattle.std.proofs.Common.{◌≡◌, ◌≢◌, ℕ, ◌*◌, ◌≤◌, true, false, Some, None, sym, ap, subst, ◌∙◌}
 use Rattle.std.specs.Prelude.{IsTrue, option_map}
 use Rattle.std.specs.Ordering.{nat_cmp}
@@ -42,8 +42,8 @@ module _ (w : WorldValue) (c : CampaignValue) (units : FinMap nat_cmp Unit) (str
     pub structure : u.structure ≢ 0 → (s : Structure) × (get structures u.structure ≡ Some s) × (s.region ≡ u.region)
 
   -- f gives the units and g the structures, and all that a steady campaign needs of them holds.
-  -- Each unit is in a region that is there and in a structure of this region, each structure has its right owner, and
-  -- units that still guard are as they were.
+  -- Each unit is in a region that is there and in a structure of this region, each structure has its right owner,
+  -- and units that still guard are as they were.
   pub record AreTravelled : Type 0 where
     pub units_at : (k : ℕ) → get units k ≡ option_map (f k) (get c.units k)
     pub structures_at : (k : ℕ) → get structures k ≡ option_map (g k) (get c.structures k)

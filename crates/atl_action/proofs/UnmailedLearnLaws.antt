@@ -37,7 +37,7 @@ lesson_told c learning (taught, m) t = record {
   starved = λ n. told_of_order m.events t (teach c m.aliases learning taught t).1 n;
 }
 
--- so do some orders of TEACH
+-- orders of TEACH keep readings and aliases, and by their events no men starved
 lessons_told : (c : CampaignValue) (learning : Learning) (p : TaughtMen × MonthValue) (ts : List Task) → IsTold p.1 (fold (teach_order c learning) p ts).1
 lessons_told c learning p [] = record { readings = refl; aliases = refl; starved = λ n. refl }
 lessons_told c learning p (t ∷ ts) =
@@ -45,7 +45,7 @@ lessons_told c learning p (t ∷ ts) =
     let rest = lessons_told c learning (teach_order c learning p t) ts in
     record { readings = rest.readings ∙ one.readings; aliases = rest.aliases ∙ one.aliases; starved = λ n. rest.starved n ∙ one.starved n }
 
--- so do all orders of TEACH of a month
+-- all orders of TEACH of a month keep readings and aliases, and by their events no men starved
 pub taught_told : (c : CampaignValue) (learning : Learning) (m : MonthValue) → IsTold m (after_lessons c learning m).1
 unfolding after_lessons
 taught_told c learning m = lessons_told c learning ((λ n. 0), m) (values (orders_of is_teaching ByUnit m.aliases m.readings))

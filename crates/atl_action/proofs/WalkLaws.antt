@@ -215,14 +215,14 @@ module _ (w : WorldValue) (c : CampaignValue) (n : ℕ) (u : Unit) (to : ℕ) (i
 
   -- ---- both
 
-  -- the campaign after the walk stays steady, in its month and with balanced books (`StepsWell`), whether the unit was
-  -- inside a structure or not
+  -- the campaign after the walk stays steady, in its month and with balanced books (`StepsWell`),
+  -- whether the unit was inside a structure or not
   by_place : (b : Bool) → (old_place == 0) ≡ b → StepsWell IsSteady books_nothing w c (with_guard (if b then begun else gone_off) n false)
   by_place true t = outside_well (is_equal old_place 0 t)
   by_place false t = subst (λ d. StepsWell IsSteady books_nothing w c (with_guard d n false)) (sym off_is) (inside_well (is_unequal old_place 0 t))
 
-  -- if a unit walks to a region with land, the campaign stays steady, in its month and with balanced books
-  -- (`StepsWell`)
+  -- if a unit walks to a region with land, the campaign stays steady,
+  -- in its month and with balanced books (`StepsWell`)
   pub walked_well : StepsWell IsSteady books_nothing w c (after_walk c n to)
   unfolding with_place
   walked_well = subst (λ o. StepsWell IsSteady books_nothing w c (with_guard (with_place_at c n to 0 o) n false)) (sym is) (by_place (old_place == 0) refl)

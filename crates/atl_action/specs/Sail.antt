@@ -70,8 +70,8 @@ sum_inside f c s = sum_by (λ n. option_map_or (λ u. f u.holding) (get c.units 
 abbrev pub is_way : WorldValue → (from : ℕ) → (neighbour : Option ℕ) → Bool
 is_way w from neighbour = option_map_or (λ to. is_region w to && not (is_land_at w from && is_land_at w to)) neighbour false
 
--- why unit n can't sail its ship to region `to`: NoMen, NotInside, NotOwner, NotComplete, NoWay, NoCrew or TooHeavy;
--- None where it can
+-- why unit n can't sail the ship that it is inside to region `to`, None where it can.
+-- The fault is NoMen, NotInside, NotOwner, NotComplete, NoWay, NoCrew or TooHeavy.
 abbrev pub sail_fault : WorldValue → CampaignValue → (n : ℕ) → Unit → Option Structure → (to : Option ℕ) → Option EventFault
 sail_fault w c n u ship to = first_fault (
     (u.holding.men == 0, NoMen)

@@ -34,7 +34,7 @@ module _ (books : BooksValue) (e : Entry) (t : Thing) (z : ℤ) (n : ℕ) (small
       by_number true is = near_by _ _ z n small (amount-after_booking books e t z f u)
       by_number false is = near_same _ _ (amount-other books f e u t z (is_unequal _ _ is))
 
-  -- after a booking of size n at most, the books have room for the bound `next`, if they had room for both before
+  -- books with room for n and for the bound `next` have room for `next` after a booking of at most n in size
   pub booked-room : (next : BookBound) → ((f : Entry) (u : Thing) → HasRoom (moves_only n e t f u + next f u) (amount_in books f u)) → (f : Entry) (u : Thing) → HasRoom (next f u) (amount_in (after_booking books e t z) f u)
   booked-room next room f u = near_room (moves_only n e t f u) (next f u) _ _ (booked-near f u) (room f u)
 

@@ -9,7 +9,7 @@ pub fold_behind : {S A : Type 0} (f : S → A → S) (xs : List A) (i : ℕ) (no
     → after ≡ f before (get_or xs i none) → fold f before (drop i xs) ≡ whole → fold f after (drop (i + 1) xs) ≡ whole
 fold_behind f xs i none before inside step all = ap (λ s. fold f s (drop (i + 1) xs)) step ∙ sym (ap (fold f before) (drop_more xs i none inside)) ∙ all
 
--- at the end of the list the result so far is the whole result
+-- past the end of the list the result so far is the result of the whole fold
 pub fold_ended : {S A : Type 0} (f : S → A → S) (xs : List A) (i : ℕ) (behind : S) {whole : S} → length xs ≤ i → fold f behind (drop i xs) ≡ whole → behind ≡ whole
 fold_ended f xs i behind ended all = sym (ap (fold f behind) (drop_all i xs ended)) ∙ all
 

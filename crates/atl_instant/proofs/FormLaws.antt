@@ -49,8 +49,8 @@ module _ (w : WorldValue) (c : CampaignValue) (early : IsEarly w c) where
     formed_fine : (u : Unit) → get c.units n ≡ Some u → (u.faction ≡ f) → is_unit_limit c ≡ false → Fine (with_formed_unit c f n)
     formed_fine u is own limit = subst Fine (sym (formed_is u is own)) (begun_well w c n u is early limit, begun_stays w c n u is early)
 
-    -- the campaign after FORM for a unit that is there satisfies `Fine`, whatever its faction is and whether the unit
-    -- limit is reached
+    -- the campaign after FORM for a unit that is there satisfies `Fine`,
+    -- whatever its faction is and whether the unit limit is reached
     by_limit : (u : Unit) → get c.units n ≡ Some u → (a b : Bool) → is_of_faction f (Some u) ≡ a → is_unit_limit c ≡ b
         → Fine (unless c (first_fault ((not a, NotYours) ∷ (b, UnitLimit) ∷ [])) (with_formed_unit c f n, Done c.next_unit)).0
     by_limit u is false b own limit = same_fine

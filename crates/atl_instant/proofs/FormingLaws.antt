@@ -187,8 +187,8 @@ module _ (w : WorldValue) (c : CampaignValue) (p : ℕ) (u : Unit) (is : get c.u
   unfolding total
   same_total t = none_more (total begun t) (total c t) (unit_amount t child.holding) (total-with_unit c c.next_unit child t free) (nothing_held t)
 
-  -- if the unit limit isn't reached, forming a unit keeps an early campaign early, in its month and with balanced books
-  -- (`StepsWell`)
+  -- if the unit limit isn't reached, forming a unit keeps an early campaign early,
+  -- in its month and with balanced books (`StepsWell`)
   pub begun_well : is_unit_limit c ≡ false → StepsWell IsEarly books_nothing w c begun
   begun_well limit = unbooked_well w c begun (early_begun limit) (same_month_by refl) refl same_total
 

@@ -80,7 +80,8 @@ abbrev pub IsKnown : WorldValue → Gift → Type 0
 IsKnown w Money = ⊤
 IsKnown w (Item i) = i < length w.items
 
--- a unit may still hold what it holds with another amount of the gift, if that is within the limit
+-- a unit may hold another amount of the gift, if it is at most `holding_limit`, the gift is of the world,
+-- and the rest it held already
 pub may_have_of : (w : WorldValue) (h : HoldingValue) (gift : Gift) (amount : ℕ) → IsKnown w gift → amount ≤ holding_limit → MayHave w h → MayHave w (with_held_of gift h amount)
 may_have_of w h Money amount known most may = record {
   limits = record { men = may.limits.men; money = most; items = may.limits.items };
@@ -167,8 +168,8 @@ give_cases P c from to gift n u giver same move = by_receiver (get c.units to) r
     by_receiver (Some v) receiver = by_fault v receiver (give_fault gift n (to == from) u (Some v)) refl
 
 module _ (w : WorldValue) (c : CampaignValue) (early : IsEarly w c) (from to : ℕ) (gift : Gift) (n : ℕ) (u : Unit) (giver : get c.units from ≡ Some u) where
-  -- an order of GIVE or PAY keeps an early campaign early, in its month and with balanced books (`StepsWell`), if the
-  -- gift is of the world
+  -- an order of GIVE or PAY keeps an early campaign early, in its month and with balanced books (`StepsWell`),
+  -- if the gift is of the world
   give_steps_well : IsKnown w gift → StepsWell IsEarly (λ d e t. 0) w c (give from to gift n c u).0
   give_steps_well known =
       give_cases (λ d. StepsWell IsEarly (λ d e t. 0) w c d) c from to gift n u giver (well_same w c early)

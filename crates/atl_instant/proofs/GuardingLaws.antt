@@ -117,8 +117,8 @@ module _ (c : CampaignValue) (n : ℕ) (u : Unit) (is : get c.units n ≡ Some u
         same : (a b x y : ℕ) → a + x ≡ b + y → y ≡ x → a ≡ b
         same a b x y e f = omega arith
 
-    -- setting the guard flag keeps a steady campaign steady, in its month and with balanced books (`StepsWell`), if no
-    -- other faction guards the region
+    -- setting the guard flag keeps a steady campaign steady, in its month and with balanced books (`StepsWell`),
+    -- if no other faction guards the region
     pub flag_steps_well : is_guarded_against c u.region u.faction ≡ false → IsSteady w c → StepsWell IsSteady (λ d e t. 0) w c (with_guard c n true)
     flag_steps_well none steady =
         subst (λ d. StepsWell IsSteady (λ d e t. 0) w c d) (sym flagged_is) (record {

@@ -17,7 +17,7 @@ use Rattle.std.proofs.lemmas.List.Sorted.{IsPermutation-map, IsPermutation-sym, 
 use Rattle.std.proofs.lemmas.Option.{get_or_from_slice_get, slice_get-get_or, slice_get_within}
 
 module _ {X : Type 0} where
-  -- a look-up that finds a value isn't None
+  -- if Some x were None, anything would follow
   some_none : {P : Type 0} (x : X) → Some x ≡ None → P
   some_none x e = cc
 
@@ -48,7 +48,7 @@ less Equal h = absurd (false≢true h)
 less Greater h = absurd (false≢true h)
 
 module _ {K : Type 0} {R : K → K → Ordering} (o : IsTotalOrder R) where
-  -- if x isn't less than y, and they aren't equal, y is less than x
+  -- if y isn't less than x, and they aren't equal, x is less than y
   below : (x y : K) → is_lt (R y x) ≡ false → eq_by_cmp R x y ≡ false → R x y ≡ Less
   below x y up apart =
       elim (R x y) as (λ r. R x y ≡ r → is_eq r ≡ false → r ≡ Less) [
@@ -71,7 +71,7 @@ module _ {K X : Type 0} {R : K → K → Ordering} (o : IsTotalOrder R) (exact :
       let same : at.1 ≡ q = sym (exact q at.1 ((Equal-is (R q at.1)).0 at.3)) in
       ap (λ k. lookup (eq_by_cmp R k) fs) (sym same) ∙ lookup_from_place (eq_by_cmp_equiv o) fs there.0 at.1 v apart there.1
 
-  -- keys without two equal ones are so in another order
+  -- if no two keys of a list are equal, no two are equal in another order of the list
   moved : (es fs : List (K × X)) → IsPermutation es fs → IsDistinct (eq_by_cmp R) (keys_of es) → IsDistinct (eq_by_cmp R) (keys_of fs)
   moved es fs p apart = IsDistinct-IsPermutation (eq_by_cmp R) (eq_by_cmp_equiv o).symm (keys_of es) (keys_of fs) (IsPermutation-map (λ e. e.0) es fs p) apart
 
@@ -159,7 +159,8 @@ module _ {K X : Type 0} {R : K → K → Ordering} (o : IsTotalOrder R) (exact :
     find-passing : (es : List (K × X)) → IsDistinct (eq_by_cmp R) (keys_of es) → (q : K) → find R q (passing es) ≡ option_filter p (find R q es)
     find-passing es apart q = find_is q (passing es) ∙ lookup-filter-values (eq_by_cmp_equiv o) p q es apart ∙ ap (option_filter p) (sym (find_is q es))
 
-    -- the map of the entries whose values pass a test lists those of the whole map's entries that do
+    -- the map of the entries whose values pass a test lists the passing entries of the whole map,
+    -- if no two keys are equal
     pub entries-passing : (es : List (K × X)) → IsDistinct (eq_by_cmp R) (keys_of es) → entries (from_entries {R = R} (passing es)) ≡ passing (entries (from_entries {R = R} es))
     entries-passing es apart =
         let m : FinMap R X = from_entries es in
@@ -178,7 +179,7 @@ module _ {K X : Type 0} (R : K → K → Ordering) (key : X → K) where
   abbrev keyed : X → K × X
   keyed x = (key x, x)
 
-  -- elements sorted by their keys are so with their keys
+  -- if elements are sorted by their keys, the pairs of key and element are sorted by their keys
   pub keyed_order : (xs : List X) → IsSortedByKey key R xs → IsSortedBy {X = K × X} (λ x y. is_lt (R x.0 y.0)) (map keyed xs)
   keyed_order xs up k d low h =
       let long : length (map keyed xs) ≡ length xs = length-map xs keyed in

@@ -1,5 +1,5 @@
--- Laws of the readings by faction: they don't depend on the order of the mailings, and the search finds a faction's
--- mailing.
+-- Laws of the readings by faction: they don't depend on the order of the mailings,
+-- and the search finds a faction's mailing.
 use Rattle.std.proofs.Common.{◌≡◌, ℕ, suc, ◌+◌, ◌<◌, ◌≤◌, ◌⊎◌, nat_lt, true, false, cond, List, [], ◌∷◌, map, length, get_or, slice_get, Some, None, refl, sym, ap, ◌∙◌, subst, IsPermutation, arith}
 use mathlib.Core.Logic.{inl, inr}
 use Rattle.std.specs.declared.cmp.Ordering.TheVariants.{Less, Equal, Greater}

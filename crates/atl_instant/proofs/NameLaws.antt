@@ -59,8 +59,8 @@ module _ (w : WorldValue) (c : CampaignValue) (n : ℕ) (u : Unit) (is : get c.u
   same_total : (a b h : ℕ) → a + h ≡ b + h → a ≡ b
   same_total a b h e = omega arith
 
-  -- to change what unit n holds satisfies `StepsWell`, if it holds as much of each thing, and its guard flag isn't
-  -- newly set
+  -- to change what unit n holds satisfies `StepsWell`, if it holds as much of each thing,
+  -- and its guard flag isn't newly set
   held_well : (h : HoldingValue) → MayHold w u h → (h.guard ≡ true → u.holding.guard ≡ true) → ((t : Thing) → unit_amount t h ≡ unit_amount t u.holding) → Well (with_hold h)
   held_well h may flag same = unbooked_well w c (with_hold h)
       (record { steady = steady-unit_amount w c n u h is may early.steady; flags = of_one_faction_kept w c n u h is (λ x. x.holding.guard) flag early.flags })

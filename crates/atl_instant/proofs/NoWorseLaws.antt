@@ -1,4 +1,4 @@
--- Being no worse off is reflexive and transitive, for a unit and for all units of a campaign.
+-- Laws of being no worse off: it is reflexive and transitive, for a unit and for all units of a campaign.
 use Rattle.std.proofs.Common.{refl, ◌∙◌, arith}
 use Rattle.atl_records.specs.declared.records.Unit.{Unit}
 use Rattle.atl_state.specs.Campaign.{CampaignValue}

@@ -91,7 +91,8 @@ module _ (aliases : Aliases) (ms : List Mailing) (at : ℕ) where
     pub added : (old list new : List OrderIndex) → i < length read.entries → Added old i list → at < length ms → counts i ≡ true → new ≡ list ++ found ∷ [] → Added old (i + 1) new
     added old list new h before within counted is = subst (Added old (i + 1)) (sym (is ∙ ap (λ p. list ++ p ∷ []) found_is)) (pushed old list i h before within counted)
 
-  -- after the last order, the indices of the mailing's orders that count are added
+  -- past the last order of a mailing the list has the old indices and those
+  -- of all its orders that count (`AddsMailing`)
   pub ended : (old list : List OrderIndex) (i : ℕ) → length read.entries ≤ i → Added old i list → AddsMailing aliases ms at old list
   ended old list i h before = record {
     there = before.there;
@@ -115,7 +116,7 @@ module _ (aliases : Aliases) (ms : List Mailing) where
       ∙ append_assoc (map (task_at ms) old) (tasks_for every_verb (tasks_at aliases ms i)) (all_from (i + 1))
       ∙ ap (λ ns. map (task_at ms) old ++ all_tasks every_verb aliases (map reading_of ns)) (sym (drop_more ms i no_mailing h)) ∙ before
 
-  -- after the last mailing, the indices are those of all orders that count
+  -- past the last mailing the indices name all orders that count
   pub last_mailing : (list : List OrderIndex) (i : ℕ) (ts : List Task) → length ms ≤ i → map (task_at ms) list ++ all_from i ≡ ts → map (task_at ms) list ≡ ts
   last_mailing list i ts h before =
       sym (append-nil (map (task_at ms) list))

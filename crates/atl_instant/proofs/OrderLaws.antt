@@ -182,13 +182,14 @@ pub listed_tasks : (key : Task → List ℕ) (os list : List PhaseOrder) (ts : L
 listed_tasks = listed task_of
 
 module _ (is_of : Verb → Bool) (a : Arrangement) (aliases : Aliases) where
-  -- the orders of the readings in the map are those of the sorted readings
+  -- the orders of the map of readings are those of the readings in turn, if the readings are sorted by faction
   tasks_of_all : (rs : List Reading) → IsStrictlySortedBy nat_cmp (map (λ r. r.faction) rs) → flat_map (λ e. tasks_for is_of (tasks_of aliases e.0 e.1)) (entries (by_faction rs)) ≡ all_tasks is_of aliases rs
   tasks_of_all rs h =
       ap (flat_map (λ e. tasks_for is_of (tasks_of aliases e.0 e.1))) (entries_of (map by_its_faction rs) (subst (IsStrictlySortedBy nat_cmp) (sym (keys_of-factions rs)) h))
       ∙ flat_map-map (λ e. tasks_for is_of (tasks_of aliases e.0 e.1)) by_its_faction rs
 
-  -- the map of a phase's orders lists the orders of all mailings under their keys, if the readings are sorted by faction
+  -- the map of a phase's orders lists the orders of all mailings under their keys,
+  -- if the readings are sorted by faction
   pub orders_are : (rs : List Reading) → IsStrictlySortedBy nat_cmp (map (λ r. r.faction) rs) → values (orders_of is_of a aliases (by_faction rs)) ≡ values (from_entries {R = slice_cmp nat_cmp} (map (λ t. (key_of a t, t)) (all_tasks is_of aliases rs)))
   orders_are rs h = ap (λ us. values (from_entries {R = slice_cmp nat_cmp} (map (λ t. (key_of a t, t)) us))) (tasks_of_all rs h)
 

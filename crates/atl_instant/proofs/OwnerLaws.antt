@@ -22,8 +22,8 @@ module _ (c d : CampaignValue) (n : ℕ) (away : (k : ℕ) → k ≢ n → get d
     | inr apart ↦ others k v apart (sym (away k apart) ∙ there)
   ]
 
-  -- a structure keeps its right owner if this isn't unit n; a structure without owner needs that unit n isn't inside in
-  -- d
+  -- a structure keeps a right owner that isn't unit n,
+  -- and is still rightly without owner if unit n isn't inside it in d
   pub owner_stays : (q : ℕ) (y : Structure) → IsOwned c q y → y.owner ≢ n → (y.owner ≡ 0 → (v : Unit) → get d.units n ≡ Some v → v.structure ≢ q) → IsOwned d q y
   owner_stays q y old other outside = record {
     owned = λ some. let (v, there, inside) = old.owned some in (v, away y.owner other ∙ there, inside);

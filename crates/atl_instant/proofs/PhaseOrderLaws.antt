@@ -103,7 +103,7 @@ module _ (is_of : Verb → Bool) (a : Arrangement) (aliases : Aliases) (readings
   abbrev HasVerb : Task → Type 0
   HasVerb t = is_of t.order_value.verb ≡ true
 
-  -- of orders with a verb of the phase, those that pass another test have one
+  -- the orders that have a verb of the phase and pass another test have a verb of the phase
   passing : (q : Task → Bool) (ts : List Task) → AllByRecursion HasVerb (filter (λ t. is_of t.order_value.verb && q t) ts)
   passing q [] = tt
   passing q (t ∷ ts) = by_test (is_of t.order_value.verb) (q t) refl (filter (λ t. is_of t.order_value.verb && q t) ts) (passing q ts)

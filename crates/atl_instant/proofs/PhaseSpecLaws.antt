@@ -15,7 +15,7 @@ each_also also (phase ∷ rest) each = (also phase each.0, each_also also rest e
 
 -- ---- the books
 
--- the move of one phase and those of the others, by the number of phases that may move the amount
+-- if one phase and the others each move an amount within `most_moved` for each phase that may move it, all together do
 counted : (b : Bool) (rest moved most : ℕ) → moved ≤ (if b then most_moved else 0) → rest ≤ most * most_moved → moved + rest ≤ ((if b then 1 else 0) + most) * most_moved
 counted true rest moved most one others = omega (arith, one, others)
 counted false rest moved most one others = omega (arith, one, others)
@@ -48,7 +48,7 @@ closed_together [] none = absurd none
 closed_together (phase ∷ []) closes = closes
 closed_together (phase ∷ next ∷ rest) each = then_closes each.0 (closed_together (next ∷ rest) each.1)
 
--- phases that each leave the units of factions without a mailing do so in turn
+-- phases that each satisfy `LeavesUnmailed` satisfy it together
 pub leave_together : (phases : List PhaseSpec) → EachPhase PhaseLeavesUnmailed phases → LeavesUnmailed (meaning_of phases) (keeps_of phases)
 leave_together [] each = record {
   readings = λ w c m. refl;

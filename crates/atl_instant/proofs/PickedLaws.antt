@@ -64,7 +64,7 @@ module _ (a : Arrangement) where
       ∙ sym (filter-map p (λ e. e.1) (entries (from_entries {R = slice_cmp nat_cmp} es)))
 
 module _ (is_of : Verb → Bool) (aliases : Aliases) where
-  -- the orders of a phase are those of all orders that have a verb of the phase
+  -- the orders that count for a phase are those among all that count that have a verb of the phase
   tasks_of_phase : (rs : List Reading) → all_tasks is_of aliases rs ≡ filter (has_verb is_of) (all_tasks every_verb aliases rs)
   tasks_of_phase [] = refl
   tasks_of_phase (r ∷ rs) =
@@ -73,7 +73,7 @@ module _ (is_of : Verb → Bool) (aliases : Aliases) where
       ∙ ap (λ us. filter (has_verb is_of) (tasks_for every_verb ts) ++ us) (tasks_of_phase rs)
       ∙ sym (filter-append (has_verb is_of) (tasks_for every_verb ts) (all_tasks every_verb aliases rs))
 
-  -- the orders of the phase's verbs, picked from the indices of all orders, are those that the phase carries out
+  -- the orders picked by the phase's verbs from the gathered indices are those that the phase carries out
   pub picked_orders : (a : Arrangement) (ms : List Mailing) (places : List OrderIndex) (ts : List Task) → AreByFaction ms → AreOrderIndices a aliases ms places → ts ≡ tasks_picked is_of ms places
       → ts ≡ values (orders_of is_of a aliases (by_faction (map reading_of ms)))
   picked_orders a ms places ts h all are =
@@ -84,8 +84,8 @@ module _ (is_of : Verb → Bool) (aliases : Aliases) where
       ∙ ap (λ us. values (from_entries {R = slice_cmp nat_cmp} (map (paired a) us))) (sym (tasks_of_phase rs))
       ∙ sym (orders_are is_of a aliases rs rise)
 
-  -- the list that the code returns has the orders of the phase, if it has those that are picked from the gathered
-  -- indices
+  -- the list that the code returns has the orders of the phase,
+  -- if it has those that are picked from the gathered indices
   pub picked_list : {Z E : Type 0} (a : Arrangement) (ms : List Mailing) (places : List OrderIndex) (r : Result (Vec PhaseOrder Z) E) → AreByFaction ms → AreOrderIndices a aliases ms places → IfOk r (λ list. map task_of list.items ≡ tasks_picked is_of ms places)
       → IfOk r (λ list. map task_of list.items ≡ values (orders_of is_of a aliases (by_faction (map reading_of ms))))
   picked_list a ms places (Ok list) h all are = picked_orders a ms places (map task_of list.items) h all are

@@ -81,8 +81,8 @@ module _ (w : WorldValue) (c : CampaignValue) (n : ℕ) (u : Unit) (is : get c.u
         place_well w c n u s is early (λ same. is_unequal u.structure s other same) (λ some. (x, there, here))
         (λ wet. (x, there, (early.steady.water.structures s x there (ap (is_land_at w) here ∙ wet)).0))
 
-    -- ENTER of a structure that is there satisfies `StepsWell`, whether it is in the region, and whether the unit is
-    -- inside already
+    -- ENTER of a structure that is there satisfies `StepsWell`, whether it is in the region,
+    -- and whether the unit is inside already
     entered_by : (x : Structure) → get c.structures s ≡ Some x → (a b : Bool) → (x.region == u.region) ≡ a → (u.structure == s) ≡ b
         → Well (unless c (first_fault ((not a, NotHere) ∷ [])) (if b then c else with_place c n u.region s, Done 0)).0
     entered_by x there false b near same = unchanged

@@ -1,4 +1,5 @@
--- Where a unit goes from one structure to another of its region, or to none, invariants, totals and other units stay.
+-- Laws of a unit that goes from one structure to another of its region, or to none:
+-- the campaign stays steady, other units stay.
 use Rattle.std.proofs.Common.{◌≡◌, ◌≢◌, ◌==◌, ◌&&◌, ℕ, ◌≤◌, Bool, true, false, Option, Some, None, refl, sym, ap, subst, ◌∙◌, arith}
 use Rattle.std.proofs.lemmas.Bool.{true≢false}
 use Rattle.std.proofs.lemmas.Option.{same_Some}
@@ -139,8 +140,8 @@ module _ (w : WorldValue) (c : CampaignValue) (n : ℕ) (u : Unit) (s : ℕ) (is
   }
   entered_owned q y there other here false t = still_owned q y there (owns_no_other w c n u is steady q y there other) (λ none. absurd (true≢false (sym (equal_passes y.owner 0 none) ∙ t)))
 
-  -- a structure with its owner after both handovers, by whether it is the one left, was the unit's own, and is the one
-  -- entered
+  -- a structure with its owner after both handovers, by whether it is the one left, was the unit's own,
+  -- and is the one entered
   abbrev given : (a e b : Bool) → Structure → Structure
   given a e b y = let x = if a && e then owned_by next y else y in if b && x.owner == 0 then owned_by n x else x
 
@@ -178,8 +179,8 @@ module _ (w : WorldValue) (c : CampaignValue) (n : ℕ) (u : Unit) (s : ℕ) (is
     placed_total = total-refitted w c n u s is gone_in.structures owner_behind
 
 module _ (w : WorldValue) (c : CampaignValue) (n : ℕ) (u : Unit) (s : ℕ) (is : get c.units n ≡ Some u) (early : IsEarly w c) (apart : u.structure ≢ s) where
-  -- a move to another structure of the region, or on land to none, satisfies `StepsWell`; on water the structure must
-  -- be a ship
+  -- a move to another structure of the region, or on land to none, satisfies `StepsWell`;
+  -- on water the structure must be a ship
   pub place_well : (s ≢ 0 → (x : Structure) × (get c.structures s ≡ Some x) × (x.region ≡ u.region)) → (is_land_at w u.region ≡ false → (x : Structure) × (get c.structures s ≡ Some x) × (is_ship w x ≡ true)) → StepsWell IsEarly books_nothing w c (with_place c n u.region s)
   place_well inside afloat =
       let steady = early.steady in

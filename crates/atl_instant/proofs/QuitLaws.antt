@@ -315,7 +315,7 @@ module _ (w : WorldValue) (c : CampaignValue) (n : ℕ) (u : Unit) (is : get c.u
   abbrev behind : CampaignValue
   behind = without_unit off n
 
-  -- the bookings are those of all that the unit has
+  -- what is booked is all that the unit holds, and only the books differ (`BooksOff`)
   off_is : BooksOff w (owing u.holding) (held_moves u.holding) c off
   off_is = off_all w c u.holding (steady.known.units n u is).items steady
 
@@ -338,7 +338,7 @@ module _ (w : WorldValue) (c : CampaignValue) (n : ℕ) (u : Unit) (is : get c.u
       rest : (a h b d o : ℕ) (z y : ℤ) → a + h ≡ b → b ≡ d → o ≡ h → pos d ≡ z → z ≡ y +ℤ pos o → pos a ≡ y
       rest a h b d o z y e f g k l = omega (arith, ints, e, f, g, k, l)
 
-  -- the bookings use what the remaining bound falls
+  -- no amount of the books moves further than its remaining bound falls as the unit leaves
   drawn : (e : Entry) (t : Thing) → UsesBound (quit_reserve c e t) (quit_reserve behind e t) (amount_in c.books e t) (amount_in behind.books e t)
   drawn e t =
       let only = only_reduced w off n u there in
@@ -364,8 +364,8 @@ module _ (w : WorldValue) (c : CampaignValue) (n : ℕ) (u : Unit) (is : get c.u
         drawn = drawn;
       }
 
--- after unit n left with all that it has, a steady campaign stays steady, in its month and with balanced books
--- (`StepsWell`)
+-- after unit n left with all that it has, a steady campaign stays steady,
+-- in its month and with balanced books (`StepsWell`)
 pub left_well : (w : WorldValue) (c : CampaignValue) (n : ℕ) → IsSteady w c → StepsWell IsSteady quit_reserve w c (after_leaving c n)
 unfolding after_leaving
 left_well w c n steady = by_unit (get c.units n) refl
@@ -399,8 +399,8 @@ left_others c n k apart = by_unit (get c.units n)
 
 -- ---- all units of a faction
 
--- after units left one after another, a steady campaign stays steady, in its month and with balanced books
--- (`StepsWell`)
+-- after units left one after another, a steady campaign stays steady,
+-- in its month and with balanced books (`StepsWell`)
 pub all_left_well : (w : WorldValue) (c : CampaignValue) (ns : List ℕ) → IsSteady w c → StepsWell IsSteady quit_reserve w c (fold after_leaving c ns)
 all_left_well w c [] steady = well_same w c steady
 all_left_well w c (n ∷ ns) steady =

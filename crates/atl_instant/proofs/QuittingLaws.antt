@@ -1,5 +1,5 @@
--- Laws of QUIT: a unit is no worse off, unless its faction quits by an order for a unit that was its own as the phase
--- began.
+-- Laws of QUIT: a unit is no worse off, unless its faction quits by an order
+-- for a unit that was its own as the phase began.
 use Rattle.std.proofs.Common.{◌≡◌, ℕ, true, List, [], ◌∷◌, Option, Some, None, refl, sym, ap, subst, ◌∙◌}
 use Rattle.std.specs.Prelude.{IfSome, fold}
 use Rattle.std.specs.Ordering.{nat_cmp}
@@ -64,8 +64,8 @@ own_before c d t some own = by_unit (get d.units t.unit) refl own
 
 -- ---- by the campaign as the phase begins
 
--- the campaign is steady, and an order for a unit of its own faction was for a unit of its own faction as the phase
--- began
+-- the campaign is steady, and an order for a unit of its own faction was
+-- for a unit of its own faction as the phase began
 abbrev OwnSince : CampaignValue → Condition
 OwnSince begun w c = IsSteady w c × ((t : Task) → is_own c t ≡ true → is_own begun t ≡ true)
 

@@ -29,7 +29,7 @@ module _ (c : CampaignValue) where
   abbrev AreUnits : List (ℕ × Unit) → Type 0
   AreUnits es = EachOf (λ n u. get c.units n ≡ Some u) es
 
-  -- a unit of this faction guards the region
+  -- some unit of this faction guards the region
   abbrev Held : (region faction : ℕ) → Type 0
   Held region faction = (n : ℕ) × (u : Unit) × (get c.units n ≡ Some u) × IsGuardOf region faction u
 
@@ -38,8 +38,8 @@ module _ (c : CampaignValue) where
     abbrev IsOwn : Unit → Type 0
     IsOwn u = guards u ≡ true → u.region ≡ region → u.faction ≡ faction
 
-    -- the map keeps the faction of a region when a unit is noted, if the unit is of that faction or doesn't guard the
-    -- region
+    -- the map keeps the faction of a region when a unit is noted,
+    -- if the unit is of that faction or doesn't guard the region
     one_stays : (m : GuardMap) (u : Unit) → IsOwn u → get m region ≡ Some faction → get (with_guard_of m u) region ≡ Some faction
     one_stays m u own at = by_test (guards u) own
       where
@@ -51,8 +51,8 @@ module _ (c : CampaignValue) where
             ]
         by_test false own = at
 
-    -- the map keeps the faction of a region when units are noted, if each is of that faction or doesn't guard the
-    -- region
+    -- the map keeps the faction of a region when units are noted,
+    -- if each is of that faction or doesn't guard the region
     all_stay : (m : GuardMap) (es : List (ℕ × Unit)) → EachOf (λ n u. IsOwn u) es → get m region ≡ Some faction → get (with_guards_of m es) region ≡ Some faction
     all_stay m [] own at = at
     all_stay m (e ∷ es) own at = all_stay (with_guard_of m e.1) es own.1 (one_stays m e.1 own.0 at)
@@ -77,8 +77,8 @@ module _ (c : CampaignValue) where
   held_of m (e ∷ es) are old = held_of (with_guard_of m e.1) es are.1 (λ r f. held_more r f m e.0 e.1 are.0 (old r f))
 
   module _ (one : AreOfOneFaction guards c) where
-    -- if units that guard a region are of one faction, those of a list that guard the region of unit n are of its
-    -- faction
+    -- if the guards of each region are of one faction,
+    -- units of a list that guard the region of guard n are of its faction
     own_of : (n : ℕ) (u : Unit) → get c.units n ≡ Some u → guards u ≡ true → (es : List (ℕ × Unit)) → AreUnits es → EachOf (λ k v. IsOwn u.region u.faction v) es
     own_of n u is on [] are = tt
     own_of n u is on (e ∷ es) are = (λ also same. one e.0 e.1 are.0 n u is also on same, own_of n u is on es are.1)
@@ -205,7 +205,7 @@ module _ (c : CampaignValue) (m : GuardMap) (n : ℕ) (u : Unit) (is : get c.uni
             (k, v, get-insert_other c.units n k (guarding c n u is) (λ same. apart (sym guard.stands ∙ ap (λ (x : Unit). x.region) (same_Some _ _ (sym there ∙ ap (get c.units) same ∙ is)))) ∙ there, guard)
       ]
 
-  -- the map is right after a unit with men began to guard, and its faction was set for the region, if no other faction
-  -- guards there
+  -- the map is right after a unit with men began to guard, and its faction was set for the region,
+  -- if no other faction guards there
   pub holders_set : is_guarded_against c u.region u.faction ≡ false → nat_lt 0 u.holding.men ≡ true → AreRegionGuards (with_guard c n true) set_now
   holders_set none men = subst (λ d. AreRegionGuards d set_now) (sym (flagged_is c n u is)) (record { noted = set_noted none; held = set_held men })

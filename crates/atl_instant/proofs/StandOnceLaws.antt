@@ -1,4 +1,5 @@
--- No two orders of a phase share a slot: at most one order of a slot counts for a unit in a faction's mailing.
+-- Laws of slots: no two orders of a phase share a slot,
+-- so for a unit at most one order of a slot counts in a faction's mailing.
 use Rattle.std.proofs.Common.{◌≡◌, ◌==◌, ℕ, suc, zero, ◌+◌, ◌<◌, Bool, true, false, ◌&&◌, cond, List, [], ◌∷◌, map, filter, flat_map, slice_get, Option, Some, None, refl, sym, ap, subst, ◌∙◌, arith}
 use Rattle.std.proofs.lemmas.Bool.{and_parts, false_from_ne_true}
 use Rattle.std.proofs.lemmas.Option.{same_Some}
@@ -114,7 +115,7 @@ module _ (w : WorldValue) (is_of : Verb → Bool) (a : Arrangement) (aliases : A
     there : IsInMailing aliases readings t
     kept : Stands t
 
-  -- orders that are entries and count are so under their keys
+  -- orders that are in their mailings and count there are `IsKept` under their keys
   both : (ts : List Task) → AllByRecursion (IsInMailing aliases readings) ts → AllByRecursion Stands ts → AllByRecursion (λ t. IsKept (key_of a t) t) ts
   both [] there kept = tt
   both (t ∷ ts) there kept = (record { keyed = refl; there = there.0; kept = kept.0 }, both ts there.1 kept.1)

@@ -1,5 +1,5 @@
--- Laws of phases and the units of a faction that sent no mailing: these keep their names, items and men, less those who
--- starve.
+-- Laws of phases and the units of a faction that sent no mailing:
+-- these keep their names, items and men, less those who starve.
 use Rattle.std.proofs.Common.{◌≡◌, ◌≢◌, ◌==◌, ℕ, ◌+◌, ◌-◌, ◌≤◌, ◌<◌, Bool, true, false, List, [], ◌∷◌, ◌++◌, Option, Some, None, refl, sym, ap, subst, ◌∙◌, inl, inr, arith}
 use Rattle.std.proofs.lemmas.Option.{same_Some}
 use Rattle.std.specs.Prelude.{IfSome, fold, option_map, if◌then◌else◌}
@@ -39,8 +39,8 @@ use Rattle.atl_instant.proofs.PhaseOrderLaws.{orders_are_in_mailings}
 -- ---- phases one after the other
 
 -- The phase keeps the mailings and takes back no Starved event.
--- Each unit of a faction without a mailing is there after, with its name, its items, and its men less exactly those who
--- starve.
+-- Each unit of a faction without a mailing is there after, with its name, its items,
+-- and its men less exactly those who starve.
 pub record LeavesUnmailed (meaning : Meaning) (keeps : Frame) : Type 0 where
   pub readings : (w : WorldValue) (c : CampaignValue) (m : MonthValue) → (meaning w c m).1.readings ≡ m.readings
   pub told : (w : WorldValue) (c : CampaignValue) (m : MonthValue) (n : ℕ) → starved_in m.events n ≤ starved_in (meaning w c m).1.events n
@@ -48,8 +48,8 @@ pub record LeavesUnmailed (meaning : Meaning) (keeps : Frame) : Type 0 where
       Every (λ n u. get m.readings u.faction ≡ None → IsUnaffected (IsLessBy (starved_in (meaning w c m).1.events n - starved_in m.events n)) (meaning w c m).0 n u) c.units
 
 -- The phase takes back no Starved event; it may change the mailings.
--- Each unit of a faction without a mailing of which not all men starve is there after, with name, items, and men less
--- those who starve.
+-- Each unit of a faction without a mailing of which not all men starve is there after, with name, items,
+-- and men less those who starve.
 pub record ClosesUnmailed (meaning : Meaning) (keeps : Frame) : Type 0 where
   pub told : (w : WorldValue) (c : CampaignValue) (m : MonthValue) (n : ℕ) → starved_in m.events n ≤ starved_in (meaning w c m).1.events n
   pub left : (w : WorldValue) (c : CampaignValue) (m : MonthValue) → keeps w m c (meaning w c m).0 →
@@ -76,7 +76,7 @@ still_none : {first : Meaning} {early : Frame} → LeavesUnmailed first early �
 still_none one w c m f g same none = ap (λ (r : FinMap nat_cmp Reading). get r g) (one.readings w c m) ∙ ap (get m.readings) same ∙ none
 
 module _ {first second : Meaning} {early late : Frame} where
-  -- two phases that leave the units of factions without a mailing do so in turn
+  -- two phases that each satisfy `LeavesUnmailed` satisfy it in turn
   pub both_leave : LeavesUnmailed first early → LeavesUnmailed second late → LeavesUnmailed (then_also first second) (both_keep first early late)
   both_leave one two = record {
     readings = λ w c m. two.readings w (first w c m).0 (first w c m).1 ∙ one.readings w c m;
@@ -128,7 +128,7 @@ men_twice a b c one two n u there =
 pub men_same : (c d : CampaignValue) → d.units ≡ c.units → HaveTheirMen c d
 men_same c d same n u there = record { unit = u; there = ap (λ (m : FinMap nat_cmp Unit). get m n) same ∙ there; spared = record { faction = refl; men = refl } }
 
--- all units have their men after a change of one of them that keeps its men
+-- all units have their men (`HaveTheirMen`) after a change of unit k by f, if f keeps the men of each unit
 pub men_changed : (f : Unit → Unit) → ((u : Unit) → HasItsMen u (f u)) → (c d : CampaignValue) (k : ℕ) → d.units ≡ changed f c.units k → HaveTheirMen c d
 men_changed f stay c d k same n u there =
     record { unit = at_number f c.units k n u; there = ap (λ (m : FinMap nat_cmp Unit). get m n) same ∙ get-changed f c.units k n ∙ ap (option_map (at_number f c.units k n)) there; spared = by_number (n == k) }
@@ -152,7 +152,7 @@ pub men_in_turn : {X : Type 0} (step : CampaignValue → X → CampaignValue) �
 men_in_turn step each c [] = men_stay c
 men_in_turn step each c (x ∷ xs) = men_twice c (step c x) (fold step (step c x) xs) (each c x) (men_in_turn step each (step c x) xs)
 
--- all units have their men after an order, if they have where it has no fault
+-- all units have their men (`HaveTheirMen`) after an order, if they have when the order has no fault
 pub men_unless : (c d : CampaignValue) (o : Outcome) (fault : Option EventFault) → HaveTheirMen c d → HaveTheirMen c (unless c fault (d, o)).0
 men_unless c d o (Some fault) h = men_stay c
 men_unless c d o None h = h
@@ -215,7 +215,7 @@ told_of_order events t outcome n =
 abbrev pub OthersHaveMen : (faction : ℕ) → CampaignValue → CampaignValue → Type 0
 OthersHaveMen f c d = Every (λ n u. f ≢ u.faction → IsUnaffected HasItsMen d n u) c.units
 
--- where all units have their men, those of other factions have
+-- if all units have their men (`HaveTheirMen`), the units of other factions than f have (`OthersHaveMen`)
 pub others_men : (f : ℕ) (c d : CampaignValue) → HaveTheirMen c d → OthersHaveMen f c d
 others_men f c d men n u there other = men n u there
 
@@ -273,8 +273,8 @@ module _ (step : OrderMeaning) where
         let ts = values (orders_of is_of ByUnit m.aliases m.readings) in
         orders_spare spares w c m ts n u there (recursion_from_All (λ t. t.faction ≢ u.faction) ts (none_ordered is_of ByUnit m u.faction none))
 
-    -- a phase satisfies `LeavesUnmailed`, if its step satisfies `SparesMen`, and units of factions without a mailing
-    -- keep their items
+    -- a phase satisfies `LeavesUnmailed`, if its step satisfies `SparesMen`,
+    -- and units of factions without a mailing keep their items
     pub carried_leaves : {keeps : Frame} → SparesMen step → ((w : WorldValue) (c d : CampaignValue) (m : MonthValue) → keeps w m c d → UnmailedAre HasItsItems m c d) → LeavesUnmailed (meaning_by_orders step is_of) keeps
     carried_leaves {keeps} spares items =
         whole_leaves {meaning = meaning_by_orders step is_of} {keeps = keeps} carried_readings carried_told

@@ -1,5 +1,5 @@
--- Laws of FORM, NAME, LEAVE, ENTER, PROMOTE, GIVE, TRANSFER, GUARD and QUIT: what they leave to units of a faction that
--- sent no mailing.
+-- Laws of FORM, NAME, LEAVE, ENTER, PROMOTE, GIVE, TRANSFER, GUARD and QUIT:
+-- what they leave to units of a faction that sent no mailing.
 use Rattle.std.proofs.Common.{◌≡◌, ◌≢◌, ◌==◌, ◌+◌, ◌-◌, ℕ, Bool, true, false, List, [], ◌∷◌, Option, Some, None, refl, sym, ap, ◌∙◌, arith}
 use Rattle.std.specs.Prelude.{IfSome, fold, if◌then◌else◌}
 use Rattle.std.specs.FinMap.{get, values}

@@ -1,5 +1,5 @@
--- Bounds on the amounts of the books: the room that each phase requires (`HaveRoom`). The rest is for proofs alone: the
--- conditions on the step that carries out one order.
+-- Bounds on the amounts of the books: the room that each phase requires (`HaveRoom`). The rest is for proofs alone:
+-- the conditions on the step that carries out one order.
 use Rattle.std.specs.Prelude.{ℕ, ℤ, pos, ◌≡◌, ◌≤◌, ◌+◌, ◌*◌, ◌+ℤ◌, ◌≤ℤ◌, ◌==◌, List, [], ◌∷◌, Some, IfSome, if◌then◌else◌}
 use Rattle.std.specs.FinMap.{get}
 use Rattle.atl_tables.specs.Worlds.{WorldValue}

@@ -68,8 +68,8 @@ books_money entry meaning keeps = record {
   keeps = keeps;
 }
 
--- the specification of a phase that moves the money of one entry of the books and the people of another, and no other
--- amount
+-- the specification of a phase that moves the money of one entry of the books and the people of another,
+-- and no other amount
 abbrev pub books_money_and_people : (money people : Entry) → Meaning → Frame → PhaseSpec
 books_money_and_people money people meaning keeps = record {
   meaning = meaning;

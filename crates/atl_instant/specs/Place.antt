@@ -1,4 +1,5 @@
--- LEAVE, ENTER and PROMOTE: units leave structures, enter them, and make others their owners. See docs/RULES.md, "Place".
+-- LEAVE, ENTER and PROMOTE: units leave structures, enter them, and make others their owners.
+-- See docs/RULES.md, "Place".
 use Rattle.std.specs.Prelude.{ℕ, ◌==◌, Bool, true, false, not, [], ◌∷◌, Option, Some, None, if◌then◌else◌}
 use Rattle.std.specs.FinMap.{get}
 use Rattle.atl_tables.specs.Worlds.{WorldValue}

@@ -63,7 +63,8 @@ after_leaving c n = without_leaver c n (get c.units n)
 abbrev pub quit_fault : (number : ℕ) → Unit → Option EventFault
 quit_fault number u = first_fault ((not (number == u.faction), WrongNumber) ∷ [])
 
--- The effect of QUIT: all units of the unit's faction leave, in the order of their numbers, unless the order has a fault.
+-- The effect of QUIT: all units of the unit's faction leave, in the order of their numbers,
+-- unless the order has a fault.
 unfoldable pub quit : (number : ℕ) → OrderEffect
 quit number c u = unless c (quit_fault number u) (fold after_leaving c (numbers_of u.faction c.units), Done 0)
 
@@ -92,8 +93,8 @@ pub record QuitsFrom (begun : CampaignValue) (t : Task) (n f : ℕ) : Type 0 whe
   pub faction : t.faction ≡ f
   pub said : t.order_value.operands ≡ operands.Number f
 
--- what the phase keeps: a unit is no worse off, unless its faction quits by an order for a unit that was its own as the
--- phase began
+-- what the phase keeps: a unit is no worse off, unless its faction quits by an
+-- order for a unit that was its own as the phase began
 abbrev pub quit_keeps : Frame
 quit_keeps w m before after = spares_others (QuitsFrom before) IsNoWorse is_quitting w m before after
 

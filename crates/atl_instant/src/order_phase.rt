@@ -151,8 +151,8 @@ pub fn carry_out_orders<P: OrderPhase>(
     Ok(())
 }
 
-/// A phase whose step doesn't depend on the value of its type: it carries out orders, and does
-/// nothing else.
+/// A phase whose step doesn't depend on the value of its type:
+/// it carries out orders, and does nothing else.
 pub trait PlainPhase: OrderPhase {
     // What an order does for a unit of its own faction, if the phase doesn't pass it over.
     ghost makes: { OrderMeaning };

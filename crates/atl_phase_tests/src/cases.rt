@@ -1,5 +1,5 @@
-//! Plays the cases of a file, one after the other, and compares the result of each with the lines
-//! that the file expects.
+//! Plays the cases of a file, one after the other,
+//! and compares the result of each with the lines that the file expects.
 use crate::changes::tell_changes;
 use crate::failed::Failed;
 use crate::months::read_all;
@@ -88,8 +88,8 @@ impl Player {
         }
     }
 
-    /// Plays a case, and appends its result to the report if it differs from the lines that the
-    /// file expects.
+    /// Plays a case, and appends its result to the report if it
+    /// differs from the lines that the file expects.
     fn play(&mut self, alloc: Global, case: &Case) -> Result<(), Failed> {
         let told = told_of(alloc, &self.world, &self.setting, self.run, case)?;
         self.played = self.played.wrapping_add(1);
@@ -118,8 +118,8 @@ impl Player {
         Some(())
     }
 
-    /// Adds the units, goods or structures of a `times` line, as often as it says, to the campaign
-    /// of the next cases.
+    /// Adds the units, goods or structures of a `times` line, as often as it says,
+    /// to the campaign of the next cases.
     fn set_times(&mut self, text: &str) -> Option<()> {
         let (count, line) = text.split_once(' ')?;
         self.set(count.parse::<u32>().ok()?, line)

@@ -3,8 +3,8 @@ use crate::settings::{Built, Had, Setting, Stocked, Stood};
 use atl_tables::{World, let_go};
 use std::alloc::{AllocError, Global};
 
-/// A case: its title, the mailings and the words of its month, and the lines of the expected
-/// result.
+/// A case: its title, the mailings and the words of its month,
+/// and the lines of the expected result.
 pub(crate) struct Case {
     pub title: String,
     pub mailings: Vec<String>,

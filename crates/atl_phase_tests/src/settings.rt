@@ -50,8 +50,8 @@ pub(crate) struct Stocked {
 }
 
 /// The campaign of a case: units and structures, numbered from 1, their goods, and stocks.
-/// Some units lose their men once the campaign is made. The next unit's number is at least
-/// `next_unit`.
+/// Some units lose their men once the campaign is made.
+/// The next unit's number is at least `next_unit`.
 pub(crate) struct Setting {
     pub units: Vec<Stood>,
     pub has: Vec<Had>,
