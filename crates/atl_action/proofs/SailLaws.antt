@@ -438,7 +438,7 @@ sail_spares w c n u direction steady k v there =
     sail_cases (λ p. IsUnaffected IsAtMostMoved p.0 k v) w c n u direction (λ outcome. record { unit = v; there = there; spared = carried_same v })
     (λ to x at floats whole near. sailed_spares w c u.structure to steady x at k v there)
 
--- the step of SAIL is orderly
+-- orders of SAIL satisfy `IsOrderly`: they book nothing, and each unit satisfies `IsAtMostMoved` after each
 pub sail_orderly : IsOrderly sail_step IsSteady books_nothing moves_nothing concerns_nobody IsAtMostMoved
 sail_orderly = record {
   well = λ w a c t x steady fit own. well w c t.unit x steady t.order_value.operands;

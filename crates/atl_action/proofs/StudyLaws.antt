@@ -76,7 +76,7 @@ module _ (w : WorldValue) (c : CampaignValue) (n : ℕ) (u : Unit) (s cost days 
         guard = λ g. g;
       }
 
-  -- the campaign stays steady
+  -- a steady campaign stays steady after a unit reached at most 450 days for each man in a skill of the world
   steady_behind : s < length w.skills → days ≤ most_days * u.holding.men → IsSteady w behind
   steady_behind known most = steady-amount w paid Study Money (neg_ℤ (pos cost)) (omega arith) (steady-unit_amount w c n u learned is (may known most) steady)
 
@@ -189,7 +189,7 @@ money_most w c steady e t = by_amount (amount_number e t == amount_number Study 
     by_amount true a b l = l
     by_amount false a b l = omega arith
 
--- the step of STUDY is orderly
+-- orders of STUDY satisfy `IsOrderly`: they book the fee, and a unit without an own order of STUDY is unchanged
 pub study_orderly : (taught : TaughtMen) → IsOrderly (study_step taught) IsSteady study_reserve study_moves IsOwnOrder IsUnchanged
 study_orderly taught = record {
   well = λ w a c t x steady fit own. well w c t.unit x own.there steady t.order_value.operands fit;

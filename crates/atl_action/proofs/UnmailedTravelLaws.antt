@@ -39,13 +39,13 @@ walked_men w c f n x other = tt
 walk_spares : SparesMen walk_step
 walk_spares w a c t x own = walked_men w c t.faction t.unit x t.order_value.operands
 
--- MOVE leaves the units of factions without a mailing
+-- the phase of MOVE leaves units of factions without a mailing what is theirs (`LeavesUnmailed`)
 pub walk_leaves : PhaseLeavesUnmailed walk_spec
 walk_leaves = carried_leaves walk_step is_walking walk_spares (unmailed_spared is_walking own_faction items_of_no_worse)
 
 -- ---- SAIL
 
--- a ship that goes leaves all units their men
+-- all units keep their men when a ship sails with the units inside it
 sailed_men : (c : CampaignValue) (ship to : ℕ) → HaveTheirMen c (after_sailing c ship to)
 unfolding after_sailing
 sailed_men c ship to =
@@ -73,7 +73,7 @@ sail_spares w a c t x own = sailing_men w c t.faction t.unit x t.order_value.ope
 items_of_carried : (u v : Unit) → IsAtMostMoved u v → HasItsItems u v
 items_of_carried u v h = record { name = h.name; items = h.items }
 
--- SAIL leaves the units of factions without a mailing
+-- the phase of SAIL leaves units of factions without a mailing what is theirs (`LeavesUnmailed`)
 pub sail_leaves : PhaseLeavesUnmailed sail_spec
 sail_leaves =
     carried_leaves sail_step is_sailing sail_spares

@@ -261,7 +261,7 @@ walk_stays w c n u direction k apart =
     walk_cases (λ d. get d.units k ≡ get c.units k) w c n u direction refl (λ to land.
     changed_else (λ (x : Unit). record x { holding = record x.holding { guard = false } }) (with_place c n to 0).units n k apart (get (with_place c n to 0).units n) ∙ place_stays c n to 0 k apart)
 
--- the step of MOVE is orderly
+-- orders of MOVE satisfy `IsOrderly`: they book nothing, and a unit without an own order of MOVE is no worse off
 pub walk_orderly : IsOrderly walk_step IsSteady books_nothing moves_nothing IsOwnOrder IsNoWorse
 walk_orderly = record {
   well = λ w a c t x steady fit own. well w c t.unit x own.there steady t.order_value.operands;

@@ -80,8 +80,8 @@ abbrev pub IsKnown : WorldValue → Gift → Type 0
 IsKnown w Money = ⊤
 IsKnown w (Item i) = i < length w.items
 
--- a unit may hold another amount of the gift, if it is at most `holding_limit`, the gift is of the world,
--- and the rest it held already
+-- a unit that may hold what it holds may hold another amount of the gift, up to `holding_limit`,
+-- if the gift is of the world
 pub may_have_of : (w : WorldValue) (h : HoldingValue) (gift : Gift) (amount : ℕ) → IsKnown w gift → amount ≤ holding_limit → MayHave w h → MayHave w (with_held_of gift h amount)
 may_have_of w h Money amount known most may = record {
   limits = record { men = may.limits.men; money = most; items = may.limits.items };
@@ -192,7 +192,8 @@ module _ (w : WorldValue) (c : CampaignValue) (early : IsEarly w c) (from to : �
 
 -- ---- the phase
 
--- the step of GIVE and PAY is orderly
+-- orders of GIVE and PAY satisfy `IsOrderly`:
+-- they book nothing, and a unit without an own order of these is no worse off
 pub give_orderly : IsOrderly give_step IsEarly (λ c e t. 0) (λ e t. 0) IsOwnOrder IsNoWorse
 give_orderly = record {
   well = λ w a c t x early fit own. well w a c t x early own t.order_value.operands fit;

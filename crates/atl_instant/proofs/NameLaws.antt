@@ -186,7 +186,8 @@ module _ (w : WorldValue) (c : CampaignValue) (n : ℕ) (u : Unit) (k : ℕ) (ap
   order_stays (operands.Flag false) = changed_else (λ (x : Unit). record x { holding = record x.holding { guard = false } }) c.units n k apart (get c.units n)
   order_stays other = tt
 
--- the step of NAME and GUARD 0 is orderly
+-- orders of NAME and GUARD 0 satisfy `IsOrderly`:
+-- they book nothing, and a unit without an own order of these is no worse off
 pub name_orderly : IsOrderly name_step IsEarly books_nothing moves_nothing name_concerns IsNoWorse
 name_orderly = record {
   well = λ w a c t x early fit own. order_well w c t.unit x own.there early t.order_value.operands fit;

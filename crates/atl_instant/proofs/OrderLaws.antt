@@ -92,7 +92,7 @@ module _ (aliases : Aliases) (a : Arrangement) where
       kept ts t true h r = (h, r)
       kept ts t false h r = r
 
-  -- orders of different mailings
+  -- if Q holds of a faction, it holds of the faction of each order of that faction's entries
   of_faction : (p : Task → Bool) (faction : ℕ) (place : ℕ) (es : List EntryValue) (Q : ℕ → Type 0) → Q faction → AllByRecursion (λ t. Q t.faction) (filter p (tasks_from aliases faction place es))
   of_faction p faction place [] Q q = tt
   of_faction p faction place (e ∷ es) Q q = kept _ _ (p _) q (of_faction p faction (place + 1) es Q q)

@@ -173,7 +173,8 @@ module _ (w : WorldValue) (a : Aliases) (c : CampaignValue) (f n : ℕ) (u : Uni
   order_stays (operands.Unit to) = unless_stays (promote_fault c n (unit_of a f to) u) (with_owner c u.structure (unit_of a f to)) refl
   order_stays other = tt
 
--- the step of LEAVE, ENTER and PROMOTE is orderly
+-- orders of LEAVE, ENTER and PROMOTE satisfy `IsOrderly`:
+-- they book nothing, and units without an own order of these are no worse off
 pub place_orderly : IsOrderly place_step IsEarly books_nothing moves_nothing IsOwnOrder IsNoWorse
 place_orderly = record {
   well = λ w a c t x early fit own. order_well w c t.unit x own.there early a t.faction t.order_value.operands;

@@ -199,7 +199,7 @@ pub record BooksOff (w : WorldValue) (off : Thing → ℕ) (moving : BookBound) 
   pub near : (e : Entry) (s : Thing) → IsNear (moving e s) (amount_in c.books e s) (amount_in d.books e s)
   pub same : d ≡ record c { books = d.books }
 
--- two bookings off are one of both amounts
+-- two bookings as gone, each of which satisfies `BooksOff`, satisfy it together for the sum of what they book
 off_twice : {o p : Thing → ℕ} {i j : BookBound} (w : WorldValue) (a b c : CampaignValue) → BooksOff w o i a b → BooksOff w p j b c → BooksOff w (λ s. o s + p s) (both_move i j) a c
 off_twice {o} {p} {i} {j} w a b c one two = record {
   steady = two.steady;
@@ -211,7 +211,7 @@ off_twice {o} {p} {i} {j} w a b c one two = record {
     grouped : (x y z : ℤ) (m n : ℕ) → x ≡ y +ℤ pos m → y ≡ z +ℤ pos n → x ≡ z +ℤ pos (m + n)
     grouped x y z m n e f = omega (arith, ints, e, f)
 
--- one booking of a thing as gone
+-- to book an amount of a thing as gone satisfies `BooksOff`, if the thing is of the world and the campaign steady
 pub off_one : (w : WorldValue) (c : CampaignValue) (t : Thing) (amount : ℕ) → thing_index t < things_of w → IsSteady w c → BooksOff w (λ s. part_of s t amount) (moves_only amount (loss_entry t) t) c (with_loss c t amount)
 off_one w c t amount inside steady = record {
   steady = steady-amount w c (loss_entry t) t (neg_ℤ (pos amount)) inside steady;
@@ -226,7 +226,7 @@ off_one w c t amount inside steady = record {
     less z true a = omega (arith, ints)
     less z false a = omega (arith, ints)
 
--- the bookings of some items as lost
+-- to book items as lost, one after another, satisfies `BooksOff`, if they are of the world and the campaign is steady
 off_items : (w : WorldValue) (c : CampaignValue) (es : List (ℕ × ℕ)) → EachOf (λ i a. i < length w.items) es → IsSteady w c → BooksOff w (owing_items es) (moving_items es) c (fold with_item_loss c es)
 off_items w c [] known steady = record {
   steady = steady;
@@ -241,7 +241,7 @@ off_items w c ((i, a) ∷ es) known steady =
     let one = off_one w c (Item i) a (omega (arith, known.0)) steady in
     off_twice w c (with_item_loss c (i, a)) (fold with_item_loss (with_item_loss c (i, a)) es) one (off_items w (with_item_loss c (i, a)) es known.1 one.steady)
 
--- the bookings of all that a unit has as gone
+-- to book all that a unit has as gone satisfies `BooksOff`, if its items are of the world and the campaign is steady
 pub off_all : (w : WorldValue) (c : CampaignValue) (h : HoldingValue) → Every (λ i a. i < length w.items) h.items → IsSteady w c → BooksOff w (owing h) (held_moves h) c (with_all_losses c h)
 off_all w c h known steady =
     let men = with_loss c People h.men in
@@ -259,7 +259,7 @@ gone_marks c d t amount what marks =
     let all = marks-amount c (loss_entry t) t (neg_ℤ (pos amount)) in
     rw (what, marks) (record { stay = all.stay; covers = all.covers })
 
--- books with room for a loss and what follows have room for the loss
+-- books with room for a loss and for the bound `next` have room for the loss
 pub first_room : (t : Thing) (amount : ℕ) (next : BookBound) (c : CampaignValue) → HaveRoom (both_move (moves_only amount (loss_entry t) t) next) c → HasRoom amount (amount_in c.books (loss_entry t) t)
 first_room t amount next c room =
     less_room amount (moves_only amount (loss_entry t) t (loss_entry t) t + next (loss_entry t) t) (amount_in c.books (loss_entry t) t)
@@ -292,7 +292,7 @@ known_ahead w xs i inside known = subst (EachOf (λ j a. j < length w.items)) (d
 pub known_held : (w : WorldValue) (c : CampaignValue) (n : ℕ) (u : Unit) → get c.units n ≡ Some u → IsSteady w c → EachOf (λ j a. j < length w.items) (entries u.holding.items)
 known_held w c n u is steady = each-from_every (λ j a. j < length w.items) u.holding.items (steady.known.units n u is).items
 
--- books with room for what may still be lost have room for all that a unit has
+-- books with room for what all units may lose (`quit_reserve`) have room for all that one unit has
 pub held_room : (c : CampaignValue) (n : ℕ) (u : Unit) → get c.units n ≡ Some u → HaveRoom (quit_reserve c) c → HaveRoom (held_moves u.holding) c
 held_room c n u is room = room_less (held_moves u.holding) (quit_reserve c) c (λ e t. within (held_moves u.holding e t) (loss_under e t u.holding) (sum_over (λ (x : Unit). loss_under e t x.holding) (remove c.units n)) (quit_reserve c e t) (moves_what_leaves u.holding e t) (sum_over-remove c.units n (λ (x : Unit). loss_under e t x.holding) u is)) room
   where
@@ -323,7 +323,7 @@ module _ (w : WorldValue) (c : CampaignValue) (n : ℕ) (u : Unit) (is : get c.u
   there : get off.units n ≡ Some u
   there = ap (λ (s : CampaignValue). get s.units n) off_is.same ∙ is
 
-  -- the units after one has left are the others
+  -- after one unit has left, the units are those before without unit n
   pub units_behind : behind.units ≡ remove c.units n
   units_behind = (only_reduced w off n u there).units ∙ ap (λ (s : CampaignValue). remove s.units n) off_is.same
 
@@ -427,7 +427,7 @@ quit_cases P c number u same leave = by_fault (quit_fault number u) refl
 pub quit_well : (w : WorldValue) (c : CampaignValue) (number : ℕ) (u : Unit) → IsSteady w c → StepsWell IsSteady quit_reserve w c (quit number c u).0
 quit_well w c number u steady = quit_cases (λ d. StepsWell IsSteady quit_reserve w c d) c number u (well_same w c steady) (λ own. all_left_well w c (numbers_of u.faction c.units) steady)
 
--- QUIT leaves no worse off a unit of another faction than the one that quits
+-- QUIT leaves a unit no worse off, if the unit isn't of the faction that quits
 quit_spares : (w : WorldValue) (c : CampaignValue) (number : ℕ) (u : Unit) (k : ℕ) (x : Unit) → IsSteady w c → get c.units k ≡ Some x → (number ≡ u.faction → u.faction ≢ x.faction) → IsUnaffected IsNoWorse (quit number c u).0 k x
 quit_spares w c number u k x steady here other =
     quit_cases (λ d. IsUnaffected IsNoWorse d k x) c number u (record { unit = x; there = here; spared = no_worse x })
@@ -476,7 +476,7 @@ reserve_within w c steady e t = by_test (entry_index e == entry_index (loss_entr
     by_test true = few (sum_over (λ (u : Unit). unit_amount t u.holding) c.units) (length (entries c.units)) (all_within true holding_limit (λ h is. within_limit t h is)) (omega (arith, len-entries c.units, steady.numbers.few_units))
     by_test false = none (sum_over (λ (u : Unit). 0) c.units) (length (entries c.units)) (all_within false 0 (λ h is. omega arith))
 
--- the step of QUIT is orderly
+-- orders of QUIT satisfy `IsOrderly`: they book what leaves, and a unit whose faction doesn't quit is no worse off
 pub quit_orderly : IsOrderly quit_step IsSteady quit_reserve quit_moves quit_concerns IsNoWorse
 quit_orderly = record {
   well = λ w a c t x steady fit own. well w c x steady t.order_value.operands;

@@ -82,7 +82,7 @@ module _ (begun : CampaignValue) where
       }
   since_well w c x since other = tt
 
-  -- the step of QUIT is orderly with `OwnSince`
+  -- orders of QUIT satisfy `IsOrderly` with the condition `OwnSince`, and concern units as `QuitsFrom` says
   since_orderly : IsOrderly quit_step (OwnSince begun) quit_reserve quit_moves (QuitsFrom begun) IsNoWorse
   since_orderly = record {
     well = λ w a c t x since fit own. since_well w c x since t.order_value.operands;

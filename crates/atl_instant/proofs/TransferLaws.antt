@@ -39,14 +39,14 @@ use Rattle.atl_instant.proofs.NoWorseLaws.{no_worse}
 use Rattle.atl_instant.proofs.OrderEffectLaws.{no_worse_spares, well_same}
 use Rattle.atl_instant.proofs.UnbookedLaws.{other_unit}
 
--- what holds of two units where a transfer has no fault
+-- What holds of sender and receiver if a transfer of n men has no fault.
 pub record CanSend (n : ℕ) (itself : Bool) (u v : Unit) : Type 0 where
   pub here : v.region ≡ u.region
   pub own : v.faction ≡ u.faction
   pub enough : n ≤ u.holding.men
   pub room : itself ≡ false → v.holding.men + n ≤ men_limit
 
--- where a transfer has no fault, `CanSend` holds of both units
+-- if a transfer has no fault, sender and receiver satisfy `CanSend`
 pub can_send : (n : ℕ) (itself : Bool) (u v : Unit) → transfer_fault n itself u (Some v) ≡ None → CanSend n itself u v
 can_send n itself u v is =
     let other = not (v.faction == u.faction) in
@@ -257,7 +257,7 @@ module _ (w : WorldValue) (c : CampaignValue) (early : IsEarly w c) (from to n :
 
 -- ---- the phase
 
--- the step of TRANSFER is orderly
+-- orders of TRANSFER satisfy `IsOrderly`: they book nothing, and a unit without an own TRANSFER is no worse off
 pub transfer_orderly : IsOrderly transfer_step IsEarly (λ c e t. 0) (λ e t. 0) IsOwnOrder IsNoWorse
 transfer_orderly = record {
   well = λ w a c t x early fit own. well w a c t x early own t.order_value.operands;

@@ -44,12 +44,12 @@ use Rattle.atl_instant.proofs.UnmailedLaws.{HasItsMen, HaveTheirMen, LeavesUnmai
 
 -- ---- FORM
 
--- FORM keeps the readings
+-- orders of FORM leave the readings of the month as they are
 form_readings : (p : CampaignValue × MonthValue) (ts : List Task) → (fold form_order p ts).1.readings ≡ p.1.readings
 form_readings p [] = refl
 form_readings p (t ∷ ts) = form_readings (form_order p t) ts
 
--- nobody starves in FORM
+-- by the events of orders of FORM no men starved
 form_told : (p : CampaignValue × MonthValue) (ts : List Task) (n : ℕ) → starved_in (fold form_order p ts).1.events n ≡ starved_in p.1.events n
 form_told p [] n = refl
 form_told p (t ∷ ts) n = form_told (form_order p t) ts n ∙ told_of_order p.1.events t (form_by p.0 t.faction t.unit).1 n
