@@ -26,8 +26,7 @@ module _ (w : WorldValue) (c : CampaignValue) where
   abbrev with_skill : Learning → Task → Option ℕ → Learning
   with_skill learning t skill = option_map_or (λ s. if learns w s t.faction (get c.units t.unit) then insert learning t.unit s else learning) skill learning
 
-  -- if P holds of all that are learning, and of the unit of an order if it learns,
-  -- it holds of all that are learning after the order
+  -- if P holds of all that are learning, and of the unit that learns by an order, it holds of all after the order
   only_one : (P : ℕ → ℕ → Type 0) (t : Task) (learning : Learning) → IfLearns P t → Every P learning → Every P (with_learner w c learning t)
   only_one P t learning so old = by_skill (skill_of t.order_value.operands) refl
     where
@@ -39,8 +38,7 @@ module _ (w : WorldValue) (c : CampaignValue) where
       by_skill None says = old
       by_skill (Some s) says = by_test s says (learns w s t.faction (get c.units t.unit)) refl
 
-  -- if P holds of all that are learning, and of the unit of each of some orders if it learns,
-  -- it holds after these orders too
+  -- if P holds of all that are learning, and of each unit that learns by some orders, it holds of all after the orders
   only_all : (P : ℕ → ℕ → Type 0) (ts : List Task) (learning : Learning) → AllByRecursion (IfLearns P) ts → Every P learning → Every P (fold (with_learner w c) learning ts)
   only_all P [] learning so old = old
   only_all P (t ∷ ts) learning so old = only_all P ts (with_learner w c learning t) so.1 (only_one P t learning so.0 old)

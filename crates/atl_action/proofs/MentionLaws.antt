@@ -36,8 +36,8 @@ new_before seen n there k = by_test (k == n) refl
     by_test true is = sym (ap (λ j. is_new seen j) (is_equal k n is) ∙ ap not there)
     by_test false is = refl
 
--- if n is new, the new numbers without repetitions of a list that begins with n are n,
--- and then those of the rest that are new once n is noted
+-- The new numbers without repetitions of a list are its first number n, if n is new, and then those of the rest.
+-- In the rest a number is new if it is new once n is noted.
 pub mention : (seen : FinMap nat_cmp ℕ) (n : ℕ) (ns : List ℕ) → is_some (get seen n) ≡ false →
     filter (is_new seen) (first_mentions (n ∷ ns)) ≡ n ∷ filter (is_new (insert seen n n)) (first_mentions ns)
 mention seen n ns new =

@@ -395,9 +395,8 @@ way_there : (w : WorldValue) (from : ℕ) (to : Option ℕ) → not (is_way w fr
 way_there w from None t = false_true (sym t)
 way_there w from (Some r) t = region_there w r (and_parts (is_region w r) (not (is_land_at w from && is_land_at w r)) (not-false (is_way w from (Some r)) t)).0
 
--- P holds of the result of an order of SAIL, if it holds of each outcome without a change,
--- and of each campaign in which a complete ship
--- sailed to a region of the world
+-- P holds of the result of an order of SAIL, if it holds of each outcome without a change, and after each sailing.
+-- A ship that sails is complete, and sails to a region of the world.
 sail_cases : (P : CampaignValue × Outcome → Type 0) (w : WorldValue) (c : CampaignValue) (n : ℕ) (u : Unit) (direction : Direction) → ((outcome : Outcome) → P (c, outcome))
     → ((to : ℕ) (x : Structure) → get c.structures u.structure ≡ Some x → is_ship w x ≡ true → x.done ≡ size_of w x.kind → IsThere w.regions to → P (after_sailing c u.structure to, Done 0)) → P (sail w n direction c u)
 unfolding sail
@@ -526,8 +525,8 @@ module _ (w : WorldValue) (begun : CampaignValue) (number faction : ℕ) where
         ap (λ o. (unless c o (after_sailing c u.structure (unwrap_or to 0), Done 0)).1) (fault_same n u to here)
         ∙ unless_told c begun (after_sailing c u.structure (unwrap_or to 0)) (after_sailing begun u.structure (unwrap_or to 0)) (sail_fault w begun n u (get begun.structures u.structure) to)
 
-    -- a faction's order for unit n, which is inside the structure of unit `number`,
-    -- has the outcome that it would have had as the phase began
+    -- a faction's order for a unit inside the structure of unit `number` has the
+    -- outcome that it would have had as the phase began
     carried_same_told : (f n : ℕ) (direction : Direction) → inside begun n ≡ s → (faction_effect (sail w n direction) c f n).1 ≡ (faction_effect (sail w n direction) begun f n).1
     carried_same_told f n direction here = ap (λ o. (effect_on (sail w n direction) c (of_faction f o)).1) (same.units n here) ∙ by_unit (get begun.units n) here
       where

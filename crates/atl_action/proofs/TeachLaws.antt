@@ -135,8 +135,7 @@ module _ (c : CampaignValue) (taught after : TaughtMen) (n given : ℕ) (here : 
       | inr apart ↦ at_other k apart
     ]
 
--- after the first unit's part the men taught so far, and those of the rest of the lesson,
--- are as many as in the whole lesson
+-- after the first unit's part, those taught so far and the rest together are as many as in the whole lesson
 pub men_so_far : (places left given want rest total : ℕ) → left ≤ places → given ≡ min left want → (places - left) + min (want + rest) left ≡ total
     → (places - (left - given)) + min rest (left - given) ≡ total
 men_so_far places left given want rest total few is all = grind (arith, few, is, all)

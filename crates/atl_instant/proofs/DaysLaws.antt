@@ -44,7 +44,8 @@ module _ (days : FinMap nat_cmp ℕ) (f : ℕ → ℕ → ℕ) (s : ℕ) where
           ap (cond (is_among es) (f s (amount_of days s))) here ∙ both (is_among es) (f s (amount_of days s))
       by_key false is = refl
 
-  -- after each skill of a map is set, skill s has f of its days, if it had f of 0 before where the map has 0 days of it
+  -- After each skill of a map is set, skill s has f of its days.
+  -- If the map has 0 days of it, it had f of 0 before.
   pub set_each : (left : FinMap nat_cmp ℕ) → (amount_of days s ≡ 0 → amount_of left s ≡ f s 0) → amount_of (set_all left (entries days)) s ≡ f s (amount_of days s)
   set_each left others =
       set_among (entries days) left (each-from_every (λ k v. amount_of days k ≡ v) days (λ k v there. ap (λ (o : Option ℕ). unwrap_or o 0) there))
@@ -119,8 +120,8 @@ set_as_said days had said f some some_said others each =
     (subst (Every (λ s d. 1 ≤ d)) (sym set) (every_set f (entries days) had some)) some_said
     (λ s. ap (λ (m : FinMap nat_cmp ℕ). amount_of m s) set ∙ set_each days f s had (others s) ∙ each s)
 
--- setting each skill of `days` gives the same map over `days` as over the empty map, if f keeps 0 at 0,
--- and no listed days are 0
+-- Setting each skill of `days` gives the same map over `days` as over the empty map.
+-- For this f must keep 0 at 0, and no listed days may be 0.
 pub set_again : (days : FinMap nat_cmp ℕ) (f : ℕ → ℕ → ℕ) → ((s : ℕ) → f s 0 ≡ 0) → Every (λ s d. 1 ≤ d) days
     → with_days days (map (λ e. (e.0, f e.0 e.1)) (entries days)) ≡ fold (λ (m : FinMap nat_cmp ℕ) (e : ℕ × ℕ). with_amount_of m e.0 (f e.0 e.1)) empty (entries days)
 set_again days f none some =

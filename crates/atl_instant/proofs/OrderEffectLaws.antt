@@ -102,8 +102,7 @@ no_worse_spares = record { same = no_worse; again = no_worse_twice; faction = λ
 
 -- ---- orders
 
--- P holds of the result of a faction's order, if it holds of no change with NotYours,
--- and of the effect on the faction's own unit
+-- P holds of the result of a faction's order, if it holds of no change with NotYours, and of the effect on its own unit
 pub carried_cases : (P : CampaignValue × Outcome → Type 0) (deed : OrderEffect) (c : CampaignValue) (faction n : ℕ) → P (c, Fault 1) → ((u : Unit) → get c.units n ≡ Some u → u.faction ≡ faction → P (deed c u)) → P (faction_effect deed c faction n)
 carried_cases P deed c faction n other own = by_unit (get c.units n) refl
   where

@@ -162,8 +162,8 @@ module _ (w : WorldValue) (c : CampaignValue) (n : ℕ) (u : Unit) (s : ℕ) (is
       structures = every_structure (λ k x. is_land_at w x.region ≡ false → (is_ship w x ≡ true) × (x.done ≡ size_of w x.kind)) (λ k y was. let r = refit.same k y was in rw (r.region, r.kind, r.done) (old.structures k y was));
     }
 
-    -- units that pass a test are of one faction in each region after the refit,
-    -- if the moved unit passes it only if it did before
+    -- Units that pass a test are of one faction in each region after the refit, if they were before.
+    -- The moved unit passes the test only if it did before.
     module _ (test : Unit → Bool) (only : test moved_unit ≡ true → test u ≡ true) where
       abbrev Agree : Unit → Unit → Type 0
       Agree x y = test x ≡ true → test y ≡ true → x.region ≡ y.region → x.faction ≡ y.faction

@@ -205,7 +205,7 @@ module _ (c : CampaignValue) (m : GuardMap) (n : ℕ) (u : Unit) (is : get c.uni
             (k, v, get-insert_other c.units n k (guarding c n u is) (λ same. apart (sym guard.stands ∙ ap (λ (x : Unit). x.region) (same_Some _ _ (sym there ∙ ap (get c.units) same ∙ is)))) ∙ there, guard)
       ]
 
-  -- the map is right after a unit with men began to guard, and its faction was set for the region,
-  -- if no other faction guards there
+  -- The map is right after a unit began to guard and its faction was set for the region.
+  -- The unit has men, and no other faction guards the region.
   pub holders_set : is_guarded_against c u.region u.faction ≡ false → nat_lt 0 u.holding.men ≡ true → AreRegionGuards (with_guard c n true) set_now
   holders_set none men = subst (λ d. AreRegionGuards d set_now) (sym (flagged_is c n u is)) (record { noted = set_noted none; held = set_held men })

@@ -43,8 +43,8 @@ module _ (lines : Lines) (k u line : ℕ) where
       two : (a n : ℕ) → max a n ≡ max a (max 0 n)
       two a n = omega arith
 
-  -- after a line is noted, the greatest line in a slot for a unit is the greater of it and the old one,
-  -- if slot and unit are the line's
+  -- After a line is noted, the greatest line in its slot for its unit is the greater of it and the old one.
+  -- For other slots and units it stays.
   noted_at : (j unit n : ℕ) → max (line_in (with_line lines k u line) j unit) n ≡ max (line_in lines j unit) (max (if (u == unit) && (j == k) then line else 0) n)
   noted_at j unit n =
       ap (λ g. max (unwrap_or (get g unit) 0) n) (group_at j)
@@ -62,8 +62,7 @@ module _ (slot : Slot) (aliases : Aliases) (faction : ℕ) (text : List ℕ) whe
   abbrev rest_from : ℕ → List Entry → ℕ → ℕ
   rest_from i es unit = last_line slot unit (tasks_from aliases faction i (map (entry_value text) (drop i es)))
 
-  -- the greatest line of the orders from index i on is the greater of that of the
-  -- order at i and that of the orders from i + 1 on
+  -- the greatest line of the orders from i on is the greater of that of the order at i and that of those from i + 1 on
   opened : (es : List Entry) (i : ℕ) (e : Entry) (in_slot : Option Slot) (unit : ℕ) → i < length es → e ≡ get_or es i e → (row_of e.order.verb).slot ≡ in_slot →
       rest_from i es unit ≡ max (if (unit_of aliases faction e.target == unit) && is_slot slot in_slot then e.line else 0) (rest_from (i + 1) es unit)
   opened es i e in_slot unit h is slot_is =

@@ -56,7 +56,7 @@ pub other_spared : (c d : CampaignValue) (t : Task) (x : Unit) → ((k : ℕ) �
 other_spared c d t x stay own k v there apart = record { unit = v; there = stay k (other_unit c t x k v own there apart) ∙ there; spared = no_worse v }
 
 -- a unit for which its own faction didn't write the order is no worse off,
--- if the order's effect leaves every other unit as it was
+-- if the order's effect changes no other unit than its own
 pub stays_spared : (step : Option OrderEffect) (c : CampaignValue) (t : Task) (x : Unit) → IsUnitOf c t x → (k : ℕ) (v : Unit) → get c.units k ≡ Some v → (IsOwnOrder t k v.faction → ⊥)
     → ((j : ℕ) → j ≢ t.unit → IfSome step (λ deed. get (deed c x).0.units j ≡ get c.units j)) → IfSome step (λ deed. IsUnaffected IsNoWorse (deed c x).0 k v)
 stays_spared None c t x own k v there apart stay = tt

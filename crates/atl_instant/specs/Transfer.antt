@@ -85,8 +85,8 @@ after_transfer c from to n (Some u) (Some v) =
     if to == from then c else with_held (with_held c from (with_fewer n u.holding) (Some u)) to (with_more n u.holding v.holding) (Some v)
 after_transfer c from to n sender receiver = c
 
--- the campaign and the outcome as unit u, under the number `from`, sends n men to the receiver under `to`,
--- if a receiver is there
+-- The campaign and the outcome as unit u sends n men to the receiver, if a receiver is there.
+-- The unit has the number `from`, the receiver `to`.
 abbrev pub transfer_to : CampaignValue → (from to n : ℕ) → Unit → Option Unit → CampaignValue × Outcome
 transfer_to c from to n u receiver = unless c (transfer_fault n (to == from) u receiver) (after_transfer c from to n (Some u) receiver, Done n)
 
