@@ -454,7 +454,7 @@ sail_orderly = record {
     spared w c n x steady k v there (operands.Direction direction) = sail_spares w c n x direction steady k v there
     spared w c n x steady k v there other = tt
 
--- if SAIL spares all units that no order concerns, as no order concerns any, all satisfy `IsAtMostMoved`
+-- each unit satisfies `IsAtMostMoved`, if each unit does that no order concerns: no order of SAIL concerns a unit
 pub all_carried : (w : WorldValue) (m : MonthValue) (c d : CampaignValue) → spares_others concerns_nobody IsAtMostMoved is_sailing w m c d → AreAtMostMoved c d
 all_carried w m c d keeps n u there = keeps n u there (λ k d l nobody. nobody)
 
