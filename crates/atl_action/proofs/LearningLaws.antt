@@ -1,4 +1,4 @@
--- Exactly those units are learning that learn by an order of STUDY that counts.
+-- Laws of `learners`: exactly the units are listed that learn by an order of STUDY that counts.
 use Rattle.std.proofs.Common.{◌≡◌, ℕ, Bool, true, false, cond, List, [], ◌∷◌, Option, Some, None, refl, sym, ap, subst, ◌∙◌}
 use Rattle.std.specs.Prelude.{fold, if◌then◌else◌}
 use Rattle.std.specs.List.{AllByRecursion, Contains}
@@ -17,15 +17,16 @@ use Rattle.atl_instant.specs.PhaseOrders.{Task}
 use Rattle.atl_action.specs.Learners.{IsLearning, Learning, UnitsLearnByOrders, learners, learns, skill_of, study_tasks, with_learner}
 
 module _ (w : WorldValue) (c : CampaignValue) where
-  -- P holds of the unit and the skill of an order of STUDY, if the unit learns by it
+  -- P holds of the unit and the skill of an order of STUDY, if the unit learns by the order
   abbrev IfLearns : (ℕ → ℕ → Type 0) → Task → Type 0
   IfLearns P t = (s : ℕ) → skill_of t.order_value.operands ≡ Some s → learns w s t.faction (get c.units t.unit) ≡ true → P t.unit s
 
-  -- the map with the unit of an order under this skill, if it learns it; unchanged where the order names no skill
+  -- the map with the unit of an order under this skill, if the unit learns the skill;
+  -- unchanged where the order names no skill
   abbrev with_skill : Learning → Task → Option ℕ → Learning
   with_skill learning t skill = option_map_or (λ s. if learns w s t.faction (get c.units t.unit) then insert learning t.unit s else learning) skill learning
 
-  -- if P holds of all that are learning, and of the unit of an order if it learns, it holds with that unit too
+  -- if P holds of all that are learning, and of the unit that learns by an order, it holds of all after the order
   only_one : (P : ℕ → ℕ → Type 0) (t : Task) (learning : Learning) → IfLearns P t → Every P learning → Every P (with_learner w c learning t)
   only_one P t learning so old = by_skill (skill_of t.order_value.operands) refl
     where
@@ -37,7 +38,7 @@ module _ (w : WorldValue) (c : CampaignValue) where
       by_skill None says = old
       by_skill (Some s) says = by_test s says (learns w s t.faction (get c.units t.unit)) refl
 
-  -- the same for some orders
+  -- if P holds of all that are learning, and of each unit that learns by some orders, it holds of all after the orders
   only_all : (P : ℕ → ℕ → Type 0) (ts : List Task) (learning : Learning) → AllByRecursion (IfLearns P) ts → Every P learning → Every P (fold (with_learner w c) learning ts)
   only_all P [] learning so old = old
   only_all P (t ∷ ts) learning so old = only_all P ts (with_learner w c learning t) so.1 (only_one P t learning so.0 old)
@@ -67,7 +68,7 @@ module _ (w : WorldValue) (c : CampaignValue) where
   kept [] learning n there = there
   kept (t ∷ ts) learning n there = kept ts (with_learner w c learning t) n (kept_one t learning n there)
 
-  -- the unit of an order is learning after it, if it learns by it
+  -- the unit of an order of STUDY is learning after the order, if the unit learns by the order
   added : (t : Task) (learning : Learning) → IfLearns (λ n s. IsThere (with_learner w c learning t) n) t
   added t learning s says can =
       subst (λ o. IsThere (with_skill learning t o) t.unit) (sym says)
@@ -80,7 +81,8 @@ module _ (w : WorldValue) (c : CampaignValue) where
       let next = with_learner w c learning t in
       ((λ s says can. kept ts next t.unit (added t learning s says can)), each_all ts next)
 
--- by each order of STUDY that counts its unit `IsLearning`, if it learns by it
+-- the unit of each order of STUDY that counts satisfies `IsLearning` with the order's skill,
+-- if the unit learns by the order
 each_so : (w : WorldValue) (c : CampaignValue) (m : MonthValue) (ts : List Task) → AllByRecursion (Contains (study_tasks m)) ts → AllByRecursion (IfLearns w c (IsLearning w c m)) ts
 each_so w c m [] among = tt
 each_so w c m (t ∷ ts) among = ((λ s says can. record { order = t; stands = among.0; for_unit = refl; says = says; can = can }), each_so w c m ts among.1)

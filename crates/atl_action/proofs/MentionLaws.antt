@@ -1,4 +1,4 @@
--- Numbers without repetitions: the loop that skips the numbers seen before gives `first_mentions`.
+-- Laws of `first_mentions`: the numbers without repetitions are those that a pass with a set of seen numbers keeps.
 use Rattle.std.proofs.Common.{◌≡◌, ◌==◌, ℕ, ◌&&◌, not, Bool, true, false, cond, List, [], ◌∷◌, filter, Some, refl, sym, ap, ◌∙◌}
 use Rattle.std.specs.Prelude.{is_some}
 use Rattle.std.specs.Ordering.{nat_cmp}
@@ -20,7 +20,7 @@ both_filters p q r same (n ∷ ns) = by_test (q n) (same n) (both_filters p q r 
     by_test true is rest = ap (λ l. cond (p n) (n ∷ l) l) rest ∙ ap (λ b. cond b (n ∷ filter r ns) (filter r ns)) is
     by_test false is rest = rest ∙ ap (λ b. cond b (n ∷ filter r ns) (filter r ns)) is
 
--- a number is new after another is noted, if it was new and isn't that one
+-- a number is new once n is noted exactly if it isn't n, and was new before
 new_behind : (seen : FinMap nat_cmp ℕ) (n k : ℕ) → (not (k == n) && is_new seen k) ≡ is_new (insert seen n n) k
 new_behind seen n k = by_test (k == n) ∙ sym (ap (λ o. not (is_some o)) (get-insert nat_cmp_total seen n n k ∙ ap (λ b. cond b (Some n) (get seen k)) (sym (unsigned_ties k n))))
   where
@@ -28,7 +28,7 @@ new_behind seen n k = by_test (k == n) ∙ sym (ap (λ o. not (is_some o)) (get-
     by_test true = refl
     by_test false = refl
 
--- a number that is new isn't one that was seen before
+-- if n was seen before, a number is new exactly if it is new and isn't n
 new_before : (seen : FinMap nat_cmp ℕ) (n : ℕ) → is_some (get seen n) ≡ true → (k : ℕ) → (not (k == n) && is_new seen k) ≡ is_new seen k
 new_before seen n there k = by_test (k == n) refl
   where
@@ -36,7 +36,8 @@ new_before seen n there k = by_test (k == n) refl
     by_test true is = sym (ap (λ j. is_new seen j) (is_equal k n is) ∙ ap not there)
     by_test false is = refl
 
--- a number that is new is the next of the list, and then those come that are new after it
+-- The new numbers without repetitions of a list are its first number n, if n is new, and then those of the rest.
+-- In the rest a number is new if it is new once n is noted.
 pub mention : (seen : FinMap nat_cmp ℕ) (n : ℕ) (ns : List ℕ) → is_some (get seen n) ≡ false →
     filter (is_new seen) (first_mentions (n ∷ ns)) ≡ n ∷ filter (is_new (insert seen n n)) (first_mentions ns)
 mention seen n ns new =
@@ -45,7 +46,7 @@ mention seen n ns new =
     rest : List ℕ
     rest = filter (is_new seen) (filter (λ k. not (k == n)) (first_mentions ns))
 
--- a number that was seen before is skipped
+-- if n was seen before, the new numbers without repetitions of a list that begins with n are those of the rest
 pub mentioned : (seen : FinMap nat_cmp ℕ) (n : ℕ) (ns : List ℕ) → is_some (get seen n) ≡ true → filter (is_new seen) (first_mentions (n ∷ ns)) ≡ filter (is_new seen) (first_mentions ns)
 mentioned seen n ns there =
     ap (λ b. cond (not b) (n ∷ rest) rest) there ∙ both_filters (is_new seen) (λ k. not (k == n)) (is_new seen) (new_before seen n there) (first_mentions ns)
@@ -53,7 +54,7 @@ mentioned seen n ns there =
     rest : List ℕ
     rest = filter (is_new seen) (filter (λ k. not (k == n)) (first_mentions ns))
 
--- before the first number all are new
+-- if no number was seen yet, all numbers of a list are new
 pub all_new : (ns : List ℕ) → filter (is_new empty) ns ≡ ns
 all_new [] = refl
 all_new (n ∷ ns) = ap (λ o. cond (not (is_some o)) (n ∷ filter (is_new empty) ns) (filter (is_new empty) ns)) (get-empty nat_cmp n) ∙ ap (λ l. n ∷ l) (all_new ns)

@@ -1,4 +1,4 @@
--- Of no unit more men are taught in a month than it has.
+-- Laws of TEACH: of no unit more men are taught in a month than it has.
 use Rattle.std.proofs.Common.{ℕ, ◌+◌, ◌-◌, ◌*◌, ◌==◌, ◌≤◌, Bool, true, false, List, [], ◌∷◌, Option, Some, None, filter, map, sum_by, arith}
 use Rattle.std.specs.Prelude.{fold, if◌then◌else◌}
 use Rattle.std.specs.List.{before_first, list_any}
@@ -18,7 +18,7 @@ use Rattle.atl_action.specs.Limits.{pupils_per_teacher}
 use Rattle.atl_action.specs.Teach.{AreTaughtOnce, NobodyIsTaughtTwice, TaughtMen, after_lessons, first_mentions, is_below, is_pupil, is_teaching, lesson, listed_units, men_at, teach, teach_fault, teach_order, untaught_men}
 
 module _ (c : CampaignValue) where
-  -- a lesson keeps it so that of no unit more men are taught than it has
+  -- if of no unit more men were taught than it has, this is also true after one more lesson
   once_lesson : (taught : TaughtMen) (places : ℕ) (ns : List ℕ) → AreTaughtOnce c taught → AreTaughtOnce c (lesson c taught places ns).0
   once_lesson taught places ns old n =
       few (list_any (λ k. n == k) ns) (men_at c n) (taught n) places (sum_by (untaught_men c taught) (before_first (λ k. n == k) ns)) (old n)
@@ -27,7 +27,7 @@ module _ (c : CampaignValue) where
       few true men had places before l = omega (arith, l)
       few false men had places before l = omega (arith, l)
 
-  -- so does an order of TEACH
+  -- if of no unit more men were taught than it has, this is also true after an order of TEACH
   once_taught : (aliases : Aliases) (learning : Learning) (taught : TaughtMen) (t : Task) → AreTaughtOnce c taught → AreTaughtOnce c (teach c aliases learning taught t).0
   unfolding teach
   once_taught aliases learning taught t old =
@@ -40,12 +40,12 @@ module _ (c : CampaignValue) where
       by_fault ns (Some fault) = old
       by_fault ns None = once_lesson taught (pupils_per_teacher * men_at c t.unit) ns old
 
-  -- so do all orders of TEACH
+  -- if of no unit more men were taught than it has, this is also true after some orders of TEACH
   once_all : (learning : Learning) (ts : List Task) (p : TaughtMen × MonthValue) → AreTaughtOnce c p.0 → AreTaughtOnce c (fold (teach_order c learning) p ts).0
   once_all learning [] p old = old
   once_all learning (t ∷ ts) p old = once_all learning ts (teach_order c learning p t) (once_taught p.1.aliases learning p.0 t old)
 
--- of no unit more men are taught in a month than it has
+-- after all orders of TEACH, of no unit more men were taught than it has
 pub nobody_twice : NobodyIsTaughtTwice
 unfolding after_lessons
 nobody_twice c learning m = once_all c learning (values (orders_of is_teaching ByUnit m.aliases m.readings)) ((λ n. 0), m) (λ n. omega arith)

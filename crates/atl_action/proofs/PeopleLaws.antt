@@ -1,4 +1,5 @@
--- Units that are put elsewhere are the same people: as many units, of the same factions, that hold the same together.
+-- Laws of units that change only location and guard flag:
+-- their number, their factions and what they hold together stay the same.
 use Rattle.std.proofs.Common.{◌≡◌, ◌==◌, ℕ, ◌+◌, Bool, true, false, Option, Some, None, refl, sym, ap, ◌∙◌, arith}
 use Rattle.std.specs.Prelude.{option_map, if◌then◌else◌}
 use Rattle.std.specs.Ordering.{nat_cmp}
@@ -20,17 +21,18 @@ use Rattle.atl_instant.proofs.OutcomeLaws.{false_true}
 use Rattle.atl_instant.proofs.StructureLaws.{at_number, get-changed}
 use Rattle.atl_action.proofs.TravelLaws.{IsSameUnit}
 
--- there are as many units, each faction has the same numbers of units, and all together hold the same
+-- Before and after there are as many units, each faction has the same unit numbers,
+-- and all together hold as much of each thing.
 pub record AreSamePeople (before after : FinMap nat_cmp Unit) : Type 0 where
   pub count : len after ≡ len before
   pub of_factions : (m : ℕ) → numbers_of m after ≡ numbers_of m before
   pub hold : (t : Thing) → sum_over (λ (x : Unit). unit_amount t x.holding) after ≡ sum_over (λ (x : Unit). unit_amount t x.holding) before
 
--- units are the same people as themselves
+-- the units are the same people (`AreSamePeople`) when nothing changes
 pub people_same : (m : FinMap nat_cmp Unit) → AreSamePeople m m
 people_same m = record { count = refl; of_factions = λ k. refl; hold = λ t. refl }
 
--- two changes that keep the people keep them together
+-- if each of two changes keeps the people (`AreSamePeople`), both together do
 pub people_twice : (a b c : FinMap nat_cmp Unit) → AreSamePeople a b → AreSamePeople b c → AreSamePeople a c
 people_twice a b c one two = record { count = two.count ∙ one.count; of_factions = λ k. two.of_factions k ∙ one.of_factions k; hold = λ t. two.hold t ∙ one.hold t }
 
@@ -44,7 +46,8 @@ cancelled : (a b p q : ℕ) → a + p ≡ b + q → q ≡ p → a ≡ b
 cancelled a b p q e f = omega arith
 
 module _ (f : Unit → Unit) (same : (u : Unit) → IsSameUnit u (f u)) (m : FinMap nat_cmp Unit) (k : ℕ) where
-  -- a change of unit k keeps the people, by whether it is there
+  -- a change of unit k, which may be there or not, keeps the people (`AreSamePeople`),
+  -- if f changes only location and flag
   changed_by : (o : Option Unit) → get m k ≡ o → AreSamePeople m (changed_at f m k o)
   changed_by None is = people_same m
   changed_by (Some u) is = record {
@@ -55,14 +58,14 @@ module _ (f : Unit → Unit) (same : (u : Unit) → IsSameUnit u (f u)) (m : Fin
         cancelled (sum_over stock (insert m k (f u))) (sum_over stock m) (stock u) (stock (f u)) (sum_over-insert_known stock m k u (f u) is) (held_same u (f u) (same u) t);
   }
 
-  -- a change of one unit that keeps all but its location and flag keeps the people
+  -- a change of one unit that keeps all but its location and flag keeps the people (`AreSamePeople`)
   pub people_changed : AreSamePeople m (changed f m k)
   people_changed = changed_by (get m k) refl
 
 -- ---- units that are put elsewhere, with their flags cleared
 
 module _ (structure to : ℕ) where
-  -- the unit in region `to`, inside this structure
+  -- the unit in region `to`, inside structure `structure`
   abbrev put_there : Unit → Unit
   put_there x = record x { region = to; structure = structure }
 
@@ -70,7 +73,7 @@ module _ (structure to : ℕ) where
   abbrev flag_off : Unit → Unit
   flag_off x = record x { holding = record x.holding { guard = false } }
 
-  -- the unit in region `to`, inside this structure, with its guard flag cleared
+  -- the unit in region `to`, inside structure `structure`, with its guard flag cleared
   abbrev pub gone : Unit → Unit
   gone x = flag_off (put_there x)
 
@@ -78,11 +81,11 @@ module _ (structure to : ℕ) where
   abbrev pub gone_if : Bool → Unit → Unit
   gone_if b x = if b then gone x else x
 
-  -- the units with number n gone: in region `to`, inside this structure, with its guard flag cleared
+  -- the units, of which unit n is in region `to`, inside structure `structure`, and has its guard flag cleared
   abbrev pub elsewhere : FinMap nat_cmp Unit → ℕ → FinMap nat_cmp Unit
   elsewhere m n = changed flag_off (changed put_there m n) n
 
-  -- they are the same people
+  -- the units are the same people (`AreSamePeople`) after unit n went elsewhere and its flag was cleared
   pub elsewhere_people : (m : FinMap nat_cmp Unit) (n : ℕ) → AreSamePeople m (elsewhere m n)
   elsewhere_people m n =
       people_twice m (changed put_there m n) (elsewhere m n)
@@ -95,35 +98,38 @@ module _ (structure to : ℕ) where
   elsewhere_by m n k true t (Some x) = rw t refl
   elsewhere_by m n k false t (Some x) = rw t refl
 
-  -- a look-up among them
+  -- a look-up of unit k after unit n went elsewhere:
+  -- the unit as it was, but if k is n, in its new location with its flag cleared
   pub elsewhere_at : (m : FinMap nat_cmp Unit) (n k : ℕ) → get (elsewhere m n) k ≡ option_map (gone_if (k == n)) (get m k)
   elsewhere_at m n k =
       get-changed flag_off (changed put_there m n) n k ∙ ap (option_map (at_number flag_off (changed put_there m n) n k)) (get-changed put_there m n k)
       ∙ elsewhere_by m n k (k == n) refl (get m k)
 
-  -- each structure has the same units inside after a unit changed that is inside the same one
+  -- each structure has the same units inside after a change of a unit that leaves it inside the same structure
   inside_changed : (f : Unit → Unit) (m : FinMap nat_cmp Unit) (n q : ℕ) (v : Unit) → get m n ≡ Some v → (v.structure == q) ≡ ((f v).structure == q) → numbers_inside q (changed f m n) ≡ numbers_inside q m
   inside_changed f m n q v is same = ap (λ o. numbers_inside q (changed_at f m n o)) is ∙ inside_as_before q m (insert m n (f v)) (numbers_where-insert_known (λ (x : Unit). x.structure == q) m n v (f v) is same)
 
-  -- each structure has the same units inside, if unit n was inside this structure already
+  -- each structure has the same units inside after unit n went elsewhere,
+  -- if unit n was inside structure `structure` already
   pub elsewhere_inside : (m : FinMap nat_cmp Unit) (n q : ℕ) (v : Unit) → get m n ≡ Some v → v.structure ≡ structure → numbers_inside q (elsewhere m n) ≡ numbers_inside q m
   elsewhere_inside m n q v is here =
       inside_changed flag_off (changed put_there m n) n q (at_number put_there m n n v) (get-changed put_there m n n ∙ ap (option_map (at_number put_there m n n)) is) refl
       ∙ inside_changed put_there m n q v is (ap (λ s. s == q) here)
 
-  -- a unit that is gone is the same but for its location and flag
+  -- a unit that went elsewhere, or didn't, is the same but for its location and flag
   pub gone_same : (b : Bool) (x : Unit) → IsSameUnit x (gone_if b x)
   gone_same true x = record { faction = refl; name = refl; men = refl; money = refl; items = refl; days = refl }
   gone_same false x = record { faction = refl; name = refl; men = refl; money = refl; items = refl; days = refl }
 
-  -- a unit that guards after is as it was
+  -- if a unit still guards, it didn't go elsewhere, and is as it was
   pub guards_stay : (b : Bool) (x : Unit) → guards (gone_if b x) ≡ true → gone_if b x ≡ x
   guards_stay true x g = false_true g
   guards_stay false x g = refl
 
 -- ---- the totals
 
--- the totals of the campaign are the same with the same people and regions
+-- the totals of the campaign stay the same, if the units are the same people
+-- (`AreSamePeople`) and the regions are unchanged
 pub total_people : (c d : CampaignValue) → AreSamePeople c.units d.units → d.regions ≡ c.regions → (t : Thing) → total d t ≡ total c t
 unfolding total
 total_people c d people regions t =

@@ -1,4 +1,4 @@
--- SAIL leaves a campaign well: a ship goes with the units inside it, and no other unit changes.
+-- Laws of SAIL: a ship goes with all units inside, no other unit changes, and the campaign stays steady.
 use Rattle.std.proofs.Common.{◌≡◌, ◌≢◌, ◌==◌, ◌&&◌, ◌||◌, ◌+◌, ℕ, Bool, true, false, not, List, [], ◌∷◌, sum_by, Option, Some, None, refl, sym, ap, subst, ◌∙◌, inl, inr, arith}
 use Rattle.std.specs.Prelude.{IfSome, fold, nat_lt, option_map, unwrap_or, if◌then◌else◌}
 use Rattle.std.specs.List.{AllByRecursion, list_any}
@@ -62,7 +62,7 @@ of_unit f o = option_map_or (λ (x : Unit). f x.holding) o 0
 
 -- ---- lists of units
 
--- a number in a list is found in it
+-- a test for a number passes in a list that has the number
 any_listed : (k : ℕ) (ns : List ℕ) → IsListed k ns → list_any (λ n. k == n) ns ≡ true
 any_listed k [] listed = absurd listed
 any_listed k (n ∷ ns) (inl same) = ap (λ b. b || list_any (λ n. k == n) ns) (equal_passes k n same)
@@ -72,7 +72,7 @@ any_listed k (n ∷ ns) (inr listed) = ap (λ b. (k == n) || b) (any_listed k ns
     or_true true = refl
     or_true false = refl
 
--- a number that is found in a list is in it
+-- if a test for a number passes in a list, the list has the number
 listed_any : (k : ℕ) (ns : List ℕ) → list_any (λ n. k == n) ns ≡ true → IsListed k ns
 listed_any k [] e = false_true e
 listed_any k (n ∷ ns) e = by_test (k == n) refl e (λ rest. listed_any k ns rest)
@@ -89,24 +89,24 @@ all_listed P (n ∷ ns) h = (h n (inl refl), all_listed P ns (λ k l. h k (inr l
 -- ---- units that go along
 
 module _ (ship to : ℕ) where
-  -- units that go along one after another are the same people
+  -- the units are the same people (`AreSamePeople`) after those of a list went along with the ship
   all_people : (m : FinMap nat_cmp Unit) (ns : List ℕ) → AreSamePeople m (fold (elsewhere ship to) m ns)
   all_people m [] = people_same m
   all_people m (n ∷ ns) = people_twice m (elsewhere ship to m n) (fold (elsewhere ship to) (elsewhere ship to m n) ns) (elsewhere_people ship to m n) (all_people (elsewhere ship to m n) ns)
 
-  -- a unit that goes along by one of two tests does so by either
+  -- to go along by one test and then by another is to go along if either test passes
   mapped_both : (a b : Bool) (o : Option Unit) → option_map (gone_if ship to b) (option_map (gone_if ship to a) o) ≡ option_map (gone_if ship to (a || b)) o
   mapped_both a b None = refl
   mapped_both true true (Some x) = refl
   mapped_both true false (Some x) = refl
   mapped_both false b (Some x) = refl
 
-  -- a unit that doesn't go along is as it was
+  -- a unit that doesn't go along with the ship is as it was
   mapped_none : (o : Option Unit) → o ≡ option_map (gone_if ship to false) o
   mapped_none None = refl
   mapped_none (Some x) = refl
 
-  -- a look-up among the units after those of a list went along
+  -- a look-up after the units of a list went along with the ship: gone with it, if listed, and unchanged otherwise
   all_at : (m : FinMap nat_cmp Unit) (ns : List ℕ) (k : ℕ) → get (fold (elsewhere ship to) m ns) k ≡ option_map (gone_if ship to (list_any (λ n. k == n) ns)) (get m k)
   all_at m [] k = mapped_none (get m k)
   all_at m (n ∷ ns) k =
@@ -144,7 +144,7 @@ module _ (ship to : ℕ) where
       let (v, there, here) = all.0 in
       ap (λ e. fold (with_unit_aboard ship to) e ns) (one_is d n v there here) ∙ all_is (record d { units = elsewhere ship to d.units n }) ns (still_all d.units n ns all.1)
 
-  -- each structure has the same units inside after they went along
+  -- each structure has the same units inside after those of a list went along, if all of the list are inside the ship
   all_inside : (q : ℕ) (m : FinMap nat_cmp Unit) (ns : List ℕ) → AllByRecursion (IsInside m) ns → numbers_inside q (fold (elsewhere ship to) m ns) ≡ numbers_inside q m
   all_inside q m [] all = refl
   all_inside q m (n ∷ ns) all =
@@ -158,7 +158,7 @@ module _ (w : WorldValue) (c : CampaignValue) (ship to : ℕ) (steady : IsSteady
   abbrev ns : List ℕ
   ns = numbers_inside ship c.units
 
-  -- the units after those inside went along
+  -- the units after those inside the ship went along
   abbrev units : FinMap nat_cmp Unit
   units = fold (elsewhere ship to) c.units ns
 
@@ -186,7 +186,7 @@ module _ (w : WorldValue) (c : CampaignValue) (ship to : ℕ) (steady : IsSteady
   is_inside : (k : ℕ) → IsListed k ns → IsInside ship to c.units k
   is_inside k listed = listed_is_inside ship c.units k listed
 
-  -- `after_sailing` makes this campaign
+  -- `after_sailing` makes the campaign `behind`
   sailed_is : after_sailing c ship to ≡ behind
   unfolding after_sailing
   sailed_is = ap (λ d. with_structure_region d ship to) (all_is ship to c ns (all_listed (IsInside ship to c.units) ns is_inside))
@@ -195,7 +195,7 @@ module _ (w : WorldValue) (c : CampaignValue) (ship to : ℕ) (steady : IsSteady
   some_ship : ship ≢ 0
   some_ship = is_no_zero c.structures c.next_structure steady.next.structures ship x is
 
-  -- a unit is in the list of those inside exactly if it is inside the ship
+  -- unit k, which is there, is in the list of the units inside the ship exactly if it is inside the ship
   member_by : (k : ℕ) (v : Unit) → get c.units k ≡ Some v → (a b : Bool) → (v.structure == ship) ≡ a → list_any (λ n. k == n) ns ≡ b → b ≡ a
   member_by k v there true true t e = refl
   member_by k v there false false t e = refl
@@ -218,7 +218,7 @@ module _ (w : WorldValue) (c : CampaignValue) (ship to : ℕ) (steady : IsSteady
   inside_by v true t = sym (is_equal v.structure ship t)
   inside_by v false t = refl
 
-  -- each unit is inside the structure that it was inside
+  -- a unit is inside the same structure after the ship sailed
   inside_same : (k : ℕ) (v : Unit) → (f k v).structure ≡ v.structure
   inside_same k v = inside_by v (v.structure == ship) refl
 
@@ -226,16 +226,16 @@ module _ (w : WorldValue) (c : CampaignValue) (ship to : ℕ) (steady : IsSteady
   at_ship : get structures ship ≡ Some (shifted x)
   at_ship = get-changed shifted c.structures ship ship ∙ ap (option_map (g ship)) is ∙ ap (λ b. Some (if b then shifted x else x)) (equal_passes ship ship refl)
 
-  -- every other structure stays as it was
+  -- every structure but the ship stays as it was
   at_other : (q : ℕ) → q ≢ ship → get structures q ≡ get c.structures q
   at_other q apart = changed_else shifted c.structures ship q apart (get c.structures ship)
 
-  -- a structure is the same but for its region
+  -- a structure is the same but for its region after the ship sailed
   ship_same : (q : ℕ) (y : Structure) (b : Bool) → IsSameStructure y (if b then shifted y else y)
   ship_same q y true = record { kind = refl; done = refl; name = refl }
   ship_same q y false = record { kind = refl; done = refl; name = refl }
 
-  -- each structure has its right owner
+  -- each structure has its right owner after the ship sailed
   ship_owned : (q : ℕ) (y : Structure) → get c.structures q ≡ Some y → (b : Bool) → IsOwned behind q (if b then shifted y else y)
   ship_owned q y there b = by_test b
     where
@@ -299,7 +299,8 @@ module _ (w : WorldValue) (c : CampaignValue) (ship to : ℕ) (steady : IsSteady
       guarding = λ k v there. guards_stay ship to (v.structure == ship) v;
     }
 
-    -- sailing a complete ship to a region that is there leaves the campaign well
+    -- if a complete ship sails to a region that is there, the campaign stays steady,
+    -- in its month and with balanced books (`StepsWell`)
     pub sailed_well : StepsWell IsSteady books_nothing w c (after_sailing c ship to)
     sailed_well =
         subst (StepsWell IsSteady books_nothing w c) (sym sailed_is)
@@ -308,7 +309,7 @@ module _ (w : WorldValue) (c : CampaignValue) (ship to : ℕ) (steady : IsSteady
 
   -- ---- what stays of each unit
 
-  -- a unit that goes along with its ship, or stays, at most goes along
+  -- a unit that is inside the ship goes along, another one stays, and each satisfies `IsAtMostMoved`
   carried_by : (v : Unit) (b : Bool) → (v.structure == ship) ≡ b → IsAtMostMoved v (gone_if ship to b v)
   carried_by v true t =
       let here : v.structure ≡ ship = is_equal v.structure ship t in
@@ -326,13 +327,13 @@ module _ (w : WorldValue) (c : CampaignValue) (ship to : ℕ) (steady : IsSteady
       }
   carried_by v false t = record { faction = refl; structure = refl; region = λ none. refl; name = refl; guard = λ none. refl; no_flag = λ off. off; men = omega arith; money = omega arith; items = λ i. omega arith; days = λ s. omega arith }
 
-  -- each unit at most went along
+  -- after sailing each unit is still there and satisfies `IsAtMostMoved`
   pub sailed_spares : (k : ℕ) (v : Unit) → get c.units k ≡ Some v → IsUnaffected IsAtMostMoved (after_sailing c ship to) k v
   sailed_spares k v there =
       subst (λ d. IsUnaffected IsAtMostMoved d k v) (sym sailed_is)
       (record { unit = f k v; there = units_at k ∙ ap (option_map (f k)) there; spared = carried_by v (v.structure == ship) refl })
 
-  -- each unit is inside the structure that it was inside
+  -- after sailing each unit is inside the structure that it was inside before
   pub sailed_inside : (k : ℕ) → inside (after_sailing c ship to) k ≡ inside c k
   sailed_inside k = ap (λ d. inside d k) sailed_is ∙ ap structure_in (units_at k) ∙ by_unit (get c.units k)
     where
@@ -340,7 +341,7 @@ module _ (w : WorldValue) (c : CampaignValue) (ship to : ℕ) (steady : IsSteady
       by_unit None = refl
       by_unit (Some v) = inside_same k v
 
-  -- a unit that isn't inside the ship stays as it was
+  -- a unit that isn't inside the ship stays as it was when the ship sails
   sailed_same : (k : ℕ) → inside c k ≢ ship → get (after_sailing c ship to).units k ≡ get c.units k
   sailed_same k apart = ap (λ d. get d.units k) sailed_is ∙ units_at k ∙ by_unit (get c.units k) apart
     where
@@ -348,21 +349,21 @@ module _ (w : WorldValue) (c : CampaignValue) (ship to : ℕ) (steady : IsSteady
       by_unit None apart = refl
       by_unit (Some v) apart = ap (λ b. Some (gone_if ship to b v)) (other_number v.structure ship apart)
 
-  -- every other structure stays as it was
+  -- every structure but the ship stays as it was when the ship sails
   sailed_structure : (q : ℕ) → q ≢ ship → get (after_sailing c ship to).structures q ≡ get c.structures q
   sailed_structure q apart = ap (λ d. get d.structures q) sailed_is ∙ at_other q apart
 
-  -- each structure has the same units inside
+  -- each structure has the same units inside when the ship sails
   sailed_list : (q : ℕ) → numbers_inside q (after_sailing c ship to).units ≡ numbers_inside q c.units
   sailed_list q = ap (λ d. numbers_inside q d.units) sailed_is ∙ all_inside ship to q c.units ns (all_listed (IsInside ship to c.units) ns is_inside)
 
 -- ---- an order
 
--- a unit that stays as it is at most went along
+-- an unchanged unit satisfies `IsAtMostMoved`
 carried_same : (v : Unit) → IsAtMostMoved v v
 carried_same v = record { faction = refl; structure = refl; region = λ none. refl; name = refl; guard = λ none. refl; no_flag = λ off. off; men = omega arith; money = omega arith; items = λ i. omega arith; days = λ s. omega arith }
 
--- a unit that at most went along in each of two changes did so in both
+-- if a unit satisfies `IsAtMostMoved` in each of two changes, it does so in both together
 carried_twice : (u v x : Unit) → IsAtMostMoved u v → IsAtMostMoved v x → IsAtMostMoved u x
 carried_twice u v x one two = record {
   faction = two.faction ∙ one.faction;
@@ -394,8 +395,8 @@ way_there : (w : WorldValue) (from : ℕ) (to : Option ℕ) → not (is_way w fr
 way_there w from None t = false_true (sym t)
 way_there w from (Some r) t = region_there w r (and_parts (is_region w r) (not (is_land_at w from && is_land_at w r)) (not-false (is_way w from (Some r)) t)).0
 
--- P holds of the result of an order of SAIL, if it holds of each outcome without a change, and wherever a complete ship
--- sailed to a region of the world
+-- P holds of the result of an order of SAIL, if it holds of each outcome without a change, and after each sailing.
+-- A ship that sails is complete, and sails to a region of the world.
 sail_cases : (P : CampaignValue × Outcome → Type 0) (w : WorldValue) (c : CampaignValue) (n : ℕ) (u : Unit) (direction : Direction) → ((outcome : Outcome) → P (c, outcome))
     → ((to : ℕ) (x : Structure) → get c.structures u.structure ≡ Some x → is_ship w x ≡ true → x.done ≡ size_of w x.kind → IsThere w.regions to → P (after_sailing c u.structure to, Done 0)) → P (sail w n direction c u)
 unfolding sail
@@ -424,7 +425,7 @@ sail_cases P w c n u direction same gone_off =
         let five = none_fits (not (is_way w u.region to)) NoWay crew four.1 in
         by_ship to ship refl four.0 five.0
 
--- an order of SAIL is a step that leaves the campaign well
+-- an order of SAIL keeps a steady campaign steady, in its month and with balanced books (`StepsWell`)
 sail_well : (w : WorldValue) (c : CampaignValue) (n : ℕ) (u : Unit) (direction : Direction) → IsSteady w c → StepsWell IsSteady books_nothing w c (sail w n direction c u).0
 sail_well w c n u direction steady =
     sail_cases (λ p. StepsWell IsSteady books_nothing w c p.0) w c n u direction (λ outcome. well_same w c steady)
@@ -436,7 +437,7 @@ sail_spares w c n u direction steady k v there =
     sail_cases (λ p. IsUnaffected IsAtMostMoved p.0 k v) w c n u direction (λ outcome. record { unit = v; there = there; spared = carried_same v })
     (λ to x at floats whole near. sailed_spares w c u.structure to steady x at k v there)
 
--- the step of SAIL is orderly
+-- orders of SAIL satisfy `IsOrderly`: they book nothing, and each unit satisfies `IsAtMostMoved` after each
 pub sail_orderly : IsOrderly sail_step IsSteady books_nothing moves_nothing concerns_nobody IsAtMostMoved
 sail_orderly = record {
   well = λ w a c t x steady fit own. well w c t.unit x steady t.order_value.operands;
@@ -453,20 +454,20 @@ sail_orderly = record {
     spared w c n x steady k v there (operands.Direction direction) = sail_spares w c n x direction steady k v there
     spared w c n x steady k v there other = tt
 
--- if each unit is spared as one that no order concerns, each at most went along
+-- each unit satisfies `IsAtMostMoved`, if each unit does that no order concerns: no order of SAIL concerns a unit
 pub all_carried : (w : WorldValue) (m : MonthValue) (c d : CampaignValue) → spares_others concerns_nobody IsAtMostMoved is_sailing w m c d → AreAtMostMoved c d
 all_carried w m c d keeps n u there = keeps n u there (λ k d l nobody. nobody)
 
 -- ---- units that stay: those whose structure doesn't sail
 
--- sums over a list of two numbers that are the same for each element are the same
+-- the sums by g and by h over a list are equal, if g and h are equal for each element
 sum_same : (g h : ℕ → ℕ) (ns : List ℕ) → ((k : ℕ) → IsListed k ns → g k ≡ h k) → sum_by g ns ≡ sum_by h ns
 sum_same g h [] same = refl
 sum_same g h (n ∷ ns) same =
     sum_by-cons g n ns ∙ ap (λ a. a + sum_by g ns) (same n (inl refl)) ∙ ap (λ r. h n + r) (sum_same g h ns (λ k l. same k (inr l)))
     ∙ sym (sum_by-cons h n ns)
 
--- the fault of SAIL, from the unit, its structure, and the crew and load of all inside
+-- the fault of SAIL, from the unit, its structure, and the crew and load of all units inside
 abbrev fault_with : WorldValue → (n : ℕ) → Unit → (to : Option ℕ) → Option Structure → (crew load : ℕ) → Option EventFault
 fault_with w n u to ship crew load = first_fault (
     (u.holding.men == 0, NoMen)
@@ -478,7 +479,7 @@ fault_with w n u to ship crew load = first_fault (
     ∷ (nat_lt (capacity w ship) load, TooHeavy)
     ∷ [])
 
--- an order has the same outcome in two campaigns, if it has the same fault
+-- an order has the same outcome in two campaigns, if it has the same fault there
 unless_told : (c d x y : CampaignValue) (o : Option EventFault) → (unless c o (x, Done 0)).1 ≡ (unless d o (y, Done 0)).1
 unless_told c d x y None = refl
 unless_told c d x y (Some fault) = refl
@@ -488,8 +489,8 @@ module _ (w : WorldValue) (begun : CampaignValue) (number faction : ℕ) where
   abbrev s : ℕ
   s = inside begun number
 
-  -- Each unit is inside the structure that it was inside as the phase began.
-  -- The structure that unit `number` is inside is as it was, and so are all units inside it.
+  -- The campaign is steady, and each unit is inside the structure that it was inside as the phase began.
+  -- The structure that unit `number` is inside is as it was, and so are all units inside this structure.
   record IsAsBegun (c : CampaignValue) : Type 0 where
     pub steady : IsSteady w c
     pub places : (k : ℕ) → inside c k ≡ inside begun k
@@ -498,6 +499,7 @@ module _ (w : WorldValue) (begun : CampaignValue) (number faction : ℕ) where
     pub list : numbers_inside s c.units ≡ numbers_inside s begun.units
 
   module _ (c : CampaignValue) (same : IsAsBegun c) where
+    -- what all units inside the structure of unit `number` have together is as it was when the phase began
     sum_inside_same : (f : HoldingValue → ℕ) → sum_inside f c s ≡ sum_inside f begun s
     sum_inside_same f =
         ap (sum_by (λ n. of_unit f (get c.units n))) same.list
@@ -506,13 +508,16 @@ module _ (w : WorldValue) (begun : CampaignValue) (number faction : ℕ) where
         is_in : (k : ℕ) → IsListed k (numbers_inside s begun.units) → inside begun k ≡ s
         is_in k listed = let (v, there, here) = listed_is_inside s begun.units k listed in ap structure_in there ∙ here
 
+    -- an order of SAIL for a unit inside the structure of unit `number` has the
+    -- fault that it would have had as the phase began
     fault_same : (n : ℕ) (u : Unit) (to : Option ℕ) → u.structure ≡ s → sail_fault w c n u (get c.structures u.structure) to ≡ sail_fault w begun n u (get begun.structures u.structure) to
     fault_same n u to here =
         ap (λ ship. fault_with w n u to ship (sum_inside (crew_of w) c u.structure) (sum_inside (load_of w) c u.structure)) (subst (λ q. get c.structures q ≡ get begun.structures q) (sym here) same.structure)
         ∙ ap (λ crew. fault_with w n u to (get begun.structures u.structure) crew (sum_inside (load_of w) c u.structure)) (subst (λ q. sum_inside (crew_of w) c q ≡ sum_inside (crew_of w) begun q) (sym here) (sum_inside_same (crew_of w)))
         ∙ ap (fault_with w n u to (get begun.structures u.structure) (sum_inside (crew_of w) begun u.structure)) (subst (λ q. sum_inside (load_of w) c q ≡ sum_inside (load_of w) begun q) (sym here) (sum_inside_same (load_of w)))
 
-    -- an order for a unit inside has the outcome that it would have had as the phase began
+    -- an order for a unit inside the structure of unit `number` has the
+    -- outcome that it would have had as the phase began
     told_same : (n : ℕ) (u : Unit) (direction : Direction) → u.structure ≡ s → (sail w n direction c u).1 ≡ (sail w n direction begun u).1
     unfolding sail
     told_same n u direction here =
@@ -520,7 +525,8 @@ module _ (w : WorldValue) (begun : CampaignValue) (number faction : ℕ) where
         ap (λ o. (unless c o (after_sailing c u.structure (unwrap_or to 0), Done 0)).1) (fault_same n u to here)
         ∙ unless_told c begun (after_sailing c u.structure (unwrap_or to 0)) (after_sailing begun u.structure (unwrap_or to 0)) (sail_fault w begun n u (get begun.structures u.structure) to)
 
-    -- the same where the unit may be another faction's
+    -- a faction's order for a unit inside the structure of unit `number` has the
+    -- outcome that it would have had as the phase began
     carried_same_told : (f n : ℕ) (direction : Direction) → inside begun n ≡ s → (faction_effect (sail w n direction) c f n).1 ≡ (faction_effect (sail w n direction) begun f n).1
     carried_same_told f n direction here = ap (λ o. (effect_on (sail w n direction) c (of_faction f o)).1) (same.units n here) ∙ by_unit (get begun.units n) here
       where
@@ -532,6 +538,7 @@ module _ (w : WorldValue) (begun : CampaignValue) (number faction : ℕ) where
         by_unit None here = refl
         by_unit (Some u) here = by_faction u here (u.faction == f)
 
+    -- if another ship than the structure of unit `number` sails, `IsAsBegun` still holds
     sailed_else : (ship to : ℕ) (x : Structure) → get c.structures ship ≡ Some x → is_ship w x ≡ true → x.done ≡ size_of w x.kind → IsThere w.regions to → s ≢ ship → IsAsBegun (after_sailing c ship to)
     sailed_else ship to x at floats whole there apart = record {
       steady = (sailed_well w c ship to same.steady x at floats whole ((same.steady.known.regions to).1 there)).holds_still;
@@ -541,6 +548,7 @@ module _ (w : WorldValue) (begun : CampaignValue) (number faction : ℕ) where
       list = sailed_list w c ship to same.steady x at s ∙ same.list;
     }
 
+    -- an order for unit n with these operands keeps `IsAsBegun`, if by it the structure of unit `number` doesn't sail
     order_stays : (f n : ℕ) (o : OperandsValue) → (inside begun n ≡ s → (order_result (sail_effect w n o) begun f n).1 ≡ Some (Done 0) → ⊥) → IsAsBegun (order_result (sail_effect w n o) c f n).0
     order_stays f n (operands.Direction direction) apart =
         carried_cases (λ p. (inside begun n ≡ s → p.1 ≡ Done 0 → ⊥) → IsAsBegun p.0) (sail w n direction) c f n (λ apart. same)
@@ -549,17 +557,18 @@ module _ (w : WorldValue) (begun : CampaignValue) (number faction : ℕ) where
         (λ in_it done. apart in_it (ap (λ outcome. Some outcome) (sym (carried_same_told f n direction in_it) ∙ done)))
     order_stays f n other apart = same
 
+    -- after an order by which the structure of unit `number` doesn't sail, `IsAsBegun` still holds
     task_stays : (m : MonthValue) (t : Task) → (SailsWith w begun t number faction → ⊥) → IsAsBegun (one_order sail_step w (c, m) t).0
     task_stays m t apart = order_stays t.faction t.unit t.order_value.operands (λ in_it done. apart (record { together = in_it; done = done }))
 
-  -- orders by which the structure doesn't sail keep what `IsAsBegun` says
+  -- after orders of SAIL by none of which the structure of unit `number` sails, `IsAsBegun` still holds
   tasks_stay : (c : CampaignValue) (m : MonthValue) (ts : List Task) → IsAsBegun c → AllByRecursion (λ t. SailsWith w begun t number faction → ⊥) ts → IsAsBegun (fold (one_order sail_step w) (c, m) ts).0
   tasks_stay c m [] same others = same
   tasks_stay c m (t ∷ ts) same others =
       let next = one_order sail_step w (c, m) t in
       tasks_stay next.0 next.1 ts (task_stays c same m t others.0) others.1
 
--- a unit whose ship doesn't sail stays as it was
+-- a unit whose ship doesn't sail is unchanged after the phase, if the campaign is steady
 pub sail_spares_others : (w : WorldValue) (c : CampaignValue) (m : MonthValue) → IsSteady w c → spares_others (SailsWith w c) IsUnchanged is_sailing w m c (sail_spec.meaning w c m).0
 unfolding meaning_by_orders
 sail_spares_others w c m steady n u there others =

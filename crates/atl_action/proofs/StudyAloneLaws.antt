@@ -1,4 +1,4 @@
--- After the phase a unit is as its own order of STUDY alone makes it.
+-- Laws of STUDY: after the phase a unit is as its own order of STUDY alone makes it.
 use Rattle.std.proofs.Common.{◌≡◌, ◌==◌, ℕ, suc, zero, ◌-◌, ◌*◌, ◌<◌, Bool, true, false, ◌&&◌, List, [], ◌∷◌, length, Option, Some, None, refl, sym, ap, subst, ◌∙◌, inl, inr, arith}
 use Rattle.std.specs.Prelude.{IfSome, fold, if◌then◌else◌}
 use Rattle.std.proofs.lemmas.Bool.{cases_eq}
@@ -50,15 +50,15 @@ module _ (w : WorldValue) (taught n s : ℕ) (c d : CampaignValue) (u : Unit) (i
   abbrev days_in : CampaignValue → ℕ
   days_in b = days_after u.holding.men (amount_of u.holding.days s) taught (is_helpful w s (get b.structures u.structure))
 
-  -- these days are the same in two campaigns with the same structures
+  -- unit n reaches the same days in two campaigns with the same structures
   same_days : days_in d ≡ days_in c
   same_days = ap (λ (o : Option Structure). days_after u.holding.men (amount_of u.holding.days s) taught (is_helpful w s o)) (ap (λ m. get m u.structure) structures)
 
-  -- the unit with these days, and the fee paid
+  -- the unit with these days of the skill, after it paid the fee
   abbrev put : ℕ → Unit
   put days = record u { holding = with_study u.holding s cost days }
 
-  -- an order of STUDY makes the same of a unit in two campaigns where the unit and the structures are the same
+  -- an order of STUDY changes a unit alike in two campaigns in which the unit and the structures are the same
   study_alike : get (study w taught n s d u).0.units n ≡ get (study w taught n s c u).0.units n
   unfolding study
   study_alike = by_fault (study_fault u.holding cost) (Done (days_in d - amount_of u.holding.days s)) (Done (days_in c - amount_of u.holding.days s))
@@ -97,7 +97,7 @@ module _ (w : WorldValue) (taught : TaughtMen) (n : ℕ) (u : Unit) where
   abbrev step : CampaignValue × MonthValue → Task → CampaignValue × MonthValue
   step = one_order (study_step taught) w
 
-  -- the order isn't for unit n from its own faction
+  -- the order isn't an order for unit n that the faction of unit n wrote
   abbrev IsOther : Task → Type 0
   IsOther t = t.unit ≡ n → t.faction ≡ u.faction → ⊥
 
@@ -109,7 +109,7 @@ module _ (w : WorldValue) (taught : TaughtMen) (n : ℕ) (u : Unit) where
       by_said (operands.Skill s) x = study_cases (λ b. b.structures ≡ d.structures) w (taught t.unit) d t.unit s x refl (λ days payable most. refl)
       by_said other x = tt
 
-  -- an order of STUDY that isn't for unit n from its own faction leaves unit n as it was
+  -- an order of STUDY leaves unit n as it was, if it isn't for unit n or not from the faction of unit n
   one_stays : (d : CampaignValue) (l : MonthValue) (t : Task) (v : Unit) → get d.units n ≡ Some v → v.faction ≡ u.faction → IsOther t → get (step (d, l) t).0.units n ≡ Some v
   one_stays d l t v there own other = ordered_cases (λ b. get b.units n ≡ Some v) (study_step taught w l.aliases t) d t there (λ x its. by_said t.order_value.operands x its)
     where
@@ -123,7 +123,7 @@ module _ (w : WorldValue) (taught : TaughtMen) (n : ℕ) (u : Unit) where
           ]
       by_said o x its = tt
 
-  -- orders of STUDY, none for unit n from its own faction, leave unit n as it was
+  -- orders of STUDY leave unit n as it was, if each isn't for unit n or not from the faction of unit n
   all_stay : (ts : List Task) (p : CampaignValue × MonthValue) (v : Unit) → get p.0.units n ≡ Some v → v.faction ≡ u.faction → AllByRecursion IsOther ts → get (fold step p ts).0.units n ≡ Some v
   all_stay [] p v there own others = there
   all_stay (t ∷ ts) p v there own others = all_stay ts (step p t) v (one_stays p.0 p.1 t v there own others.0) own others.1
@@ -132,7 +132,7 @@ module _ (w : WorldValue) (taught : TaughtMen) (n : ℕ) (u : Unit) where
     studies : Studies order
     studies = ap (λ (o : OrderValue). is_studying o.verb) says
 
-    -- an order of STUDY that shares no slot with the unit's own order isn't for the unit from its faction
+    -- an order of STUDY that shares no slot with the unit's own order isn't for unit n, or not from its faction
     apart : (t : Task) → share_slot t order ≡ false → Studies t → IsOther t
     apart t never other unit faction = both_own t order never other studies (unit ∙ sym for_unit) (faction ∙ sym own)
 
@@ -146,7 +146,7 @@ module _ (w : WorldValue) (taught : TaughtMen) (n : ℕ) (u : Unit) where
     abbrev deed : OrderEffect
     deed = study w (taught n) n skill
 
-    -- the unit's own order makes of a campaign what its effect makes of it
+    -- the campaign after the own order of unit n is what the order's effect makes of the unit, if the unit is there
     own_study : (d : CampaignValue) (l : MonthValue) → get d.units n ≡ Some u → (step (d, l) order).0 ≡ (deed d u).0
     own_study d l there =
         ap (λ (o : OrderValue). (order_result (study_effect w taught order.unit o.operands) d order.faction order.unit).0) says
@@ -162,7 +162,8 @@ module _ (w : WorldValue) (taught : TaughtMen) (n : ℕ) (u : Unit) where
           let v : Unit = record u { holding = with_study u.holding skill (fee_of w skill * u.holding.men) days } in
           (v, get-insert_same c.units n v, refl))
 
-      -- after all orders of STUDY, unit n is as its own alone makes it
+      -- After all orders of STUDY unit n is as its own order alone makes it.
+      -- Its own order is among them, and no two orders share a slot.
       alone : (ts : List Task) (p : CampaignValue × MonthValue) → get p.0.units n ≡ Some u → p.0.structures ≡ c.structures → IsDistinct share_slot ts → AllByRecursion Studies ts
           → (k : ℕ) → k < length ts → slice_index_or ts k order ≡ order → get (fold step p ts).0.units n ≡ get (deed c u).0.units n
       unfolding IsDistinct
@@ -178,6 +179,7 @@ module _ (w : WorldValue) (taught : TaughtMen) (n : ℕ) (u : Unit) where
 
 -- ---- the phase
 
+-- after the phase a unit with an own order of STUDY that counts is as this order alone makes it
 pub units_study_as_begun : UnitsStudyAsBegun
 unfolding meaning_by_orders
 units_study_as_begun w c m fit n skill u there own =

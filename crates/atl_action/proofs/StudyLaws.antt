@@ -1,4 +1,4 @@
--- STUDY leaves a campaign well, and leaves each unit without an order of it as it was.
+-- Laws of STUDY: the campaign stays steady, the fee is booked, and a unit without an own order of STUDY is unchanged.
 use Rattle.std.proofs.Common.{◌≡◌, ◌≢◌, ◌==◌, ℕ, ◌+◌, ◌-◌, ◌*◌, ◌≤◌, ◌<◌, Bool, true, false, cond, [], ◌∷◌, length, Option, Some, None, refl, sym, ap, ◌∙◌, arith}
 use Rattle.std.specs.Prelude.{pos, neg_ℤ, ◌+ℤ◌, IfSome, nat_lt, if◌then◌else◌}
 use Rattle.std.specs.FinMap.{get}
@@ -51,11 +51,11 @@ use Rattle.atl_action.specs.Teach.{TaughtMen}
 -- ---- a unit that pays, and reaches so many days
 
 module _ (w : WorldValue) (c : CampaignValue) (n : ℕ) (u : Unit) (s cost days : ℕ) (is : get c.units n ≡ Some u) (steady : IsSteady w c) (payable : cost ≤ u.holding.money) where
-  -- what the unit holds after it paid and has the days
+  -- what the unit holds after it paid the cost and has the new days of the skill
   abbrev learned : HoldingValue
   learned = with_study u.holding s cost days
 
-  -- the campaign with this, before the booking
+  -- the campaign in which the unit paid and has its days, before the cost is booked
   abbrev paid : CampaignValue
   paid = with_held c n learned (Some u)
 
@@ -63,7 +63,7 @@ module _ (w : WorldValue) (c : CampaignValue) (n : ℕ) (u : Unit) (s cost days 
   abbrev behind : CampaignValue
   behind = after_study c n u s cost days
 
-  -- what the unit then holds is what it may hold
+  -- the unit may hold what it then holds, if the skill is of the world, and the days are at most 450 for each man
   may : s < length w.skills → days ≤ most_days * u.holding.men → MayHold w u learned
   may known most =
       let old = may_have w c n u is steady in
@@ -76,11 +76,11 @@ module _ (w : WorldValue) (c : CampaignValue) (n : ℕ) (u : Unit) (s cost days 
         guard = λ g. g;
       }
 
-  -- the campaign stays steady
+  -- a steady campaign stays steady after a unit reached at most 450 days for each man in a skill of the world
   steady_behind : s < length w.skills → days ≤ most_days * u.holding.men → IsSteady w behind
   steady_behind known most = steady-amount w paid Study Money (neg_ℤ (pos cost)) (omega arith) (steady-unit_amount w c n u learned is (may known most) steady)
 
-  -- what is booked of a thing is what the units have less of it
+  -- if the units have less of a thing, the difference is what is booked: the cost of money, and 0 of each other thing
   owed : (t : Thing) (a b : ℕ) → a + unit_amount t u.holding ≡ b + unit_amount t learned → pos a ≡ pos b +ℤ cond (thing_index t == 0) (neg_ℤ (pos cost)) (pos 0)
   owed Money a b e = omega (arith, ints, e, payable)
   owed People a b e = omega (arith, ints, e)
@@ -90,7 +90,7 @@ module _ (w : WorldValue) (c : CampaignValue) (n : ℕ) (u : Unit) (s cost days 
       nothing true off = cc
       nothing false off = omega (arith, ints, e)
 
-  -- the books balance where they did before
+  -- the books balance after a unit paid and learned, if they balanced before
   balanced : Balances c → Balances behind
   balanced old t =
       let sum : total behind t + unit_amount t u.holding ≡ total c t + unit_amount t learned =
@@ -124,7 +124,8 @@ module _ (w : WorldValue) (c : CampaignValue) (n : ℕ) (u : Unit) (s cost days 
       by_amount true a b e = e
       by_amount false a b e = omega arith
 
-  -- a unit that pays and reaches the days of a skill is a step that leaves the campaign well
+  -- if a unit pays and reaches at most 450 days for each man, the campaign stays steady,
+  -- in its month and with balanced books (`StepsWell`)
   studied_well : s < length w.skills → days ≤ most_days * u.holding.men → StepsWell IsSteady study_reserve w c behind
   studied_well known most = record {
     holds_still = steady_behind known most;
@@ -162,7 +163,7 @@ study_cases P w taught c n s u same learned =
     by_fault days done most (Some fault) e = same
     by_fault days done most None e = learned days (payable_fee u.holding (fee_of w s * u.holding.men) e) most
 
--- an order of STUDY is a step that leaves the campaign well
+-- an order of STUDY keeps a steady campaign steady, in its month and with balanced books (`StepsWell`)
 study_well : (w : WorldValue) (taught : ℕ) (c : CampaignValue) (n s : ℕ) (u : Unit) → get c.units n ≡ Some u → IsSteady w c → s < length w.skills → StepsWell IsSteady study_reserve w c (study w taught n s c u).0
 study_well w taught c n s u is steady known =
     study_cases (λ d. StepsWell IsSteady study_reserve w c d) w taught c n s u (well_same w c steady)
@@ -188,7 +189,7 @@ money_most w c steady e t = by_amount (amount_number e t == amount_number Study 
     by_amount true a b l = l
     by_amount false a b l = omega arith
 
--- the step of STUDY is orderly
+-- orders of STUDY satisfy `IsOrderly`: they book the fee, and a unit without an own order of STUDY is unchanged
 pub study_orderly : (taught : TaughtMen) → IsOrderly (study_step taught) IsSteady study_reserve study_moves IsOwnOrder IsUnchanged
 study_orderly taught = record {
   well = λ w a c t x steady fit own. well w c t.unit x own.there steady t.order_value.operands fit;

@@ -1,4 +1,4 @@
--- A lesson unit by unit: to the first unit that is listed, and then to the others.
+-- Laws of a lesson: it is the turn of the first listed unit, and then a lesson to the others.
 use Rattle.std.proofs.Common.{◌≡◌, ◌≢◌, ◌==◌, ◌≤◌, ◌||◌, ℕ, ◌+◌, ◌-◌, min, not, Bool, true, false, cond, List, [], ◌∷◌, filter, take, sum_by, refl, sym, ap, subst, ◌∙◌, inl, inr, arith, rules}
 use Rattle.std.specs.Prelude.{nat_eq, if◌then◌else◌}
 use Rattle.std.specs.List.{AllByRecursion, IsDistinct, before_first, list_any, position_or_len}
@@ -16,7 +16,7 @@ use Rattle.atl_action.specs.Teach.{TaughtMen, first_mentions, taught_in_lesson, 
 abbrev pub AreOthers : ℕ → List ℕ → Type 0
 AreOthers n = AllByRecursion (λ y. nat_eq n y ≡ false)
 
--- if no number of a list is n, none of those that pass a test is
+-- if no number of a list is n, none of its numbers that pass a test is n
 filtered_others : (n : ℕ) (p : ℕ → Bool) (ns : List ℕ) → AreOthers n ns → AreOthers n (filter p ns)
 filtered_others n p [] all = tt
 filtered_others n p (k ∷ ns) all = by_test (p k) (filtered_others n p ns all.1)
@@ -51,7 +51,7 @@ unfolding IsDistinct
 mentions_distinct [] = tt
 mentions_distinct (n ∷ ns) = (without n (first_mentions ns), filtered_distinct (λ k. not (k == n)) (first_mentions ns) (mentions_distinct ns))
 
--- a number that no number of a list is isn't found in it
+-- if no number of a list is n, a test for n fails in the list
 not_listed : (n : ℕ) (ns : List ℕ) → AreOthers n ns → list_any (λ k. n == k) ns ≡ false
 not_listed n [] all = refl
 not_listed n (k ∷ ns) all = ap (λ b. b || list_any (λ k. n == k) ns) all.0 ∙ not_listed n ns all.1
@@ -64,7 +64,7 @@ before_cons p n ns = by_test (p n)
     by_test true = refl
     by_test false = search rules
 
--- if no number of a list is n, none before the first that passes a test is
+-- if no number of a list is n, none of the numbers before the first one that passes a test is n
 before_others : (n : ℕ) (p : ℕ → Bool) (ns : List ℕ) → AreOthers n ns → AreOthers n (before_first p ns)
 before_others n p [] all = tt
 before_others n p (k ∷ ns) all = subst (AreOthers n) (sym (before_cons p k ns)) (by_test (p k) (before_others n p ns all.1))
@@ -75,17 +75,17 @@ before_others n p (k ∷ ns) all = subst (AreOthers n) (sym (before_cons p k ns)
 
 -- ---- so many men of the first unit are taught, and then those of the rest
 
--- the first unit of a lesson gets as many of its men taught as its turn gives
+-- the first unit of a lesson gets as many of its men taught as `given`, the lesser of `want` and `places`
 first_is_dealt : (had given want places : ℕ) → given ≡ min places want → (had + given) + 0 ≡ had + (min (0 + want) places - min 0 places)
 first_is_dealt had given want places is = grind (arith, is)
 
--- a later unit gets the same whether the first one is still in the list or its part is already taken off
+-- a later unit gets the same whether the first unit is still in the list, or is left out with what it was given
 rest_is_dealt : (places given first before want : ℕ) → given ≡ min places first →
     min (before + want) (places - given) - min before (places - given) ≡ min ((first + before) + want) places - min (first + before) places
 rest_is_dealt places given first before want is = grind (arith, is)
 
 module _ (c : CampaignValue) (taught after : TaughtMen) (n given : ℕ) (here : after n ≡ taught n + given) (away : (k : ℕ) → k ≢ n → after k ≡ taught k) where
-  -- the men who weren't taught yet of units other than n are the same as before n got its part
+  -- units other than n have as many untaught men as before unit n got its part of the lesson
   pub same_sum : (ns : List ℕ) → AreOthers n ns → sum_by (untaught_men c after) ns ≡ sum_by (untaught_men c taught) ns
   same_sum [] all = refl
   same_sum (k ∷ ns) all =
@@ -94,6 +94,7 @@ module _ (c : CampaignValue) (taught after : TaughtMen) (n given : ℕ) (here : 
       ∙ ap (λ r. untaught_men c taught k + r) (same_sum ns all.1) ∙ sym (sum_by-cons (untaught_men c taught) k ns)
 
   module _ (places : ℕ) (ns : List ℕ) (is : given ≡ min places (untaught_men c taught n)) (others : AreOthers n ns) where
+    -- unit n has as many men taught after its part and the lesson to the others as after the whole lesson
     at_first : after n + taught_in_lesson c after (places - given) ns n ≡ taught n + taught_in_lesson c taught places (n ∷ ns) n
     at_first =
         let want = untaught_men c taught n in
@@ -103,6 +104,7 @@ module _ (c : CampaignValue) (taught after : TaughtMen) (n given : ℕ) (here : 
         ∙ sym (ap (λ ms. taught n + amount_in_turn places (sum_by (untaught_men c taught) ms) want) (before_cons (λ j. n == j) n ns ∙ ap (λ b. if b then [] else n ∷ before_first (λ j. n == j) ns) (equal_itself n)))
         ∙ sym (ap (λ b. taught n + (if b || list_any (λ j. n == j) ns then amount_in_turn places (sum_by (untaught_men c taught) (before_first (λ j. n == j) (n ∷ ns))) want else 0)) (equal_itself n))
 
+    -- a unit other than n has as many men taught after n's part and the lesson to the others as after the whole lesson
     at_other : (k : ℕ) → k ≢ n → after k + taught_in_lesson c after (places - given) ns k ≡ taught k + taught_in_lesson c taught places (n ∷ ns) k
     at_other k apart =
         let l = list_any (λ j. k == j) ns in
@@ -125,14 +127,15 @@ module _ (c : CampaignValue) (taught after : TaughtMen) (n given : ℕ) (here : 
         by_listed true = ap (λ d. taught k + d) (rest_is_dealt places given (untaught_men c taught n) (sum_by (untaught_men c taught) (before_first (λ j. k == j) ns)) (untaught_men c taught k) is)
         by_listed false = refl
 
-    -- after unit n got its part, a lesson to the others for the men still left to teach makes the same as the whole lesson
+    -- unit n's part and then a lesson to the other units, for the men still left to teach,
+    -- make the same as the whole lesson
     pub rest_taught : (k : ℕ) → after k + taught_in_lesson c after (places - given) ns k ≡ taught k + taught_in_lesson c taught places (n ∷ ns) k
     rest_taught k = elim (cases_eq k n) [
       | inl same ↦ subst (λ j. after j + taught_in_lesson c after (places - given) ns j ≡ taught j + taught_in_lesson c taught places (n ∷ ns) j) (sym same) at_first
       | inr apart ↦ at_other k apart
     ]
 
--- the men taught so far and those of the rest are as many as in the whole lesson
+-- after the first unit's part, those taught so far and the rest together are as many as in the whole lesson
 pub men_so_far : (places left given want rest total : ℕ) → left ≤ places → given ≡ min left want → (places - left) + min (want + rest) left ≡ total
     → (places - (left - given)) + min rest (left - given) ≡ total
 men_so_far places left given want rest total few is all = grind (arith, few, is, all)

@@ -1,4 +1,5 @@
--- A campaign stays steady when units and structures are in other regions, flags are cleared, and structures have other owners.
+-- Laws of steady campaigns: they stay so when units change region, structure and guard flag,
+-- and structures change region and owner.
 use Rattle.std.proofs.Common.{◌≡◌, ◌≢◌, ℕ, ◌*◌, ◌≤◌, true, false, Some, None, sym, ap, subst, ◌∙◌}
 use Rattle.std.specs.Prelude.{IsTrue, option_map}
 use Rattle.std.specs.Ordering.{nat_cmp}
@@ -15,7 +16,7 @@ use Rattle.atl_records.specs.Holdings.{IsHolding}
 use Rattle.atl_state.specs.Campaign.{CampaignValue, numbers_of}
 use Rattle.atl_instant.proofs.RefitLaws.{in_range_replaced, named_replaced, numbered_replaced, under}
 
--- the same unit, but for its region, structure and guard flag
+-- Before and after it is the same unit, but for its region, structure and guard flag.
 pub record IsSameUnit (before after : Unit) : Type 0 where
   pub faction : after.faction ≡ before.faction
   pub name : after.holding.name ≡ before.holding.name
@@ -24,24 +25,25 @@ pub record IsSameUnit (before after : Unit) : Type 0 where
   pub items : after.holding.items ≡ before.holding.items
   pub days : after.holding.days ≡ before.holding.days
 
--- the same structure, but for its region and its owner
+-- Before and after it is the same structure, but for its region and its owner.
 pub record IsSameStructure (before after : Structure) : Type 0 where
   pub kind : after.kind ≡ before.kind
   pub done : after.done ≡ before.done
   pub name : after.name ≡ before.name
 
 module _ (w : WorldValue) (c : CampaignValue) (units : FinMap nat_cmp Unit) (structures : FinMap nat_cmp Structure) (f : ℕ → Unit → Unit) (g : ℕ → Structure → Structure) where
-  -- the campaign with these units and structures
+  -- the campaign with other units and structures
   abbrev pub travelled : CampaignValue
   travelled = record c { units = units; structures = structures }
 
-  -- the unit's region is there, and the structure that it is inside is in that region
+  -- the unit's region is there, and the structure that the unit is inside is in that region
   pub record IsPut (u : Unit) : Type 0 where
     pub region : IsThere c.regions u.region
     pub structure : u.structure ≢ 0 → (s : Structure) × (get structures u.structure ≡ Some s) × (s.region ≡ u.region)
 
   -- f gives the units and g the structures, and all that a steady campaign needs of them holds.
-  -- Each unit is where it may be, each structure has its right owner, and units that guard after are as they were.
+  -- Each unit is in a region that is there and in a structure of this region, each structure has its right owner,
+  -- and units that still guard are as they were.
   pub record AreTravelled : Type 0 where
     pub units_at : (k : ℕ) → get units k ≡ option_map (f k) (get c.units k)
     pub structures_at : (k : ℕ) → get structures k ≡ option_map (g k) (get c.structures k)
@@ -74,6 +76,7 @@ module _ (w : WorldValue) (c : CampaignValue) (units : FinMap nat_cmp Unit) (str
     no_structure : (k : ℕ) → get c.structures k ≡ None → get structures k ≡ None
     no_structure k none = are.structures_at k ∙ ap (option_map (g k)) none
 
+    -- the campaign stays within the ranges of its numbers
     numbers_kept : AreInRange w c → AreInRange w travelled
     numbers_kept old =
         in_range_replaced c units structures w are.unit_count are.structure_count
@@ -83,6 +86,7 @@ module _ (w : WorldValue) (c : CampaignValue) (units : FinMap nat_cmp Unit) (str
         (h.0, record { men = rw s.men h.1.men; money = rw s.money h.1.money; items = rw s.items h.1.items })))
         (every_structure (λ k x. (1 ≤ x.done) × (x.done ≤ size_of w x.kind)) (λ k y was. let s = are.same_structures k y was in rw (s.done, s.kind) (old.structures k y was))) old
 
+    -- each unit is of the world and in a region and a structure that are there
     placed_kept : AreKnown w c → Every (λ k x. IsPlaced w travelled x) units
     placed_kept old = every_unit (λ k x. IsPlaced w travelled x) (λ k u was.
         let s = are.same_units k u was in
@@ -90,6 +94,7 @@ module _ (w : WorldValue) (c : CampaignValue) (units : FinMap nat_cmp Unit) (str
         let q = are.put k u was in
         record { faction = rw s.faction p.faction; region = q.region; structure = q.structure; items = rw s.items p.items; skills = rw s.days p.skills })
 
+    -- each structure is of the world and in a region that is there
     built_kept : AreKnown w c → Every (λ k x. IsBuilt w travelled x) structures
     built_kept old = every_structure (λ k x. IsBuilt w travelled x) (λ k y was.
         let s = are.same_structures k y was in
@@ -99,9 +104,11 @@ module _ (w : WorldValue) (c : CampaignValue) (units : FinMap nat_cmp Unit) (str
           owner = λ some. let (v, here, inside) = (are.owned k y was).owned some in (v, here);
         })
 
+    -- the next numbers of units and structures stay free
     next_kept : AreNumbered c → AreNumbered travelled
     next_kept = numbered_replaced c units structures are.structure_count no_unit no_structure
 
+    -- on water each unit is inside a ship, and each structure is a ship
     water_kept : AreAfloat w travelled
     water_kept = record {
       units = every_unit (λ k x. is_land_at w x.region ≡ false → IsAboard w travelled x) are.aboard;
@@ -114,6 +121,7 @@ module _ (w : WorldValue) (c : CampaignValue) (units : FinMap nat_cmp Unit) (str
     abbrev Agree : Unit → Unit → Type 0
     Agree x y = guards x ≡ true → guards y ≡ true → x.region ≡ y.region → x.faction ≡ y.faction
 
+    -- the units that guard are still of one faction in each region
     guards_kept : AreOfOneFaction guards c → AreOfOneFaction guards travelled
     guards_kept old =
         every_unit (λ k x. Every (λ m y. Agree x y) units) (λ k u here.
@@ -125,7 +133,7 @@ module _ (w : WorldValue) (c : CampaignValue) (units : FinMap nat_cmp Unit) (str
         agree : {x u y v : Unit} → x ≡ u → y ≡ v → Agree u v → Agree x y
         agree one two same = rw (one, two) same
 
-    -- a steady campaign stays steady when units and structures are where they may be
+    -- a steady campaign stays steady with the units and structures of `AreTravelled`
     pub steady-travelled : IsSteady w c → IsSteady w travelled
     steady-travelled old = record {
       numbers = numbers_kept old.numbers;

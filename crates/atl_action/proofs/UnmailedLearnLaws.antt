@@ -1,4 +1,4 @@
--- What TEACH and STUDY leave to the units of a faction that sent no mailing.
+-- Laws of TEACH and STUDY: the units of a faction that sent no mailing keep their men, names and items.
 use Rattle.std.proofs.Common.{◌≡◌, ◌∷◌, [], List, ◌-◌, ◌*◌, ℕ, Some, None, refl, ap, subst, ◌∙◌, arith}
 use Rattle.std.specs.Prelude.{IfSome, fold}
 use Rattle.std.specs.FinMap.{get, values}
@@ -23,13 +23,13 @@ use Rattle.atl_action.specs.Teach.{TaughtMen, after_lessons, is_teaching, teach,
 
 -- ---- TEACH adds its events and changes nothing else of the month
 
--- the month with the same readings and aliases, in whose events as many men of each unit starved
+-- The month has the same readings and aliases, and by its events as many men of each unit starved.
 pub record IsTold (before after : MonthValue) : Type 0 where
   pub readings : after.readings ≡ before.readings
   pub aliases : after.aliases ≡ before.aliases
   pub starved : (n : ℕ) → starved_in after.events n ≡ starved_in before.events n
 
--- an order of TEACH changes only events, and none that says that men starved
+-- an order of TEACH keeps readings and aliases, and by its event no men starved
 lesson_told : (c : CampaignValue) (learning : Learning) (p : TaughtMen × MonthValue) (t : Task) → IsTold p.1 (teach_order c learning p t).1
 lesson_told c learning (taught, m) t = record {
   readings = refl;
@@ -37,7 +37,7 @@ lesson_told c learning (taught, m) t = record {
   starved = λ n. told_of_order m.events t (teach c m.aliases learning taught t).1 n;
 }
 
--- so do some orders of TEACH
+-- orders of TEACH keep readings and aliases, and by their events no men starved
 lessons_told : (c : CampaignValue) (learning : Learning) (p : TaughtMen × MonthValue) (ts : List Task) → IsTold p.1 (fold (teach_order c learning) p ts).1
 lessons_told c learning p [] = record { readings = refl; aliases = refl; starved = λ n. refl }
 lessons_told c learning p (t ∷ ts) =
@@ -45,7 +45,7 @@ lessons_told c learning p (t ∷ ts) =
     let rest = lessons_told c learning (teach_order c learning p t) ts in
     record { readings = rest.readings ∙ one.readings; aliases = rest.aliases ∙ one.aliases; starved = λ n. rest.starved n ∙ one.starved n }
 
--- so do all orders of TEACH of a month
+-- all orders of TEACH of a month keep readings and aliases, and by their events no men starved
 pub taught_told : (c : CampaignValue) (learning : Learning) (m : MonthValue) → IsTold m (after_lessons c learning m).1
 unfolding after_lessons
 taught_told c learning m = lessons_told c learning ((λ n. 0), m) (values (orders_of is_teaching ByUnit m.aliases m.readings))
@@ -71,17 +71,17 @@ studied_men w taught c f n x is other = tt
 study_spares : (taught : TaughtMen) → SparesMen (study_step taught)
 study_spares taught w a c t x own = studied_men w taught c t.faction t.unit x own.there t.order_value.operands
 
--- a unit that is unchanged has its name and items
+-- a unit that is unchanged keeps its name and its items
 items_of_unchanged : (u v : Unit) → IsUnchanged u v → HasItsItems u v
 items_of_unchanged u v same = record { name = ap (λ (x : Unit). x.holding.name) same; items = λ i. omega (arith, ap (λ (x : Unit). amount_of x.holding.items i) same) }
 
--- STUDY leaves the units of factions without a mailing
+-- the phase of STUDY leaves units of factions without a mailing what is theirs (`LeavesUnmailed`)
 all_study : (taught : TaughtMen) → LeavesUnmailed (meaning_by_orders (study_step taught) is_studying) learn_keeps
 all_study taught = carried_leaves (study_step taught) is_studying (study_spares taught) (unmailed_spared is_studying own_faction items_of_unchanged)
 
 -- ---- both
 
--- TEACH and STUDY leave the units of factions without a mailing
+-- the phase of TEACH and STUDY leaves units of factions without a mailing what is theirs (`LeavesUnmailed`)
 pub learn_leaves : LeavesUnmailed learn_meaning learn_keeps
 learn_leaves = record {
   readings = λ w c m. let lessons = after_lessons c (learners w c m) m in (all_study lessons.0).readings w c lessons.1 ∙ (taught_told c (learners w c m) m).readings;

@@ -1,4 +1,4 @@
--- What MOVE and SAIL leave to the units of a faction that sent no mailing.
+-- Laws of MOVE and SAIL: the units of a faction that sent no mailing keep their men, names and items.
 use Rattle.std.proofs.Common.{ℕ, false, refl}
 use Rattle.std.specs.Prelude.{IfSome, fold, unwrap_or}
 use Rattle.std.specs.FinMap.{get}
@@ -17,7 +17,7 @@ use Rattle.atl_instant.proofs.PhaseSpecLaws.{PhaseLeavesUnmailed}
 use Rattle.atl_instant.proofs.UnmailedLaws.{HasItsItems, HaveTheirMen, OthersHaveMen, SparesMen, carried_leaves, items_of_no_worse, men_in_turn, men_same, men_twice, men_unless, others_men, own_faction, unmailed_spared}
 use Rattle.atl_instant.proofs.UnmailedStepLaws.{guard_men, place_men}
 
--- all units have their men after one of them is elsewhere, with its flag cleared
+-- all units keep their men when one of them goes elsewhere and its flag is cleared
 gone_men : (c : CampaignValue) (n r s : ℕ) → HaveTheirMen c (with_guard (with_place c n r s) n false)
 gone_men c n r s = let there = with_place c n r s in men_twice c there (with_guard there n false) (place_men c n r s) (guard_men there n false)
 
@@ -39,13 +39,13 @@ walked_men w c f n x other = tt
 walk_spares : SparesMen walk_step
 walk_spares w a c t x own = walked_men w c t.faction t.unit x t.order_value.operands
 
--- MOVE leaves the units of factions without a mailing
+-- the phase of MOVE leaves units of factions without a mailing what is theirs (`LeavesUnmailed`)
 pub walk_leaves : PhaseLeavesUnmailed walk_spec
 walk_leaves = carried_leaves walk_step is_walking walk_spares (unmailed_spared is_walking own_faction items_of_no_worse)
 
 -- ---- SAIL
 
--- a ship that goes leaves all units their men
+-- all units keep their men when a ship sails with the units inside it
 sailed_men : (c : CampaignValue) (ship to : ℕ) → HaveTheirMen c (after_sailing c ship to)
 unfolding after_sailing
 sailed_men c ship to =
@@ -69,11 +69,11 @@ sailing_men w c f n x other = tt
 sail_spares : SparesMen sail_step
 sail_spares w a c t x own = sailing_men w c t.faction t.unit x t.order_value.operands
 
--- a unit that at most went along has its name and items
+-- a unit that satisfies `IsAtMostMoved` keeps its name and its items
 items_of_carried : (u v : Unit) → IsAtMostMoved u v → HasItsItems u v
 items_of_carried u v h = record { name = h.name; items = h.items }
 
--- SAIL leaves the units of factions without a mailing
+-- the phase of SAIL leaves units of factions without a mailing what is theirs (`LeavesUnmailed`)
 pub sail_leaves : PhaseLeavesUnmailed sail_spec
 sail_leaves =
     carried_leaves sail_step is_sailing sail_spares

@@ -1,4 +1,4 @@
--- MOVE leaves a campaign well, and leaves alone units without such an order.
+-- Laws of MOVE: a campaign stays steady, and a unit without an own order of MOVE is no worse off.
 use Rattle.std.proofs.Common.{◌≡◌, ◌≢◌, ◌==◌, ◌&&◌, ℕ, ◌≤◌, Bool, true, false, not, [], ◌∷◌, Option, Some, None, refl, sym, ap, subst, ◌∙◌, arith}
 use Rattle.std.specs.Prelude.{IfSome, nat_lt, option_map, unwrap_or, if◌then◌else◌}
 use Rattle.std.specs.Option.{option_map_or}
@@ -41,7 +41,7 @@ use Rattle.atl_action.specs.Walk.{after_walk, is_land_there, walk, walk_effect, 
 use Rattle.atl_action.proofs.PeopleLaws.{AreSamePeople, elsewhere, elsewhere_at, elsewhere_people, gone, gone_if, gone_same, guards_stay, total_people}
 use Rattle.atl_action.proofs.TravelLaws.{AreTravelled, IsPut, IsSameStructure, steady-travelled, travelled}
 
--- a looked-up value as it is
+-- a looked-up value stays the same when each value is mapped to itself
 mapped_itself : {A : Type 0} (o : Option A) → o ≡ option_map (λ y. y) o
 mapped_itself None = refl
 mapped_itself (Some y) = refl
@@ -55,7 +55,7 @@ land_is_there w r land = by_plan (get w.regions r) refl land
     by_plan (Some p) is dry = (p, is)
 
 module _ (w : WorldValue) (c : CampaignValue) (n : ℕ) (u : Unit) (to : ℕ) (is : get c.units n ≡ Some u) (steady : IsSteady w c) (land : is_land_at w to ≡ true) where
-  -- the structure that the unit leaves; 0 where it is inside none
+  -- the number of the structure that the unit leaves; 0 where it is inside none
   abbrev old_place : ℕ
   old_place = u.structure
 
@@ -73,7 +73,7 @@ module _ (w : WorldValue) (c : CampaignValue) (n : ℕ) (u : Unit) (to : ℕ) (i
 
   -- ---- the units
 
-  -- the units are the same people
+  -- the units are the same people (`AreSamePeople`) after the walk
   same_people : AreSamePeople c.units units
   same_people = elsewhere_people 0 to c.units n
 
@@ -81,11 +81,11 @@ module _ (w : WorldValue) (c : CampaignValue) (n : ℕ) (u : Unit) (to : ℕ) (i
   units_at : (k : ℕ) → get units k ≡ option_map (f k) (get c.units k)
   units_at = elsewhere_at 0 to c.units n
 
-  -- unit n is in region `to`, inside no structure, with its flag cleared
+  -- after the walk unit n is in region `to`, inside no structure, with its flag cleared
   here : get units n ≡ Some (gone 0 to u)
   here = units_at n ∙ ap (option_map (f n)) is ∙ ap (λ b. Some (gone_if 0 to b u)) (equal_passes n n refl)
 
-  -- every other unit stays as it was
+  -- every unit but n stays as it was
   away : (k : ℕ) → k ≢ n → get units k ≡ get c.units k
   away k apart = units_at k ∙ ap (λ b. option_map (gone_if 0 to b) (get c.units k)) (other_number k n apart) ∙ sym (mapped_itself (get c.units k))
 
@@ -156,11 +156,11 @@ module _ (w : WorldValue) (c : CampaignValue) (n : ℕ) (u : Unit) (to : ℕ) (i
 
   -- ---- a unit that was inside no structure
 
-  -- each structure has its right owner, if the unit was inside none
+  -- each structure has its right owner after the walk, if the unit was inside none
   unowned : old_place ≡ 0 → (q : ℕ) (y : Structure) → get c.structures q ≡ Some y → IsOwned (behind c.structures) q y
   unowned outside q y there = still_owned c.structures q y there (owns_no_other w c n u is steady q y there (λ same. not_first q y there (same ∙ outside)))
 
-  -- walking leaves the campaign well, if the unit was inside no structure
+  -- the campaign stays steady, in its month and with balanced books (`StepsWell`), if the unit was inside no structure
   outside_well : old_place ≡ 0 → StepsWell IsSteady books_nothing w c (behind c.structures)
   outside_well outside =
       behind_well c.structures (λ q y. y) (λ k. mapped_itself (get c.structures k)) refl
@@ -172,25 +172,25 @@ module _ (w : WorldValue) (c : CampaignValue) (n : ℕ) (u : Unit) (to : ℕ) (i
   abbrev begun : CampaignValue
   begun = placed c n to 0
 
-  -- the campaign after the unit's old structure got its next owner
+  -- the campaign after the structure that the unit left got its next owner
   abbrev gone_out : CampaignValue
   gone_out = after_handover begun old_place n next
 
-  -- the same after the handover of structure 0, which isn't there
+  -- the campaign after a further handover, of structure 0, which isn't there
   abbrev gone_off : CampaignValue
   gone_off = after_handover gone_out 0 0 n
 
-  -- the structure with its owner after both handovers, by the three tests
+  -- a structure with its owner after both handovers: of the structure that the unit left, and of structure 0
   abbrev given : (a e b : Bool) → Structure → Structure
   given a e b y = let x = if a && e then owned_by next y else y in if b && x.owner == 0 then owned_by n x else x
 
-  -- the structure is the same but for its owner
+  -- a structure is the same but for its owner after both handovers
   given_same : (a e b : Bool) (y : Structure) → b ≡ false → IsSameStructure y (given a e b y) × ((given a e b y).region ≡ y.region)
   given_same true true b y high = rw high (record { kind = refl; done = refl; name = refl }, refl)
   given_same true false b y high = rw high (record { kind = refl; done = refl; name = refl }, refl)
   given_same false e b y high = rw high (record { kind = refl; done = refl; name = refl }, refl)
 
-  -- each structure has its right owner, by the three tests
+  -- each structure has its right owner after both handovers, if the unit was inside a structure
   given_owned : old_place ≢ 0 → (q : ℕ) (y : Structure) → get c.structures q ≡ Some y → (a e b : Bool) → (q == old_place) ≡ a → (y.owner == n) ≡ e → b ≡ false → IsOwned (behind gone_off.structures) q (given a e b y)
   given_owned some q y there true true b p r high = rw high (subst (λ k. IsOwned (behind gone_off.structures) k (owned_by next y)) (sym (is_equal q old_place p)) (left_owned gone_off.structures some y))
   given_owned some q y there true false b p r high = rw high (still_owned gone_off.structures q y there (is_unequal y.owner n r))
@@ -202,7 +202,7 @@ module _ (w : WorldValue) (c : CampaignValue) (n : ℕ) (u : Unit) (to : ℕ) (i
       get-after_handover gone_out 0 0 n q ∙ ap (option_map (handed_on 0 0 n q)) (get-after_handover begun old_place n next q)
       ∙ mapped_twice (handed_on 0 0 n q) (handed_on old_place n next q) (get c.structures q)
 
-  -- walking leaves the campaign well, if the unit was inside a structure
+  -- the campaign stays steady, in its month and with balanced books (`StepsWell`), if the unit was inside a structure
   inside_well : old_place ≢ 0 → StepsWell IsSteady books_nothing w c (behind gone_off.structures)
   inside_well some =
       behind_well gone_off.structures (λ q y. handed_on 0 0 n q (handed_on old_place n next q y)) given_at
@@ -215,19 +215,21 @@ module _ (w : WorldValue) (c : CampaignValue) (n : ℕ) (u : Unit) (to : ℕ) (i
 
   -- ---- both
 
-  -- walking leaves the campaign well in either case
+  -- the campaign after the walk stays steady, in its month and with balanced books (`StepsWell`),
+  -- whether the unit was inside a structure or not
   by_place : (b : Bool) → (old_place == 0) ≡ b → StepsWell IsSteady books_nothing w c (with_guard (if b then begun else gone_off) n false)
   by_place true t = outside_well (is_equal old_place 0 t)
   by_place false t = subst (λ d. StepsWell IsSteady books_nothing w c (with_guard d n false)) (sym off_is) (inside_well (is_unequal old_place 0 t))
 
-  -- walking to a region with land is a step that leaves the campaign well
+  -- if a unit walks to a region with land, the campaign stays steady,
+  -- in its month and with balanced books (`StepsWell`)
   pub walked_well : StepsWell IsSteady books_nothing w c (after_walk c n to)
   unfolding with_place
   walked_well = subst (λ o. StepsWell IsSteady books_nothing w c (with_guard (with_place_at c n to 0 o) n false)) (sym is) (by_place (old_place == 0) refl)
 
 -- ---- an order
 
--- the region that a unit walks to, if it has no fault, has land
+-- if the neighbour isn't refused as no land, the region that the unit walks to has land
 land_to : (w : WorldValue) (to : Option ℕ) → not (is_land_there w to) ≡ false → is_land_at w (unwrap_or to 0) ≡ true
 land_to w None dry = false_true (sym dry)
 land_to w (Some r) dry = not-false (is_land_at w r) dry
@@ -247,7 +249,7 @@ walk_cases P w c n u direction same gone = by_fault (neighbour w u.region direct
         let three = none_fits (not (is_land_there w to)) NoWay heavy two.1 in
         gone (unwrap_or to 0) (land_to w to three.0)
 
--- an order of MOVE is a step that leaves the campaign well
+-- an order of MOVE keeps a steady campaign steady, in its month and with balanced books (`StepsWell`)
 walk_well : (w : WorldValue) (c : CampaignValue) (n : ℕ) (u : Unit) → get c.units n ≡ Some u → (direction : Direction) → IsSteady w c → StepsWell IsSteady books_nothing w c (walk w n direction c u).0
 walk_well w c n u is direction steady = walk_cases (λ d. StepsWell IsSteady books_nothing w c d) w c n u direction (well_same w c steady) (λ to land. walked_well w c n u to is steady land)
 
@@ -259,7 +261,7 @@ walk_stays w c n u direction k apart =
     walk_cases (λ d. get d.units k ≡ get c.units k) w c n u direction refl (λ to land.
     changed_else (λ (x : Unit). record x { holding = record x.holding { guard = false } }) (with_place c n to 0).units n k apart (get (with_place c n to 0).units n) ∙ place_stays c n to 0 k apart)
 
--- the step of MOVE is orderly
+-- orders of MOVE satisfy `IsOrderly`: they book nothing, and a unit without an own order of MOVE is no worse off
 pub walk_orderly : IsOrderly walk_step IsSteady books_nothing moves_nothing IsOwnOrder IsNoWorse
 walk_orderly = record {
   well = λ w a c t x steady fit own. well w c t.unit x own.there steady t.order_value.operands;

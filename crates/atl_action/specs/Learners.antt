@@ -64,11 +64,13 @@ pub record IsLearning (w : WorldValue) (c : CampaignValue) (m : MonthValue) (n s
   pub says : skill_of order.order_value.operands ≡ Some skill
   pub can : learns w skill order.faction (get c.units n) ≡ true
 
--- each unit in `learners` learns its skill by such an order, and each unit that learns by such an order is in `learners`
+-- each unit in `learners` learns its skill by an order of STUDY (`IsLearning`),
+-- and each unit that learns so is in `learners`
 pub record LearnByOrders (w : WorldValue) (c : CampaignValue) (m : MonthValue) : Type 0 where
   pub only : (n skill : ℕ) → get (learners w c m) n ≡ Some skill → IsLearning w c m n skill
   pub each : (n skill : ℕ) → IsLearning w c m n skill → IsThere (learners w c m) n
 
--- A law: it is so for each world, campaign and month.
+-- A law: in each world, campaign and month exactly those units are in
+-- `learners` that learn by an order of STUDY that counts.
 abbrev pub UnitsLearnByOrders : Type 0
 UnitsLearnByOrders = (w : WorldValue) (c : CampaignValue) (m : MonthValue) → LearnByOrders w c m

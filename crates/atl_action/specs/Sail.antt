@@ -70,7 +70,8 @@ sum_inside f c s = sum_by (λ n. option_map_or (λ u. f u.holding) (get c.units 
 abbrev pub is_way : WorldValue → (from : ℕ) → (neighbour : Option ℕ) → Bool
 is_way w from neighbour = option_map_or (λ to. is_region w to && not (is_land_at w from && is_land_at w to)) neighbour false
 
--- why unit n doesn't sail there: NoMen, NotInside, NotOwner, NotComplete, NoWay, NoCrew or TooHeavy; None where it does
+-- why unit n can't sail the ship that it is inside to region `to`, None where it can.
+-- The fault is NoMen, NotInside, NotOwner, NotComplete, NoWay, NoCrew or TooHeavy.
 abbrev pub sail_fault : WorldValue → CampaignValue → (n : ℕ) → Unit → Option Structure → (to : Option ℕ) → Option EventFault
 sail_fault w c n u ship to = first_fault (
     (u.holding.men == 0, NoMen)
@@ -125,12 +126,12 @@ pub record IsAtMostMoved (before after : Unit) : Type 0 where
 abbrev pub AreAtMostMoved : CampaignValue → CampaignValue → Type 0
 AreAtMostMoved before after = Every (λ n u. IsUnaffected IsAtMostMoved after n u) before.units
 
--- an order of SAIL concerns no unit: none is excepted from what `IsAtMostMoved` says
+-- an order of SAIL concerns no unit: what `IsAtMostMoved` says holds of every unit
 abbrev pub concerns_nobody : Affects
 concerns_nobody t n f = ⊥
 
--- By order t the structure sails that unit n is inside, as the phase begins.
--- The order is for a unit inside the same structure, of the faction that wrote it, and has no fault.
+-- By order t the ship that unit n is inside sails, as things are when the phase begins.
+-- The order is for a unit inside the same ship, of the faction that wrote it, and has no fault.
 pub record SailsWith (w : WorldValue) (begun : CampaignValue) (t : Task) (n f : ℕ) : Type 0 where
   pub together : inside begun t.unit ≡ inside begun n
   pub done : (order_result (sail_effect w t.unit t.order_value.operands) begun t.faction t.unit).1 ≡ Some (Done 0)

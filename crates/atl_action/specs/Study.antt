@@ -57,7 +57,8 @@ with_study h s cost days = record h { money = h.money - cost; days = with_amount
 abbrev pub after_study : CampaignValue → (n : ℕ) → Unit → (skill cost days : ℕ) → CampaignValue
 after_study c n u s cost days = with_amount (with_held c n (with_study u.holding s cost days) (Some u)) Study Money (neg_ℤ (pos cost))
 
--- the effect of STUDY on a unit of which `taught` men were taught: it pays the fee and gains days, unless the order has a fault
+-- the effect of STUDY on a unit of which `taught` men were taught:
+-- it pays the fee and gains days, unless the order has a fault
 unfoldable pub study : WorldValue → (taught n skill : ℕ) → OrderEffect
 study w taught n s c u =
     let cost = fee_of w s * u.holding.men in

@@ -1,4 +1,5 @@
--- A law: a unit that studies pays and learns by what it had as the phase began, whoever else studies. See docs/RULES.md, "Learning".
+-- A law: a unit that studies pays and learns by what it had as the phase began, whoever else studies.
+-- See docs/RULES.md, "Learning".
 use Rattle.std.specs.Prelude.{◌≡◌, ℕ, Option, Some}
 use Rattle.std.specs.List.{Contains}
 use Rattle.std.specs.FinMap.{get}
@@ -31,8 +32,9 @@ taught_men w c m n = (after_lessons c (learners w c m) m).0 n
 abbrev pub unit_after_own_study : WorldValue → CampaignValue → MonthValue → (n skill : ℕ) → Unit → Option Unit
 unit_after_own_study w c m n skill u = get (study w (taught_men w c m n) n skill c u).0.units n
 
--- After the phase a unit is as its own faction's order of STUDY that counts makes it alone.
--- The mailings can be read with the world.
+-- A law: a unit for which an order of STUDY of its own faction counts is, after the phase,
+-- as this order alone makes it.
+-- The order works on the campaign as the phase began; the mailings can be read with the world.
 abbrev pub UnitsStudyAsBegun : Type 0
 UnitsStudyAsBegun =
     (w : WorldValue) (c : CampaignValue) (m : MonthValue) → AreFit w m.readings →

@@ -112,6 +112,6 @@ after_lessons c learning m = fold (teach_order c learning) ((λ n. 0), m) (order
 abbrev pub AreTaughtOnce : CampaignValue → TaughtMen → Type 0
 AreTaughtOnce c taught = (n : ℕ) → taught n ≤ men_at c n
 
--- A law: after all orders of TEACH it is so.
+-- A law: after all orders of TEACH, of no unit more men were taught than it has.
 abbrev pub NobodyIsTaughtTwice : Type 0
 NobodyIsTaughtTwice = (c : CampaignValue) (learning : Learning) (m : MonthValue) → AreTaughtOnce c (after_lessons c learning m).0

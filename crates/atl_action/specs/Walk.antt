@@ -63,6 +63,6 @@ walk_step w aliases t = walk_effect w t.unit t.order_value.operands
 
 -- ---- the phase
 
--- the specification of the phase: a unit for which its own faction wrote no such order is no worse off
+-- the specification of the phase: a unit for which no MOVE of its own faction counts is no worse off
 abbrev pub walk_spec : PhaseSpec
 walk_spec = goes_by_orders walk_step is_walking IsOwnOrder IsNoWorse

@@ -133,7 +133,8 @@ fn load_inside(world: &World, campaign: &Campaign, structure: u32) -> u128
     sum
 }
 
-/// Whether ships sail from a region to its neighbour: that is there, and not both are land.
+/// Whether ships sail from a region to its neighbour:
+/// the world has that region, and the two aren't both land.
 fn is_way(world: &World, from: u32, to: Option<u32>) -> bool
     ensures { result ≡ is_way world.now from to }
 {
@@ -218,7 +219,7 @@ fn put_there(alloc: Global, campaign: &mut Campaign, ship: u32, to: u32) -> Resu
     Ok(())
 }
 
-/// Carries out SAIL: the ship goes in the direction, or nothing changes where a fault fits.
+/// Carries out SAIL: the ship goes in the direction, or nothing changes where a fault applies.
 #[tactic(auto, unfolding(crate::specs::Sail::sail))]
 fn sail(
     alloc: Global,

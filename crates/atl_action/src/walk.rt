@@ -53,7 +53,7 @@ fn put_there(campaign: &mut Campaign, unit: u32, to: u32) -> Result<(), AllocErr
     Ok(())
 }
 
-/// Carries out MOVE: the unit walks in the direction, or nothing changes where a fault fits.
+/// Carries out MOVE: the unit walks in the direction, or nothing changes where a fault applies.
 #[tactic(auto, unfolding(crate::specs::Walk::walk))]
 fn walk(
     world: &World,

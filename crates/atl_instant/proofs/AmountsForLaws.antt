@@ -1,4 +1,4 @@
--- The amounts of a map that `amounts_for` makes of a list of numbers.
+-- Laws of `amounts_for`: which amount its map has of each number.
 use Rattle.std.proofs.Common.{◌≡◌, ◌==◌, ℕ, ◌≤◌, Bool, true, false, not, ◌||◌, cond, List, [], ◌∷◌, map, filter, Option, Some, None, refl, sym, ap, ◌∙◌, arith}
 use Rattle.std.specs.Prelude.{unwrap_or}
 use Rattle.std.specs.List.{list_any}
@@ -16,7 +16,7 @@ at_least_one : (n : ℕ) → (n == 0) ≡ false → 1 ≤ n
 at_least_one n some = grind (arith, nat_tests)
 
 module _ (f : ℕ → ℕ) where
-  -- the number has the amount that f gives it, and that isn't 0
+  -- the amount is the one that f gives to the number, and isn't 0
   abbrev IsSome : ℕ → ℕ → Type 0
   IsSome n amount = (1 ≤ amount) × (amount ≡ f n)
 
@@ -24,7 +24,7 @@ module _ (f : ℕ → ℕ) where
   abbrev listed : List ℕ → List (ℕ × ℕ)
   listed ns = filter (λ e. not (e.1 == 0)) (map (λ n. (n, f n)) ns)
 
-  -- each of these entries has an amount other than 0, the one that f gives
+  -- each entry of `listed` has the amount that f gives to its number, and that isn't 0
   each_some : (ns : List ℕ) → EachOf IsSome (listed ns)
   each_some [] = tt
   each_some (n ∷ ns) = by_test (each_some ns) (f n == 0) refl
@@ -33,7 +33,7 @@ module _ (f : ℕ → ℕ) where
       by_test rest true is = rest
       by_test rest false is = ((at_least_one (f n) is, refl), rest)
 
-  -- each number that `amounts_for` lists has an amount other than 0, the one that f gives it
+  -- each number that the map of `amounts_for` lists has the amount that f gives it, and that isn't 0
   pub each_said : (ns : List ℕ) → Every IsSome (amounts_for f ns)
   unfolding amounts_for
   each_said ns n amount is = found_of IsSome (listed ns) n amount (each_some ns) (sym (get-from_entries nat_cmp_total (listed ns) n) ∙ is)
@@ -61,7 +61,7 @@ module _ (f : ℕ → ℕ) where
       by_tests rest false true some same = ap (λ k. unwrap_or (cond k (Some (f n)) (find nat_cmp q (listed ns))) 0) same ∙ ap f (sym (same_key q n same))
       by_tests rest false false some other = ap (λ k. unwrap_or (cond k (Some (f n)) (find nat_cmp q (listed ns))) 0) other ∙ rest
 
-  -- each number has the amount that f gives it, if f gives 0 to those that are not in the list
+  -- each number has in the map the amount that f gives it, if f gives 0 to each number outside of the list
   pub as_said : (ns : List ℕ) (q : ℕ) → (list_any (eq_by_cmp nat_cmp q) ns ≡ false → f q ≡ 0) → amount_of (amounts_for f ns) q ≡ f q
   unfolding amounts_for
   as_said ns q others = ap (λ (o : Option ℕ). unwrap_or o 0) (get-from_entries nat_cmp_total (listed ns) q) ∙ found_said q ns ∙ by_test (is_among q ns) refl
@@ -70,7 +70,7 @@ module _ (f : ℕ → ℕ) where
       by_test true is = refl
       by_test false is = sym (others is)
 
--- two maps with the same amount of each number are equal, if neither lists an amount of 0
+-- two maps with the same amount of each number are equal, if each amount that they list is at least 1
 pub same_amounts : (m o : FinMap nat_cmp ℕ) → Every (λ n amount. 1 ≤ amount) m → Every (λ n amount. 1 ≤ amount) o → ((n : ℕ) → amount_of m n ≡ amount_of o n) → m ≡ o
 same_amounts m o some also same = same_map nat_cmp_total nat_cmp-IsAntisymmetric m o (λ n. by_options n (get m n) (get o n) refl refl (same n))
   where

@@ -1,4 +1,4 @@
--- A booking moves one amount of the books, and no other.
+-- Laws of a booking: it moves one amount of the books and no other, and leaves room within the bound.
 use Rattle.std.proofs.Common.{◌≡◌, ◌==◌, ℕ, ◌+◌, ◌≤◌, Bool, true, false, inl, inr, ◌⊎◌, refl, arith}
 use Rattle.std.specs.Prelude.{ℤ, neg_ℤ, pos, negsuc, ◌+ℤ◌, ◌≤ℤ◌, if◌then◌else◌}
 use Rattle.std.specs.Int.{w64}
@@ -34,11 +34,11 @@ module _ (books : BooksValue) (e : Entry) (t : Thing) (z : ℤ) (n : ℕ) (small
       by_number true is = near_by _ _ z n small (amount-after_booking books e t z f u)
       by_number false is = near_same _ _ (amount-other books f e u t z (is_unequal _ _ is))
 
-  -- after a booking within its bound, there is room for the bound `next` of what is booked later
+  -- books with room for n and for the bound `next` have room for `next` after a booking of at most n in size
   pub booked-room : (next : BookBound) → ((f : Entry) (u : Thing) → HasRoom (moves_only n e t f u + next f u) (amount_in books f u)) → (f : Entry) (u : Thing) → HasRoom (next f u) (amount_in (after_booking books e t z) f u)
   booked-room next room f u = near_room (moves_only n e t f u) (next f u) _ _ (booked-near f u) (room f u)
 
--- a number within `amount_limit` in size fits 64 signed bits
+-- a number within `amount_limit` in size can be stored in 64 signed bits
 by_sign : (z : ℤ) → z ≤ℤ pos amount_limit → pos 0 ≤ℤ (z +ℤ pos amount_limit) → FitsSigned w64 z
 by_sign (pos n) most less = record { sfits = omega (arith, ints, most) }
 by_sign (negsuc n) most less = record { sfits = omega (arith, ints, less) }
@@ -51,6 +51,6 @@ booking_fits x z n small room = by_sign (x +ℤ z) (omega (arith, ints, room.abo
 pub within-pos : (k n : ℕ) → k ≤ n → IsWithin n (pos k)
 within-pos k n l = record { most = omega (arith, ints); least = omega (arith, ints) }
 
--- so is it with a minus
+-- the negative of a number of at most n is at most n in size
 pub within-neg : (k n : ℕ) → k ≤ n → IsWithin n (neg_ℤ (pos k))
 within-neg k n l = record { most = omega (arith, ints); least = omega (arith, ints) }

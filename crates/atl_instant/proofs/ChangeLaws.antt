@@ -1,4 +1,4 @@
--- What a campaign is, and which marks are set, after the holding of one unit was changed.
+-- Laws of a change to the holding of one unit: the campaign after it, and which marks are set.
 use Rattle.std.proofs.Common.{◌≡◌, ◌≢◌, ℕ, Option, Some, None, refl, sym, ap, ◌∙◌}
 use Rattle.std.specs.Ordering.{nat_cmp}
 use Rattle.std.specs.FinMap.{FinMap, get, insert}
@@ -18,7 +18,7 @@ use Rattle.atl_state.proofs.RegionLaws.{get-insert_same}
 use Rattle.atl_instant.specs.Holdings.{ChangesHolding}
 use Rattle.atl_instant.proofs.MarkLaws.{marks_by}
 
--- a unit changed by f and then by g is the unit changed by both at once
+-- to change a unit by f and then by g is to change it by f and g at once
 pub changed_twice : (f g : Unit → Unit) (c : CampaignValue) (n : ℕ) → unit_changed g (unit_changed f c n) n ≡ unit_changed (λ u. g (f u)) c n
 changed_twice f g c n = by_unit (get c.units n) refl
   where
@@ -27,7 +27,7 @@ changed_twice f g c n = by_unit (get c.units n) refl
     by_unit (Some u) is =
         ap (λ o. record c { units = changed_at g (insert c.units n (f u)) n o }) (get-insert_same c.units n (f u)) ∙ ap (λ m. record c { units = m }) (insert_over c.units n (f u) (g (f u)))
 
--- the change that leaves a unit as it is leaves the campaign as it is
+-- a change that leaves the unit as it is leaves the campaign as it is
 pub same_held : (c : CampaignValue) (n : ℕ) → unit_changed (λ u. u) c n ≡ c
 same_held c n = by_unit (get c.units n) refl
   where
@@ -49,7 +49,7 @@ others_held f c n k apart = by_unit (get c.units n)
 
 -- ---- what calls leave
 
--- if unit n isn't there, leaving the campaign as it is counts as changing what the unit holds
+-- if unit n isn't there, an unchanged campaign satisfies `ChangesHolding` for every change of its holding
 pub nobody_changes : (c : MarkedCampaign) (n : ℕ) (f : HoldingValue → HoldingValue) → get c.value.units n ≡ None → ChangesHolding c c n f
 nobody_changes c n f none = record {
   value = sym (ap (λ o. record c.value { units = changed_at (λ (u : Unit). record u { holding = f u.holding }) c.value.units n o }) none);
@@ -57,7 +57,7 @@ nobody_changes c n f none = record {
   goods = refl;
 }
 
--- a change by f is one by g too, if both make the same of what the unit had
+-- a campaign changed by f (`ChangesHolding`) is changed by g, if f and g make the same of what the unit held
 pub changes_as : (c d : MarkedCampaign) (n : ℕ) (f g : HoldingValue → HoldingValue) (u : Unit) → get c.value.units n ≡ Some u → f u.holding ≡ g u.holding → ChangesHolding c d n f → ChangesHolding c d n g
 changes_as c d n f g u is same old = record {
   value =

@@ -1,4 +1,4 @@
--- The days of each skill after TRANSFER, by its definition and as the code sets them.
+-- Laws of TRANSFER: the days of each skill that the code sets, one skill after another, are those of the definition.
 use Rattle.std.proofs.Common.{◌≡◌, ℕ, ◌+◌, ◌-◌, ◌/◌, ◌≤◌, Bool, true, false, cond, List, [], ◌∷◌, ◌++◌, map, Option, Some, None, refl, sym, ap, subst, ◌∙◌, arith}
 use Rattle.std.proofs.Math.Nat.{zero-div, zero-mul}
 use Rattle.std.specs.Prelude.{fold, is_some, unwrap_or, ◌||◌}
@@ -15,7 +15,7 @@ use Rattle.atl_instant.specs.Transfer.{DaysGoWithMen, days_going, going_of, rais
 use Rattle.atl_instant.proofs.AmountsForLaws.{as_said, each_said, same_amounts}
 use Rattle.atl_records.proofs.HoldingLaws.{alike, every_amount, set_amount}
 
--- the amounts of some numbers, each set by the one that it has in a map
+-- the days of skills, each of which is set by a function of the skill and its days in a map
 module _ (days : FinMap nat_cmp ℕ) (f : ℕ → ℕ → ℕ) (s : ℕ) where
   -- the map with the days of each entry set to f of its skill and its days
   abbrev set_all : FinMap nat_cmp ℕ → List (ℕ × ℕ) → FinMap nat_cmp ℕ
@@ -25,7 +25,7 @@ module _ (days : FinMap nat_cmp ℕ) (f : ℕ → ℕ → ℕ) (s : ℕ) where
   abbrev is_among : List (ℕ × ℕ) → Bool
   is_among es = list_any (eq_by_cmp nat_cmp s) (map (λ e. e.0) es)
 
-  -- after all are set, the skill s has f of its days if it is listed, and otherwise what it had
+  -- after the skills of some entries are set, skill s has f of its days if it is among them, and otherwise what it had
   set_among : (es : List (ℕ × ℕ)) (left : FinMap nat_cmp ℕ) → EachOf (λ k v. amount_of days k ≡ v) es → amount_of (set_all left es) s ≡ cond (is_among es) (f s (amount_of days s)) (amount_of left s)
   set_among [] left each = refl
   set_among ((k, v) ∷ es) left (one, each) =
@@ -44,7 +44,8 @@ module _ (days : FinMap nat_cmp ℕ) (f : ℕ → ℕ → ℕ) (s : ℕ) where
           ap (cond (is_among es) (f s (amount_of days s))) here ∙ both (is_among es) (f s (amount_of days s))
       by_key false is = refl
 
-  -- after the days of each skill of a map are set, the skill s has f of its days
+  -- After each skill of a map is set, skill s has f of its days.
+  -- If the map has 0 days of it, it had f of 0 before.
   pub set_each : (left : FinMap nat_cmp ℕ) → (amount_of days s ≡ 0 → amount_of left s ≡ f s 0) → amount_of (set_all left (entries days)) s ≡ f s (amount_of days s)
   set_each left others =
       set_among (entries days) left (each-from_every (λ k v. amount_of days k ≡ v) days (λ k v there. ap (λ (o : Option ℕ). unwrap_or o 0) there))
@@ -67,7 +68,7 @@ with_days_mapped : (f : ℕ → ℕ → ℕ) (es : List (ℕ × ℕ)) (all : Fin
 with_days_mapped f [] all = refl
 with_days_mapped f (e ∷ es) all = with_days_mapped f es (with_amount_of all e.0 (f e.0 e.1))
 
--- a skill that isn't listed has 0 days
+-- a skill that the map doesn't list has 0 days
 none_listed : (days : FinMap nat_cmp ℕ) (s : ℕ) → list_any (eq_by_cmp nat_cmp s) (keys days) ≡ false → amount_of days s ≡ 0
 none_listed days s none = by_option (get days s) (contains_key-keys days s ∙ none)
   where
@@ -91,6 +92,7 @@ none_come d g e f = omega (arith, e, f)
 pub none_go : (n : ℕ) (h : HoldingValue) (s : ℕ) → amount_of h.days s ≡ 0 → going_of n h s ≡ 0
 none_go n h s none = ap (days_going n h.men) none ∙ nobody_goes n h.men
 
+-- after any number of men went, both units have the days that `staying_of` and `raised_of` give
 pub days_go_with_men : DaysGoWithMen
 days_go_with_men n other h s = record {
   stay = as_said (staying_of n other) (keys other.days) s (λ none. none_stay (amount_of other.days s) (going_of n other s) (none_listed other.days s none));
@@ -118,7 +120,8 @@ set_as_said days had said f some some_said others each =
     (subst (Every (λ s d. 1 ≤ d)) (sym set) (every_set f (entries days) had some)) some_said
     (λ s. ap (λ (m : FinMap nat_cmp ℕ). amount_of m s) set ∙ set_each days f s had (others s) ∙ each s)
 
--- setting each listed skill over the old days gives the same map as setting it over the empty one, if f keeps 0 at 0
+-- Setting each skill of `days` gives the same map over `days` as over the empty map.
+-- For this f must keep 0 at 0, and no listed days may be 0.
 pub set_again : (days : FinMap nat_cmp ℕ) (f : ℕ → ℕ → ℕ) → ((s : ℕ) → f s 0 ≡ 0) → Every (λ s d. 1 ≤ d) days
     → with_days days (map (λ e. (e.0, f e.0 e.1)) (entries days)) ≡ fold (λ (m : FinMap nat_cmp ℕ) (e : ℕ × ℕ). with_amount_of m e.0 (f e.0 e.1)) empty (entries days)
 set_again days f none some =

@@ -1,4 +1,4 @@
--- A campaign in which a faction shows another name stays steady.
+-- Laws of a faction that shows another name: the campaign stays steady, and no faction is added.
 use Rattle.std.proofs.Common.{◌≡◌, ℕ, ◌+◌, List, Some, None, refl, sym, ap, subst, ◌∙◌, arith}
 use Rattle.std.specs.Prelude.{IsTrue, true, []}
 use Rattle.std.specs.Ordering.{nat_cmp}
@@ -18,7 +18,7 @@ module _ (c : CampaignValue) (n : ℕ) (x : Faction) (name : List ℕ) (is : get
   abbrev renamed : Faction
   renamed = record x { name = name }
 
-  -- the factions with this one renamed
+  -- the factions, of which faction n shows the other name
   abbrev factions : FinMap nat_cmp Faction
   factions = insert c.factions n renamed
 
@@ -38,6 +38,7 @@ module _ (c : CampaignValue) (n : ℕ) (x : Faction) (name : List ℕ) (is : get
   same_count : len factions ≡ len c.factions
   same_count = same_len c.factions n x renamed is
 
+  -- the campaign stays within the ranges of its numbers
   numbers_kept : (w : WorldValue) → AreInRange w c → AreInRange w shown
   numbers_kept w old = record {
     month = old.month;
@@ -54,10 +55,11 @@ module _ (c : CampaignValue) (n : ℕ) (x : Faction) (name : List ℕ) (is : get
     books = old.books;
   }
 
-  -- two factions that joined under the same bytes are one
+  -- if two factions joined under the same bytes, they have the same number
   abbrev JoinedOnce : ℕ → Faction → ℕ → Faction → Type 0
   JoinedOnce k f m g = f.joined_as ≡ g.joined_as → k ≡ m
 
+  -- all names stay good, if the new name is good
   names_kept : IsTrue (name_ok name) → AreNamed c → AreNamed shown
   names_kept named old =
       let (joined, was, pass) = old.factions n x is in
@@ -71,6 +73,7 @@ module _ (c : CampaignValue) (n : ℕ) (x : Faction) (name : List ℕ) (is : get
         structures = old.structures;
       }
 
+  -- all that the campaign refers to is still there
   known_kept : (w : WorldValue) → AreKnown w c → AreKnown w shown
   known_kept w old = record {
     regions = old.regions;
@@ -80,6 +83,7 @@ module _ (c : CampaignValue) (n : ℕ) (x : Faction) (name : List ℕ) (is : get
     posts = posted-there there old.posts;
   }
 
+  -- the next numbers stay free
   next_kept : AreNumbered c → AreNumbered shown
   next_kept old = record {
     factions = record { first = none_kept 0 old.factions.first; count = old.factions.count ∙ ap (λ l. l + 1) (sym same_count); free = λ k l. none_kept k (old.factions.free k l) };
@@ -87,6 +91,7 @@ module _ (c : CampaignValue) (n : ℕ) (x : Faction) (name : List ℕ) (is : get
     units = old.units;
   }
 
+  -- the campaign stays steady, if the new name is good
   steady_shown : (w : WorldValue) → IsTrue (name_ok name) → IsSteady w c → IsSteady w shown
   steady_shown w named old = record {
     numbers = numbers_kept w old.numbers;
@@ -100,7 +105,7 @@ module _ (c : CampaignValue) (n : ℕ) (x : Faction) (name : List ℕ) (is : get
     guarded = old.guarded;
   }
 
-  -- `with_faction_name` makes this campaign
+  -- `with_faction_name` makes the campaign `shown`
   shown_is : with_faction_name c n name ≡ shown
   shown_is = ap (λ m. record c { factions = m }) (changed-known (λ f. record f { name = name }) c.factions n x is)
 
@@ -108,14 +113,14 @@ module _ (c : CampaignValue) (n : ℕ) (x : Faction) (name : List ℕ) (is : get
   pub steady-faction_name : (w : WorldValue) → IsTrue (name_ok name) → IsSteady w c → IsSteady w (with_faction_name c n name)
   steady-faction_name w named old = subst (IsSteady w) (sym shown_is) (steady_shown w named old)
 
-  -- the number of factions stays the same
+  -- another name of a faction leaves the number of factions as it is
   pub count-faction_name : len (with_faction_name c n name).factions ≡ len c.factions
   count-faction_name = ap (λ (d : CampaignValue). len d.factions) shown_is ∙ same_count
 
-  -- each faction that is there was there before
+  -- a faction of `factions` was there before the renaming
   was_there : (k : ℕ) → IsThere factions k → IsThere c.factions k
   was_there k (f, here) = every-insert (λ k f. IsThere c.factions k) c.factions n renamed (x, is) (λ k f here. (f, here)) k f here
 
-  -- a faction that is there after was there before
+  -- a faction that is there after the renaming was there before
   pub known-faction_name : (k : ℕ) → IsThere (with_faction_name c n name).factions k → IsThere c.factions k
   known-faction_name k h = was_there k (subst (λ (d : CampaignValue). IsThere d.factions k) shown_is h)

@@ -1,4 +1,4 @@
--- Mailings that were read with a world say only what can be read with it.
+-- Laws of mailings that were read with a world: what they say is within the bounds of the world.
 use Rattle.std.proofs.Common.{List, [], ◌∷◌, map}
 use Rattle.std.specs.List.{AllByRecursion}
 use Rattle.atl_tables.specs.Worlds.{WorldValue}
@@ -10,7 +10,7 @@ use Rattle.atl_records.proofs.EveryLaws.{every-empty, every-insert}
 use Rattle.atl_instant.specs.Month.{by_faction}
 use Rattle.atl_instant.specs.Fit.{AreFit}
 
--- mailings that were read with a world are fit for it, as a map from each faction to its reading
+-- the readings of mailings that were read with a world satisfy `AreFit` with it, by faction
 pub read_fit : (w : WorldValue) (ms : List Mailing) → AllByRecursion (IsReadWith w) ms → AreFit w (by_faction (map reading_of ms))
 read_fit w [] all = every-empty (λ f r. IsReading w r)
 read_fit w (m ∷ ms) all = every-insert (λ f r. IsReading w r) (by_faction (map reading_of ms)) m.faction (reading_of m) (readings_keep_bounds w m.text (reading_of m) all.0) (read_fit w ms all.1)

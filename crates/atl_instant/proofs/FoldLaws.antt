@@ -1,4 +1,4 @@
--- Folds over the elements of a list that a loop has still to go through.
+-- Laws of folds over mapped lists, and of the elements of a mapped list.
 use Rattle.std.proofs.Common.{◌≡◌, ◌+◌, ◌<◌, ◌≤◌, ℕ, List, [], ◌∷◌, length, map, drop, get_or, refl, sym, ap, subst, ◌∙◌, arith}
 use Rattle.std.specs.Prelude.{fold}
 use Rattle.std.specs.List.{All}
@@ -9,11 +9,11 @@ pub fold_behind : {S A : Type 0} (f : S → A → S) (xs : List A) (i : ℕ) (no
     → after ≡ f before (get_or xs i none) → fold f before (drop i xs) ≡ whole → fold f after (drop (i + 1) xs) ≡ whole
 fold_behind f xs i none before inside step all = ap (λ s. fold f s (drop (i + 1) xs)) step ∙ sym (ap (fold f before) (drop_more xs i none inside)) ∙ all
 
--- at the end of the list the result so far is the whole result
+-- past the end of the list the result so far is the result of the whole fold
 pub fold_ended : {S A : Type 0} (f : S → A → S) (xs : List A) (i : ℕ) (behind : S) {whole : S} → length xs ≤ i → fold f behind (drop i xs) ≡ whole → behind ≡ whole
 fold_ended f xs i behind ended all = sym (ap (fold f behind) (drop_all i xs ended)) ∙ all
 
--- a fold over a list, with g taken of each element, is the fold over the mapped list
+-- a fold over a list that maps each element by g first is the fold over the list mapped by g
 pub fold_mapped : {S A B : Type 0} (f : S → B → S) (g : A → B) (s : S) (xs : List A) → fold (λ r x. f r (g x)) s xs ≡ fold f s (map g xs)
 fold_mapped f g s [] = refl
 fold_mapped f g s (x ∷ xs) = fold_mapped f g (f s (g x)) xs

@@ -1,4 +1,4 @@
--- FORM leaves a campaign well, and each unit that was there as it was.
+-- Laws of FORM: the campaign stays early, its books balanced, and each unit that was there is unchanged.
 use Rattle.std.proofs.Common.{◌≡◌, ℕ, ◌≤◌, Bool, true, false, not, List, [], ◌∷◌, Option, Some, None, map, refl, sym, ap, subst, ◌∙◌, arith}
 use Rattle.std.specs.Prelude.{fold}
 use Rattle.std.specs.Option.{option_map_or}
@@ -31,39 +31,46 @@ module _ (w : WorldValue) (c : CampaignValue) (early : IsEarly w c) where
   free_number = early.steady.next.units c.next_unit (omega arith)
 
   module _ (f n : ℕ) where
-    -- the campaign with the formed unit, by what its parent is
+    -- if unit n is of faction f, the campaign after FORM has a new unit of its faction, in its region and structure
     formed_is : (u : Unit) → get c.units n ≡ Some u → u.faction ≡ f → with_formed_unit c f n ≡ with_unit_begun c (new_unit c.next_unit u.faction u.region u.structure)
     formed_is u is own =
         ap (λ g. with_unit_begun c (new_unit c.next_unit g (region_of c n) (inside c n))) (sym own)
         ∙ ap (λ (o : Option Unit). with_unit_begun c (new_unit c.next_unit u.faction (option_map_or (λ x. x.region) o 0) (option_map_or (λ x. x.structure) o 0))) is
 
+    -- the change satisfies `StepsWell` and books nothing, and each unit that was there is unchanged
     abbrev Fine : CampaignValue → Type 0
     Fine d = StepsWell IsEarly books_nothing w c d × Every (λ k v. get d.units k ≡ Some v) c.units
 
+    -- an unchanged campaign satisfies `Fine`
     same_fine : Fine c
     same_fine = (well_same w c early, λ k v there. there)
 
+    -- if the unit limit isn't reached, the campaign with a unit formed by a unit of faction f satisfies `Fine`
     formed_fine : (u : Unit) → get c.units n ≡ Some u → (u.faction ≡ f) → is_unit_limit c ≡ false → Fine (with_formed_unit c f n)
     formed_fine u is own limit = subst Fine (sym (formed_is u is own)) (begun_well w c n u is early limit, begun_stays w c n u is early)
 
+    -- the campaign after FORM for a unit that is there satisfies `Fine`,
+    -- whatever its faction is and whether the unit limit is reached
     by_limit : (u : Unit) → get c.units n ≡ Some u → (a b : Bool) → is_of_faction f (Some u) ≡ a → is_unit_limit c ≡ b
         → Fine (unless c (first_fault ((not a, NotYours) ∷ (b, UnitLimit) ∷ [])) (with_formed_unit c f n, Done c.next_unit)).0
     by_limit u is false b own limit = same_fine
     by_limit u is true true own limit = same_fine
     by_limit u is true false own limit = formed_fine u is (is_equal u.faction f own) limit
 
+    -- the campaign after FORM satisfies `Fine`, whether unit n is there or not
     by_unit : (o : Option Unit) → get c.units n ≡ o → Fine (unless c (first_fault ((not (is_of_faction f o), NotYours) ∷ (is_unit_limit c, UnitLimit) ∷ [])) (with_formed_unit c f n, Done c.next_unit)).0
     by_unit None is = same_fine
     by_unit (Some u) is = by_limit u is (is_of_faction f (Some u)) (is_unit_limit c) refl refl
 
+    -- the campaign after an order of FORM satisfies `Fine`
     form_fine : Fine (form_by c f n).0
     form_fine = by_unit (get c.units n) refl
 
-  -- a copied order of FORM steps well
+  -- a copied order of FORM keeps an early campaign early, in its month and with balanced books (`StepsWell`)
   pub order_well : (m : MonthValue) (o : Forming) → StepsWell IsEarly books_nothing w c (form_apart (c, m) o).0
   order_well m o = (form_fine o.faction o.unit).0
 
-  -- a copied order of FORM leaves each unit that was there as it was
+  -- a copied order of FORM leaves each unit as it was that was there before
   pub order_stays : (m : MonthValue) (o : Forming) → Every (λ k v. get (form_apart (c, m) o).0.units k ≡ Some v) c.units
   order_stays m o = (form_fine o.faction o.unit).1
 

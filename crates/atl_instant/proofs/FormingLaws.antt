@@ -1,4 +1,4 @@
--- A campaign in which a unit has formed another stays well.
+-- Laws of a campaign in which a unit has formed another: it stays early, and each other unit is unchanged.
 use Rattle.std.proofs.Common.{◌≡◌, ◌≢◌, ◌==◌, ◌||◌, ◌*◌, ℕ, ◌+◌, ◌≤◌, ◌<◌, Bool, true, false, cond, Some, None, length, nat_le, nat_lt, refl, sym, ap, ◌∙◌, arith}
 use Rattle.std.proofs.lemmas.Bool.{true≢false}
 use Rattle.std.specs.Prelude.{IsTrue, is_some, unwrap_or}
@@ -44,7 +44,7 @@ still_there m k q v x free is = get-insert_other m k q v (λ same. none_some x (
 few : (u n : ℕ) → (nat_le most_units u || nat_lt last_unit n) ≡ false → (u < most_units) × (n ≤ last_unit)
 few u n h = (grind (arith, nat_tests), grind (arith, nat_tests))
 
--- where the unit limit isn't reached there is room for one more unit, and for its number
+-- if the unit limit isn't reached, there is room for one more unit, and for its number
 pub room : (c : CampaignValue) → is_unit_limit c ≡ false → (len c.units < most_units) × (c.next_unit ≤ last_unit)
 room c h = few (len c.units) c.next_unit h
 
@@ -61,7 +61,7 @@ module _ (w : WorldValue) (c : CampaignValue) (p : ℕ) (u : Unit) (is : get c.u
   abbrev begun : CampaignValue
   begun = with_unit_begun c child
 
-  -- the campaign before is steady
+  -- the campaign before FORM is steady
   old : IsSteady w c
   old = early.steady
 
@@ -69,10 +69,11 @@ module _ (w : WorldValue) (c : CampaignValue) (p : ℕ) (u : Unit) (is : get c.u
   free : get c.units c.next_unit ≡ None
   free = old.next.units c.next_unit (omega arith)
 
-  -- each unit that was there stays as it was
+  -- each unit that was there stays as it was when the new unit is added
   unit_stays : Every (λ n v. get units n ≡ Some v) c.units
   unit_stays n v there = still_there c.units c.next_unit n child v free there
 
+  -- the campaign stays within the ranges of its numbers, if the unit limit isn't reached
   numbers_kept : is_unit_limit c ≡ false → AreInRange w begun
   numbers_kept limit =
       let r = room c limit in
@@ -92,6 +93,7 @@ module _ (w : WorldValue) (c : CampaignValue) (p : ℕ) (u : Unit) (is : get c.u
         books = n.books;
       }
 
+  -- all names stay good, if the unit limit isn't reached
   names_kept : is_unit_limit c ≡ false → AreNamed begun
   names_kept limit =
       let n = old.names in
@@ -103,6 +105,7 @@ module _ (w : WorldValue) (c : CampaignValue) (p : ℕ) (u : Unit) (is : get c.u
         structures = n.structures;
       }
 
+  -- all that the campaign refers to is still there
   known_kept : AreKnown w begun
   known_kept =
       let k = old.known in
@@ -116,6 +119,7 @@ module _ (w : WorldValue) (c : CampaignValue) (p : ℕ) (u : Unit) (is : get c.u
         posts = k.posts;
       }
 
+  -- the next numbers stay free
   next_kept : AreNumbered begun
   next_kept = record {
     factions = old.next.factions;
@@ -123,12 +127,14 @@ module _ (w : WorldValue) (c : CampaignValue) (p : ℕ) (u : Unit) (is : get c.u
     units = λ q above. get-insert_other c.units c.next_unit q child (λ same. omega arith) ∙ old.next.units q (omega arith);
   }
 
+  -- factions that are gone still have no units
   gone_kept : GoneHaveNone begun
   gone_kept m f there gone =
       let test = λ (x : Unit). x.faction == m in
       let none = old.gone m f there gone in
       numbers_where-insert_other test c.units c.next_unit child free (none_passing test c.units none p u is) ∙ none
 
+  -- each structure still has its right owner
   owners_kept : AreOwned begun
   owners_kept n s there =
       let o = old.owners n s there in
@@ -137,13 +143,14 @@ module _ (w : WorldValue) (c : CampaignValue) (p : ℕ) (u : Unit) (is : get c.u
         ownerless = λ none. every-insert (λ m x. x.structure ≢ n) c.units c.next_unit child (o.ownerless none p u is) (o.ownerless none);
       }
 
+  -- on water each unit is still inside a ship
   water_kept : AreAfloat w begun
   water_kept = record {
     units = every-insert (λ n x. is_land_at w x.region ≡ false → IsAboard w begun x) c.units c.next_unit child (old.water.units p u is) old.water.units;
     structures = old.water.structures;
   }
 
-  -- all units that pass a test still are of one faction in each region, if the new unit doesn't pass it
+  -- units that pass a test are still of one faction in each region, if the new unit doesn't pass the test
   one_faction_kept : (test : Unit → Bool) → test child ≡ false → AreOfOneFaction test c → AreOfOneFaction test begun
   one_faction_kept test fails one =
       every-insert (λ n x. Every (λ m y. test x ≡ true → test y ≡ true → x.region ≡ y.region → x.faction ≡ y.faction) units) c.units c.next_unit child (λ m y there e. absurd (true≢false (sym e ∙ fails)))
@@ -175,16 +182,17 @@ module _ (w : WorldValue) (c : CampaignValue) (p : ℕ) (u : Unit) (is : get c.u
   none_more : (a b h : ℕ) → a ≡ b + h → h ≡ 0 → a ≡ b
   none_more a b h e none = omega arith
 
-  -- the totals stay the same
+  -- the totals stay the same, as the new unit has nothing
   same_total : (t : Thing) → total begun t ≡ total c t
   unfolding total
   same_total t = none_more (total begun t) (total c t) (unit_amount t child.holding) (total-with_unit c c.next_unit child t free) (nothing_held t)
 
-  -- forming a unit is a step that leaves the campaign well, if the unit limit isn't reached
+  -- if the unit limit isn't reached, forming a unit keeps an early campaign early,
+  -- in its month and with balanced books (`StepsWell`)
   pub begun_well : is_unit_limit c ≡ false → StepsWell IsEarly books_nothing w c begun
   begun_well limit = unbooked_well w c begun (early_begun limit) (same_month_by refl) refl same_total
 
-  -- each unit that was there stays as it was when another is formed
+  -- each unit that was there is unchanged after another unit is formed
   pub begun_stays : Every (λ n v. get begun.units n ≡ Some v) c.units
   begun_stays = unit_stays
 

@@ -1,4 +1,4 @@
--- GIVE and PAY leave a campaign well, and no unit but the giver worse off.
+-- Laws of GIVE and PAY: the campaign stays early, its books balanced, and no unit but the giver is worse off.
 use Rattle.std.proofs.Common.{◌≡◌, ◌≢◌, ◌==◌, ℕ, ◌+◌, ◌-◌, ◌≤◌, ◌<◌, Bool, true, false, cond, not, ◌&&◌, [], ◌∷◌, length, Option, Some, None, refl, sym, ap, subst, ◌∙◌, arith}
 use Rattle.std.specs.Prelude.{⊤, IfSome, nat_lt, if◌then◌else◌}
 use Rattle.std.proofs.lemmas.Bool.Decides.{nat_tests}
@@ -80,7 +80,8 @@ abbrev pub IsKnown : WorldValue → Gift → Type 0
 IsKnown w Money = ⊤
 IsKnown w (Item i) = i < length w.items
 
--- a unit may still hold what it holds with another amount of the gift, if that is within the limit
+-- a unit that may hold what it holds may hold another amount of the gift, up to `holding_limit`,
+-- if the gift is of the world
 pub may_have_of : (w : WorldValue) (h : HoldingValue) (gift : Gift) (amount : ℕ) → IsKnown w gift → amount ≤ holding_limit → MayHave w h → MayHave w (with_held_of gift h amount)
 may_have_of w h Money amount known most may = record {
   limits = record { men = may.limits.men; money = most; items = may.limits.items };
@@ -97,7 +98,7 @@ may_have_of w h (Item i) amount known most may = record {
   days = may.days;
 }
 
--- a unit with another amount of the gift guards only if it did before
+-- a unit with another amount of the gift has its guard flag set only if it was set before
 same_flag : (gift : Gift) (h : HoldingValue) (amount : ℕ) → (with_held_of gift h amount).guard ≡ true → h.guard ≡ true
 same_flag Money h amount g = g
 same_flag (Item i) h amount g = g
@@ -167,7 +168,8 @@ give_cases P c from to gift n u giver same move = by_receiver (get c.units to) r
     by_receiver (Some v) receiver = by_fault v receiver (give_fault gift n (to == from) u (Some v)) refl
 
 module _ (w : WorldValue) (c : CampaignValue) (early : IsEarly w c) (from to : ℕ) (gift : Gift) (n : ℕ) (u : Unit) (giver : get c.units from ≡ Some u) where
-  -- an order of GIVE or PAY is a step that leaves the campaign well
+  -- an order of GIVE or PAY keeps an early campaign early, in its month and with balanced books (`StepsWell`),
+  -- if the gift is of the world
   give_steps_well : IsKnown w gift → StepsWell IsEarly (λ d e t. 0) w c (give from to gift n c u).0
   give_steps_well known =
       give_cases (λ d. StepsWell IsEarly (λ d e t. 0) w c d) c from to gift n u giver (well_same w c early)
@@ -190,7 +192,8 @@ module _ (w : WorldValue) (c : CampaignValue) (early : IsEarly w c) (from to : �
 
 -- ---- the phase
 
--- the step of GIVE and PAY is orderly
+-- orders of GIVE and PAY satisfy `IsOrderly`:
+-- they book nothing, and a unit without an own order of these is no worse off
 pub give_orderly : IsOrderly give_step IsEarly (λ c e t. 0) (λ e t. 0) IsOwnOrder IsNoWorse
 give_orderly = record {
   well = λ w a c t x early fit own. well w a c t x early own t.order_value.operands fit;

@@ -1,4 +1,4 @@
--- GUARD 1 leaves a campaign well: a unit begins to guard a region that no other faction guards.
+-- Laws of GUARD 1: the campaign stays steady, and the guards of each region stay of one faction.
 use Rattle.std.proofs.Common.{◌≡◌, ◌≢◌, ◌==◌, ℕ, ◌+◌, Bool, true, false, not, ◌&&◌, ◌||◌, List, [], ◌∷◌, Option, Some, None, refl, sym, ap, subst, ◌∙◌, inl, inr, arith}
 use Rattle.std.specs.Prelude.{IfSome, pos}
 use Rattle.std.specs.List.{list_any}
@@ -50,7 +50,7 @@ none_of p (n ∷ ns) is k listed = by_test (p n) refl is (λ e h. none_of p ns e
     by_test false t e rest (inl same) = ap p same ∙ t
     by_test false t e rest (inr h) = rest e h
 
--- where no other faction guards a region, each unit that guards there is of this faction
+-- if no other faction guards a region, each unit that guards there is of this faction
 pub own_guards : (c : CampaignValue) (region faction : ℕ) → is_guarded_against c region faction ≡ false → Every (λ m v. guards v ≡ true → v.region ≡ region → v.faction ≡ faction) c.units
 own_guards c region faction none m v there guarding here =
     let inside : (v.region == region) ≡ true = grind (arith, nat_tests) in
@@ -85,11 +85,11 @@ module _ (c : CampaignValue) (n : ℕ) (u : Unit) (is : get c.units n ≡ Some u
       (every-insert (λ m y. Agree guarding y) c.units n guarding (λ g k same. refl) (λ m y there g k same. sym (own m y there k (sym same))))
       (λ k x here. every-insert (λ m y. Agree x y) c.units n guarding (λ g h same. own k x here g same) (old k x here))
 
-  -- setting the guard flag of a unit that is there makes this campaign
+  -- setting the guard flag of a unit that is there makes the campaign `flagged`
   pub flagged_is : with_guard c n true ≡ flagged
   flagged_is = ap (λ m. record c { units = m }) (changed-known (λ (x : Unit). record x { holding = record x.holding { guard = true } }) c.units n u is)
 
-  -- each other unit stays as it is
+  -- each unit but n is no worse off when the guard flag of unit n is set
   pub flag_spares : (k : ℕ) (x : Unit) → get c.units k ≡ Some x → k ≢ n → IsUnaffected IsNoWorse (with_guard c n true) k x
   flag_spares k x there apart =
       subst (λ d. IsUnaffected IsNoWorse d k x) (sym flagged_is) (record { unit = x; there = get-insert_other c.units n k guarding apart ∙ there; spared = no_worse x })
@@ -104,18 +104,21 @@ module _ (c : CampaignValue) (n : ℕ) (u : Unit) (is : get c.units n ≡ Some u
         (record { limits = record { men = limits.men; money = limits.money; items = limits.items }; name = may.name; items = may.items; skills = may.skills; days = may.days })
         (guards_kept none steady.guarded) steady
 
+    -- the unit holds as much of each thing with its guard flag set
     held_same : (t : Thing) → unit_amount t (record u.holding { guard = true }) ≡ unit_amount t u.holding
     held_same Money = refl
     held_same People = refl
     held_same (Item i) = refl
 
+    -- the totals stay the same when the guard flag of the unit is set
     total_same : (t : Thing) → total flagged t ≡ total c t
     total_same t = same (total flagged t) (total c t) (unit_amount t u.holding) (unit_amount t (record u.holding { guard = true })) (total-unit_amount w c n u (record u.holding { guard = true }) is t) (held_same t)
       where
         same : (a b x y : ℕ) → a + x ≡ b + y → y ≡ x → a ≡ b
         same a b x y e f = omega arith
 
-    -- so setting the flag is a step that leaves the campaign well
+    -- setting the guard flag keeps a steady campaign steady, in its month and with balanced books (`StepsWell`),
+    -- if no other faction guards the region
     pub flag_steps_well : is_guarded_against c u.region u.faction ≡ false → IsSteady w c → StepsWell IsSteady (λ d e t. 0) w c (with_guard c n true)
     flag_steps_well none steady =
         subst (λ d. StepsWell IsSteady (λ d e t. 0) w c d) (sym flagged_is) (record {
@@ -145,7 +148,7 @@ guard_cases P c n u same flag = by_fault (guard_fault c u) refl
         let two = none_fits (is_guarded_against c u.region u.faction) Guarded [] one.1 in
         flag two.0
 
--- an order of GUARD 1 is a step that leaves the campaign well
+-- an order of GUARD 1 keeps a steady campaign steady, in its month and with balanced books (`StepsWell`)
 guard_steps_well : (w : WorldValue) (c : CampaignValue) (n : ℕ) (u : Unit) → get c.units n ≡ Some u → IsSteady w c → StepsWell IsSteady (λ d e t. 0) w c (guard n c u).0
 guard_steps_well w c n u is steady = guard_cases (λ d. StepsWell IsSteady (λ d e t. 0) w c d) c n u (well_same w c steady) (λ none. flag_steps_well c n u is w none steady)
 
@@ -156,7 +159,7 @@ guard_spares w c n u is k x there apart =
 
 -- ---- the phase
 
--- the step of GUARD 1 is orderly
+-- orders of GUARD 1 satisfy `IsOrderly`: they book nothing, and a unit without an own GUARD 1 is no worse off
 pub guard_orderly : IsOrderly guard_step IsSteady (λ c e t. 0) (λ e t. 0) guard_concerns IsNoWorse
 guard_orderly = record {
   well = λ w a c t x steady fit own. well w c t x steady own t.order_value.operands;

@@ -1,4 +1,4 @@
--- The map that a list of entries makes, and what it lists: independent of the order of the list.
+-- Laws of the map that a list of entries makes: the map and what it lists don't depend on the order of the list.
 use Rattle.std.proofs.Common.{◌≡◌, ℕ, ◌+◌, ◌<◌, cond, ◌&&◌, Bool, true, false, T, List, [], ◌∷◌, map, filter, length, get_or, Option, Some, None, refl, sym, ap, subst, ◌∙◌, Contains, slice_get, IsPermutation, arith}
 use Rattle.std.specs.declared.cmp.Ordering.{Ordering}
 use Rattle.std.specs.declared.cmp.Ordering.TheVariants.{Less, Equal, Greater}
@@ -17,11 +17,11 @@ use Rattle.std.proofs.lemmas.List.Sorted.{IsPermutation-map, IsPermutation-sym, 
 use Rattle.std.proofs.lemmas.Option.{get_or_from_slice_get, slice_get-get_or, slice_get_within}
 
 module _ {X : Type 0} where
-  -- a value that is there isn't missing
+  -- if Some x were None, anything would follow
   some_none : {P : Type 0} (x : X) → Some x ≡ None → P
   some_none x e = cc
 
-  -- two look-ups are the same if each finds what the other finds
+  -- two look-ups are equal if each value that one finds the other finds too
   alike : (a b : Option X) → ((v : X) → a ≡ Some v → b ≡ Some v) → ((v : X) → b ≡ Some v → a ≡ Some v) → a ≡ b
   alike None None f g = refl
   alike None (Some w) f g = g w refl
@@ -48,7 +48,7 @@ less Equal h = absurd (false≢true h)
 less Greater h = absurd (false≢true h)
 
 module _ {K : Type 0} {R : K → K → Ordering} (o : IsTotalOrder R) where
-  -- of two keys that aren't equal, the one that isn't greater is less
+  -- if y isn't less than x, and they aren't equal, x is less than y
   below : (x y : K) → is_lt (R y x) ≡ false → eq_by_cmp R x y ≡ false → R x y ≡ Less
   below x y up apart =
       elim (R x y) as (λ r. R x y ≡ r → is_eq r ≡ false → r ≡ Less) [
@@ -71,16 +71,16 @@ module _ {K X : Type 0} {R : K → K → Ordering} (o : IsTotalOrder R) (exact :
       let same : at.1 ≡ q = sym (exact q at.1 ((Equal-is (R q at.1)).0 at.3)) in
       ap (λ k. lookup (eq_by_cmp R k) fs) (sym same) ∙ lookup_from_place (eq_by_cmp_equiv o) fs there.0 at.1 v apart there.1
 
-  -- keys without two equal ones are so in another order
+  -- if no two keys of a list are equal, no two are equal in another order of the list
   moved : (es fs : List (K × X)) → IsPermutation es fs → IsDistinct (eq_by_cmp R) (keys_of es) → IsDistinct (eq_by_cmp R) (keys_of fs)
   moved es fs p apart = IsDistinct-IsPermutation (eq_by_cmp R) (eq_by_cmp_equiv o).symm (keys_of es) (keys_of fs) (IsPermutation-map (λ e. e.0) es fs p) apart
 
-  -- the search finds the same in a list in another order, if no two keys are equal
+  -- the search finds the same in two orders of a list, if no two keys are equal
   pub find-permutation : (es fs : List (K × X)) → IsPermutation es fs → IsDistinct (eq_by_cmp R) (keys_of es) → (q : K) → find R q es ≡ find R q fs
   find-permutation es fs p apart q =
       find_is q es ∙ alike (lookup (eq_by_cmp R q) es) (lookup (eq_by_cmp R q) fs) (found es fs p (moved es fs p apart) q) (found fs es (IsPermutation-sym es fs p) apart q) ∙ sym (find_is q fs)
 
-  -- entries in another order make the same map, if no two keys are equal
+  -- two orders of a list of entries make the same map, if no two keys are equal
   pub from_entries-permutation : (es fs : List (K × X)) → IsPermutation es fs → IsDistinct (eq_by_cmp R) (keys_of es) → from_entries {R = R} es ≡ from_entries fs
   from_entries-permutation es fs p apart = same_map o exact _ _ (λ q. get-from_entries o es q ∙ find-permutation es fs p apart q ∙ sym (get-from_entries o fs q))
 
@@ -114,7 +114,7 @@ module _ {K X : Type 0} {R : K → K → Ordering} (o : IsTotalOrder R) (exact :
       sym (entries-from_sorted R fs ordered) ∙ ap entries (same_map o exact (from_sorted fs) (from_entries es) (λ q.
       get-from_sorted R fs q ordered ∙ sym (find-permutation es fs p apart q) ∙ sym (get-from_entries o es q)))
 
-  -- a key below a list is less than all its keys
+  -- a key that is below a list is less than each of its keys
   all_less : (x : K) (es : List (K × X)) → below_all R x es ≡ true → AllByRecursion (λ y. R x y ≡ Less) (keys_of es)
   all_less x [] h = tt
   all_less x (e ∷ es) h = let parts = and_parts _ _ h in (less _ parts.0, all_less x es parts.1)
@@ -128,9 +128,11 @@ module _ {K X : Type 0} {R : K → K → Ordering} (o : IsTotalOrder R) (exact :
   -- ---- the entries whose values pass a test
 
   module _ (p : X → Bool) where
+    -- the entries whose values pass the test
     abbrev passing : List (K × X) → List (K × X)
     passing es = filter (λ e. p e.1) es
 
+    -- a key that is below a list is below those of its entries that pass the test
     below-passing : (x : K) (es : List (K × X)) → below_all R x es ≡ true → below_all R x (passing es) ≡ true
     below-passing x [] h = refl
     below-passing x (e ∷ es) h =
@@ -141,6 +143,7 @@ module _ {K X : Type 0} {R : K → K → Ordering} (o : IsTotalOrder R) (exact :
           | false ↦ rest
         ]
 
+    -- the entries of a sorted list that pass the test are sorted
     sorted-passing : (es : List (K × X)) → is_sorted R es ≡ true → is_sorted R (passing es) ≡ true
     sorted-passing [] h = refl
     sorted-passing (e ∷ es) h =
@@ -152,10 +155,12 @@ module _ {K X : Type 0} {R : K → K → Ordering} (o : IsTotalOrder R) (exact :
           | false ↦ rest
         ]
 
+    -- the search among the entries that pass the test finds what it finds among all, if that passes, and None otherwise
     find-passing : (es : List (K × X)) → IsDistinct (eq_by_cmp R) (keys_of es) → (q : K) → find R q (passing es) ≡ option_filter p (find R q es)
     find-passing es apart q = find_is q (passing es) ∙ lookup-filter-values (eq_by_cmp_equiv o) p q es apart ∙ ap (option_filter p) (sym (find_is q es))
 
-    -- the map of the entries whose values pass a test lists those of the whole map's entries that do
+    -- the map of the entries whose values pass a test lists the passing entries of the whole map,
+    -- if no two keys are equal
     pub entries-passing : (es : List (K × X)) → IsDistinct (eq_by_cmp R) (keys_of es) → entries (from_entries {R = R} (passing es)) ≡ passing (entries (from_entries {R = R} es))
     entries-passing es apart =
         let m : FinMap R X = from_entries es in
@@ -168,13 +173,13 @@ module _ {K X : Type 0} {R : K → K → Ordering} (o : IsTotalOrder R) (exact :
         ∙ sym (find-passing fs (IsDistinct-from_sorted R (keys_of fs) (rising fs up)) q) ∙ sym (get-from_sorted R (passing fs) q ordered)))
         ∙ entries-from_sorted R (passing fs) ordered
 
--- elements in the order of their keys, each with its key
+-- elements sorted by a key, each listed with its key
 module _ {K X : Type 0} (R : K → K → Ordering) (key : X → K) where
-  -- an element with its key
+  -- an element, after its key
   abbrev keyed : X → K × X
   keyed x = (key x, x)
 
-  -- elements sorted by their keys are so with their keys
+  -- if elements are sorted by their keys, the pairs of key and element are sorted by their keys
   pub keyed_order : (xs : List X) → IsSortedByKey key R xs → IsSortedBy {X = K × X} (λ x y. is_lt (R x.0 y.0)) (map keyed xs)
   keyed_order xs up k d low h =
       let long : length (map keyed xs) ≡ length xs = length-map xs keyed in

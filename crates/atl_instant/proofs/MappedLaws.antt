@@ -1,4 +1,4 @@
--- The entries of a map when a function is taken of each value.
+-- Laws of the entries of a map when each value is mapped by a function.
 use Rattle.std.proofs.Common.{◌≡◌, List, [], ◌∷◌, map, refl, sym, ap, ◌∙◌}
 use Rattle.std.specs.declared.cmp.Ordering.{Ordering}
 use Rattle.std.specs.declared.cmp.Ordering.TheVariants.{Less, Equal, Greater}
@@ -21,7 +21,7 @@ module _ {K X Y : Type 0} (R : K → K → Ordering) (f : X → Y) where
   abbrev pub with_value : K × X → K × Y
   with_value e = (e.0, f e.1)
 
-  -- putting f of a value among mapped entries is mapping the entries with the value put
+  -- putting f of a value among mapped entries gives the same as putting the value in first and mapping all then
   put-mapped : (k : K) (v : X) (es : List (K × X)) → put R k (f v) (map with_value es) ≡ map with_value (put R k v es)
   put-mapped k v [] = refl
   put-mapped k v (e ∷ es) =

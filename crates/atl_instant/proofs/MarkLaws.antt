@@ -1,4 +1,4 @@
--- Changes of a campaign whose changed parts are all marked (`MarksChanges`).
+-- Laws of changes of a campaign that mark all that they change (`MarksChanges`).
 use Rattle.std.proofs.Common.{◌≡◌, ◌==◌, ℕ, Bool, true, false, Option, Some, None, refl, sym, ◌∙◌}
 use Rattle.std.specs.Prelude.{ℤ, Result, Ok, Err, OnOk, if◌then◌else◌}
 use Rattle.std.specs.FinMap.{get}
@@ -14,11 +14,11 @@ use Rattle.atl_state.proofs.HoldingLaws.{marks-unit_row}
 use Rattle.atl_state.proofs.LeavingLaws.{marks-after_handover}
 use Rattle.atl_state.proofs.OwnerLaws.{place-what}
 
--- a change with the value and the marks of one that marks all its changes does so too
+-- a change marks all that it changes, if it has the value and the marks of another change that does
 pub marks_by : (a b m : MarkedCampaign) → b.value ≡ m.value → b.marks ≡ m.marks → MarksChanges a m → MarksChanges a b
 marks_by a b m what marks h = rw (what, marks) (record { stay = h.stay; covers = h.covers })
 
--- a booking after a change that marks all its changes, with its own mark, marks all changes too
+-- if a change marks all that it changes, it does so with a later booking too, which marks its amount
 pub booked_marks : (a b d : MarkedCampaign) (e : Entry) (t : Thing) (z : ℤ) → MarksChanges a b → d.value ≡ with_amount b.value e t z → d.marks ≡ mark_amount b e t → MarksChanges a d
 booked_marks a b d e t z before what marks =
     marks-trans a b d before (marks_by b d (record { value = with_amount b.value e t z; marks = mark_amount b e t }) what marks (marks-amount b e t z))
@@ -37,12 +37,12 @@ marks_place_at c n r s (Some u) = by_test (u.structure == s)
         let next = handed_marked (put_marked c n r s) u.structure n (heir c.value u.structure n) in
         marks-trans c next (handed_marked next s 0 n) (marks-trans c (put_marked c n r s) next one_put (marks-after_handover (put_marked c n r s) u.structure n (heir c.value u.structure n))) (marks-after_handover next s 0 n)
 
--- placing a unit elsewhere, with its marks, marks all that changes
+-- placing a unit in another region and structure, with the marks of `place_marked`, marks all that changes
 pub marks-place : (c d : MarkedCampaign) (n r s : ℕ) → d.value ≡ with_place c.value n r s → d.marks ≡ (place_marked c n r s).marks → MarksChanges c d
 unfolding place_marked
 marks-place c d n r s what marks = marks_by c d (place_marked c n r s) (what ∙ sym (place-what c n r s)) marks (marks_place_at c n r s (get c.value.units n))
 
--- if two clauses together give a third, it holds where a call answers Ok
+-- if two clauses together imply a third, and both hold where a call answers Ok, the third holds there too
 pub on_ok_both : {A E : Type 0} {P Q R : Type 0} (r : Result A E) → (P → Q → R) → OnOk r P → OnOk r Q → OnOk r R
 on_ok_both (Ok a) f p q = f p q
 on_ok_both (Err e) f p q = tt

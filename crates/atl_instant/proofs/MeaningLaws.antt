@@ -25,7 +25,7 @@ near_twice j k a b c g h = record { above = omega (arith, ints, g.above, h.above
 pub near_more : (j k : ℕ) (a b : ℤ) → j ≤ k → IsNear j a b → IsNear k a b
 near_more j k a b l h = record { above = omega (arith, ints, h.above); below = omega (arith, ints, h.below) }
 
--- an amount differs from itself by at most any k
+-- an amount differs from itself by at most any number
 pub near_same : (k : ℕ) (a : ℤ) → IsNear k a a
 near_same k a = record { above = omega (arith, ints); below = omega (arith, ints) }
 
@@ -64,7 +64,7 @@ room_behind j k w c d well room e t = near_room (j e t) (k e t) (amount_in c.boo
 abbrev pub counted_month : CampaignValue → ℕ × FinMap nat_cmp (List ℕ)
 counted_month c = (c.month, c.reports)
 
--- a campaign is of the same month if month, reports, number of factions and the factions there stay
+-- a campaign is of the same month if its month, its reports and its number of factions stay, and no faction is added
 pub same_month_among : {c d : CampaignValue} → counted_month d ≡ counted_month c → len d.factions ≡ len c.factions → ((n : ℕ) → IsThere d.factions n → IsThere c.factions n) → IsSameMonth c d
 same_month_among {c} {d} same count factions = record {
   month = ap (λ (p : ℕ × FinMap nat_cmp (List ℕ)). p.0) same;
@@ -77,17 +77,17 @@ same_month_among {c} {d} same count factions = record {
 abbrev pub kept_in_month : CampaignValue → (ℕ × FinMap nat_cmp (List ℕ)) × FinMap nat_cmp Faction
 kept_in_month c = (counted_month c, c.factions)
 
--- a campaign in which these stay as they are is of the same month
+-- a campaign is of the same month if the month last closed, the reports and the factions stay
 pub same_month_by : {c d : CampaignValue} → kept_in_month d ≡ kept_in_month c → IsSameMonth c d
 same_month_by {c} {d} same =
     let factions : d.factions ≡ c.factions = ap (λ (p : (ℕ × FinMap nat_cmp (List ℕ)) × FinMap nat_cmp Faction). p.1) same in
     same_month_among (ap (λ (p : (ℕ × FinMap nat_cmp (List ℕ)) × FinMap nat_cmp Faction). p.0) same) (ap len factions) (λ n there. subst (λ (m : FinMap nat_cmp Faction). IsThere m n) factions there)
 
--- a campaign is of its own month
+-- an unchanged campaign is of the same month
 pub same_month : (c : CampaignValue) → IsSameMonth c c
 same_month c = same_month_by refl
 
--- two changes that each keep the month keep it together
+-- if each of two changes keeps the month (`IsSameMonth`), both together do
 pub same_month_twice : (a b c : CampaignValue) → IsSameMonth a b → IsSameMonth b c → IsSameMonth a c
 same_month_twice a b c one two = record {
   month = two.month ∙ one.month;
@@ -96,7 +96,7 @@ same_month_twice a b c one two = record {
   factions = λ n there. one.factions n (two.factions n there);
 }
 
--- two phases that each leave a campaign well do so in turn, within the sum of their bounds
+-- if two phases each satisfy `LeavesWell`, both in turn do, within the sum of their bounds
 pub both_leave_well : {between leaves : Condition} (j k : BookBound) (w : WorldValue) (a b c : CampaignValue) → LeavesWell between j w a b → LeavesWell leaves k w b c → LeavesWell leaves (both_move j k) w a c
 both_leave_well j k w a b c one two = record {
   leaves_it = two.leaves_it;
@@ -105,26 +105,26 @@ both_leave_well j k w a b c one two = record {
   near = λ e t. near_twice (j e t) (k e t) (amount_in a.books e t) (amount_in b.books e t) (amount_in c.books e t) (one.near e t) (two.near e t);
 }
 
--- two phases in turn keep what each keeps, where the first makes the campaign and month between them
+-- two phases in turn keep what each keeps, if the first phase makes the campaign and month that the second one gets
 pub both_keep_well : (first : Meaning) (early late : Frame) (w : WorldValue) (m n : MonthValue) (a b c : CampaignValue)
     → (b, n) ≡ first w a m → early w m a b → late w n b c → both_keep first early late w m a c
 both_keep_well first early late w m n a b c is one two = rw (sym is) (one, two)
 
--- a phase that leaves a campaign well within a bound does so within a greater one
+-- a phase that satisfies `LeavesWell` within a bound satisfies it within a greater one
 pub well_within : {leaves : Condition} (j k : BookBound) (w : WorldValue) (a b : CampaignValue) → MovesLess j k → LeavesWell leaves j w a b → LeavesWell leaves k w a b
 well_within j k w a b l h = record { leaves_it = h.leaves_it; same_month = h.same_month; balances = h.balances; near = λ e t. near_more (j e t) (k e t) (amount_in a.books e t) (amount_in b.books e t) (l e t) (h.near e t) }
 
--- a phase that changes nothing leaves the campaign well
+-- an unchanged campaign satisfies `LeavesWell`, if it has the condition
 pub well_unchanged : {leaves : Condition} (moving : BookBound) (w : WorldValue) (c : CampaignValue) → leaves w c → LeavesWell leaves moving w c c
 well_unchanged moving w c h = record { leaves_it = h; same_month = same_month c; balances = λ b. b; near = λ e t. near_same (moving e t) (amount_in c.books e t) }
 
--- steps in turn that each leave the campaign well do so together
+-- steps of one kind in turn, each of which satisfies `LeavesWell` within one bound
 module _ {A : Type 0} {leaves : Condition} (moving : BookBound) (w : WorldValue) (step : CampaignValue → A → CampaignValue) (each : (c : CampaignValue) (x : A) → leaves w c → LeavesWell leaves moving w c (step c x)) where
   -- the bound of one step and then of the others is within the bound of all steps
   more : {B : Type 0} (x : B) (xs : List B) → MovesLess (both_move moving (moved_times (length xs) moving)) (moved_times (length (x ∷ xs)) moving)
   more x xs e t = let one : length (x ∷ xs) * moving e t ≡ length xs * moving e t + moving e t = suc-mul (length xs) (moving e t) in omega arith
 
-  -- steps in turn that each leave the campaign well do so together, within the bound of one times their number
+  -- if each step satisfies `LeavesWell` within a bound, the steps in turn do, within this bound times their number
   pub fold_leaves_well : (c : CampaignValue) (xs : List A) → leaves w c → LeavesWell leaves (moved_times (length xs) moving) w c (fold step c xs)
   fold_leaves_well c [] h = well_unchanged (moved_times 0 moving) w c h
   fold_leaves_well c (x ∷ xs) h =
@@ -132,11 +132,11 @@ module _ {A : Type 0} {leaves : Condition} (moving : BookBound) (w : WorldValue)
       well_within (both_move moving (moved_times (length xs) moving)) (moved_times (length (x ∷ xs)) moving) w c (fold step (step c x) xs) (more x xs)
       (both_leave_well moving (moved_times (length xs) moving) w c (step c x) (fold step (step c x) xs) one (fold_leaves_well (step c x) xs one.leaves_it))
 
-  -- books with room for some steps have room for one of them
+  -- books with room for one or more steps together have room for one of them
   pub room_for_one : {B : Type 0} (c : CampaignValue) (y : B) (ys : List B) → HaveRoom (moved_times (length (y ∷ ys)) moving) c → HaveRoom moving c
   room_for_one c y ys room = room_less moving (moved_times (length (y ∷ ys)) moving) c (λ e t. omega (arith, more y ys e t)) room
 
-  -- after the first of these steps, the books have room for the others
+  -- after the first of some steps, the books have room for the other steps, if they had room for all before
   pub room_behind_one : {B : Type 0} (c : CampaignValue) (x : A) (y : B) (ys : List B) → leaves w c → HaveRoom (moved_times (length (y ∷ ys)) moving) c → HaveRoom (moved_times (length ys) moving) (step c x)
   room_behind_one c x y ys h room =
       room_behind moving (moved_times (length ys) moving) w c (step c x) (each c x h)

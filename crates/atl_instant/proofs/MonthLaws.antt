@@ -1,4 +1,5 @@
--- Readings by faction: their keys, any order of the mailings, and the search for a mailing.
+-- Laws of the readings by faction: they don't depend on the order of the mailings,
+-- and the search finds a faction's mailing.
 use Rattle.std.proofs.Common.{◌≡◌, ℕ, suc, ◌+◌, ◌<◌, ◌≤◌, ◌⊎◌, nat_lt, true, false, cond, List, [], ◌∷◌, map, length, get_or, slice_get, Some, None, refl, sym, ap, ◌∙◌, subst, IsPermutation, arith}
 use mathlib.Core.Logic.{inl, inr}
 use Rattle.std.specs.declared.cmp.Ordering.TheVariants.{Less, Equal, Greater}
@@ -20,7 +21,7 @@ use Rattle.atl_orders.specs.Mailing.{Reading, reading_of}
 use Rattle.atl_instant.specs.Month.{HaveOwnFactions, HaveNoOrder, by_faction}
 use Rattle.atl_instant.proofs.ListedLaws.{find_is, from_entries-permutation, keyed_order, strictly}
 
--- a reading with its faction as its key
+-- a reading, after its faction as the key
 abbrev pub by_its_faction : Reading → ℕ × Reading
 by_its_faction r = (r.faction, r)
 
@@ -29,7 +30,7 @@ pub keys_of-factions : (rs : List Reading) → keys_of (map by_its_faction rs) �
 keys_of-factions [] = refl
 keys_of-factions (r ∷ rs) = ap (λ ks. r.faction ∷ ks) (keys_of-factions rs)
 
--- each reading has the faction of its mailing
+-- each reading has the faction of the mailing that it is read from
 pub factions_read : (ms : List Mailing) → map (λ r. r.faction) (map reading_of ms) ≡ map (λ m. m.faction) ms
 factions_read [] = refl
 factions_read (m ∷ ms) = ap (λ fs. m.faction ∷ fs) (factions_read ms)
@@ -38,6 +39,7 @@ factions_read (m ∷ ms) = ap (λ fs. m.faction ∷ fs) (factions_read ms)
 pub keys_of-read : (ms : List Mailing) → keys_of (map by_its_faction (map reading_of ms)) ≡ map (λ m. m.faction) ms
 keys_of-read ms = keys_of-factions (map reading_of ms) ∙ factions_read ms
 
+-- mailings of different factions, listed in another order, give the same map of readings
 pub mailings_have_no_order : HaveNoOrder
 mailings_have_no_order ms ns apart p =
     let rs = map reading_of ms in
@@ -47,7 +49,7 @@ mailings_have_no_order ms ns apart p =
 
 -- ---- mailings that are sorted by faction
 
--- a mailing with its faction as its key
+-- a mailing, after its faction as the key
 abbrev under_faction : Mailing → ℕ × Mailing
 under_faction m = (m.faction, m)
 
@@ -68,7 +70,7 @@ own_factions-moved ms ns p = IsDistinct-IsPermutation (eq_by_cmp nat_cmp) (eq_by
 
 -- ---- a mailing that is looked for
 
--- in mailings sorted by faction, the reading of the mailing at index i is the one of its faction
+-- in mailings sorted by faction, a faction's reading is that of the mailing at index i, if this is of the faction
 pub found_at : (ms : List Mailing) (f i : ℕ) (d : Mailing) → AreByFaction ms → i < length ms → nat_cmp (get_or ms i d).faction f ≡ Equal → get (by_faction (map reading_of ms)) f ≡ Some (reading_of (get_or ms i d))
 found_at ms f i d rise h tie =
     let rs = map reading_of ms in
@@ -85,7 +87,7 @@ found_at ms f i d rise h tie =
     get-from_entries nat_cmp_total es f ∙ find_is nat_cmp_total nat_cmp-IsAntisymmetric f es ∙ ap (λ k. lookup (eq_by_cmp nat_cmp k) es) (sym same)
     ∙ lookup_from_place (eq_by_cmp_equiv nat_cmp_total) es i m.faction (reading_of m) apart there
 
--- where no mailing is of a faction, the search finds no reading of it
+-- if no mailing is of a faction, the search finds no reading of that faction
 unfound : (ms : List Mailing) (f : ℕ) → ((j : ℕ) (d : Mailing) → j < length ms → eq_by_cmp nat_cmp (get_or ms j d).faction f ≡ false) → find nat_cmp f (map by_its_faction (map reading_of ms)) ≡ None
 unfound [] f h = refl
 unfound (m ∷ ms) f h =
@@ -93,7 +95,7 @@ unfound (m ∷ ms) f h =
     ap (λ b. cond b (Some (reading_of m)) (find nat_cmp f es)) ((eq_by_cmp_equiv nat_cmp_total).symm f m.faction ∙ h 0 m (omega arith))
     ∙ unfound ms f (λ j d l. h (suc j) d (omega arith))
 
--- where the search finds no mailing of a faction, the map has no reading of it
+-- if the search ends between mailings of lesser and of greater factions, the map has no reading of the faction
 pub missing : (ms : List Mailing) (f i : ℕ) → IsPartitionPoint (λ m. nat_cmp m.faction f ≡ Less) (λ m. nat_cmp m.faction f ≡ Greater) ms i → get (by_faction (map reading_of ms)) f ≡ None
 missing ms f i h =
     get-from_entries nat_cmp_total (map by_its_faction (map reading_of ms)) f ∙ unfound ms f (λ j d l. either j d l (trichotomy j))

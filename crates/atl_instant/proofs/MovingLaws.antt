@@ -1,4 +1,4 @@
--- Something goes from one unit to another, and the campaign stays well.
+-- Laws of something that goes from one unit to another: the campaign stays early, and its totals stay the same.
 use Rattle.std.proofs.Common.{◌≡◌, ◌≢◌, ℕ, ◌+◌, true, Some, refl, sym, ap, subst, ◌∙◌, inl, inr, arith}
 use Rattle.std.specs.Prelude.{pos}
 use Rattle.std.proofs.lemmas.Bool.{cases_eq}
@@ -39,16 +39,16 @@ module _ (c : CampaignValue) (from to : ℕ) (u v : Unit) (h k : HoldingValue) (
   pub receiver_still : get between.units to ≡ Some v
   receiver_still = get-insert_other c.units from to (record u { holding = h }) apart ∙ receiver
 
-  -- a campaign stays early when both units may hold what they then hold, and neither guards anew
+  -- a campaign stays early if both units may hold what they now hold, and neither has its guard flag newly set
   pub early-moved : (w : WorldValue) → MayHave w h → (h.guard ≡ true → u.holding.guard ≡ true) → MayHave w k → (k.guard ≡ true → v.holding.guard ≡ true) → IsEarly w c → IsEarly w moved
   early-moved w less less_flag more more_flag early =
       early-having w between to v k receiver_still more more_flag (early-having w c from u h giver less less_flag early)
 
-  -- both units together hold as much of each thing after as before
+  -- giver and receiver together hold as much of each thing after as before
   abbrev pub BothHold : Type 0
   BothHold = (t : Thing) → unit_amount t h + unit_amount t k ≡ unit_amount t u.holding + unit_amount t v.holding
 
-  -- the totals of the campaign stay the same, if both together hold as much as before
+  -- the totals of the campaign stay the same, if both units together hold as much as before
   pub total-moved : WorldValue → BothHold → (t : Thing) → total moved t ≡ total c t
   total-moved w both t =
       sum (total moved t) (total between t) (total c t) (unit_amount t u.holding) (unit_amount t v.holding) (unit_amount t h) (unit_amount t k) (total-unit_amount w between to v k receiver_still t) (total-unit_amount w c from u h giver t) (both t)
@@ -56,7 +56,8 @@ module _ (c : CampaignValue) (from to : ℕ) (u v : Unit) (h k : HoldingValue) (
       sum : (a b x p q r s : ℕ) → a + q ≡ b + s → b + p ≡ x + r → r + s ≡ p + q → a ≡ x
       sum a b x p q r s e f g = omega arith
 
-  -- such a move is a step that leaves the campaign well
+  -- if the campaign is early then, and both units hold as much together,
+  -- the move satisfies `StepsWell` and books nothing
   pub steps-moved : (w : WorldValue) → IsEarly w moved → BothHold → StepsWell IsEarly (λ d e t. 0) w c moved
   steps-moved w early both = record {
     holds_still = early;

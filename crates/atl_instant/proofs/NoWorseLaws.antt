@@ -1,10 +1,10 @@
--- Being no worse off is reflexive and transitive, for a unit and for all units of a campaign.
+-- Laws of being no worse off: it is reflexive and transitive, for a unit and for all units of a campaign.
 use Rattle.std.proofs.Common.{refl, ◌∙◌, arith}
 use Rattle.atl_records.specs.declared.records.Unit.{Unit}
 use Rattle.atl_state.specs.Campaign.{CampaignValue}
 use Rattle.atl_instant.specs.NoWorse.{AreNoWorse, IsNoWorse}
 
--- a unit is no worse off than itself
+-- an unchanged unit is no worse off
 pub no_worse : (u : Unit) → IsNoWorse u u
 no_worse u = record { faction = refl; region = refl; structure = refl; name = refl; guard = refl; men = omega arith; money = omega arith; items = λ i. omega arith; days = λ s. omega arith }
 
@@ -22,7 +22,7 @@ no_worse_twice u v x one two = record {
   days = λ s. omega (arith, one.days s, two.days s);
 }
 
--- no unit is worse off in a campaign than in itself
+-- in an unchanged campaign no unit is worse off
 pub are_no_worse : (c : CampaignValue) → AreNoWorse c c
 are_no_worse c n u there = (u, there, no_worse u)
 

@@ -1,4 +1,4 @@
--- The orders of a mailing that count, found order by order, and those of all mailings, mailing by mailing.
+-- Laws of the indices of orders that count: those of one mailing, order by order, and those of all mailings.
 use Rattle.std.proofs.Common.{◌≡◌, ◌==◌, ℕ, ◌+◌, ◌<◌, ◌≤◌, Bool, true, false, cond, Option, Some, None, List, [], ◌∷◌, ◌++◌, map, filter, drop, length, get_or, All, refl, sym, ap, subst, ◌∙◌}
 use Rattle.std.proofs.lemmas.List.{append-nil, append_assoc, drop_all, drop_more, map-append}
 use Rattle.std.proofs.lemmas.List.Elements.{All-push}
@@ -38,7 +38,7 @@ module _ (aliases : Aliases) (ms : List Mailing) (at : ℕ) where
   abbrev counts : ℕ → Bool
   counts i = stands (tasks_at aliases ms at) (task_at ms (place_of i))
 
-  -- the orders from i on that count are the one at i, if it counts, and those from i + 1 on
+  -- the orders that count from index i on are the one at i, if it counts, and those from i + 1 on
   opened : (i : ℕ) → i < length read.entries → rest_from i ≡ cond (counts i) (task_at ms (place_of i) ∷ rest_from (i + 1)) (rest_from (i + 1))
   opened i h = ap (λ es. filter (stands (tasks_at aliases ms at)) (tasks_from aliases read.faction i (map (entry_value read.text) es))) (drop_more read.entries i no_entry h)
 
@@ -55,7 +55,7 @@ module _ (aliases : Aliases) (ms : List Mailing) (at : ℕ) where
       tasks = ap (λ ts. map (task_at ms) list ++ ts) (sym (opened i h ∙ ap (λ b. cond b (task_at ms (place_of i) ∷ rest_from (i + 1)) (rest_from (i + 1))) skipped)) ∙ before.tasks;
     }
 
-    -- an order that counts adds its index
+    -- an order that counts adds its own index to the list
     pub pushed : at < length ms → counts i ≡ true → Added old (i + 1) (list ++ place_of i ∷ [])
     pushed within counted = record {
       there = λ all. All-push (IsThere ms) list (place_of i) (before.there all) (record { mailing = within; entry = h });
@@ -67,9 +67,11 @@ module _ (aliases : Aliases) (ms : List Mailing) (at : ℕ) where
 
   -- the mailing, the entry and the unit that the code reads
   module _ (i : ℕ) (m : Mailing) (e : Entry) (unit : ℕ) (here : m ≡ read) (entry : e ≡ entry_at i) (for_unit : unit ≡ unit_of aliases m.faction e.target) where
+    -- the `OrderIndex` that the code makes of the mailing, the entry and the unit that it reads
     abbrev found : OrderIndex
     found = record { unit = unit; line = e.line; faction = m.faction; mailing = at; place = i }
 
+    -- the `OrderIndex` that the code makes is that of the order at index i
     found_is : found ≡ place_of i
     found_is k = record {
       unit = (for_unit ∙ (λ j. unit_of aliases (here j).faction (entry j).target)) k;
@@ -89,7 +91,8 @@ module _ (aliases : Aliases) (ms : List Mailing) (at : ℕ) where
     pub added : (old list new : List OrderIndex) → i < length read.entries → Added old i list → at < length ms → counts i ≡ true → new ≡ list ++ found ∷ [] → Added old (i + 1) new
     added old list new h before within counted is = subst (Added old (i + 1)) (sym (is ∙ ap (λ p. list ++ p ∷ []) found_is)) (pushed old list i h before within counted)
 
-  -- after the last order, the indices of the mailing's orders that count are added
+  -- past the last order of a mailing the list has the old indices and those
+  -- of all its orders that count (`AddsMailing`)
   pub ended : (old list : List OrderIndex) (i : ℕ) → length read.entries ≤ i → Added old i list → AddsMailing aliases ms at old list
   ended old list i h before = record {
     there = before.there;
@@ -106,14 +109,14 @@ module _ (aliases : Aliases) (ms : List Mailing) where
   abbrev pub all_from : ℕ → List Task
   all_from i = all_tasks every_verb aliases (map reading_of (drop i ms))
 
-  -- after one more mailing, the indices so far and the orders still to come are those of all mailings
+  -- if one more mailing's indices are added, the indices so far and the orders still to come name all orders that count
   pub next_mailing : (old new : List OrderIndex) (i : ℕ) (ts : List Task) → i < length ms → AddsMailing aliases ms i old new → map (task_at ms) old ++ all_from i ≡ ts → map (task_at ms) new ++ all_from (i + 1) ≡ ts
   next_mailing old new i ts h adds before =
       ap (λ us. us ++ all_from (i + 1)) adds.tasks
       ∙ append_assoc (map (task_at ms) old) (tasks_for every_verb (tasks_at aliases ms i)) (all_from (i + 1))
       ∙ ap (λ ns. map (task_at ms) old ++ all_tasks every_verb aliases (map reading_of ns)) (sym (drop_more ms i no_mailing h)) ∙ before
 
-  -- after the last mailing, the indices are those of all orders that count
+  -- past the last mailing the indices name all orders that count
   pub last_mailing : (list : List OrderIndex) (i : ℕ) (ts : List Task) → length ms ≤ i → map (task_at ms) list ++ all_from i ≡ ts → map (task_at ms) list ≡ ts
   last_mailing list i ts h before =
       sym (append-nil (map (task_at ms) list))

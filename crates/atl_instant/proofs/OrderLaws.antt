@@ -1,4 +1,4 @@
--- No two orders have one key, and the orders that are collected and sorted are what the map of orders lists.
+-- Laws of the keys of orders: no two orders have one key, and orders sorted by key are what the map of orders lists.
 use Rattle.std.proofs.Common.{◌≡◌, ℕ, ◌+◌, ◌<◌, ◌≤◌, Bool, true, false, cond, List, [], ◌∷◌, map, filter, get_or, refl, sym, ap, subst, ◌∙◌, arith, IsPermutation, flat_map}
 use Rattle.std.specs.declared.cmp.Ordering.TheVariants.{Less}
 use Rattle.std.specs.Ordering.{nat_cmp, eq_by_cmp}
@@ -61,7 +61,7 @@ other_place : (a : Arrangement) (t u : Task) → t.place < u.place → same_key 
 other_place a t u l = refuted (same_key a t u) (λ h. let e = places_tie a t u (keys_tie a t u h) in omega arith)
 
 module _ (aliases : Aliases) (a : Arrangement) where
-  -- an order of this faction whose index in its mailing is at least `place`
+  -- the order is of this faction, and its index in its mailing is at least `place`
   abbrev IsBehind : ℕ → ℕ → Task → Type 0
   IsBehind faction place t = (t.faction ≡ faction) × (place ≤ t.place)
 
@@ -76,7 +76,7 @@ module _ (aliases : Aliases) (a : Arrangement) where
       kept ts t true h r = (h, r)
       kept ts t false h r = r
 
-  -- an order has another key than all orders of its mailing with greater indices
+  -- an order has another key than orders of its faction with greater indices
   apart_behind : (t : Task) (faction : ℕ) (ts : List Task) → AllByRecursion (IsBehind faction (t.place + 1)) ts → AllByRecursion (λ u. same_key a t u ≡ false) ts
   apart_behind t faction [] h = tt
   apart_behind t faction (u ∷ ts) h = (other_place a t u (omega (arith, h.0.1)), apart_behind t faction ts h.1)
@@ -92,7 +92,7 @@ module _ (aliases : Aliases) (a : Arrangement) where
       kept ts t true h r = (h, r)
       kept ts t false h r = r
 
-  -- orders of different mailings
+  -- if Q holds of a faction, it holds of the faction of each order of that faction's entries
   of_faction : (p : Task → Bool) (faction : ℕ) (place : ℕ) (es : List EntryValue) (Q : ℕ → Type 0) → Q faction → AllByRecursion (λ t. Q t.faction) (filter p (tasks_from aliases faction place es))
   of_faction p faction place [] Q q = tt
   of_faction p faction place (e ∷ es) Q q = kept _ _ (p _) q (of_faction p faction (place + 1) es Q q)
@@ -102,9 +102,11 @@ module _ (aliases : Aliases) (a : Arrangement) where
       kept ts t false h r = r
 
   module _ (is_of : Verb → Bool) where
+    -- the orders of a mailing that count and have the verbs of the phase
     abbrev from_mailing : Reading → List Task
     from_mailing r = tasks_for is_of (tasks_of aliases r.faction r)
 
+    -- orders of mailings of greater factions than n are of greater factions than n
     later : (n : ℕ) (rs : List Reading) → AllByRecursion (λ y. nat_cmp n y ≡ Less) (map (λ r. r.faction) rs) → AllByRecursion (λ t. n < t.faction) (all_tasks is_of aliases rs)
     later n [] h = tt
     later n (r ∷ rs) h =
@@ -112,10 +114,12 @@ module _ (aliases : Aliases) (a : Arrangement) where
         (of_faction _ r.faction 0 r.entries (λ f. n < f) (ranked n r.faction Less (sym h.0)))
         (later n rs h.1)
 
+    -- an order of faction n has another key than orders of greater factions
     before : (n : ℕ) (t : Task) (us : List Task) → t.faction ≡ n → AllByRecursion (λ u. n < u.faction) us → AllByRecursion (λ u. same_key a t u ≡ false) us
     before n t [] e h = tt
     before n t (u ∷ us) e h = (other_faction a t u (omega (arith, h.0)), before n t us e h.1)
 
+    -- orders of faction n have other keys than orders of greater factions
     all_before : (n : ℕ) (ts us : List Task) → AllByRecursion (λ t. t.faction ≡ n) ts → AllByRecursion (λ u. n < u.faction) us → AllByRecursion (λ t. AllByRecursion (λ u. same_key a t u ≡ false) us) ts
     all_before n [] us e h = tt
     all_before n (t ∷ ts) us e h = (before n t us e.0 h, all_before n ts us e.1 h)
@@ -160,7 +164,7 @@ module _ {X : Type 0} (as_task : X → Task) where
     unkeyed [] = refl
     unkeyed (o ∷ os) = ap (λ ps. o ∷ ps) (unkeyed os)
 
-    -- orders sorted by their keys, of which no two are equal, are what the map of them lists
+    -- orders sorted by their keys are what the map of them lists, if no two keys are equal
     listed : (os list : List X) (ts : List Task) → map as_task os ≡ ts → IsDistinct (λ t u. eq_by_cmp (slice_cmp nat_cmp) (key t) (key u)) ts → IsPermutation os list
         → IsSortedByKey (λ o. key (as_task o)) (slice_cmp nat_cmp) list → map as_task list ≡ values (from_entries {R = slice_cmp nat_cmp} (map paired ts))
     listed os list ts are apart p up =
@@ -178,13 +182,14 @@ pub listed_tasks : (key : Task → List ℕ) (os list : List PhaseOrder) (ts : L
 listed_tasks = listed task_of
 
 module _ (is_of : Verb → Bool) (a : Arrangement) (aliases : Aliases) where
-  -- the orders of the readings in the map are those of the sorted readings
+  -- the orders of the map of readings are those of the readings in turn, if the readings are sorted by faction
   tasks_of_all : (rs : List Reading) → IsStrictlySortedBy nat_cmp (map (λ r. r.faction) rs) → flat_map (λ e. tasks_for is_of (tasks_of aliases e.0 e.1)) (entries (by_faction rs)) ≡ all_tasks is_of aliases rs
   tasks_of_all rs h =
       ap (flat_map (λ e. tasks_for is_of (tasks_of aliases e.0 e.1))) (entries_of (map by_its_faction rs) (subst (IsStrictlySortedBy nat_cmp) (sym (keys_of-factions rs)) h))
       ∙ flat_map-map (λ e. tasks_for is_of (tasks_of aliases e.0 e.1)) by_its_faction rs
 
-  -- the map of a phase's orders lists the orders of all mailings under their keys, if the readings are sorted by faction
+  -- the map of a phase's orders lists the orders of all mailings under their keys,
+  -- if the readings are sorted by faction
   pub orders_are : (rs : List Reading) → IsStrictlySortedBy nat_cmp (map (λ r. r.faction) rs) → values (orders_of is_of a aliases (by_faction rs)) ≡ values (from_entries {R = slice_cmp nat_cmp} (map (λ t. (key_of a t, t)) (all_tasks is_of aliases rs)))
   orders_are rs h = ap (λ us. values (from_entries {R = slice_cmp nat_cmp} (map (λ t. (key_of a t, t)) us))) (tasks_of_all rs h)
 

@@ -1,4 +1,4 @@
--- What follows of the tests of a list of faults, of which none applies.
+-- Laws of the tests of a list of faults: if no fault applies, each test fails.
 use Rattle.std.proofs.Common.{◌≡◌, ◌==◌, ℕ, ◌≤◌, Bool, true, false, not, ◌&&◌, List, ◌∷◌, None, refl, arith}
 use Rattle.std.specs.Prelude.{nat_lt}
 use Rattle.std.proofs.lemmas.Bool.{not-false}
@@ -22,7 +22,7 @@ not_apart a b is = let same : (a == b) ≡ true = not-false (a == b) is in grind
 pub not_less : (a b : ℕ) → nat_lt a b ≡ false → b ≤ a
 not_less a b is = grind (arith, nat_tests)
 
--- a test that counts only where a unit deals with another one fails there, if it fails as a whole
+-- if a test that counts only for another unit fails as a whole, and it is another unit, the test itself fails
 pub unless_itself : (itself fits : Bool) → (not itself && fits) ≡ false → itself ≡ false → fits ≡ false
 unless_itself true fits is other = cc
 unless_itself false fits is other = is

@@ -1,4 +1,4 @@
--- The owners of structures, when one unit is elsewhere and all others are where they were.
+-- Laws of the owners of structures when one unit goes elsewhere, and all other units stay.
 use Rattle.std.proofs.Common.{◌≡◌, ◌≢◌, ◌==◌, ℕ, ◌≤◌, not, Some, sym, ap, subst, ◌∙◌, inl, inr}
 use Rattle.std.proofs.lemmas.Bool.{cases_eq, not-true, not-false}
 use Rattle.std.specs.FinMap.{get}
@@ -13,7 +13,7 @@ use Rattle.atl_state.proofs.InsideLaws.{inside_is_listed, listed_is_inside}
 use Rattle.atl_state.proofs.LeavingLaws.{owned_by}
 use Rattle.atl_state.proofs.NumberListLaws.{IsListed, first_of}
 
--- two campaigns with the same units, but for unit n
+-- two campaigns c and d, in which all units but n are the same
 module _ (c d : CampaignValue) (n : ℕ) (away : (k : ℕ) → k ≢ n → get d.units k ≡ get c.units k) where
   -- P holds of each unit of d, if it holds of unit n there and of every other unit of c
   every_away : (P : ℕ → Unit → Type 0) → ((v : Unit) → get d.units n ≡ Some v → P n v) → ((k : ℕ) (v : Unit) → k ≢ n → get c.units k ≡ Some v → P k v) → Every P d.units
@@ -22,14 +22,15 @@ module _ (c d : CampaignValue) (n : ℕ) (away : (k : ℕ) → k ≢ n → get d
     | inr apart ↦ others k v apart (sym (away k apart) ∙ there)
   ]
 
-  -- a structure keeps a right owner that isn't unit n, or none, if unit n isn't inside then
+  -- a structure keeps a right owner that isn't unit n,
+  -- and is still rightly without owner if unit n isn't inside it in d
   pub owner_stays : (q : ℕ) (y : Structure) → IsOwned c q y → y.owner ≢ n → (y.owner ≡ 0 → (v : Unit) → get d.units n ≡ Some v → v.structure ≢ q) → IsOwned d q y
   owner_stays q y old other outside = record {
     owned = λ some. let (v, there, inside) = old.owned some in (v, away y.owner other ∙ there, inside);
     ownerless = λ none. every_away (λ k v. v.structure ≢ q) (outside none) (λ k v apart there. old.ownerless none k v there);
   }
 
-  -- a structure that unit n has left is rightly owned by its heir: the lowest of the others inside
+  -- a structure that unit n has left is rightly owned by its heir: the lowest of the other units inside
   pub heir_owns : (place : ℕ) → place ≢ 0 → Every (λ k v. 1 ≤ k) c.units → ((v : Unit) → get d.units n ≡ Some v → v.structure ≢ place) → (y : Structure) → IsOwned d place (owned_by (heir c place n) y)
   heir_owns place some low outside y =
       let next = heir c place n in

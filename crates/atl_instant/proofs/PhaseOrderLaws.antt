@@ -1,4 +1,4 @@
--- Each order of a phase is an entry of the mailing of its faction, and has a verb of the phase.
+-- Laws of the orders of a phase: each is an entry of the mailing of its faction, and has a verb of the phase.
 use Rattle.std.proofs.Common.{◌≡◌, ℕ, suc, ◌+◌, Bool, true, false, ◌&&◌, cond, List, [], ◌∷◌, map, filter, flat_map, slice_get, Some, refl, sym, subst, arith}
 use Rattle.std.specs.declared.cmp.Ordering.{Ordering}
 use Rattle.std.specs.declared.cmp.Ordering.TheVariants.{Less, Equal, Greater}
@@ -22,11 +22,11 @@ use Rattle.atl_instant.proofs.MappedLaws.{no_entries}
 -- ---- what is so of each entry is so of each that a map lists
 
 module _ {K X : Type 0} (R : K → K → Ordering) (P : K → X → Type 0) where
-  -- P holds of each of these entries
+  -- P holds of each entry of the list
   abbrev pub Entries : List (K × X) → Type 0
   Entries = AllByRecursion (λ e. P e.0 e.1)
 
-  -- if P holds of each entry, it does after one more is put among them, of which it holds
+  -- if P holds of each entry, and of one more, it holds of each entry after that one is put in
   entries-put : IsAntisymmetric R → (k : K) (v : X) (es : List (K × X)) → P k v → Entries es → Entries (put R k v es)
   entries-put anti k v [] h all = (h, tt)
   entries-put anti k v (e ∷ es) h all =
@@ -36,13 +36,13 @@ module _ {K X : Type 0} (R : K → K → Ordering) (P : K → X → Type 0) wher
         | Greater ↦ λ o. (all.0, entries-put anti k v es h all.1)
       ] refl
 
-  -- if P holds of each entry of a list, it holds of each entry of the map that they make
+  -- if P holds of each entry of a list, it holds of each entry of the map that the list makes
   pub entries-listed : IsTotalOrder R → IsAntisymmetric R → (es : List (K × X)) → Entries es → Entries (entries (from_entries {R = R} es))
   entries-listed o anti [] all = subst Entries (sym (no_entries R)) tt
   entries-listed o anti (e ∷ es) all =
       subst Entries (sym (entries-insert o (from_entries es) e.0 e.1)) (entries-put anti e.0 e.1 (entries (from_entries es)) all.0 (entries-listed o anti es all.1))
 
-  -- if P holds of each element and its key, it holds of the entries that they make
+  -- if P holds of each element with its key, it holds of each entry of an element under its key
   pub keyed_entries : (key : X → K) (xs : List X) → AllByRecursion (λ x. P (key x) x) xs → Entries (map (λ x. (key x, x)) xs)
   keyed_entries key [] all = tt
   keyed_entries key (x ∷ xs) all = (all.0, keyed_entries key xs all.1)
@@ -52,7 +52,7 @@ unkeyed_values : {K X : Type 0} (P : X → Type 0) (es : List (K × X)) → AllB
 unkeyed_values P [] all = tt
 unkeyed_values P (e ∷ es) all = (all.0, unkeyed_values P es all.1)
 
--- if P holds of each order, it holds of each order that the map under their keys lists
+-- if P holds of each order, it holds of each order that the map of the orders under their keys lists
 listed_orders : (P : Task → Type 0) (a : Arrangement) (ts : List Task) → AllByRecursion P ts → AllByRecursion P (values (from_entries {R = slice_cmp nat_cmp} (map (λ t. (key_of a t, t)) ts)))
 listed_orders P a ts all =
     let es = map (λ t. (key_of a t, t)) ts in
@@ -97,13 +97,13 @@ orders_are_in_mailings is_of a aliases readings =
     let P = IsInMailing aliases readings in
     All-from_recursion P _ (listed_orders P a _ (in_mailings aliases readings is_of (entries readings) (each-from_every (λ f r. get readings f ≡ Some r) readings (λ f r is. is))))
 
--- each order of a phase has one of its verbs
+-- the orders of a phase, of which each has a verb of the phase
 module _ (is_of : Verb → Bool) (a : Arrangement) (aliases : Aliases) (readings : FinMap nat_cmp Reading) where
   -- the order has a verb of the phase
   abbrev HasVerb : Task → Type 0
   HasVerb t = is_of t.order_value.verb ≡ true
 
-  -- of orders with a verb of the phase, those that pass another test have one
+  -- the orders that have a verb of the phase and pass another test have a verb of the phase
   passing : (q : Task → Bool) (ts : List Task) → AllByRecursion HasVerb (filter (λ t. is_of t.order_value.verb && q t) ts)
   passing q [] = tt
   passing q (t ∷ ts) = by_test (is_of t.order_value.verb) (q t) refl (filter (λ t. is_of t.order_value.verb && q t) ts) (passing q ts)
@@ -113,7 +113,7 @@ module _ (is_of : Verb → Bool) (a : Arrangement) (aliases : Aliases) (readings
       by_test true false is us rest = rest
       by_test false c is us rest = rest
 
-  -- the orders of some mailings for the phase have its verbs
+  -- the orders of some mailings that count for the phase have a verb of the phase
   of_mailings : (es : List (ℕ × Reading)) → AllByRecursion HasVerb (flat_map (λ e. tasks_for is_of (tasks_of aliases e.0 e.1)) es)
   of_mailings [] = tt
   of_mailings (e ∷ es) =

@@ -1,4 +1,4 @@
--- What holds of several phases in turn, if it holds of each.
+-- Laws of several phases in turn: what holds of all together, if it holds of each.
 use Rattle.std.proofs.Common.{◌≡◌, ◌-◌, ◌+◌, ◌*◌, ◌≤◌, ℕ, Bool, true, false, List, [], ◌∷◌, refl, arith}
 use Rattle.std.specs.Prelude.{if◌then◌else◌}
 use Rattle.atl_records.specs.declared.books.Entry.{Entry}
@@ -8,14 +8,14 @@ use Rattle.atl_instant.specs.PhaseSpecs.{EachPhase, MovesItsOwn, PhaseSpec, keep
 use Rattle.atl_instant.specs.Unmailed.{starved_in}
 use Rattle.atl_instant.proofs.UnmailedLaws.{ClosesUnmailed, LeavesUnmailed, both_leave, then_closes}
 
--- if P implies Q for every phase, it does so for all phases of a list
+-- if P implies Q for every phase, and P holds of each phase of a list, Q does
 pub each_also : {P Q : PhaseSpec → Type 0} → ((phase : PhaseSpec) → P phase → Q phase) → (phases : List PhaseSpec) → EachPhase P phases → EachPhase Q phases
 each_also also [] each = tt
 each_also also (phase ∷ rest) each = (also phase each.0, each_also also rest each.1)
 
 -- ---- the books
 
--- the move of one phase and those of the others, by the number of phases that may move the amount
+-- if one phase and the others each move an amount within `most_moved` for each phase that may move it, all together do
 counted : (b : Bool) (rest moved most : ℕ) → moved ≤ (if b then most_moved else 0) → rest ≤ most * most_moved → moved + rest ≤ ((if b then 1 else 0) + most) * most_moved
 counted true rest moved most one others = omega (arith, one, others)
 counted false rest moved most one others = omega (arith, one, others)
@@ -32,7 +32,7 @@ moved_within (phase ∷ next ∷ rest) each e t = counted (may_move phase.moved 
 
 -- ---- a faction without a mailing
 
--- the phase leaves the units of factions without a mailing (`LeavesUnmailed`), by its effect and what it keeps
+-- the phase, by its effect and what it keeps, leaves the units of factions without a mailing (`LeavesUnmailed`)
 abbrev pub PhaseLeavesUnmailed : PhaseSpec → Type 0
 PhaseLeavesUnmailed phase = LeavesUnmailed phase.meaning phase.keeps
 
@@ -42,13 +42,13 @@ CloseTogether [] = ⊥
 CloseTogether (phase ∷ []) = ClosesUnmailed phase.meaning phase.keeps
 CloseTogether (phase ∷ next ∷ rest) = PhaseLeavesUnmailed phase × CloseTogether (next ∷ rest)
 
--- such phases in turn close together (`ClosesUnmailed`)
+-- phases in turn satisfy `ClosesUnmailed`, if each but the last `LeavesUnmailed`, and the last `ClosesUnmailed`
 pub closed_together : (phases : List PhaseSpec) → CloseTogether phases → ClosesUnmailed (meaning_of phases) (keeps_of phases)
 closed_together [] none = absurd none
 closed_together (phase ∷ []) closes = closes
 closed_together (phase ∷ next ∷ rest) each = then_closes each.0 (closed_together (next ∷ rest) each.1)
 
--- phases that each leave the units of factions without a mailing do so in turn
+-- phases that each satisfy `LeavesUnmailed` satisfy it together
 pub leave_together : (phases : List PhaseSpec) → EachPhase PhaseLeavesUnmailed phases → LeavesUnmailed (meaning_of phases) (keeps_of phases)
 leave_together [] each = record {
   readings = λ w c m. refl;

@@ -1,4 +1,4 @@
--- The orders of one phase, picked from the gathered indices of all orders that count.
+-- Laws of the orders of one phase, which are picked from the gathered indices of all orders that count.
 use Rattle.std.proofs.Common.{◌≡◌, ℕ, ◌+◌, ◌<◌, ◌≤◌, Bool, true, false, cond, ◌&&◌, List, [], ◌∷◌, ◌++◌, map, filter, drop, length, get_or, IfOk, Result, Ok, Err, Vec, refl, sym, ap, subst, ◌∙◌}
 use Rattle.std.proofs.lemmas.List.{append-nil, append_assoc, drop_all, map-append}
 use Rattle.std.specs.Ordering.{nat_cmp, eq_by_cmp}
@@ -44,16 +44,16 @@ filter-map p f (x ∷ xs) =
     ]
 
 module _ (a : Arrangement) where
-  -- an order with its key
+  -- an order, after its key
   abbrev paired : Task → List ℕ × Task
   paired t = (key_of a t, t)
 
-  -- the keys of these pairs are the keys of the orders
+  -- the keys of orders that are paired with their keys are `key_of` of the orders
   keys-paired : (ts : List Task) → keys_of (map paired ts) ≡ map (key_of a) ts
   keys-paired [] = refl
   keys-paired (t ∷ ts) = ap (λ ks. key_of a t ∷ ks) (keys-paired ts)
 
-  -- the map of the orders that pass a test lists those orders of the whole map that pass it
+  -- the map of the orders that pass a test lists the orders of the whole map that pass, if no two keys are equal
   values-passing : (p : Task → Bool) (ts : List Task) → IsDistinct (λ t u. eq_by_cmp (slice_cmp nat_cmp) (key_of a t) (key_of a u)) ts
       → values (from_entries {R = slice_cmp nat_cmp} (map paired (filter p ts))) ≡ filter p (values (from_entries {R = slice_cmp nat_cmp} (map paired ts)))
   values-passing p ts apart =
@@ -64,7 +64,7 @@ module _ (a : Arrangement) where
       ∙ sym (filter-map p (λ e. e.1) (entries (from_entries {R = slice_cmp nat_cmp} es)))
 
 module _ (is_of : Verb → Bool) (aliases : Aliases) where
-  -- the orders of a phase are those of all orders that have a verb of the phase
+  -- the orders that count for a phase are those among all that count that have a verb of the phase
   tasks_of_phase : (rs : List Reading) → all_tasks is_of aliases rs ≡ filter (has_verb is_of) (all_tasks every_verb aliases rs)
   tasks_of_phase [] = refl
   tasks_of_phase (r ∷ rs) =
@@ -73,7 +73,7 @@ module _ (is_of : Verb → Bool) (aliases : Aliases) where
       ∙ ap (λ us. filter (has_verb is_of) (tasks_for every_verb ts) ++ us) (tasks_of_phase rs)
       ∙ sym (filter-append (has_verb is_of) (tasks_for every_verb ts) (all_tasks every_verb aliases rs))
 
-  -- the orders of the phase's verbs, picked from the indices of all orders, are those that the phase carries out
+  -- the orders picked by the phase's verbs from the gathered indices are those that the phase carries out
   pub picked_orders : (a : Arrangement) (ms : List Mailing) (places : List OrderIndex) (ts : List Task) → AreByFaction ms → AreOrderIndices a aliases ms places → ts ≡ tasks_picked is_of ms places
       → ts ≡ values (orders_of is_of a aliases (by_faction (map reading_of ms)))
   picked_orders a ms places ts h all are =
@@ -84,7 +84,8 @@ module _ (is_of : Verb → Bool) (aliases : Aliases) where
       ∙ ap (λ us. values (from_entries {R = slice_cmp nat_cmp} (map (paired a) us))) (sym (tasks_of_phase rs))
       ∙ sym (orders_are is_of a aliases rs rise)
 
-  -- so it is for the list that the code returns
+  -- the list that the code returns has the orders of the phase,
+  -- if it has those that are picked from the gathered indices
   pub picked_list : {Z E : Type 0} (a : Arrangement) (ms : List Mailing) (places : List OrderIndex) (r : Result (Vec PhaseOrder Z) E) → AreByFaction ms → AreOrderIndices a aliases ms places → IfOk r (λ list. map task_of list.items ≡ tasks_picked is_of ms places)
       → IfOk r (λ list. map task_of list.items ≡ values (orders_of is_of a aliases (by_faction (map reading_of ms))))
   picked_list a ms places (Ok list) h all are = picked_orders a ms places (map task_of list.items) h all are
@@ -97,7 +98,7 @@ module _ (is_of : Verb → Bool) (ms : List Mailing) (places : List OrderIndex) 
   abbrev pub rest_from : ℕ → List Task
   rest_from i = tasks_picked is_of ms (drop i places)
 
-  -- the orders to be picked from i on are the one at i, if its verb is the phase's, and those from i + 1 on
+  -- the orders picked from index i on are the one at i, if its verb is the phase's, and those from i + 1 on
   opened : (i : ℕ) (p : OrderIndex) → i < length places → p ≡ get_or places i p → rest_from i ≡ cond (has_verb is_of (task_at ms p)) (task_at ms p ∷ rest_from (i + 1)) (rest_from (i + 1))
   opened i p h at = ap (tasks_picked is_of ms) (next_of places i p h at)
 

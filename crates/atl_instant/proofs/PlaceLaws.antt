@@ -1,4 +1,4 @@
--- LEAVE, ENTER and PROMOTE leave a campaign well, and leave alone units without such an order.
+-- Laws of LEAVE, ENTER and PROMOTE: the campaign stays early, and a unit without an own order of these is no worse off.
 use Rattle.std.proofs.Common.{◌≡◌, ◌≢◌, ◌==◌, ℕ, Bool, true, false, not, List, [], ◌∷◌, Option, Some, None, refl, sym, ap, ◌∙◌, arith}
 use Rattle.std.proofs.lemmas.Bool.{true≢false}
 use Rattle.std.specs.Prelude.{IfSome, if◌then◌else◌}
@@ -46,27 +46,27 @@ place_other w a f n text (operands.Unit to) l b d = absurd (d to refl)
 place_other w a f n text other l b d = refl
 
 module _ (w : WorldValue) (c : CampaignValue) (n : ℕ) (u : Unit) (is : get c.units n ≡ Some u) (early : IsEarly w c) where
-  -- the change of the campaign is a step that leaves it well
+  -- the change satisfies `StepsWell`, and books nothing
   abbrev Well : CampaignValue → Type 0
   Well d = StepsWell IsEarly books_nothing w c d
 
-  -- the campaign as it is, is left well
+  -- an unchanged campaign satisfies `StepsWell`
   unchanged : Well c
   unchanged = well_same w c early
 
   -- ---- LEAVE
 
-  -- a unit on land that leaves its structure leaves the campaign well
+  -- if a unit inside a structure on land leaves the structure, this satisfies `StepsWell`
   left_place : (u.structure == 0) ≡ false → is_land_at w u.region ≡ true → Well (with_place c n u.region 0)
   left_place some dry = place_well w c n u 0 is early (λ none. is_unequal u.structure 0 some none) (λ not_none. absurd (not_none refl)) (λ wet. absurd (true≢false (sym dry ∙ wet)))
 
-  -- LEAVE leaves the campaign well, by the tests of its faults
+  -- LEAVE satisfies `StepsWell`, whether the unit is inside a structure, and whether the region is land
   without_leaver : (a b : Bool) → (u.structure == 0) ≡ a → is_land_at w u.region ≡ b → Well (unless c (first_fault ((a, NotInside) ∷ (not b, AtSea) ∷ [])) (with_place c n u.region 0, Done 0)).0
   without_leaver true b some dry = unchanged
   without_leaver false false some dry = unchanged
   without_leaver false true some dry = left_place some dry
 
-  -- LEAVE leaves the campaign well
+  -- an order of LEAVE satisfies `StepsWell`
   left_well : Well (leave w n c u).0
   unfolding leave
   left_well = without_leaver (u.structure == 0) (is_land_at w u.region) refl refl
@@ -74,22 +74,27 @@ module _ (w : WorldValue) (c : CampaignValue) (n : ℕ) (u : Unit) (is : get c.u
   -- ---- ENTER
 
   module _ (s : ℕ) where
+    -- if a unit enters another structure of its region, this satisfies `StepsWell`
     entered_place : (x : Structure) → get c.structures s ≡ Some x → (x.region == u.region) ≡ true → (u.structure == s) ≡ false → Well (with_place c n u.region s)
     entered_place x there near other =
         let here : x.region ≡ u.region = is_equal x.region u.region near in
         place_well w c n u s is early (λ same. is_unequal u.structure s other same) (λ some. (x, there, here))
         (λ wet. (x, there, (early.steady.water.structures s x there (ap (is_land_at w) here ∙ wet)).0))
 
+    -- ENTER of a structure that is there satisfies `StepsWell`, whether it is in the region,
+    -- and whether the unit is inside already
     entered_by : (x : Structure) → get c.structures s ≡ Some x → (a b : Bool) → (x.region == u.region) ≡ a → (u.structure == s) ≡ b
         → Well (unless c (first_fault ((not a, NotHere) ∷ [])) (if b then c else with_place c n u.region s, Done 0)).0
     entered_by x there false b near same = unchanged
     entered_by x there true true near same = unchanged
     entered_by x there true false near same = entered_place x there near same
 
+    -- ENTER satisfies `StepsWell`, whether the structure is there or not
     entered_at : (o : Option Structure) → get c.structures s ≡ o → Well (unless c (first_fault ((not (is_in u.region o), NotHere) ∷ [])) (with_unit_inside c n u.region u.structure s, Done 0)).0
     entered_at None there = unchanged
     entered_at (Some x) there = entered_by x there (x.region == u.region) (u.structure == s) refl refl
 
+    -- an order of ENTER satisfies `StepsWell`
     entered_well : Well (enter n s c u).0
     unfolding enter
     entered_well = entered_at (get c.structures s) refl
@@ -97,10 +102,12 @@ module _ (w : WorldValue) (c : CampaignValue) (n : ℕ) (u : Unit) (is : get c.u
   -- ---- PROMOTE
 
   module _ (to : ℕ) where
+    -- a unit inside the same structure as unit n, which is inside one, is there
     inside_to : (o : Option Unit) → get c.units to ≡ o → option_map_or (λ (x : Unit). x.structure) o 0 ≡ u.structure → u.structure ≢ 0 → (v : Unit) × (get c.units to ≡ Some v) × (v.structure ≡ u.structure)
     inside_to None there same some = absurd (some (sym same))
     inside_to (Some v) there same some = (v, there, same)
 
+    -- if unit `to` is inside the structure of unit n, making it the owner satisfies `StepsWell`
     new_owner : (u.structure == 0) ≡ false → (inside c to == u.structure) ≡ true → Well (with_owner c u.structure to)
     new_owner some near =
         unbooked_well w c (with_owner c u.structure to)
@@ -121,6 +128,7 @@ module _ (w : WorldValue) (c : CampaignValue) (n : ℕ) (u : Unit) (is : get c.u
             }
         owned q y false here old = old
 
+    -- PROMOTE satisfies `StepsWell`, by the tests of its faults
     promoted_by : (a b d : Bool) → (u.structure == 0) ≡ a → (inside c to == u.structure) ≡ d
         → Well (unless c (first_fault ((a, NotInside) ∷ (not b, NotOwner) ∷ (not d, NotHere) ∷ [])) (with_owner c u.structure to, Done 0)).0
     promoted_by true b d some near = unchanged
@@ -128,11 +136,12 @@ module _ (w : WorldValue) (c : CampaignValue) (n : ℕ) (u : Unit) (is : get c.u
     promoted_by false true false some near = unchanged
     promoted_by false true true some near = new_owner some near
 
+    -- an order of PROMOTE satisfies `StepsWell`
     promoted_well : Well (promote n to c u).0
     unfolding promote
     promoted_well = promoted_by (u.structure == 0) (is_owned_by (get c.structures u.structure) n) (inside c to == u.structure) refl refl
 
-  -- an order of LEAVE, ENTER or PROMOTE leaves the campaign well
+  -- an order of LEAVE, ENTER or PROMOTE satisfies `StepsWell`
   order_well : (a : Aliases) (f : ℕ) (o : OperandsValue) → IfSome (place_effect w a f n o) (λ deed. Well (deed c u).0)
   order_well a f operands.Nothing = left_well
   order_well a f (operands.Number s) = entered_well s
@@ -142,11 +151,11 @@ module _ (w : WorldValue) (c : CampaignValue) (n : ℕ) (u : Unit) (is : get c.u
 -- ---- other units stay
 
 module _ (w : WorldValue) (a : Aliases) (c : CampaignValue) (f n : ℕ) (u : Unit) (k : ℕ) (apart : k ≢ n) where
-  -- unit k is in the changed campaign as it was
+  -- unit k is unchanged in the changed campaign
   abbrev Stays : CampaignValue → Type 0
   Stays d = get d.units k ≡ get c.units k
 
-  -- every other unit stays as it was, whether an order has a fault or not
+  -- if unit k is unchanged without a fault, it is unchanged whether the order has a fault or not
   unless_stays : (o : Option EventFault) (d : CampaignValue) → Stays d → Stays (unless c o (d, Done 0)).0
   unless_stays (Some fault) d stay = refl
   unless_stays None d stay = stay
@@ -164,7 +173,8 @@ module _ (w : WorldValue) (a : Aliases) (c : CampaignValue) (f n : ℕ) (u : Uni
   order_stays (operands.Unit to) = unless_stays (promote_fault c n (unit_of a f to) u) (with_owner c u.structure (unit_of a f to)) refl
   order_stays other = tt
 
--- the step of LEAVE, ENTER and PROMOTE is orderly
+-- orders of LEAVE, ENTER and PROMOTE satisfy `IsOrderly`:
+-- they book nothing, and units without an own order of these are no worse off
 pub place_orderly : IsOrderly place_step IsEarly books_nothing moves_nothing IsOwnOrder IsNoWorse
 place_orderly = record {
   well = λ w a c t x early fit own. order_well w c t.unit x own.there early a t.faction t.order_value.operands;

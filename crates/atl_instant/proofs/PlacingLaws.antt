@@ -1,4 +1,5 @@
--- Where a unit goes from one structure to another of its region, or to none, invariants, totals and other units stay.
+-- Laws of a unit that goes from one structure to another of its region, or to none:
+-- the campaign stays steady, other units stay.
 use Rattle.std.proofs.Common.{◌≡◌, ◌≢◌, ◌==◌, ◌&&◌, ℕ, ◌≤◌, Bool, true, false, Option, Some, None, refl, sym, ap, subst, ◌∙◌, arith}
 use Rattle.std.proofs.lemmas.Bool.{true≢false}
 use Rattle.std.proofs.lemmas.Option.{same_Some}
@@ -26,12 +27,12 @@ use Rattle.atl_instant.proofs.RefitLaws.{IsRefit, IsRelabelled, early-refitted, 
 use Rattle.atl_instant.proofs.StructureLaws.{changed_else, equal_passes, get-after_handover, handed_is, handed_on, len-after_handover}
 use Rattle.atl_instant.proofs.UnbookedLaws.{unbooked_well}
 
--- a function taken of a looked-up value after another one is both in turn
+-- to map a looked-up value by one function and then by another is to map it by both in turn
 pub mapped_twice : {A : Type 0} (f g : A → A) (o : Option A) → option_map f (option_map g o) ≡ option_map (λ y. f (g y)) o
 mapped_twice f g None = refl
 mapped_twice f g (Some y) = refl
 
--- a structure that may get another owner is the same but for the owner
+-- a structure that gets another owner, or keeps its own, is the same but for the owner
 relabelled_if : (b : Bool) (to : ℕ) (y : Structure) → IsRelabelled y (if b then owned_by to y else y)
 relabelled_if true to y = record { kind = refl; region = refl; done = refl; name = λ old. old }
 relabelled_if false to y = record { kind = refl; region = refl; done = refl; name = λ old. old }
@@ -66,15 +67,15 @@ module _ (w : WorldValue) (c : CampaignValue) (n : ℕ) (u : Unit) (s : ℕ) (is
   abbrev begun : CampaignValue
   begun = placed c n u.region s
 
-  -- the campaign after the unit's old structure got its next owner
+  -- the campaign after the structure that the unit left got its next owner
   abbrev gone_out : CampaignValue
   gone_out = after_handover begun old_place n next
 
-  -- the campaign after the unit owns its new structure too, if nobody did
+  -- the campaign after the unit, besides, became the owner of the structure that it entered, if nobody owned this
   abbrev gone_in : CampaignValue
   gone_in = after_handover gone_out s 0 n
 
-  -- the structure of number q with its owner after both
+  -- structure q with its owner after both handovers
   abbrev owner_behind : ℕ → Structure → Structure
   owner_behind q y = handed_on s 0 n q (handed_on old_place n next q y)
 
@@ -87,13 +88,13 @@ module _ (w : WorldValue) (c : CampaignValue) (n : ℕ) (u : Unit) (s : ℕ) (is
   unfolding with_place
   placed_is = ap (with_place_at c n u.region s) is ∙ ap (λ b. if b then begun else gone_in) (other_number old_place s apart)
 
-  -- this campaign is `gone_in`, as a refitted campaign
+  -- the campaign `gone_in` is `behind`, a refitted campaign
   behind_is : gone_in ≡ behind
   behind_is =
       handed_is gone_out s 0 n ∙ ap (λ (d : CampaignValue). record d { structures = gone_in.structures }) (handed_is begun old_place n next)
       ∙ ap (λ m. record c { units = m; structures = gone_in.structures }) (changed-known (λ (x : Unit). record x { region = u.region; structure = s }) c.units n u is)
 
-  -- `with_place` makes this campaign
+  -- `with_place` makes the campaign `behind`
   pub place_is : with_place c n u.region s ≡ behind
   place_is = placed_is ∙ behind_is
 
@@ -115,7 +116,7 @@ module _ (w : WorldValue) (c : CampaignValue) (n : ℕ) (u : Unit) (s : ℕ) (is
   low : Every (λ k v. 1 ≤ k) c.units
   low k v there = (steady.numbers.units k v there).0
 
-  -- every other unit stays as it was
+  -- every unit but n stays as it was
   away : (k : ℕ) → k ≢ n → get behind.units k ≡ get c.units k
   away k other = get-insert_other c.units n k moved other
 
@@ -139,11 +140,12 @@ module _ (w : WorldValue) (c : CampaignValue) (n : ℕ) (u : Unit) (s : ℕ) (is
   }
   entered_owned q y there other here false t = still_owned q y there (owns_no_other w c n u is steady q y there other) (λ none. absurd (true≢false (sym (equal_passes y.owner 0 none) ∙ t)))
 
-  -- the structure with its owner after both handovers, by the three tests
+  -- a structure with its owner after both handovers, by whether it is the one left, was the unit's own,
+  -- and is the one entered
   abbrev given : (a e b : Bool) → Structure → Structure
   given a e b y = let x = if a && e then owned_by next y else y in if b && x.owner == 0 then owned_by n x else x
 
-  -- each structure has its right owner, by the three tests
+  -- each structure has its right owner after both handovers, in each case of the three tests
   by_tests : (q : ℕ) (y : Structure) → get c.structures q ≡ Some y → (a e b : Bool) → (q == old_place) ≡ a → (y.owner == n) ≡ e → (q == s) ≡ b → IsOwned behind q (given a e b y)
   by_tests q y there true e true p r t = absurd (apart (sym (is_equal q old_place p) ∙ is_equal q s t))
   by_tests q y there true true false p r t = subst (λ k. IsOwned behind k (owned_by next y)) (sym (is_equal q old_place p)) (heir_owns c behind n away old_place (λ zero. is_no_zero c.structures c.next_structure steady.next.structures q y there (is_equal q old_place p ∙ zero)) low (λ v here inside. apart (sym inside ∙ stands v here)) y)
@@ -164,20 +166,21 @@ module _ (w : WorldValue) (c : CampaignValue) (n : ℕ) (u : Unit) (s : ℕ) (is
       afloat = afloat;
     }
 
-    -- the campaign stays steady when the unit's new structure is in its region, and a ship on water
+    -- a steady campaign stays steady, if the unit's new structure is in its region, and on water is a ship
     pub placed_steady : IsSteady w behind
     placed_steady = steady-refitted w c n u s is gone_in.structures owner_behind refit steady
 
-    -- it stays early too
+    -- an early campaign stays early, if the unit's new structure is in its region, and on water is a ship
     pub placed_early : IsEarly w c → IsEarly w behind
     placed_early early = early-refitted w c n u s is gone_in.structures owner_behind refit early
 
-    -- the totals stay the same
+    -- the totals stay the same when the unit goes to another structure
     pub placed_total : (t : Thing) → total behind t ≡ total c t
     placed_total = total-refitted w c n u s is gone_in.structures owner_behind
 
 module _ (w : WorldValue) (c : CampaignValue) (n : ℕ) (u : Unit) (s : ℕ) (is : get c.units n ≡ Some u) (early : IsEarly w c) (apart : u.structure ≢ s) where
-  -- so the move is a step that leaves the campaign well
+  -- a move to another structure of the region, or on land to none, satisfies `StepsWell`;
+  -- on water the structure must be a ship
   pub place_well : (s ≢ 0 → (x : Structure) × (get c.structures s ≡ Some x) × (x.region ≡ u.region)) → (is_land_at w u.region ≡ false → (x : Structure) × (get c.structures s ≡ Some x) × (is_ship w x ≡ true)) → StepsWell IsEarly books_nothing w c (with_place c n u.region s)
   place_well inside afloat =
       let steady = early.steady in
@@ -195,7 +198,7 @@ handed_units c k from to = by_test (is_owned_by (get c.structures k) from)
     by_test true = refl
     by_test false = refl
 
--- every other unit stays as it was
+-- every unit but n stays as it was when unit n is put in region r and structure s
 pub place_stays : (c : CampaignValue) (n r s k : ℕ) → k ≢ n → get (with_place c n r s).units k ≡ get c.units k
 unfolding with_place
 place_stays c n r s k apart = by_unit (get c.units n)

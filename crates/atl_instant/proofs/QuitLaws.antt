@@ -1,4 +1,4 @@
--- QUIT leaves a campaign well: units leave, what they had is booked as gone, and nothing else changes.
+-- Laws of QUIT: units leave, what they had is booked as gone, and nothing else changes; the campaign stays steady.
 use Rattle.std.proofs.Common.{◌≡◌, ◌≢◌, ◌==◌, ℕ, ◌+◌, ◌*◌, ◌≤◌, ◌<◌, not, Bool, true, false, cond, List, [], ◌∷◌, length, drop, get_or, Option, Some, None, sum_by, refl, sym, ap, subst, ◌∙◌, inl, inr, arith}
 use Rattle.std.specs.Prelude.{ℤ, pos, neg_ℤ, ◌+ℤ◌, IfSome, fold, unwrap_or, if◌then◌else◌}
 use Rattle.std.proofs.lemmas.Int.{ints}
@@ -61,7 +61,7 @@ use Rattle.atl_instant.proofs.StructureLaws.{handed_is}
 
 -- ---- things and entries
 
--- this amount if both things are one, and 0 otherwise
+-- the amount if the two things are one, and 0 otherwise
 abbrev pub part_of : Thing → Thing → ℕ → ℕ
 part_of s t amount = cond (thing_index s == thing_index t) amount 0
 
@@ -101,7 +101,7 @@ one_moves amount t e s = by_number (amount_number e s == amount_number (loss_ent
         at_place (entry_index e == entry_index (loss_entry s)) (thing_index s == thing_index t) (let f : (entry_index e == entry_index (loss_entry s)) ≡ true = grind (arith, nat_tests) in f) (let g : (thing_index s == thing_index t) ≡ true = grind (arith, nat_tests) in g)
     by_number false is = omega arith
 
--- two amounts within `under` are together within it for the sum
+-- if x is within `under` for m, and y for n, x + y is within `under` for m + n
 under_sum : (e : Entry) (s : Thing) (x y m n : ℕ) → x ≤ under e s m → y ≤ under e s n → x + y ≤ under e s (m + n)
 under_sum e s x y m n = by_test (entry_index e == entry_index (loss_entry s))
   where
@@ -135,7 +135,7 @@ pub no_people : (es : List (ℕ × ℕ)) → owing_items es People ≡ 0
 no_people [] = refl
 no_people (e ∷ es) = nothing_more (1 == 2 + e.0) e.1 (owing_items es People) (let apart : (1 == 2 + e.0) ≡ false = grind (arith, nat_tests) in apart) ∙ no_people es
 
--- a sorted list of items has as much of an item as the search in it finds, or 0
+-- a sorted list of items has as much of an item as the search in the list finds, or 0
 pub of_item : (j : ℕ) (es : List (ℕ × ℕ)) → is_sorted nat_cmp es ≡ true → owing_items es (Item j) ≡ unwrap_or (find nat_cmp j es) 0
 of_item j [] s = refl
 of_item j (e ∷ es) s =
@@ -163,7 +163,7 @@ owing h s = part_of s People h.men + (part_of s Money h.money + owing_items (ent
 abbrev pub held_moves : HoldingValue → BookBound
 held_moves h = both_move (moves_only h.men Left People) (both_move (moves_only h.money Lost Money) (moving_items (entries h.items)))
 
--- all that a unit has of a thing is what it holds of it
+-- what a unit owes of a thing as it leaves is what it holds of the thing
 all_owed : (h : HoldingValue) (s : Thing) → owing h s ≡ unit_amount s h
 all_owed h Money = sum h.money (owing_items (entries h.items) Money) (no_money (entries h.items))
   where
@@ -182,7 +182,7 @@ all_owed h (Item j) =
     sum true d m n k e f = cc
     sum false true m n k e f = cc
 
--- this bound is at most what `loss_under` says
+-- the bound on the bookings for what a unit holds (`held_moves`) is at most `loss_under`
 pub moves_what_leaves : (h : HoldingValue) (e : Entry) (s : Thing) → held_moves h e s ≤ loss_under e s h
 moves_what_leaves h e s =
     subst (λ n. held_moves h e s ≤ under e s n) (all_owed h s)
@@ -191,15 +191,15 @@ moves_what_leaves h e s =
 
 -- ---- a campaign in which so much is booked as gone
 
--- The campaign d is c with `off` of each thing booked as gone, and only its books differ.
--- It is steady, what the books have of a thing falls by this amount, and no amount of theirs moves further than `moving`.
+-- The campaign d is c with `off` of each thing booked as gone, and only the books differ.
+-- It is steady, what the books have of a thing falls by `off`, and no amount of the books moves further than `moving`.
 pub record BooksOff (w : WorldValue) (off : Thing → ℕ) (moving : BookBound) (c d : CampaignValue) : Type 0 where
   pub steady : IsSteady w d
   pub owed : (s : Thing) → booked c.books s ≡ booked d.books s +ℤ pos (off s)
   pub near : (e : Entry) (s : Thing) → IsNear (moving e s) (amount_in c.books e s) (amount_in d.books e s)
   pub same : d ≡ record c { books = d.books }
 
--- two bookings off are one of both amounts
+-- two bookings as gone, each of which satisfies `BooksOff`, satisfy it together for the sum of what they book
 off_twice : {o p : Thing → ℕ} {i j : BookBound} (w : WorldValue) (a b c : CampaignValue) → BooksOff w o i a b → BooksOff w p j b c → BooksOff w (λ s. o s + p s) (both_move i j) a c
 off_twice {o} {p} {i} {j} w a b c one two = record {
   steady = two.steady;
@@ -211,7 +211,7 @@ off_twice {o} {p} {i} {j} w a b c one two = record {
     grouped : (x y z : ℤ) (m n : ℕ) → x ≡ y +ℤ pos m → y ≡ z +ℤ pos n → x ≡ z +ℤ pos (m + n)
     grouped x y z m n e f = omega (arith, ints, e, f)
 
--- one booking of a thing as gone
+-- to book an amount of a thing as gone satisfies `BooksOff`, if the thing is of the world and the campaign steady
 pub off_one : (w : WorldValue) (c : CampaignValue) (t : Thing) (amount : ℕ) → thing_index t < things_of w → IsSteady w c → BooksOff w (λ s. part_of s t amount) (moves_only amount (loss_entry t) t) c (with_loss c t amount)
 off_one w c t amount inside steady = record {
   steady = steady-amount w c (loss_entry t) t (neg_ℤ (pos amount)) inside steady;
@@ -226,7 +226,7 @@ off_one w c t amount inside steady = record {
     less z true a = omega (arith, ints)
     less z false a = omega (arith, ints)
 
--- the bookings of some items as lost
+-- to book items as lost, one after another, satisfies `BooksOff`, if they are of the world and the campaign is steady
 off_items : (w : WorldValue) (c : CampaignValue) (es : List (ℕ × ℕ)) → EachOf (λ i a. i < length w.items) es → IsSteady w c → BooksOff w (owing_items es) (moving_items es) c (fold with_item_loss c es)
 off_items w c [] known steady = record {
   steady = steady;
@@ -241,7 +241,7 @@ off_items w c ((i, a) ∷ es) known steady =
     let one = off_one w c (Item i) a (omega (arith, known.0)) steady in
     off_twice w c (with_item_loss c (i, a)) (fold with_item_loss (with_item_loss c (i, a)) es) one (off_items w (with_item_loss c (i, a)) es known.1 one.steady)
 
--- the bookings of all that a unit has as gone
+-- to book all that a unit has as gone satisfies `BooksOff`, if its items are of the world and the campaign is steady
 pub off_all : (w : WorldValue) (c : CampaignValue) (h : HoldingValue) → Every (λ i a. i < length w.items) h.items → IsSteady w c → BooksOff w (owing h) (held_moves h) c (with_all_losses c h)
 off_all w c h known steady =
     let men = with_loss c People h.men in
@@ -259,7 +259,7 @@ gone_marks c d t amount what marks =
     let all = marks-amount c (loss_entry t) t (neg_ℤ (pos amount)) in
     rw (what, marks) (record { stay = all.stay; covers = all.covers })
 
--- books with room for a loss and what follows have room for the loss
+-- books with room for a loss and for the bound `next` have room for the loss
 pub first_room : (t : Thing) (amount : ℕ) (next : BookBound) (c : CampaignValue) → HaveRoom (both_move (moves_only amount (loss_entry t) t) next) c → HasRoom amount (amount_in c.books (loss_entry t) t)
 first_room t amount next c room =
     less_room amount (moves_only amount (loss_entry t) t (loss_entry t) t + next (loss_entry t) t) (amount_in c.books (loss_entry t) t)
@@ -269,7 +269,7 @@ first_room t amount next c room =
     at_least true m t = omega arith
     at_least false m t = cc
 
--- after that loss they have room for what follows
+-- after a loss is booked, the books have room for the bound `next`, if they had room for both before
 pub rest_room : (t : Thing) (amount : ℕ) (next : BookBound) (c : CampaignValue) → HaveRoom (both_move (moves_only amount (loss_entry t) t) next) c → HaveRoom next (with_loss c t amount)
 rest_room t amount next c room = booked-room c.books (loss_entry t) t (neg_ℤ (pos amount)) amount (within-neg amount amount (omega arith)) next room
 
@@ -292,7 +292,7 @@ known_ahead w xs i inside known = subst (EachOf (λ j a. j < length w.items)) (d
 pub known_held : (w : WorldValue) (c : CampaignValue) (n : ℕ) (u : Unit) → get c.units n ≡ Some u → IsSteady w c → EachOf (λ j a. j < length w.items) (entries u.holding.items)
 known_held w c n u is steady = each-from_every (λ j a. j < length w.items) u.holding.items (steady.known.units n u is).items
 
--- books with room for what may still be lost have room for all that a unit has
+-- books with room for what all units may lose (`quit_reserve`) have room for all that one unit has
 pub held_room : (c : CampaignValue) (n : ℕ) (u : Unit) → get c.units n ≡ Some u → HaveRoom (quit_reserve c) c → HaveRoom (held_moves u.holding) c
 held_room c n u is room = room_less (held_moves u.holding) (quit_reserve c) c (λ e t. within (held_moves u.holding e t) (loss_under e t u.holding) (sum_over (λ (x : Unit). loss_under e t x.holding) (remove c.units n)) (quit_reserve c e t) (moves_what_leaves u.holding e t) (sum_over-remove c.units n (λ (x : Unit). loss_under e t x.holding) u is)) room
   where
@@ -301,7 +301,7 @@ held_room c n u is room = room_less (held_moves u.holding) (quit_reserve c) c (�
 
 -- ---- a unit that leaves
 
--- other books leave the totals as they are
+-- other books leave the totals of the campaign as they are
 total_books : (c : CampaignValue) (books : BooksValue) (t : Thing) → total (record c { books = books }) t ≡ total c t
 unfolding total
 total_books c books t = refl
@@ -315,19 +315,19 @@ module _ (w : WorldValue) (c : CampaignValue) (n : ℕ) (u : Unit) (is : get c.u
   abbrev behind : CampaignValue
   behind = without_unit off n
 
-  -- the bookings are those of all that the unit has
+  -- what is booked is all that the unit holds, and only the books differ (`BooksOff`)
   off_is : BooksOff w (owing u.holding) (held_moves u.holding) c off
   off_is = off_all w c u.holding (steady.known.units n u is).items steady
 
-  -- the unit is still there before it is removed
+  -- the unit is still there after the bookings, before it is removed
   there : get off.units n ≡ Some u
   there = ap (λ (s : CampaignValue). get s.units n) off_is.same ∙ is
 
-  -- the units after one has left are the others
+  -- after one unit has left, the units are those before without unit n
   pub units_behind : behind.units ≡ remove c.units n
   units_behind = (only_reduced w off n u there).units ∙ ap (λ (s : CampaignValue). remove s.units n) off_is.same
 
-  -- the books balance after the unit left, where they did before
+  -- the books balance after the unit left, if they balanced before
   balanced : Balances c → Balances behind
   balanced old t =
       let only = only_reduced w off n u there in
@@ -338,7 +338,7 @@ module _ (w : WorldValue) (c : CampaignValue) (n : ℕ) (u : Unit) (is : get c.u
       rest : (a h b d o : ℕ) (z y : ℤ) → a + h ≡ b → b ≡ d → o ≡ h → pos d ≡ z → z ≡ y +ℤ pos o → pos a ≡ y
       rest a h b d o z y e f g k l = omega (arith, ints, e, f, g, k, l)
 
-  -- the bookings use what the remaining bound falls
+  -- no amount of the books moves further than its remaining bound falls as the unit leaves
   drawn : (e : Entry) (t : Thing) → UsesBound (quit_reserve c e t) (quit_reserve behind e t) (amount_in c.books e t) (amount_in behind.books e t)
   drawn e t =
       let only = only_reduced w off n u there in
@@ -348,7 +348,7 @@ module _ (w : WorldValue) (c : CampaignValue) (n : ℕ) (u : Unit) (is : get c.u
       (drawn_near (loss_under e t u.holding) (quit_reserve c e t) (quit_reserve behind e t) (amount_in c.books e t) (amount_in off.books e t) reserves
       (near_more (held_moves u.holding e t) (loss_under e t u.holding) (amount_in c.books e t) (amount_in off.books e t) (moves_what_leaves u.holding e t) (off_is.near e t)))
 
-  -- a unit that leaves is a step that leaves the campaign well
+  -- the unit's leaving keeps a steady campaign steady, in its month and with balanced books (`StepsWell`)
   leaving_well : StepsWell IsSteady quit_reserve w c behind
   leaving_well =
       let only = only_reduced w off n u there in
@@ -364,7 +364,8 @@ module _ (w : WorldValue) (c : CampaignValue) (n : ℕ) (u : Unit) (is : get c.u
         drawn = drawn;
       }
 
--- a unit that leaves with all that it has is a step that leaves the campaign well
+-- after unit n left with all that it has, a steady campaign stays steady,
+-- in its month and with balanced books (`StepsWell`)
 pub left_well : (w : WorldValue) (c : CampaignValue) (n : ℕ) → IsSteady w c → StepsWell IsSteady quit_reserve w c (after_leaving c n)
 unfolding after_leaving
 left_well w c n steady = by_unit (get c.units n) refl
@@ -398,7 +399,8 @@ left_others c n k apart = by_unit (get c.units n)
 
 -- ---- all units of a faction
 
--- units that leave one after another are a step that leaves the campaign well
+-- after units left one after another, a steady campaign stays steady,
+-- in its month and with balanced books (`StepsWell`)
 pub all_left_well : (w : WorldValue) (c : CampaignValue) (ns : List ℕ) → IsSteady w c → StepsWell IsSteady quit_reserve w c (fold after_leaving c ns)
 all_left_well w c [] steady = well_same w c steady
 all_left_well w c (n ∷ ns) steady =
@@ -421,11 +423,11 @@ quit_cases P c number u same leave = by_fault (quit_fault number u) refl
     by_fault (Some fault) e = same
     by_fault None e = leave (not_apart number u.faction (none_fits (not (number == u.faction)) WrongNumber [] e).0)
 
--- an order of QUIT is a step that leaves the campaign well
+-- an order of QUIT keeps a steady campaign steady, in its month and with balanced books (`StepsWell`)
 pub quit_well : (w : WorldValue) (c : CampaignValue) (number : ℕ) (u : Unit) → IsSteady w c → StepsWell IsSteady quit_reserve w c (quit number c u).0
 quit_well w c number u steady = quit_cases (λ d. StepsWell IsSteady quit_reserve w c d) c number u (well_same w c steady) (λ own. all_left_well w c (numbers_of u.faction c.units) steady)
 
--- QUIT leaves no worse off a unit of another faction than the one that quits
+-- QUIT leaves a unit no worse off, if the unit isn't of the faction that quits
 quit_spares : (w : WorldValue) (c : CampaignValue) (number : ℕ) (u : Unit) (k : ℕ) (x : Unit) → IsSteady w c → get c.units k ≡ Some x → (number ≡ u.faction → u.faction ≢ x.faction) → IsUnaffected IsNoWorse (quit number c u).0 k x
 quit_spares w c number u k x steady here other =
     quit_cases (λ d. IsUnaffected IsNoWorse d k x) c number u (record { unit = x; there = here; spared = no_worse x })
@@ -474,7 +476,7 @@ reserve_within w c steady e t = by_test (entry_index e == entry_index (loss_entr
     by_test true = few (sum_over (λ (u : Unit). unit_amount t u.holding) c.units) (length (entries c.units)) (all_within true holding_limit (λ h is. within_limit t h is)) (omega (arith, len-entries c.units, steady.numbers.few_units))
     by_test false = none (sum_over (λ (u : Unit). 0) c.units) (length (entries c.units)) (all_within false 0 (λ h is. omega arith))
 
--- the step of QUIT is orderly
+-- orders of QUIT satisfy `IsOrderly`: they book what leaves, and a unit whose faction doesn't quit is no worse off
 pub quit_orderly : IsOrderly quit_step IsSteady quit_reserve quit_moves quit_concerns IsNoWorse
 quit_orderly = record {
   well = λ w a c t x steady fit own. well w c x steady t.order_value.operands;

@@ -1,4 +1,5 @@
--- QUIT leaves no unit worse off whose faction doesn't quit by an order for a unit that was its own as the phase began.
+-- Laws of QUIT: a unit is no worse off, unless its faction quits by an order
+-- for a unit that was its own as the phase began.
 use Rattle.std.proofs.Common.{◌≡◌, ℕ, true, List, [], ◌∷◌, Option, Some, None, refl, sym, ap, subst, ◌∙◌}
 use Rattle.std.specs.Prelude.{IfSome, fold}
 use Rattle.std.specs.Ordering.{nat_cmp}
@@ -26,11 +27,11 @@ use Rattle.atl_instant.proofs.OrderEffectLaws.{no_worse_spares, orders_fit, orde
 
 -- ---- no unit comes, and none changes
 
--- each unit of d is a unit of c, as it was
+-- each unit of d is an unchanged unit of c
 abbrev HasSomeOf : CampaignValue → CampaignValue → Type 0
 HasSomeOf c d = Every (λ k u. get c.units k ≡ Some u) d.units
 
--- a unit that leaves leaves some of the units as they were
+-- after a unit left, each unit that is still there is unchanged (`HasSomeOf`), if the campaign was steady
 left_some : (w : WorldValue) (c : CampaignValue) (n : ℕ) → IsSteady w c → HasSomeOf c (after_leaving c n)
 unfolding after_leaving
 left_some w c n steady = by_unit (get c.units n) refl
@@ -40,20 +41,21 @@ left_some w c n steady = by_unit (get c.units n) refl
     by_unit (Some x) is =
         subst (λ (m : FinMap nat_cmp Unit). Every (λ k u. get c.units k ≡ Some u) m) (sym (units_behind w c n x is steady)) (every-remove c.units n (λ k u. get c.units k ≡ Some u) (λ k u there. there))
 
--- units that leave leave some of the units as they were
+-- after units left, each unit that is still there is unchanged (`HasSomeOf`), if the campaign was steady
 all_left_some : (w : WorldValue) (c : CampaignValue) (ns : List ℕ) → IsSteady w c → HasSomeOf c (fold after_leaving c ns)
 all_left_some w c [] steady k u there = there
 all_left_some w c (n ∷ ns) steady k u there = left_some w c n steady k u (all_left_some w (after_leaving c n) ns (left_well w c n steady).holds_still k u there)
 
--- an order of QUIT leaves some of the units as they were
+-- after an order of QUIT, each unit that is still there is unchanged (`HasSomeOf`), if the campaign was steady
 quit_some : (w : WorldValue) (c : CampaignValue) (number : ℕ) (x : Unit) → IsSteady w c → HasSomeOf c (quit number c x).0
 quit_some w c number x steady = quit_cases (HasSomeOf c) c number x (λ k u there. there) (λ own. all_left_some w c (numbers_of x.faction c.units) steady)
 
--- the unit of an order is its faction's own, if it is of the faction that wrote the order
+-- an order is for a unit of its own faction (`is_own`), if the unit is there and of the faction that wrote the order
 is_own_unit : (c : CampaignValue) (t : Task) (x : Unit) → IsUnitOf c t x → is_own c t ≡ true
 is_own_unit c t x own = ap (is_of_faction t.faction) own.there ∙ equal_passes x.faction t.faction own.faction
 
--- an order for a unit that is the faction's own in d was for one of its own in c, if d has some of the units of c
+-- An order for a unit of its own faction in d was for a unit of its own faction in c.
+-- All units of d are units of c.
 own_before : (c d : CampaignValue) (t : Task) → HasSomeOf c d → is_own d t ≡ true → is_own c t ≡ true
 own_before c d t some own = by_unit (get d.units t.unit) refl own
   where
@@ -63,12 +65,13 @@ own_before c d t some own = by_unit (get d.units t.unit) refl own
 
 -- ---- by the campaign as the phase begins
 
--- the campaign is steady, and each order for a unit that is its faction's own is for one that was so as the phase began
+-- The campaign is steady.
+-- An order for a unit of its own faction was for a unit of its own faction as the phase began.
 abbrev OwnSince : CampaignValue → Condition
 OwnSince begun w c = IsSteady w c × ((t : Task) → is_own c t ≡ true → is_own begun t ≡ true)
 
 module _ (begun : CampaignValue) where
-  -- an order of QUIT keeps `OwnSince`, and leaves the campaign well
+  -- an order of QUIT satisfies `StepsWell` with `OwnSince` as the condition
   since_well : (w : WorldValue) (c : CampaignValue) (x : Unit) → OwnSince begun w c → (s : OperandsValue) → IfSome (quit_effect s) (λ deed. StepsWell (OwnSince begun) quit_reserve w c (deed c x).0)
   since_well w c x since (operands.Number number) =
       let well = quit_well w c number x since.0 in
@@ -80,7 +83,7 @@ module _ (begun : CampaignValue) where
       }
   since_well w c x since other = tt
 
-  -- the step of QUIT is orderly with `OwnSince`
+  -- orders of QUIT satisfy `IsOrderly` with the condition `OwnSince`, and concern units as `QuitsFrom` says
   since_orderly : IsOrderly quit_step (OwnSince begun) quit_reserve quit_moves (QuitsFrom begun) IsNoWorse
   since_orderly = record {
     well = λ w a c t x since fit own. since_well w c x since t.order_value.operands;
@@ -90,7 +93,7 @@ module _ (begun : CampaignValue) where
     bounded = λ w c since. quit_orderly.bounded w c since.0;
   }
 
--- QUIT keeps what `quit_keeps` says
+-- a unit is no worse off after the phase, unless its faction quits (`quit_keeps`), if the campaign is steady
 pub quit_spares_others : (w : WorldValue) (c : CampaignValue) (m : MonthValue) → IsSteady w c → AreFit w m.readings → quit_keeps w m c (quit_meaning w c m).0
 unfolding meaning_by_orders
 quit_spares_others w c m steady fit =

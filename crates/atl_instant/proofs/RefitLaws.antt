@@ -1,4 +1,5 @@
--- A campaign in which one unit is in another structure of its region, and structures have other names and other owners.
+-- Laws of a campaign in which one unit is in another structure of its region,
+-- and structures have other names and owners: it stays steady.
 use Rattle.std.proofs.Common.{◌≡◌, ◌≢◌, ◌==◌, ℕ, ◌+◌, ◌*◌, ◌≤◌, Bool, true, false, Option, Some, None, refl, sym, ap, subst, ◌∙◌, arith}
 use Rattle.std.specs.Prelude.{IsTrue, option_map}
 use Rattle.std.specs.Ordering.{nat_cmp}
@@ -22,14 +23,14 @@ use Rattle.atl_state.specs.Totals.{total}
 use Rattle.atl_records.proofs.EveryLaws.{every-insert, get-insert_other, none_some}
 use Rattle.atl_state.proofs.RegionLaws.{same_len}
 
--- the same structure, but for its owner and its name, which is good if it was good before
+-- Before and after it is the same structure, but for its owner and its name, which is good if it was good before.
 pub record IsRelabelled (before after : Structure) : Type 0 where
   pub kind : after.kind ≡ before.kind
   pub region : after.region ≡ before.region
   pub done : after.done ≡ before.done
   pub name : IsTrue (name_ok before.name) → IsTrue (name_ok after.name)
 
--- a value found after a function was taken of each value comes of a value that was found before
+-- a value that is found after each was mapped by f is f of a value that was found before
 pub under : {A B : Type 0} (f : A → B) (o : Option A) (x : B) → option_map f o ≡ Some x → (v : A) × (o ≡ Some v) × (f v ≡ x)
 under f None x is = none_some x is
 under f (Some v) x is = let same : f v ≡ x = cc in (v, refl, same)
@@ -62,7 +63,7 @@ module _ (c : CampaignValue) (units : FinMap nat_cmp Unit) (structures : FinMap 
   pub named_replaced : Every (λ k x. IsTrue (name_ok x.holding.name)) units → Every (λ k x. IsTrue (name_ok x.name)) structures → AreNamed c → AreNamed replaced
   named_replaced new_units new_structures old = record { pass = old.pass; factions = old.factions; joined = old.joined; units = new_units; structures = new_structures }
 
-  -- the next numbers stay free, if no unit and no structure comes under a number that had none
+  -- the next numbers stay free, if each number without a unit or a structure stays without
   pub numbered_replaced : len structures ≡ len c.structures → ((k : ℕ) → get c.units k ≡ None → get units k ≡ None) → ((k : ℕ) → get c.structures k ≡ None → get structures k ≡ None)
       → AreNumbered c → AreNumbered replaced
   numbered_replaced count no_unit no_structure old = record {
@@ -76,11 +77,11 @@ module _ (w : WorldValue) (c : CampaignValue) (n : ℕ) (u : Unit) (s : ℕ) (is
   abbrev pub moved_unit : Unit
   moved_unit = record u { structure = s }
 
-  -- the units with this one inside structure s
+  -- the units, of which unit n is inside structure s
   abbrev units : FinMap nat_cmp Unit
   units = insert c.units n moved_unit
 
-  -- the campaign with this unit inside structure s, and other structures
+  -- the campaign in which unit n is inside structure s, with other structures
   abbrev pub refitted : CampaignValue
   refitted = record c { units = units; structures = structures }
 
@@ -95,26 +96,32 @@ module _ (w : WorldValue) (c : CampaignValue) (n : ℕ) (u : Unit) (s : ℕ) (is
     pub afloat : is_land_at w u.region ≡ false → (x : Structure) × (get c.structures s ≡ Some x) × (is_ship w x ≡ true)
 
   module _ (refit : IsRefit) where
+    -- P holds of each structure then, if it holds of g of each structure before
     every_structure : (P : ℕ → Structure → Type 0) → Every (λ k y. P k (g k y)) c.structures → Every P structures
     every_structure P h k x there =
         let (y, was, same) = under (g k) (get c.structures k) x (sym (refit.at k) ∙ there) in
         subst (P k) same (h k y was)
 
+    -- each structure is there then, as g makes it
     forth : (k : ℕ) (y : Structure) → get c.structures k ≡ Some y → get structures k ≡ Some (g k y)
     forth k y there = refit.at k ∙ ap (option_map (g k)) there
 
+    -- a number without a structure stays without
     none_kept : (k : ℕ) → get c.structures k ≡ None → get structures k ≡ None
     none_kept k none = refit.at k ∙ ap (option_map (g k)) none
 
+    -- the campaign stays within the ranges of its numbers
     numbers_kept : AreInRange w c → AreInRange w refitted
     numbers_kept old =
         in_range_replaced c units structures w (same_len c.units n u moved_unit is) refit.count
         (every-insert (λ k x. (1 ≤ k) × IsHolding x.holding) c.units n moved_unit (old.units n u is) old.units)
         (every_structure (λ k x. (1 ≤ x.done) × (x.done ≤ size_of w x.kind)) (λ k y was. let r = refit.same k y was in rw (r.done, r.kind) (old.structures k y was))) old
 
+    -- a structure in a region is still there, in this region
     still_inside : (j region : ℕ) → (x : Structure) × (get c.structures j ≡ Some x) × (x.region ≡ region) → (x : Structure) × (get structures j ≡ Some x) × (x.region ≡ region)
     still_inside j region (x, there, here) = (g j x, forth j x there, (refit.same j x there).region ∙ here)
 
+    -- all that the campaign refers to is still there
     known_kept : AreKnown w c → AreKnown w refitted
     known_kept old = record {
       regions = old.regions;
@@ -133,17 +140,21 @@ module _ (w : WorldValue) (c : CampaignValue) (n : ℕ) (u : Unit) (s : ℕ) (is
       posts = old.posts;
     }
 
+    -- the next numbers stay free
     next_kept : AreNumbered c → AreNumbered refitted
     next_kept =
         numbered_replaced c units structures refit.count
         (λ k none. get-insert_other c.units n k moved_unit (λ same. none_some u (sym none ∙ ap (get c.units) same ∙ is)) ∙ none) none_kept
 
+    -- factions that are gone still have no units
     gone_kept : GoneHaveNone c → GoneHaveNone refitted
     gone_kept old m f there gone = numbers_where-insert_known (λ x. x.faction == m) c.units n u moved_unit is refl ∙ old m f there gone
 
+    -- a ship is still there, and still a ship
     still_aboard : (j : ℕ) → (x : Structure) × (get c.structures j ≡ Some x) × (is_ship w x ≡ true) → (x : Structure) × (get structures j ≡ Some x) × (is_ship w x ≡ true)
     still_aboard j (x, there, ship) = (g j x, forth j x there, rw ((refit.same j x there).kind) ship)
 
+    -- on water each unit is still inside a ship
     water_kept : AreAfloat w c → AreAfloat w refitted
     water_kept old = record {
       units = every-insert (λ k x. is_land_at w x.region ≡ false → IsAboard w refitted x) c.units n moved_unit (λ sea. still_aboard s (refit.afloat sea))
@@ -151,7 +162,8 @@ module _ (w : WorldValue) (c : CampaignValue) (n : ℕ) (u : Unit) (s : ℕ) (is
       structures = every_structure (λ k x. is_land_at w x.region ≡ false → (is_ship w x ≡ true) × (x.done ≡ size_of w x.kind)) (λ k y was. let r = refit.same k y was in rw (r.region, r.kind, r.done) (old.structures k y was));
     }
 
-    -- units that pass a test still are of one faction in each region, if the moved unit passes it only as before
+    -- Units that pass a test are of one faction in each region after the refit, if they were before.
+    -- The moved unit passes the test only if it did before.
     module _ (test : Unit → Bool) (only : test moved_unit ≡ true → test u ≡ true) where
       abbrev Agree : Unit → Unit → Type 0
       Agree x y = test x ≡ true → test y ≡ true → x.region ≡ y.region → x.faction ≡ y.faction
@@ -162,7 +174,7 @@ module _ (w : WorldValue) (c : CampaignValue) (n : ℕ) (u : Unit) (s : ℕ) (is
           (every-insert (λ m y. Agree moved_unit y) c.units n moved_unit (λ g k same. refl) (λ m y there g k same. old n u is m y there (only g) k same))
           (λ k x here. every-insert (λ m y. Agree x y) c.units n moved_unit (λ g k2 same. old k x here n u is g (only k2) same) (old k x here))
 
-    -- a steady campaign stays steady when it is refitted
+    -- a steady campaign stays steady after a refit (`IsRefit`)
     pub steady-refitted : IsSteady w c → IsSteady w refitted
     steady-refitted old = record {
       numbers = numbers_kept old.numbers;
@@ -178,14 +190,14 @@ module _ (w : WorldValue) (c : CampaignValue) (n : ℕ) (u : Unit) (s : ℕ) (is
       guarded = of_one_faction_refitted guards (λ g. g) old.guarded;
     }
 
-    -- an early campaign stays early when it is refitted
+    -- an early campaign stays early after a refit (`IsRefit`)
     pub early-refitted : IsEarly w c → IsEarly w refitted
     early-refitted old = record { steady = steady-refitted old.steady; flags = of_one_faction_refitted (λ x. x.holding.guard) (λ g. g) old.flags }
 
   cancelled : (a b h r : ℕ) → a + h ≡ b + h → a + r ≡ b + r
   cancelled a b h r e = omega arith
 
-  -- the totals stay the same
+  -- the totals stay the same after a refit
   pub total-refitted : (t : Thing) → total refitted t ≡ total c t
   unfolding total
   total-refitted t =
@@ -197,15 +209,15 @@ module _ (w : WorldValue) (c : CampaignValue) (n : ℕ) (u : Unit) (s : ℕ) (is
 module _ (w : WorldValue) (c : CampaignValue) (n : ℕ) (u : Unit) (is : get c.units n ≡ Some u) (structures : FinMap nat_cmp Structure) (g : ℕ → Structure → Structure)
     (at : (k : ℕ) → get structures k ≡ option_map (g k) (get c.structures k)) (count : len structures ≡ len c.structures)
     (same : Every (λ k y. IsRelabelled y (g k y)) c.structures) (owned : Every (λ k y. IsOwned c k (g k y)) c.structures) where
-  -- the unit as it was
+  -- the unit with the structure that it is inside already, which is the unit as it was
   abbrev as_it_was : Unit
   as_it_was = record u { structure = u.structure }
 
-  -- putting it back changes no unit
+  -- to put the unit in as it was changes no unit
   units_stay : insert c.units n as_it_was ≡ c.units
   units_stay = put_same c.units n u as_it_was is refl
 
-  -- structures that are relabelled refit the campaign with the unit as it was
+  -- structures that are relabelled, while no unit moves, are a refit (`IsRefit`) of an early campaign
   relabelled_refit : IsEarly w c → IsRefit w c n u u.structure is structures g
   relabelled_refit old = record {
     at = at;

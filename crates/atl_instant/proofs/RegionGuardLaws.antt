@@ -1,4 +1,4 @@
--- The code's map of which faction guards each region is right: once it is made, and when a unit begins to guard.
+-- Laws of the code's map of which faction guards each region: it is right when made, and when a unit begins to guard.
 use Rattle.std.proofs.Common.{◌≡◌, ◌==◌, ℕ, Bool, true, false, not, ◌&&◌, ◌||◌, List, [], ◌∷◌, Option, Some, None, refl, sym, ap, subst, ◌∙◌, inl, inr, arith}
 use Rattle.std.specs.Prelude.{if◌then◌else◌, nat_lt}
 use Rattle.std.specs.List.{list_any}
@@ -25,20 +25,21 @@ use Rattle.atl_instant.proofs.GuardingLaws.{flagged, flagged_is, guarding, own_g
 -- ---- as units are noted
 
 module _ (c : CampaignValue) where
-  -- these entries are units of the campaign under their numbers
+  -- each entry of the list is a unit of the campaign under its number
   abbrev AreUnits : List (ℕ × Unit) → Type 0
   AreUnits es = EachOf (λ n u. get c.units n ≡ Some u) es
 
-  -- a unit of this faction guards the region
+  -- some unit of this faction guards the region
   abbrev Held : (region faction : ℕ) → Type 0
   Held region faction = (n : ℕ) × (u : Unit) × (get c.units n ≡ Some u) × IsGuardOf region faction u
 
   module _ (region faction : ℕ) where
-    -- the unit is of this faction if it guards the region
+    -- if the unit guards the region, it is of this faction
     abbrev IsOwn : Unit → Type 0
     IsOwn u = guards u ≡ true → u.region ≡ region → u.faction ≡ faction
 
-    -- the map keeps the faction of a region, if all units that guard it are of that faction
+    -- the map keeps the faction of a region when a unit is noted,
+    -- if the unit is of that faction or doesn't guard the region
     one_stays : (m : GuardMap) (u : Unit) → IsOwn u → get m region ≡ Some faction → get (with_guard_of m u) region ≡ Some faction
     one_stays m u own at = by_test (guards u) own
       where
@@ -50,10 +51,13 @@ module _ (c : CampaignValue) where
             ]
         by_test false own = at
 
+    -- the map keeps the faction of a region when units are noted,
+    -- if each is of that faction or doesn't guard the region
     all_stay : (m : GuardMap) (es : List (ℕ × Unit)) → EachOf (λ n u. IsOwn u) es → get m region ≡ Some faction → get (with_guards_of m es) region ≡ Some faction
     all_stay m [] own at = at
     all_stay m (e ∷ es) own at = all_stay (with_guard_of m e.1) es own.1 (one_stays m e.1 own.0 at)
 
+    -- if the map has a faction for the region once a unit is noted, a unit of that faction guards the region
     held_more : (m : GuardMap) (n : ℕ) (u : Unit) → get c.units n ≡ Some u → (get m region ≡ Some faction → Held region faction) → get (with_guard_of m u) region ≡ Some faction → Held region faction
     held_more m n u is old = by_test (guards u) refl
       where
@@ -67,16 +71,19 @@ module _ (c : CampaignValue) where
             ]
         by_test false on at = old at
 
-  -- a faction in the map of some units guards its region by one of them
+  -- if the map has a faction for a region once some units are noted, a unit of that faction guards the region
   held_of : (m : GuardMap) (es : List (ℕ × Unit)) → AreUnits es → ((r f : ℕ) → get m r ≡ Some f → Held r f) → (r f : ℕ) → get (with_guards_of m es) r ≡ Some f → Held r f
   held_of m [] are old = old
   held_of m (e ∷ es) are old = held_of (with_guard_of m e.1) es are.1 (λ r f. held_more r f m e.0 e.1 are.0 (old r f))
 
   module _ (one : AreOfOneFaction guards c) where
+    -- if the guards of each region are of one faction,
+    -- units of a list that guard the region of guard n are of its faction
     own_of : (n : ℕ) (u : Unit) → get c.units n ≡ Some u → guards u ≡ true → (es : List (ℕ × Unit)) → AreUnits es → EachOf (λ k v. IsOwn u.region u.faction v) es
     own_of n u is on [] are = tt
     own_of n u is on (e ∷ es) are = (λ also same. one e.0 e.1 are.0 n u is also on same, own_of n u is on es are.1)
 
+    -- each unit of a list that guards has its faction in the map once all are noted
     noted_of : (m : GuardMap) (es : List (ℕ × Unit)) → AreUnits es → EachOf (λ n u. guards u ≡ true → get (with_guards_of m es) u.region ≡ Some u.faction) es
     noted_of m [] are = tt
     noted_of m (e ∷ es) are =
@@ -107,7 +114,7 @@ any_listed p (n ∷ ns) k (inr rest) t = either (p n) (any_listed p ns k rest t)
     either true t = refl
     either false t = t
 
--- a list has none that passes a test, if no element of it does
+-- if no element of a list passes a test, the test of the whole list fails
 any_none : (p : ℕ → Bool) (ns : List ℕ) → ((k : ℕ) → IsListed k ns → p k ≡ false) → list_any p ns ≡ false
 any_none p [] none = refl
 any_none p (n ∷ ns) none = ap (λ b. b || list_any p ns) (none n (inl refl)) ∙ any_none p ns (λ k listed. none k (inr listed))
@@ -121,7 +128,7 @@ module _ (c : CampaignValue) (m : GuardMap) (are : AreRegionGuards c m) (region 
   abbrev stands_here : Unit → Bool
   stands_here u = u.region == region
 
-  -- no other faction guards the region, if the faction that the map has for a unit there can only be this one
+  -- no other faction guards the region, if each faction that the map has for a unit there is this one
   all_own : ((u : Unit) → u.region ≡ region → get m u.region ≡ Some u.faction → u.faction ≡ faction) → is_guarded_against c region faction ≡ false
   all_own own = any_none against (numbers_in region c.units) (λ k listed. let (u, is, here) = listed_passing stands_here c.units k listed in ap (guards_against faction) is ∙ by_test u (guards u) (are.noted k u is) (is_equal u.region region here))
     where
@@ -129,7 +136,7 @@ module _ (c : CampaignValue) (m : GuardMap) (are : AreRegionGuards c m) (region 
       by_test u true noted here = ap (λ f. not (f == faction)) (own u here (noted refl)) ∙ ap not (equal_itself faction)
       by_test u false noted here = refl
 
-  -- the map says of a region whether another faction guards it, as the campaign does
+  -- by the map another faction guards the region exactly if this is so in the campaign
   pub holders_tell : has_other_guard faction (get m region) ≡ is_guarded_against c region faction
   holders_tell = by_holder (get m region) refl
     where
@@ -158,7 +165,7 @@ fault_told c m are u few held few_is held_is =
 has_men : (n : ℕ) → (n == 0) ≡ false → nat_lt 0 n ≡ true
 has_men n some = grind (arith, nat_tests)
 
--- a unit that has no fault has men, and no other faction guards its region
+-- if GUARD 1 has no fault for a unit, the unit has men, and no other faction guards its region
 pub can_guard : (c : CampaignValue) (u : Unit) → guard_fault c u ≡ None → (is_guarded_against c u.region u.faction ≡ false) × (nat_lt 0 u.holding.men ≡ true)
 can_guard c u none =
     let one = none_fits (u.holding.men == 0) NoMen ((is_guarded_against c u.region u.faction, Guarded) ∷ []) none in
@@ -166,7 +173,7 @@ can_guard c u none =
     (two.0, has_men u.holding.men one.0)
 
 module _ (c : CampaignValue) (m : GuardMap) (n : ℕ) (u : Unit) (is : get c.units n ≡ Some u) (are : AreRegionGuards c m) where
-  -- the map with the unit's faction set for its region
+  -- the map once the unit's faction is set for its region
   abbrev set_now : GuardMap
   set_now = insert m u.region u.faction
 
@@ -174,7 +181,7 @@ module _ (c : CampaignValue) (m : GuardMap) (n : ℕ) (u : Unit) (is : get c.uni
   abbrev behind : CampaignValue
   behind = flagged c n u is
 
-  -- each guard has its faction in this map
+  -- each unit that guards has its faction in the map `set_now`, if no other faction guards the region
   set_noted : is_guarded_against c u.region u.faction ≡ false → Every (λ k v. guards v ≡ true → get set_now v.region ≡ Some v.faction) behind.units
   set_noted none =
       every-insert (λ k v. guards v ≡ true → get set_now v.region ≡ Some v.faction) c.units n (guarding c n u is) (λ on. get-insert_same m u.region u.faction) (λ k v there on. by_region k v there on)
@@ -186,7 +193,7 @@ module _ (c : CampaignValue) (m : GuardMap) (n : ℕ) (u : Unit) (is : get c.uni
             | inr apart ↦ get-insert_other m u.region v.region u.faction apart ∙ are.noted k v there on
           ]
 
-  -- each faction in this map guards its region
+  -- each faction in the map `set_now` guards its region, if the unit has men
   set_held : nat_lt 0 u.holding.men ≡ true → (r f : ℕ) → get set_now r ≡ Some f → Held behind r f
   set_held men r f at =
       elim (cases_eq r u.region) [
@@ -198,6 +205,7 @@ module _ (c : CampaignValue) (m : GuardMap) (n : ℕ) (u : Unit) (is : get c.uni
             (k, v, get-insert_other c.units n k (guarding c n u is) (λ same. apart (sym guard.stands ∙ ap (λ (x : Unit). x.region) (same_Some _ _ (sym there ∙ ap (get c.units) same ∙ is)))) ∙ there, guard)
       ]
 
-  -- the map stays right when a unit begins to guard and its faction is set for its region
+  -- The map is right after a unit began to guard and its faction was set for the region.
+  -- The unit has men, and no other faction guards the region.
   pub holders_set : is_guarded_against c u.region u.faction ≡ false → nat_lt 0 u.holding.men ≡ true → AreRegionGuards (with_guard c n true) set_now
   holders_set none men = subst (λ d. AreRegionGuards d set_now) (sym (flagged_is c n u is)) (record { noted = set_noted none; held = set_held men })

@@ -1,4 +1,4 @@
--- Books in which no amount passes 9*10^18 have room for one phase.
+-- A law of the books: if no amount passes 9*10^18, they have room for one phase.
 use Rattle.std.proofs.Common.{ℕ, ◌≤◌, arith}
 use Rattle.std.specs.Prelude.{ℤ}
 use Rattle.std.proofs.lemmas.Int.{ints}
@@ -11,5 +11,6 @@ use Rattle.atl_instant.specs.Room.{OnePhaseHasRoom, roomy_amount}
 room : (moved : ℕ) (amount : ℤ) → moved ≤ most_moved → IsWithin roomy_amount amount → HasRoom moved amount
 room moved amount little within = record { above = omega (arith, ints, within.most); below = omega (arith, ints, within.least) }
 
+-- if no amount passes 9*10^18, the books have room for one phase that moves each by less than 10^14
 pub one_phase_has_room : OnePhaseHasRoom
 one_phase_has_room moving c little roomy e t = room (moving e t) (amount_in c.books e t) (little e t) (roomy e t)

@@ -1,4 +1,5 @@
--- No two orders of a phase share a slot: at most one order of a slot counts for a unit in a faction's mailing.
+-- Laws of slots: no two orders of a phase share a slot,
+-- so for a unit at most one order of a slot counts in a faction's mailing.
 use Rattle.std.proofs.Common.{◌≡◌, ◌==◌, ℕ, suc, zero, ◌+◌, ◌<◌, Bool, true, false, ◌&&◌, cond, List, [], ◌∷◌, map, filter, flat_map, slice_get, Option, Some, None, refl, sym, ap, subst, ◌∙◌, arith}
 use Rattle.std.proofs.lemmas.Bool.{and_parts, false_from_ne_true}
 use Rattle.std.proofs.lemmas.Option.{same_Some}
@@ -79,7 +80,7 @@ one_line ts us t o same unit share one two = by_slots (row_of t.order_value.verb
 -- ---- the orders of a phase
 
 module _ (w : WorldValue) (is_of : Verb → Bool) (a : Arrangement) (aliases : Aliases) (readings : FinMap nat_cmp Reading) where
-  -- the order counts in its faction's mailing
+  -- the order counts among the orders of its faction's mailing
   abbrev Stands : Task → Type 0
   Stands t = (r : Reading) → get readings t.faction ≡ Some r → stands (tasks_of aliases t.faction r) t ≡ true
 
@@ -102,19 +103,19 @@ module _ (w : WorldValue) (is_of : Verb → Bool) (a : Arrangement) (aliases : A
         let first : Task = record { faction = f; unit = unit_of aliases f e.target; line = e.line; place = place; order_value = e.order_value } in
         kept first refl (tasks_from aliases f (place + 1) es) (stand_from (place + 1) es) (passes first) refl
 
-  -- the orders of these mailings for the phase count
+  -- the orders of some mailings for the phase count in their mailings
   all_stand : (es : List (ℕ × Reading)) → EachOf (λ f r. get readings f ≡ Some r) es → AllByRecursion Stands (flat_map (λ e. tasks_for is_of (tasks_of aliases e.0 e.1)) es)
   all_stand [] there = tt
   all_stand (e ∷ es) there =
       append_each Stands (tasks_for is_of (tasks_of aliases e.0 e.1)) (flat_map (λ e. tasks_for is_of (tasks_of aliases e.0 e.1)) es) (stand_from e.0 e.1 there.0 0 e.1.entries) (all_stand es there.1)
 
-  -- an order that counts in its mailing, under its key
+  -- an order under its key, which counts in the mailing of its faction
   record IsKept (key : List ℕ) (t : Task) : Type 0 where
     keyed : key ≡ key_of a t
     there : IsInMailing aliases readings t
     kept : Stands t
 
-  -- orders that are entries and count are so under their keys
+  -- orders that are in their mailings and count there are `IsKept` under their keys
   both : (ts : List Task) → AllByRecursion (IsInMailing aliases readings) ts → AllByRecursion Stands ts → AllByRecursion (λ t. IsKept (key_of a t) t) ts
   both [] there kept = tt
   both (t ∷ ts) there kept = (record { keyed = refl; there = there.0; kept = kept.0 }, both ts there.1 kept.1)
@@ -163,6 +164,7 @@ module _ (w : WorldValue) (is_of : Verb → Bool) (a : Arrangement) (aliases : A
     all_apart [] all rise = tt
     all_apart (e ∷ es) all rise = let parts = and_parts _ _ rise in (apart_from e es all.0 all.1 parts.0, all_apart es all.1 parts.1)
 
+-- no two orders of a phase share a slot, if the mailings can be read with the world
 pub one_order_stands : OneOrderStands
 one_order_stands w is_of a aliases readings fit =
     let ts = flat_map (λ e. tasks_for is_of (tasks_of aliases e.0 e.1)) (entries readings) in

@@ -1,4 +1,4 @@
--- The greatest line of each unit in a slot, as the code notes it order by order.
+-- Laws of the greatest line of each unit in a slot: noting line by line gives the last line of the mailing's orders.
 use Rattle.std.proofs.Common.{◌≡◌, ℕ, ◌+◌, ◌<◌, ◌==◌, ◌&&◌, if◌then◌else◌, max, Bool, true, false, cond, List, drop, map, length, get_or, Some, None, Option, refl, sym, ap, ◌∙◌, arith}
 use Rattle.std.specs.Prelude.{unwrap_or}
 use Rattle.std.specs.Ordering.{nat_cmp}
@@ -15,7 +15,7 @@ use Rattle.atl_instant.specs.Month.{Aliases}
 use Rattle.atl_instant.specs.PhaseOrders.{unit_of, slot_number, is_slot, last_line, tasks_from}
 use Rattle.atl_instant.specs.OrderIndices.{Lines, line_in, with_line}
 
--- the greatest line in a slot for a unit, once a line is noted
+-- the greatest line in a slot for a unit, after one more line is noted
 module _ (lines : Lines) (k u line : ℕ) where
   -- the lines of a slot after a line was noted
   group_at : (j : ℕ) → group_of (with_line lines k u line) j ≡ (if j == k then insert (group_of lines k) u (max (line_in lines k u) line) else group_of lines j)
@@ -43,7 +43,8 @@ module _ (lines : Lines) (k u line : ℕ) where
       two : (a n : ℕ) → max a n ≡ max a (max 0 n)
       two a n = omega arith
 
-  -- after a line is noted, the greatest line in a slot for a unit takes it in, if it is of that slot and unit
+  -- After a line is noted, the greatest line in its slot for its unit is the greater of it and the old one.
+  -- For other slots and units it stays.
   noted_at : (j unit n : ℕ) → max (line_in (with_line lines k u line) j unit) n ≡ max (line_in lines j unit) (max (if (u == unit) && (j == k) then line else 0) n)
   noted_at j unit n =
       ap (λ g. max (unwrap_or (get g unit) 0) n) (group_at j)
@@ -61,14 +62,14 @@ module _ (slot : Slot) (aliases : Aliases) (faction : ℕ) (text : List ℕ) whe
   abbrev rest_from : ℕ → List Entry → ℕ → ℕ
   rest_from i es unit = last_line slot unit (tasks_from aliases faction i (map (entry_value text) (drop i es)))
 
-  -- the greatest line from index i on is that of the entry at i, and of those from i + 1 on
+  -- the greatest line of the orders from i on is the greater of that of the order at i and that of those from i + 1 on
   opened : (es : List Entry) (i : ℕ) (e : Entry) (in_slot : Option Slot) (unit : ℕ) → i < length es → e ≡ get_or es i e → (row_of e.order.verb).slot ≡ in_slot →
       rest_from i es unit ≡ max (if (unit_of aliases faction e.target == unit) && is_slot slot in_slot then e.line else 0) (rest_from (i + 1) es unit)
   opened es i e in_slot unit h is slot_is =
       ap (λ ds. last_line slot unit (tasks_from aliases faction i (map (entry_value text) ds))) (next_of es i e h is)
       ∙ ap (λ o. max (if (unit_of aliases faction e.target == unit) && is_slot slot o then e.line else 0) (rest_from (i + 1) es unit)) slot_is
 
-  -- noting the line of the order at i, and then the orders from i + 1 on, gives the same as the orders from i on
+  -- the line at i noted, and then the orders from i + 1 on, give the same greatest line as the orders from i on
   pub noted : (es : List Entry) (i : ℕ) (e : Entry) (lines : Lines) (other : Slot) (unit : ℕ) → i < length es → e ≡ get_or es i e → (row_of e.order.verb).slot ≡ Some other →
       max (line_in (with_line lines (slot_number other) (unit_of aliases faction e.target) e.line) (slot_number slot) unit) (rest_from (i + 1) es unit) ≡ max (line_in lines (slot_number slot) unit) (rest_from i es unit)
   noted es i e lines other unit h is b =
@@ -83,7 +84,7 @@ module _ (slot : Slot) (aliases : Aliases) (faction : ℕ) (text : List ℕ) whe
   pub passed : (es : List Entry) (i : ℕ) (e : Entry) (unit : ℕ) → i < length es → e ≡ get_or es i e → (row_of e.order.verb).slot ≡ None → rest_from (i + 1) es unit ≡ rest_from i es unit
   passed es i e unit h is b = sym (opened es i e None unit h is b ∙ neither (unit_of aliases faction e.target == unit) e.line (rest_from (i + 1) es unit))
 
--- before a line is noted, the greatest line is that of the orders still to come
+-- if no line is noted yet, the greatest line is that of the orders still to come
 pub none_noted : (lines : Lines) (slot unit n : ℕ) → lines ≡ empty → max (line_in lines slot unit) n ≡ n
 none_noted lines slot unit n h =
     ap (λ g. max (unwrap_or (get g unit) 0) n) (ap (λ m. group_of m slot) h ∙ ap (λ o. unwrap_or o empty) (get-empty nat_cmp slot))

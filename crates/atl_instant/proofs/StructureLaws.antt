@@ -1,4 +1,4 @@
--- The structure under each number after one of them got another owner.
+-- Laws of a change of one value of a map, and of the structures after one of them got another owner.
 use Rattle.std.proofs.Common.{◌≡◌, ◌≢◌, ◌==◌, ◌&&◌, ℕ, Bool, true, false, Option, Some, None, refl, sym, ap, ◌∙◌, inl, inr, arith}
 use Rattle.std.specs.Prelude.{option_map, if◌then◌else◌}
 use Rattle.std.specs.Ordering.{nat_cmp}
@@ -20,11 +20,11 @@ equal_passes a b same = grind (arith, nat_tests)
 -- ---- a value of a map that is changed
 
 module _ {V : Type 0} (f : V → V) (m : FinMap nat_cmp V) (k : ℕ) where
-  -- f of the value under number k; every other value as it is
+  -- f of the value, if the number is k, and the value as it is otherwise
   abbrev pub at_number : ℕ → V → V
   at_number q v = if q == k then f v else v
 
-  -- f under the number itself is `at_number`
+  -- if q is k, mapping by f is mapping by `at_number`
   mapped_here : (q : ℕ) → (q == k) ≡ true → (o : Option V) → option_map f o ≡ option_map (at_number q) o
   mapped_here q t None = refl
   mapped_here q t (Some v) = ap (λ b. Some (if b then f v else v)) (sym t)
@@ -34,7 +34,7 @@ module _ {V : Type 0} (f : V → V) (m : FinMap nat_cmp V) (k : ℕ) where
   mapped_else q t None = refl
   mapped_else q t (Some v) = ap (λ b. Some (if b then f v else v)) (sym t)
 
-  -- a look-up of the value that was changed finds f of it
+  -- a look-up of number k after the change finds f of the value
   changed_here : (o : Option V) → get m k ≡ o → get (changed_at f m k o) k ≡ option_map f o
   changed_here None is = is
   changed_here (Some v) is = get-insert_same m k (f v)
@@ -58,13 +58,13 @@ module _ {V : Type 0} (f : V → V) (m : FinMap nat_cmp V) (k : ℕ) where
   len_by None is = refl
   len_by (Some v) is = same_len m k v (f v) is
 
-  -- a change of the value under k leaves the number of values as it is
+  -- a change of the value under k leaves the size of the map as it is
   pub len-changed : len (changed f m k) ≡ len m
   len-changed = len_by (get m k) refl
 
 -- ---- a structure that goes from one owner to another
 
--- the structure of number q, with the owner `to` if it is number k and its owner was `from`
+-- structure q, with the owner `to` if q is k and the owner was `from`
 abbrev pub handed_on : (k from to q : ℕ) → Structure → Structure
 handed_on k from to q y = if q == k && y.owner == from then owned_by to y else y
 
@@ -72,7 +72,7 @@ module _ (c : CampaignValue) (k from to : ℕ) where
   abbrev after : Bool → CampaignValue
   after b = if b then with_owner c k to else c
 
-  -- structure k after the handover, by whether it was the owner's
+  -- structure k after the handover: with the owner `to` if the test is true, and as it was otherwise
   here_by : (y : Structure) → get c.structures k ≡ Some y → (b : Bool) → get (after b).structures k ≡ Some (if b then owned_by to y else y)
   here_by y is true = changed_here (owned_by to) c.structures k (get c.structures k) refl ∙ ap (option_map (owned_by to)) is
   here_by y is false = is
@@ -82,7 +82,7 @@ module _ (c : CampaignValue) (k from to : ℕ) where
   here None is = is
   here (Some y) is = here_by y is (y.owner == from) ∙ ap (λ b. Some (if b && y.owner == from then owned_by to y else y)) (sym (equal_passes k k refl))
 
-  -- every other structure stays as it was
+  -- every structure but k stays as it was in a handover
   else_by : (q : ℕ) → q ≢ k → (b : Bool) → get (after b).structures q ≡ get c.structures q
   else_by q apart true = changed_else (owned_by to) c.structures k q apart (get c.structures k)
   else_by q apart false = refl

@@ -1,4 +1,4 @@
--- TRANSFER leaves a campaign well, and no unit but the sender worse off.
+-- Laws of TRANSFER: the campaign stays early, its books balanced, and no unit but the sender is worse off.
 use Rattle.std.proofs.Common.{◌≡◌, ◌≢◌, ◌==◌, ℕ, ◌+◌, ◌-◌, ◌*◌, ◌/◌, ◌≤◌, ◌<◌, Bool, true, false, not, ◌&&◌, [], ◌∷◌, ◌++◌, ◌⊎◌, length, Option, Some, None, refl, sym, ap, subst, ◌∙◌, inl, inr, arith}
 use Rattle.std.specs.Prelude.{IfSome, nat_lt, unwrap_or, if◌then◌else◌}
 use Rattle.std.proofs.lemmas.Bool.Decides.{nat_tests}
@@ -39,14 +39,14 @@ use Rattle.atl_instant.proofs.NoWorseLaws.{no_worse}
 use Rattle.atl_instant.proofs.OrderEffectLaws.{no_worse_spares, well_same}
 use Rattle.atl_instant.proofs.UnbookedLaws.{other_unit}
 
--- what holds of two units where a transfer has no fault
+-- What holds of sender and receiver if a transfer of n men has no fault.
 pub record CanSend (n : ℕ) (itself : Bool) (u v : Unit) : Type 0 where
   pub here : v.region ≡ u.region
   pub own : v.faction ≡ u.faction
   pub enough : n ≤ u.holding.men
   pub room : itself ≡ false → v.holding.men + n ≤ men_limit
 
--- where a transfer has no fault, `CanSend` holds of both units
+-- if a transfer has no fault, sender and receiver satisfy `CanSend`
 pub can_send : (n : ℕ) (itself : Bool) (u v : Unit) → transfer_fault n itself u (Some v) ≡ None → CanSend n itself u v
 can_send n itself u v is =
     let other = not (v.faction == u.faction) in
@@ -75,7 +75,7 @@ sent_is c d e from to n u v h k apart sender receiver h_is k_is first second =
 
 -- ---- days
 
--- a unit has at most `most` days of any skill, if each that is listed has
+-- a unit has at most `most` days of any skill, if it has at most `most` of each skill that is listed
 pub days_within : (all : FinMap nat_cmp ℕ) (most skill : ℕ) → Every (λ s days. (1 ≤ days) × (days ≤ most)) all → amount_of all skill ≤ most
 days_within all most skill each = by_option (get all skill) refl
   where
@@ -140,7 +140,7 @@ known_skill w h s may some = by_option (get h.days s) refl some
 days_may : (w : WorldValue) (h : HoldingValue) (s : ℕ) → MayHave w h → amount_of h.days s ≤ most_days * h.men
 days_may w h s may = days_within h.days (most_days * h.men) s may.days
 
--- what a unit holds after n of its men went is what a unit may have
+-- a unit of which n men went may hold what it then holds
 pub may_have_fewer : (w : WorldValue) (n : ℕ) (h : HoldingValue) → n ≤ h.men → MayHave w h → MayHave w (with_fewer n h)
 may_have_fewer w n h fewer may = record {
   limits = record { men = omega (arith, may.limits.men); money = may.limits.money; items = may.limits.items };
@@ -236,7 +236,7 @@ transfer_cases P c from to n u sender same move = by_receiver (get c.units to) r
     by_receiver (Some v) receiver = by_fault v receiver (transfer_fault n (to == from) u (Some v)) refl
 
 module _ (w : WorldValue) (c : CampaignValue) (early : IsEarly w c) (from to n : ℕ) (u : Unit) (sender : get c.units from ≡ Some u) where
-  -- an order of TRANSFER is a step that leaves the campaign well
+  -- an order of TRANSFER keeps an early campaign early, in its month and with balanced books (`StepsWell`)
   transfer_steps_well : StepsWell IsEarly (λ d e t. 0) w c (transfer from to n c u).0
   transfer_steps_well =
       transfer_cases (λ d. StepsWell IsEarly (λ d e t. 0) w c d) c from to n u sender (well_same w c early)
@@ -257,7 +257,7 @@ module _ (w : WorldValue) (c : CampaignValue) (early : IsEarly w c) (from to n :
 
 -- ---- the phase
 
--- the step of TRANSFER is orderly
+-- orders of TRANSFER satisfy `IsOrderly`: they book nothing, and a unit without an own TRANSFER is no worse off
 pub transfer_orderly : IsOrderly transfer_step IsEarly (λ c e t. 0) (λ e t. 0) IsOwnOrder IsNoWorse
 transfer_orderly = record {
   well = λ w a c t x early fit own. well w a c t x early own t.order_value.operands;

@@ -1,4 +1,4 @@
--- Steps that book nothing, and that change no unit but that of the order.
+-- Laws of steps that book nothing, and that change no unit but that of the order.
 use Rattle.std.proofs.Common.{◌≡◌, ◌≢◌, ◌+◌, ℕ, Option, Some, None, refl, sym, ap, ◌∙◌}
 use Rattle.std.proofs.lemmas.Option.{same_Some}
 use Rattle.std.specs.Prelude.{IfSome, pos}
@@ -21,7 +21,7 @@ use Rattle.atl_instant.specs.Bounds.{IsUnitOf, StepsWell, books_nothing}
 use Rattle.atl_instant.proofs.NoWorseLaws.{no_worse}
 use Rattle.atl_instant.proofs.OrderEffectLaws.{not_drawn}
 
--- a step after which `holds` is so, and that leaves month, books and totals, leaves the campaign well
+-- a step satisfies `StepsWell` if `holds` is true of the campaign then, and month, books and totals stay the same
 pub stays_well : (holds : Condition) (w : WorldValue) (c d : CampaignValue) → holds w d → IsSameMonth c d → d.books ≡ c.books → ((t : Thing) → total d t ≡ total c t) → StepsWell holds books_nothing w c d
 stays_well holds w c d still same books totals = record {
   holds_still = still;
@@ -30,7 +30,7 @@ stays_well holds w c d still same books totals = record {
   drawn = λ e t. not_drawn 0 0 (amount_in c.books e t) (amount_in d.books e t) refl (ap (λ b. amount_in b e t) books);
 }
 
--- the same for the phases that need an early campaign
+-- a step satisfies `StepsWell` if the campaign is early then, and month, books and totals stay the same
 pub unbooked_well : (w : WorldValue) (c d : CampaignValue) → IsEarly w d → IsSameMonth c d → d.books ≡ c.books → ((t : Thing) → total d t ≡ total c t) → StepsWell IsEarly books_nothing w c d
 unbooked_well = stays_well IsEarly
 
@@ -44,17 +44,19 @@ same_total_of c d units regions t =
 
 -- ---- the unit of an order
 
--- a unit that an order of its own faction isn't for is another unit than the order's
+-- a unit for which its own faction didn't write the order isn't the order's unit,
+-- if the order is for a unit of its faction
 pub other_unit : (c : CampaignValue) (t : Task) (x : Unit) (k : ℕ) (v : Unit) → IsUnitOf c t x → get c.units k ≡ Some v → (IsOwnOrder t k v.faction → ⊥) → k ≢ t.unit
 other_unit c t x k v own there apart same =
     let unit : x ≡ v = same_Some _ _ (sym own.there ∙ ap (get c.units) (sym same) ∙ there) in
     apart (record { unit = sym same; faction = sym own.faction ∙ ap (λ (y : Unit). y.faction) unit })
 
--- such a unit is no worse off, if no unit but the order's changes
+-- a unit for which its own faction didn't write the order is no worse off, if no unit but the order's changes
 pub other_spared : (c d : CampaignValue) (t : Task) (x : Unit) → ((k : ℕ) → k ≢ t.unit → get d.units k ≡ get c.units k) → IsUnitOf c t x → (k : ℕ) (v : Unit) → get c.units k ≡ Some v → (IsOwnOrder t k v.faction → ⊥) → IsUnaffected IsNoWorse d k v
 other_spared c d t x stay own k v there apart = record { unit = v; there = stay k (other_unit c t x k v own there apart) ∙ there; spared = no_worse v }
 
--- so it is after an order whose effect leaves every other unit as it was
+-- a unit for which its own faction didn't write the order is no worse off,
+-- if the order's effect changes no other unit than its own
 pub stays_spared : (step : Option OrderEffect) (c : CampaignValue) (t : Task) (x : Unit) → IsUnitOf c t x → (k : ℕ) (v : Unit) → get c.units k ≡ Some v → (IsOwnOrder t k v.faction → ⊥)
     → ((j : ℕ) → j ≢ t.unit → IfSome step (λ deed. get (deed c x).0.units j ≡ get c.units j)) → IfSome step (λ deed. IsUnaffected IsNoWorse (deed c x).0 k v)
 stays_spared None c t x own k v there apart stay = tt

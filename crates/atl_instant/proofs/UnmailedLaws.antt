@@ -1,4 +1,5 @@
--- What phases leave to the units of a faction that sent no mailing: its men, less those who starve, and its items.
+-- Laws of phases and the units of a faction that sent no mailing:
+-- these keep their names, items and men, less those who starve.
 use Rattle.std.proofs.Common.{◌≡◌, ◌≢◌, ◌==◌, ℕ, ◌+◌, ◌-◌, ◌≤◌, ◌<◌, Bool, true, false, List, [], ◌∷◌, ◌++◌, Option, Some, None, refl, sym, ap, subst, ◌∙◌, inl, inr, arith}
 use Rattle.std.proofs.lemmas.Option.{same_Some}
 use Rattle.std.specs.Prelude.{IfSome, fold, option_map, if◌then◌else◌}
@@ -38,14 +39,17 @@ use Rattle.atl_instant.proofs.PhaseOrderLaws.{orders_are_in_mailings}
 -- ---- phases one after the other
 
 -- The phase keeps the mailings and takes back no Starved event.
--- Each unit of a faction without a mailing is there after, with its name, its items, and exactly the men less who starve.
+-- Each unit of a faction without a mailing is there after, with its name, its items,
+-- and its men less exactly those who starve.
 pub record LeavesUnmailed (meaning : Meaning) (keeps : Frame) : Type 0 where
   pub readings : (w : WorldValue) (c : CampaignValue) (m : MonthValue) → (meaning w c m).1.readings ≡ m.readings
   pub told : (w : WorldValue) (c : CampaignValue) (m : MonthValue) (n : ℕ) → starved_in m.events n ≤ starved_in (meaning w c m).1.events n
   pub left : (w : WorldValue) (c : CampaignValue) (m : MonthValue) → keeps w m c (meaning w c m).0 →
       Every (λ n u. get m.readings u.faction ≡ None → IsUnaffected (IsLessBy (starved_in (meaning w c m).1.events n - starved_in m.events n)) (meaning w c m).0 n u) c.units
 
--- The same of a phase after which a unit may be gone of which all men starved; nothing is said of the mailings.
+-- The phase takes back no Starved event; it may change the mailings.
+-- Each unit of a faction without a mailing of which not all men starve is there after, with name, items,
+-- and men less those who starve.
 pub record ClosesUnmailed (meaning : Meaning) (keeps : Frame) : Type 0 where
   pub told : (w : WorldValue) (c : CampaignValue) (m : MonthValue) (n : ℕ) → starved_in m.events n ≤ starved_in (meaning w c m).1.events n
   pub left : (w : WorldValue) (c : CampaignValue) (m : MonthValue) → keeps w m c (meaning w c m).0 →
@@ -67,12 +71,12 @@ less_twice x y z u v t l k one two = record {
 some_left : (x y z a b : ℕ) → x ≤ y → y ≤ z → b ≡ a - (y - x) → z - x < a → z - y < b
 some_left x y z a b l k e some = omega arith
 
--- a faction that sent no mailing has none after a phase either
+-- a faction that sent no mailing has none after a phase that satisfies `LeavesUnmailed`
 still_none : {first : Meaning} {early : Frame} → LeavesUnmailed first early → (w : WorldValue) (c : CampaignValue) (m : MonthValue) (f g : ℕ) → g ≡ f → get m.readings f ≡ None → get (first w c m).1.readings g ≡ None
 still_none one w c m f g same none = ap (λ (r : FinMap nat_cmp Reading). get r g) (one.readings w c m) ∙ ap (get m.readings) same ∙ none
 
 module _ {first second : Meaning} {early late : Frame} where
-  -- two phases that leave the units of factions without a mailing do so in turn
+  -- two phases that each satisfy `LeavesUnmailed` satisfy it in turn
   pub both_leave : LeavesUnmailed first early → LeavesUnmailed second late → LeavesUnmailed (then_also first second) (both_keep first early late)
   both_leave one two = record {
     readings = λ w c m. two.readings w (first w c m).0 (first w c m).1 ∙ one.readings w c m;
@@ -84,7 +88,7 @@ module _ {first second : Meaning} {early late : Frame} where
         record { unit = b.unit; there = b.there; spared = less_twice _ _ _ u a.unit b.unit (one.told w c m n) (two.told w between.0 between.1 n) a.spared b.spared };
   }
 
-  -- so it is for a phase that leaves them, and then one that closes
+  -- if one phase satisfies `LeavesUnmailed`, and the next one `ClosesUnmailed`, both in turn satisfy `ClosesUnmailed`
   pub then_closes : LeavesUnmailed first early → ClosesUnmailed second late → ClosesUnmailed (then_also first second) (both_keep first early late)
   then_closes one two = record {
     told = λ w c m n. omega (arith, one.told w c m n, two.told w (first w c m).0 (first w c m).1 n);
@@ -100,16 +104,16 @@ module _ {first second : Meaning} {early late : Frame} where
 
 -- ---- a phase in which nobody starves: men and items
 
--- the unit has the same faction and exactly its men
+-- The unit has the same faction and exactly as many men.
 pub record HasItsMen (before after : Unit) : Type 0 where
   pub faction : after.faction ≡ before.faction
   pub men : after.holding.men ≡ before.holding.men
 
--- each unit is there after, and has exactly its men
+-- each unit is there after, and has exactly as many men as before
 abbrev pub HaveTheirMen : CampaignValue → CampaignValue → Type 0
 HaveTheirMen before after = Every (λ n u. IsUnaffected HasItsMen after n u) before.units
 
--- all units of a campaign have their men in it
+-- all units have their men (`HaveTheirMen`) in an unchanged campaign
 pub men_stay : (c : CampaignValue) → HaveTheirMen c c
 men_stay c n u there = record { unit = u; there = there; spared = record { faction = refl; men = refl } }
 
@@ -120,11 +124,11 @@ men_twice a b c one two n u there =
     let y = two n x.unit x.there in
     record { unit = y.unit; there = y.there; spared = record { faction = y.spared.faction ∙ x.spared.faction; men = y.spared.men ∙ x.spared.men } }
 
--- units that stay as they are have their men
+-- all units have their men (`HaveTheirMen`) if no unit changes
 pub men_same : (c d : CampaignValue) → d.units ≡ c.units → HaveTheirMen c d
 men_same c d same n u there = record { unit = u; there = ap (λ (m : FinMap nat_cmp Unit). get m n) same ∙ there; spared = record { faction = refl; men = refl } }
 
--- all units have their men after a change of one of them that keeps its men
+-- all units have their men (`HaveTheirMen`) after a change of unit k by f, if f keeps the men of each unit
 pub men_changed : (f : Unit → Unit) → ((u : Unit) → HasItsMen u (f u)) → (c d : CampaignValue) (k : ℕ) → d.units ≡ changed f c.units k → HaveTheirMen c d
 men_changed f stay c d k same n u there =
     record { unit = at_number f c.units k n u; there = ap (λ (m : FinMap nat_cmp Unit). get m n) same ∙ get-changed f c.units k n ∙ ap (option_map (at_number f c.units k n)) there; spared = by_number (n == k) }
@@ -148,17 +152,17 @@ pub men_in_turn : {X : Type 0} (step : CampaignValue → X → CampaignValue) �
 men_in_turn step each c [] = men_stay c
 men_in_turn step each c (x ∷ xs) = men_twice c (step c x) (fold step (step c x) xs) (each c x) (men_in_turn step each (step c x) xs)
 
--- all units have their men after an order, if they have where it has no fault
+-- all units have their men (`HaveTheirMen`) after an order, if they have when the order has no fault
 pub men_unless : (c d : CampaignValue) (o : Outcome) (fault : Option EventFault) → HaveTheirMen c d → HaveTheirMen c (unless c fault (d, o)).0
 men_unless c d o (Some fault) h = men_stay c
 men_unless c d o None h = h
 
--- the unit has its name, and no less of any item
+-- The unit has the same name, and no less of any item.
 pub record HasItsItems (before after : Unit) : Type 0 where
   pub name : after.holding.name ≡ before.holding.name
   pub items : (i : ℕ) → amount_of before.holding.items i ≤ amount_of after.holding.items i
 
--- a unit that is no worse off has its name and items
+-- a unit that is no worse off keeps its name and items
 pub items_of_no_worse : (u v : Unit) → IsNoWorse u v → HasItsItems u v
 items_of_no_worse u v h = record { name = h.name; items = h.items }
 
@@ -166,7 +170,7 @@ items_of_no_worse u v h = record { name = h.name; items = h.items }
 abbrev pub UnmailedAre : Unaffected → MonthValue → CampaignValue → CampaignValue → Type 0
 UnmailedAre spares m before after = Every (λ n u. get m.readings u.faction ≡ None → IsUnaffected spares after n u) before.units
 
--- a unit with exactly its men, its name and its items has 0 men less
+-- a unit that keeps its men, name and items satisfies `IsLessBy` for 0 men
 whole : (x y : ℕ) (u v : Unit) → y ≡ x → HasItsMen u v → HasItsItems u v → IsLessBy (y - x) u v
 whole x y u v same men items = record { faction = men.faction; name = items.name; men = nobody u.holding.men v.holding.men men.men; items = items.items }
   where
@@ -198,7 +202,7 @@ none_ordered is_of arrangement m f none k d l same =
     let h = orders_are_in_mailings is_of arrangement m.aliases m.readings k d l in
     none_some h.reading (sym none ∙ ap (get m.readings) (sym same) ∙ h.of_faction)
 
--- the event of an order says of nobody that they starved
+-- by the event of an order no men starved
 pub told_of_order : (events : List Event) (t : Task) (outcome : Outcome) (n : ℕ) → starved_in (events ++ event_for t outcome ∷ []) n ≡ starved_in events n
 told_of_order events t outcome n =
     sum_by_push (λ (e : Event). if e.unit == n then men_starved_by e.verb e.outcome else 0) events (event_for t outcome) ∙ by_unit (t.unit == n) (starved_in events n)
@@ -211,20 +215,20 @@ told_of_order events t outcome n =
 abbrev pub OthersHaveMen : (faction : ℕ) → CampaignValue → CampaignValue → Type 0
 OthersHaveMen f c d = Every (λ n u. f ≢ u.faction → IsUnaffected HasItsMen d n u) c.units
 
--- where all units have their men, those of other factions have
+-- if all units have their men (`HaveTheirMen`), the units of other factions than f have (`OthersHaveMen`)
 pub others_men : (f : ℕ) (c d : CampaignValue) → HaveTheirMen c d → OthersHaveMen f c d
 others_men f c d men n u there other = men n u there
 
--- the step leaves each unit of another faction than the order's its men
+-- after an order each unit of another faction than the order's has its men (`OthersHaveMen`)
 abbrev pub SparesMen : OrderMeaning → Type 0
 SparesMen step = (w : WorldValue) (a : Aliases) (c : CampaignValue) (t : Task) (x : Unit) → IsUnitOf c t x → IfSome (step w a t) (λ deed. OthersHaveMen t.faction c (deed c x).0)
 
 module _ (step : OrderMeaning) where
-  -- an order leaves units of other factions than the one that wrote it their men
+  -- if a step satisfies `SparesMen`, an order leaves units of other factions than the one that wrote it their men
   order_spares : SparesMen step → (w : WorldValue) (a : Aliases) (c : CampaignValue) (t : Task) → OthersHaveMen t.faction c (order_result (step w a t) c t.faction t.unit).0
   order_spares spares w a c t = ordered_cases (OthersHaveMen t.faction c) (step w a t) c t (others_men t.faction c c (men_stay c)) (λ x own. spares w a c t x own)
 
-  -- orders of other factions leave a unit its men
+  -- if a step satisfies `SparesMen`, orders of other factions leave a unit its men
   orders_spare : SparesMen step → (w : WorldValue) (c : CampaignValue) (m : MonthValue) (ts : List Task) → (n : ℕ) (u : Unit) → get c.units n ≡ Some u → AllByRecursion (λ t. t.faction ≢ u.faction) ts → IsUnaffected HasItsMen (fold (one_order step w) (c, m) ts).0 n u
   orders_spare spares w c m [] n u there others = men_stay c n u there
   orders_spare spares w c m (t ∷ ts) n u there others =
@@ -238,7 +242,7 @@ module _ (step : OrderMeaning) where
   orders_readings w p [] = refl
   orders_readings w p (t ∷ ts) = orders_readings w (one_order step w p t) ts ∙ order_readings step w p t
 
-  -- an order says of nobody that they starved
+  -- by the event of an order no men starved
   order_told : (w : WorldValue) (p : CampaignValue × MonthValue) (t : Task) (n : ℕ) → starved_in (one_order step w p t).1.events n ≡ starved_in p.1.events n
   order_told w p t n = by_outcome (order_result (step w p.1.aliases t) p.0 t.faction t.unit).1
     where
@@ -246,7 +250,7 @@ module _ (step : OrderMeaning) where
       by_outcome None = refl
       by_outcome (Some outcome) = told_of_order p.1.events t outcome n
 
-  -- orders say of nobody that they starved
+  -- by the events of orders no men starved
   orders_told : (w : WorldValue) (p : CampaignValue × MonthValue) (ts : List Task) (n : ℕ) → starved_in (fold (one_order step w) p ts).1.events n ≡ starved_in p.1.events n
   orders_told w p [] n = refl
   orders_told w p (t ∷ ts) n = orders_told w (one_order step w p t) ts n ∙ order_told w p t n
@@ -257,30 +261,31 @@ module _ (step : OrderMeaning) where
     unfolding meaning_by_orders
     carried_readings w c m = orders_readings w (c, m) (values (orders_of is_of ByUnit m.aliases m.readings))
 
-    -- nobody starves in it
+    -- by the events of a phase that carries out its orders one by one no men starved
     pub carried_told : (w : WorldValue) (c : CampaignValue) (m : MonthValue) (n : ℕ) → starved_in (meaning_by_orders step is_of w c m).1.events n ≡ starved_in m.events n
     unfolding meaning_by_orders
     carried_told w c m n = orders_told w (c, m) (values (orders_of is_of ByUnit m.aliases m.readings)) n
 
-    -- it leaves units of factions without a mailing their men, if its step spares men
+    -- if its step satisfies `SparesMen`, a phase leaves units of factions without a mailing their men
     pub carried_men : SparesMen step → (w : WorldValue) (c : CampaignValue) (m : MonthValue) → UnmailedAre HasItsMen m c (meaning_by_orders step is_of w c m).0
     unfolding meaning_by_orders
     carried_men spares w c m n u there none =
         let ts = values (orders_of is_of ByUnit m.aliases m.readings) in
         orders_spare spares w c m ts n u there (recursion_from_All (λ t. t.faction ≢ u.faction) ts (none_ordered is_of ByUnit m u.faction none))
 
-    -- so it leaves the units of factions without a mailing, if it leaves them their items
+    -- a phase satisfies `LeavesUnmailed`, if its step satisfies `SparesMen`,
+    -- and units of factions without a mailing keep their items
     pub carried_leaves : {keeps : Frame} → SparesMen step → ((w : WorldValue) (c d : CampaignValue) (m : MonthValue) → keeps w m c d → UnmailedAre HasItsItems m c d) → LeavesUnmailed (meaning_by_orders step is_of) keeps
     carried_leaves {keeps} spares items =
         whole_leaves {meaning = meaning_by_orders step is_of} {keeps = keeps} carried_readings carried_told
         (λ w c m h. carried_men spares w c m) (λ w c m h. items w c (meaning_by_orders step is_of w c m).0 m h)
 
--- an order that is a unit's own is written by its faction
+-- an order for a unit by its own faction is of that faction
 pub own_faction : (t : Task) (n f : ℕ) → IsOwnOrder t n f → t.faction ≡ f
 own_faction t n f h = h.faction
 
--- A phase that spares units which no order concerns leaves units of factions without a mailing their items,
--- if only orders of a unit's own faction concern it.
+-- A phase that spares units which no order concerns leaves units of factions without a mailing their items.
+-- For this only orders of a unit's own faction may concern the unit, and a unit that is spared must keep its items.
 pub unmailed_spared : {concerns : Affects} {spares : Unaffected} (is_of : Verb → Bool) → ((t : Task) (n f : ℕ) → concerns t n f → t.faction ≡ f) → ((u v : Unit) → spares u v → HasItsItems u v)
     → (w : WorldValue) (c d : CampaignValue) (m : MonthValue) → spares_others concerns spares is_of w m c d → UnmailedAre HasItsItems m c d
 unmailed_spared {concerns} {spares} is_of own items w c d m h n u there none =

@@ -1,4 +1,5 @@
--- What FORM, NAME, LEAVE, ENTER, PROMOTE, GIVE, TRANSFER, GUARD and QUIT leave to the units of a faction that sent no mailing.
+-- Laws of FORM, NAME, LEAVE, ENTER, PROMOTE, GIVE, TRANSFER, GUARD and QUIT:
+-- what they leave to units of a faction that sent no mailing.
 use Rattle.std.proofs.Common.{◌≡◌, ◌≢◌, ◌==◌, ◌+◌, ◌-◌, ℕ, Bool, true, false, List, [], ◌∷◌, Option, Some, None, refl, sym, ap, ◌∙◌, arith}
 use Rattle.std.specs.Prelude.{IfSome, fold, if◌then◌else◌}
 use Rattle.std.specs.FinMap.{get, values}
@@ -43,12 +44,12 @@ use Rattle.atl_instant.proofs.UnmailedLaws.{HasItsMen, HaveTheirMen, LeavesUnmai
 
 -- ---- FORM
 
--- FORM keeps the readings
+-- orders of FORM leave the readings of the month as they are
 form_readings : (p : CampaignValue × MonthValue) (ts : List Task) → (fold form_order p ts).1.readings ≡ p.1.readings
 form_readings p [] = refl
 form_readings p (t ∷ ts) = form_readings (form_order p t) ts
 
--- nobody starves in FORM
+-- by the events of orders of FORM no men starved
 form_told : (p : CampaignValue × MonthValue) (ts : List Task) (n : ℕ) → starved_in (fold form_order p ts).1.events n ≡ starved_in p.1.events n
 form_told p [] n = refl
 form_told p (t ∷ ts) n = form_told (form_order p t) ts n ∙ told_of_order p.1.events t (form_by p.0 t.faction t.unit).1 n
@@ -65,11 +66,11 @@ form_leaves =
 
 -- ---- NAME and GUARD 0
 
--- a unit keeps its men when its flag changes
+-- a unit keeps its men when its guard flag changes
 flag_men : (flag : Bool) (u : Unit) → HasItsMen u (record u { holding = record u.holding { guard = flag } })
 flag_men flag u = record { faction = refl; men = refl }
 
--- a unit whose guard flag is set or cleared keeps its men
+-- all units keep their men when the guard flag of one is set or cleared
 pub guard_men : (c : CampaignValue) (n : ℕ) (flag : Bool) → HaveTheirMen c (with_guard c n flag)
 guard_men c n flag = men_changed (λ u. record u { holding = record u.holding { guard = flag } }) (flag_men flag) c (with_guard c n flag) n refl
 
@@ -100,7 +101,7 @@ name_leaves = carried_leaves name_step is_naming name_spares (unmailed_spared {c
 handed_men : (c : CampaignValue) (s from to : ℕ) → HaveTheirMen c (after_handover c s from to)
 handed_men c s from to = men_same c (after_handover c s from to) (ap (λ (d : CampaignValue). d.units) (handed_is c s from to))
 
--- a unit that goes elsewhere keeps its men
+-- all units keep their men when unit n goes to another region or structure
 pub place_men : (c : CampaignValue) (n r s : ℕ) → HaveTheirMen c (with_place c n r s)
 unfolding with_place
 place_men c n r s = by_unit (get c.units n)
@@ -147,7 +148,7 @@ place_leaves = carried_leaves place_step is_placing place_spares (unmailed_spare
 
 -- ---- GIVE and PAY
 
--- a unit keeps its men with another amount of the gift
+-- a unit keeps its men when it has another amount of the gift
 gift_men : (gift : Gift) (v : Unit) (n : ℕ) → HasItsMen v (record v { holding = with_held_of gift v.holding n })
 gift_men Money v n = record { faction = refl; men = refl }
 gift_men (Item i) v n = record { faction = refl; men = refl }

@@ -1,5 +1,5 @@
--- Bounds on the amounts of the books: the room that each phase requires (`HaveRoom`). The rest is for proofs alone: what a phase has to show of the
--- step that carries out one order.
+-- Bounds on the amounts of the books: the room that each phase requires (`HaveRoom`). The rest is for proofs alone:
+-- the conditions on the step that carries out one order.
 use Rattle.std.specs.Prelude.{ℕ, ℤ, pos, ◌≡◌, ◌≤◌, ◌+◌, ◌*◌, ◌+ℤ◌, ◌≤ℤ◌, ◌==◌, List, [], ◌∷◌, Some, IfSome, if◌then◌else◌}
 use Rattle.std.specs.FinMap.{get}
 use Rattle.atl_tables.specs.Worlds.{WorldValue}
@@ -52,7 +52,7 @@ pub record UsesBound (reserve left : ℕ) (before after : ℤ) : Type 0 where
 
 -- ---- the step of one order
 
--- After a step `holds` is so of the campaign, it is of the same month, and the books balance where they did before.
+-- After a step `holds` is true of the campaign, which is of the same month, and whose books balance if they did before.
 -- No amount of the books moves further than its remaining bound falls.
 pub record StepsWell (holds : Condition) (reserve : RemainingBound) (w : WorldValue) (before after : CampaignValue) : Type 0 where
   pub holds_still : holds w after
@@ -71,8 +71,8 @@ pub record IsUnitOf (c : CampaignValue) (t : Task) (u : Unit) : Type 0 where
   pub there : get c.units t.unit ≡ Some u
   pub faction : u.faction ≡ t.faction
 
--- What has to be shown of the step of a phase that carries its orders out one by one.
--- Each order steps well, and leaves units that it doesn't concern as `spares` says.
+-- The conditions on a phase that carries its orders out one by one. Each order satisfies `StepsWell`.
+-- After an order, `spares` relates each unit that the order doesn't concern to what it was before.
 -- No remaining bound is above the bound of the phase.
 pub record IsOrderly (step : OrderMeaning) (holds : Condition) (reserve : RemainingBound) (moving : BookBound) (concerns : Affects) (spares : Unaffected) : Type 0 where
   pub well : (w : WorldValue) (a : Aliases) (c : CampaignValue) (t : Task) (x : Unit) → holds w c → IsOrderOf w t.order_value → IsUnitOf c t x →

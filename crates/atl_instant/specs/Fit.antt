@@ -6,6 +6,7 @@ use Rattle.atl_tables.specs.Worlds.{WorldValue}
 use Rattle.atl_orders.specs.Bounds.{IsReading}
 use Rattle.atl_orders.specs.Mailing.{Reading}
 
--- each reading says only what can be read with this world
+-- each faction's reading satisfies `IsReading`:
+-- its names follow the name rule, its numbers and things are within bounds
 abbrev pub AreFit : WorldValue → FinMap nat_cmp Reading → Type 0
 AreFit w readings = (f : ℕ) (r : Reading) → get readings f ≡ Some r → IsReading w r

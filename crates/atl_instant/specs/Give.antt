@@ -83,6 +83,6 @@ give_step w aliases t = give_effect aliases t.faction t.unit t.order_value.opera
 
 -- ---- the phase
 
--- the specification of the phase: a unit for which its own faction wrote no such order is no worse off
+-- the specification of the phase: a unit for which its own faction wrote no GIVE or PAY is no worse off
 abbrev pub give_spec : PhaseSpec
 give_spec = goes_by_orders give_step is_giving IsOwnOrder IsNoWorse

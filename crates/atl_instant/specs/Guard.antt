@@ -43,7 +43,7 @@ guard_fault c u = first_fault ((u.holding.men == 0, NoMen) ∷ (is_guarded_again
 unfoldable pub guard : (n : ℕ) → OrderEffect
 guard n c u = unless c (guard_fault c u) (with_guard c n true, Done 0)
 
--- the effect of an order of GUARD, by its operands: of GUARD 1; None for GUARD 0, which this phase passes over
+-- the effect of GUARD 1, by the operands of an order of GUARD; None for GUARD 0, which this phase passes over
 abbrev pub guard_effect : (n : ℕ) → OperandsValue → Option OrderEffect
 guard_effect n (operands.Flag true) = Some (guard n)
 guard_effect n other = None

@@ -1,4 +1,4 @@
--- What changes in a campaign, and which marks are set, where the holding of one unit is changed.
+-- Changes to the holding of one unit: the campaign after it, and which marks are set.
 use Rattle.std.specs.Prelude.{◌≡◌, ℕ, List, fold}
 use Rattle.std.specs.Ordering.{nat_cmp}
 use Rattle.std.specs.FinMap.{FinMap}
@@ -14,12 +14,12 @@ pub record ChangesHolding (before after : MarkedCampaign) (n : ℕ) (change : Ho
   pub marks : MarksChanges before after
   pub goods : after.marks.goods ≡ before.marks.goods
 
--- the marks stay the same for goods as a whole and for single items
+-- the marks before and after are the same for goods as a whole and for single items
 pub record MarksNoItems (before after : Marks) : Type 0 where
   pub goods : after.goods ≡ before.goods
   pub items : after.items ≡ before.items
 
--- the marks stay the same for goods as a whole, for single items and for single skills
+-- the marks before and after are the same for goods as a whole, for single items and for single skills
 abbrev pub MarksNoGoods : Marks → Marks → Type 0
 MarksNoGoods before after = MarksNoItems before after × (after.skills ≡ before.skills)
 

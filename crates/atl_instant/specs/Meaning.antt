@@ -24,7 +24,8 @@ then_also first second w c m = second w (first w c m).0 (first w c m).1
 abbrev pub Condition : Type 1
 Condition = WorldValue → CampaignValue → Type 0
 
--- each campaign that is as one phase leaves it is as the next one needs it
+-- in every world each campaign with the first condition has the second:
+-- what one phase leaves is what the next one needs
 abbrev pub Follows : Condition → Condition → Type 0
 Follows leaves needs = (w : WorldValue) (c : CampaignValue) → leaves w c → needs w c
 
@@ -37,7 +38,8 @@ both_need needs between follows w c = needs w c × Follows between follows
 abbrev pub Frame : Type 1
 Frame = WorldValue → MonthValue → CampaignValue → CampaignValue → Type 0
 
--- what two phases in turn keep: each what it keeps, with the campaign and the month between them as the first one makes them
+-- what two phases in turn keep: each keeps its own,
+-- with the campaign and the month between them as the first one makes them
 abbrev pub both_keep : Meaning → Frame → Frame → Frame
 both_keep first early late w m before after =
     let between = first w before m in
@@ -73,7 +75,8 @@ pub record IsSameMonth (before after : CampaignValue) : Type 0 where
   pub count : len after.factions ≡ len before.factions
   pub factions : (n : ℕ) → IsThere after.factions n → IsThere before.factions n
 
--- After a phase `leaves` is so of the campaign, it is of the same month, and the books balance where they did before.
+-- After a phase `leaves` is true of the campaign, which is of the same month,
+-- and whose books balance if they did before.
 -- No amount of the books moves further than its bound.
 pub record LeavesWell (leaves : Condition) (moving : BookBound) (w : WorldValue) (before after : CampaignValue) : Type 0 where
   pub leaves_it : leaves w after

@@ -74,7 +74,7 @@ with_alias aliases faction alias unit = insert aliases faction (insert (group_of
 
 -- ---- events
 
--- the month with these events after those that it has
+-- the month with more events, which come after those that it has
 abbrev pub with_events : MonthValue → List Event → MonthValue
 with_events m events = record m { events = m.events ++ events }
 

@@ -74,6 +74,6 @@ name_concerns t number faction = IsOwnOrder t number faction × (t.order_value.o
 
 -- ---- the phase
 
--- the specification of the phase: a unit for which its own faction wrote no such order is no worse off
+-- the specification of the phase: a unit for which its own faction wrote no NAME or GUARD 0 is no worse off
 abbrev pub name_spec : PhaseSpec
 name_spec = goes_by_orders name_step is_naming name_concerns IsNoWorse

@@ -11,7 +11,8 @@ use Rattle.atl_instant.specs.Meaning.{Frame}
 abbrev pub IsUnchanged : Unit → Unit → Type 0
 IsUnchanged before after = after ≡ before
 
--- The unit has the same faction, region, structure, name and guard flag, and no less men, money, items or days than before.
+-- The unit has the same faction, region, structure, name and guard flag,
+-- and no less men, money, items or days than before.
 pub record IsNoWorse (before after : Unit) : Type 0 where
   pub faction : after.faction ≡ before.faction
   pub region : after.region ≡ before.region
@@ -27,6 +28,6 @@ pub record IsNoWorse (before after : Unit) : Type 0 where
 abbrev pub AreNoWorse : CampaignValue → CampaignValue → Type 0
 AreNoWorse before after = Every (λ n u. (v : Unit) × (get after.units n ≡ Some v) × IsNoWorse u v) before.units
 
--- what a phase keeps that takes nothing from any unit: no unit is worse off
+-- what a phase keeps that takes nothing from any unit: each unit is still there, and no worse off
 abbrev pub spares_all : Frame
 spares_all w m before after = AreNoWorse before after

@@ -1,4 +1,5 @@
--- A phase that carries its orders out one by one: each sees what the one before left. See docs/RULES.md, "Orders of a month".
+-- A phase that carries its orders out one by one: each on the campaign that the order before left.
+-- See docs/RULES.md, "Orders of a month".
 use Rattle.std.specs.Prelude.{ℕ, ◌≡◌, ◌==◌, ◌++◌, Bool, false, List, [], ◌∷◌, Option, Some, None, fold, if◌then◌else◌}
 use Rattle.std.specs.List.{All}
 use Rattle.std.specs.FinMap.{get}
@@ -22,7 +23,8 @@ use Rattle.atl_instant.specs.PhaseOrders.{Task, orders_by_unit}
 abbrev pub OrderEffect : Type 0
 OrderEffect = CampaignValue → Unit → CampaignValue × Outcome
 
--- the step of a phase: the effect of an order for a unit of the faction that wrote it; None for one that the phase passes over
+-- the step of a phase: the effect of an order for a unit of the faction that wrote it;
+-- None for one that the phase passes over
 abbrev pub OrderMeaning : Type 0
 OrderMeaning = WorldValue → Aliases → Task → Option OrderEffect
 
@@ -31,7 +33,7 @@ abbrev pub is_of_faction : ℕ → Option Unit → Bool
 is_of_faction faction None = false
 is_of_faction faction (Some u) = u.faction == faction
 
--- whether the unit of an order is there, and of the faction that wrote the order
+-- whether the unit of an order is there, and is of the faction that wrote the order
 abbrev pub is_own : CampaignValue → Task → Bool
 is_own c t = is_of_faction t.faction (get c.units t.unit)
 
@@ -45,7 +47,8 @@ abbrev pub effect_on : OrderEffect → CampaignValue → Option Unit → Campaig
 effect_on deed c None = (c, Fault (event_fault_number NotYours))
 effect_on deed c (Some u) = deed c u
 
--- the effect of a faction's order for unit n; where that isn't the faction's own, nothing changes, and the outcome is NotYours
+-- the effect of a faction's order for unit n.
+-- Where the unit isn't there or isn't the faction's own, nothing changes, and the outcome is NotYours.
 abbrev pub faction_effect : OrderEffect → CampaignValue → (faction n : ℕ) → CampaignValue × Outcome
 faction_effect deed c faction n = effect_on deed c (of_faction faction (get c.units n))
 
@@ -92,11 +95,12 @@ pub record IsUnaffected (spares : Unaffected) (after : CampaignValue) (number : 
   pub there : get after.units number ≡ Some unit
   pub spared : spares u unit
 
--- each unit that none of these orders concerns is there after, as `spares` says
+-- each unit that none of these orders concerns is there after, and `spares` relates it to what it was before
 abbrev pub AreUnaffected : Affects → Unaffected → List Task → CampaignValue → CampaignValue → Type 0
 AreUnaffected concerns spares ts before after =
     (n : ℕ) (u : Unit) → get before.units n ≡ Some u → All (λ t. concerns t n u.faction → ⊥) ts → IsUnaffected spares after n u
 
--- what a phase keeps: each unit that none of its orders concerns is there after, as `spares` says
+-- what a phase keeps: each unit that none of its orders concerns is there after,
+-- and `spares` relates it to what it was before
 abbrev pub spares_others : Affects → Unaffected → (Verb → Bool) → Frame
 spares_others concerns spares is_of w m before after = AreUnaffected concerns spares (orders_by_unit is_of m) before after

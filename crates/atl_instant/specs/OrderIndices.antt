@@ -33,7 +33,7 @@ Lines = FinMap nat_cmp (FinMap nat_cmp ℕ)
 abbrev pub line_in : Lines → (slot unit : ℕ) → ℕ
 line_in lines slot unit = unwrap_or (get (group_of lines slot) unit) 0
 
--- the lines once one more line in a slot for a unit is noted: the greater of this and the one noted before
+-- the lines with one more noted in a slot for a unit: the greater of this and the one noted before
 abbrev pub with_line : Lines → (slot unit line : ℕ) → Lines
 with_line lines slot unit line = insert lines slot (insert (group_of lines slot) unit (max (line_in lines slot unit) line))
 
@@ -98,7 +98,7 @@ pub record IsThere (mailings : List Mailing) (p : OrderIndex) : Type 0 where
   pub mailing : p.mailing < length mailings
   pub entry : p.place < length (mailing_at mailings p.mailing).entries
 
--- the indices name orders that are there, and these are the orders ts
+-- each index names an order that is there, and the orders that they name are ts, in this order
 pub record AreAt (mailings : List Mailing) (ts : List Task) (places : List OrderIndex) : Type 0 where
   pub there : All (IsThere mailings) places
   pub tasks : map (task_at mailings) places ≡ ts
@@ -108,7 +108,7 @@ pub record Adds (mailings : List Mailing) (ts : List Task) (old new : List Order
   pub there : All (IsThere mailings) old → All (IsThere mailings) new
   pub tasks : map (task_at mailings) new ≡ map (task_at mailings) old ++ ts
 
--- the new indices add the orders of one mailing that count
+-- the new indices are the old ones, followed by those of the orders of one mailing that count
 abbrev pub AddsMailing : Aliases → List Mailing → ℕ → List OrderIndex → List OrderIndex → Type 0
 AddsMailing aliases mailings place = Adds mailings (tasks_for every_verb (tasks_at aliases mailings place))
 
@@ -125,7 +125,7 @@ abbrev pub tasks_picked : (Verb → Bool) → List Mailing → List OrderIndex �
 tasks_picked is_of mailings places = filter (has_verb is_of) (map (task_at mailings) places)
 
 -- The invariant of a month: its mailings are sorted by faction, and its gathered indices by unit.
--- If there are such indices, they name all orders that count.
+-- The gathered indices, if there are any, name all orders that count.
 pub record IsSortedMonth {Z : Type 0} (aliases : Aliases) (mailings : List Mailing) (standing : Option (Vec OrderIndex Z)) : Type 0 where
   pub sorted : AreByFaction mailings
   pub gathered : IfSome standing (λ places. AreOrderIndices ByUnit aliases mailings places.items)

@@ -37,7 +37,7 @@ abbrev pub unit_of : Aliases → ℕ → UnitRef → ℕ
 unit_of aliases faction (Number n) = n
 unit_of aliases faction (Alias alias) = unwrap_or (alias_unit aliases faction alias) 0
 
--- the orders of these entries of a mailing, of which the first has this index
+-- the orders of some entries of a mailing, whose indices count up from this one
 abbrev pub tasks_from : Aliases → ℕ → ℕ → List EntryValue → List Task
 tasks_from aliases faction place [] = []
 tasks_from aliases faction place (e ∷ es) =

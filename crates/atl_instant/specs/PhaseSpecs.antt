@@ -54,11 +54,12 @@ MovesItsOwn phase = (e : Entry) (t : Thing) → phase.moving e t ≤ (if may_mov
 abbrev pub books_none : Meaning → Frame → PhaseSpec
 books_none meaning keeps = record { meaning = meaning; moving = moves_nothing; moved = no_moved_entries; keeps = keeps }
 
--- the specification of one that moves none, carries out its orders one by one, and spares the units that none of them concerns
+-- the specification of a phase that moves no amount of the books and carries its orders out one by one.
+-- It spares the units that none of its orders concerns.
 abbrev pub goes_by_orders : OrderMeaning → (Verb → Bool) → Affects → Unaffected → PhaseSpec
 goes_by_orders step is_of concerns spares = books_none (meaning_by_orders step is_of) (spares_others concerns spares is_of)
 
--- the specification of one that moves the money of one entry alone
+-- the specification of a phase that moves the money of one entry of the books, and no other amount
 abbrev pub books_money : Entry → Meaning → Frame → PhaseSpec
 books_money entry meaning keeps = record {
   meaning = meaning;
@@ -67,7 +68,8 @@ books_money entry meaning keeps = record {
   keeps = keeps;
 }
 
--- the specification of one that moves the money of one entry and the people of another
+-- the specification of a phase that moves the money of one entry of the books and the people of another,
+-- and no other amount
 abbrev pub books_money_and_people : (money people : Entry) → Meaning → Frame → PhaseSpec
 books_money_and_people money people meaning keeps = record {
   meaning = meaning;

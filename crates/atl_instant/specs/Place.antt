@@ -1,4 +1,5 @@
--- LEAVE, ENTER and PROMOTE: units leave structures, enter them, and make others their owners. See docs/RULES.md, "Place".
+-- LEAVE, ENTER and PROMOTE: units leave structures, enter them, and make others their owners.
+-- See docs/RULES.md, "Place".
 use Rattle.std.specs.Prelude.{ℕ, ◌==◌, Bool, true, false, not, [], ◌∷◌, Option, Some, None, if◌then◌else◌}
 use Rattle.std.specs.FinMap.{get}
 use Rattle.atl_tables.specs.Worlds.{WorldValue}
@@ -52,7 +53,7 @@ is_in region (Some s) = s.region == region
 abbrev pub enter_fault : CampaignValue → (s : ℕ) → Unit → Option EventFault
 enter_fault c s u = first_fault ((not (is_in u.region (get c.structures s)), NotHere) ∷ [])
 
--- the campaign with unit n, which was inside `from`, inside structure s; nothing changes where both are one
+-- the campaign with unit n, which was inside `from`, inside structure s; nothing changes if `from` is s
 abbrev pub with_unit_inside : CampaignValue → (n region from s : ℕ) → CampaignValue
 with_unit_inside c n region from s = if from == s then c else with_place c n region s
 
@@ -90,6 +91,6 @@ place_step w a t = place_effect w a t.faction t.unit t.order_value.operands
 
 -- ---- the phase
 
--- the specification of the phase: a unit for which its own faction wrote no such order is no worse off
+-- the specification of the phase: a unit for which its own faction wrote no LEAVE, ENTER or PROMOTE is no worse off
 abbrev pub place_spec : PhaseSpec
 place_spec = goes_by_orders place_step is_placing IsOwnOrder IsNoWorse

@@ -63,7 +63,8 @@ after_leaving c n = without_leaver c n (get c.units n)
 abbrev pub quit_fault : (number : ℕ) → Unit → Option EventFault
 quit_fault number u = first_fault ((not (number == u.faction), WrongNumber) ∷ [])
 
--- The effect of QUIT: all units of the unit's faction leave, in the order of their numbers, unless the order has a fault.
+-- The effect of QUIT: all units of the unit's faction leave, in the order of their numbers,
+-- unless the order has a fault.
 unfoldable pub quit : (number : ℕ) → OrderEffect
 quit number c u = unless c (quit_fault number u) (fold after_leaving c (numbers_of u.faction c.units), Done 0)
 
@@ -82,7 +83,7 @@ quit_step w aliases t = quit_effect t.order_value.operands
 abbrev pub quit_meaning : Meaning
 quit_meaning = meaning_by_orders quit_step is_quitting
 
--- an order concerns a unit if the unit's own faction wrote it with its own number, for whatever unit
+-- an order concerns a unit if the unit's own faction wrote it, for any unit, with the faction's own number
 abbrev pub quit_concerns : Affects
 quit_concerns t number faction = (t.faction ≡ faction) × (t.order_value.operands ≡ operands.Number faction)
 
@@ -92,7 +93,8 @@ pub record QuitsFrom (begun : CampaignValue) (t : Task) (n f : ℕ) : Type 0 whe
   pub faction : t.faction ≡ f
   pub said : t.order_value.operands ≡ operands.Number f
 
--- what the phase keeps: a unit whose faction doesn't quit by such an order is no worse off
+-- what the phase keeps: a unit is no worse off, unless its faction quits by an
+-- order for a unit that was its own as the phase began
 abbrev pub quit_keeps : Frame
 quit_keeps w m before after = spares_others (QuitsFrom before) IsNoWorse is_quitting w m before after
 

@@ -1,4 +1,5 @@
--- A law: of the verbs that share a slot, at most one order counts for a unit in a faction's mailing. See docs/RULES.md, "Orders of a month".
+-- A law: of the verbs that share a slot, at most one order counts for a unit in a faction's mailing.
+-- See docs/RULES.md, "Orders of a month".
 use Rattle.std.specs.Prelude.{Bool, false, ◌&&◌, ◌==◌, Option, Some, None}
 use Rattle.std.specs.List.{IsDistinct}
 use Rattle.std.specs.Ordering.{nat_cmp}

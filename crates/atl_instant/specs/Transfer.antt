@@ -60,7 +60,7 @@ pub record HaveDaysOf (n : ℕ) (other h : HoldingValue) (skill : ℕ) : Type 0 
   pub stay : amount_of (with_fewer n other).days skill ≡ staying_of n other skill
   pub come : amount_of (with_more n other h).days skill ≡ raised_of n other h skill
 
--- A law: it is so for each number of men, any two units and each skill.
+-- A law: after any number of men went, both units have the days of each skill that `staying_of` and `raised_of` give.
 abbrev pub DaysGoWithMen : Type 0
 DaysGoWithMen = (n : ℕ) (other h : HoldingValue) (skill : ℕ) → HaveDaysOf n other h skill
 
@@ -85,7 +85,8 @@ after_transfer c from to n (Some u) (Some v) =
     if to == from then c else with_held (with_held c from (with_fewer n u.holding) (Some u)) to (with_more n u.holding v.holding) (Some v)
 after_transfer c from to n sender receiver = c
 
--- the campaign and the outcome as unit u, under the number `from`, sends n men to the receiver under `to`, if that is there
+-- The campaign and the outcome as unit u sends n men to the receiver, if a receiver is there.
+-- The unit has the number `from`, the receiver `to`.
 abbrev pub transfer_to : CampaignValue → (from to n : ℕ) → Unit → Option Unit → CampaignValue × Outcome
 transfer_to c from to n u receiver = unless c (transfer_fault n (to == from) u receiver) (after_transfer c from to n (Some u) receiver, Done n)
 
@@ -104,6 +105,6 @@ transfer_step w aliases t = transfer_effect aliases t.faction t.unit t.order_val
 
 -- ---- the phase
 
--- the specification of the phase: a unit for which its own faction wrote no such order is no worse off
+-- the specification of the phase: a unit for which its own faction wrote no TRANSFER is no worse off
 abbrev pub transfer_spec : PhaseSpec
 transfer_spec = goes_by_orders transfer_step is_transferring IsOwnOrder IsNoWorse

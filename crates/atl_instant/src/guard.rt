@@ -39,7 +39,7 @@ fn guard_fault(holders: &RegionGuards, unit: &Unit) -> Option<EventFault>
     None
 }
 
-/// Carries out GUARD 1: sets the guard flag of the unit, or changes nothing where a fault fits.
+/// Carries out GUARD 1: sets the guard flag of the unit, or changes nothing where a fault applies.
 #[tactic(auto, unfolding(crate::specs::Guard::guard))]
 fn guard(
     campaign: &mut Campaign,

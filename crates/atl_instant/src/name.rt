@@ -80,7 +80,7 @@ fn structure_fault(
     }
 }
 
-/// Sets the name of the structure that a unit is inside, or changes nothing where a fault fits.
+/// Sets the name of the structure that a unit is inside, or changes nothing where a fault applies.
 fn name_structure(
     world: &World,
     campaign: &mut Campaign,

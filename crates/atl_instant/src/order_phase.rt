@@ -63,7 +63,7 @@ pub trait OrderPhase: PhaseVerbs {
             campaign.old.value order.entry.faction order.entry.unit) }
         ensures marks { OnOk result (MarksChanges campaign.old campaign.new) };
 
-    /// Does nothing. Its clause says what each step of the phase leaves, and which units it spares.
+    /// Does nothing. Its clause is `IsOrderly`: what each order keeps, and which units it spares.
     fn is_orderly(&self)
         ensures { IsOrderly (step self.now) holds reserve moving concerns spares };
 }
@@ -151,7 +151,8 @@ pub fn carry_out_orders<P: OrderPhase>(
     Ok(())
 }
 
-/// A phase that is nothing but its orders: its step is the same for each value of the type.
+/// A phase whose step doesn't depend on the value of its type:
+/// it carries out orders, and does nothing else.
 pub trait PlainPhase: OrderPhase {
     // What an order does for a unit of its own faction, if the phase doesn't pass it over.
     ghost makes: { OrderMeaning };

@@ -73,7 +73,7 @@ fn leave_fault(world: &World, unit: &Unit) -> Option<EventFault>
     }
 }
 
-/// Carries out LEAVE: the unit leaves its structure, or nothing changes where a fault fits.
+/// Carries out LEAVE: the unit leaves its structure, or nothing changes where a fault applies.
 #[tactic(auto, unfolding(crate::specs::Place::leave))]
 fn leave(
     world: &World,
@@ -116,7 +116,7 @@ fn enter_other(
     }
 }
 
-/// Carries out ENTER: the unit enters a structure, or nothing changes where a fault fits.
+/// Carries out ENTER: the unit enters a structure, or nothing changes where a fault applies.
 #[tactic(auto, unfolding(crate::specs::Place::enter))]
 fn enter(
     campaign: &mut Campaign,
@@ -163,7 +163,7 @@ fn give_to(campaign: &mut Campaign, structure: u32, owner: u32)
     campaign.set_owner(structure, owner);
 }
 
-/// Carries out PROMOTE: another unit gets the structure, or nothing changes where a fault fits.
+/// Carries out PROMOTE: another unit gets the structure, or nothing changes where a fault applies.
 #[tactic(auto, unfolding(crate::specs::Place::promote))]
 fn promote(campaign: &mut Campaign, order: PhaseOrder<'_>, to: u32) -> Outcome
     ensures what { (campaign.new.value, result)

@@ -134,7 +134,7 @@ fn quit_fault(number: u32, unit: &Unit) -> Option<EventFault>
     None
 }
 
-/// Carries out QUIT: all units of the faction leave, or nothing changes where a fault fits.
+/// Carries out QUIT: all units of the faction leave, or nothing changes where a fault applies.
 #[tactic(auto, unfolding(crate::specs::Quit::quit))]
 fn quit(
     alloc: Global,

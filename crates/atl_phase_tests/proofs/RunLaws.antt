@@ -1,4 +1,4 @@
--- Laws for the proofs of `runs` and `settings`: the books of these campaigns have room for each phase.
+-- Laws of the test campaigns of `runs` and `settings`: their books have room for each phase.
 use Rattle.std.proofs.Common.{◌≡◌, ◌≤◌, ℕ, Bool, true, false, sym, subst, arith}
 use Rattle.std.specs.Prelude.{if◌then◌else◌}
 use Rattle.atl_tables.specs.Worlds.{WorldValue}

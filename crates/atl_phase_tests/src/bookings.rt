@@ -1,5 +1,5 @@
-//! Prints what was booked between two campaigns (docs/RULES.md, "Books"), a line for each entry and
-//! thing.
+//! Prints the differences of the books of two campaigns (docs/RULES.md, "Books"),
+//! a line for each entry and thing.
 ghost use Rattle.std.specs.Prelude.{◌≡◌};
 ghost use Rattle.atl_records.specs.Books.{thing_index};
 

@@ -1,5 +1,5 @@
-//! Plays the cases of a file, one after the other, and compares what comes of each with what is
-//! written there.
+//! Plays the cases of a file, one after the other,
+//! and compares the result of each with the lines that the file expects.
 use crate::changes::tell_changes;
 use crate::failed::Failed;
 use crate::months::read_all;
@@ -43,7 +43,7 @@ fn told_between(
     Ok(told)
 }
 
-/// What comes of a case, as lines: the changes of the campaign, and the outcomes of its orders.
+/// The result of a case, as lines: the changes of the campaign, and the outcomes of its orders.
 fn told_of(
     alloc: Global,
     world: &World,
@@ -76,7 +76,7 @@ impl Drop for Player {
 }
 
 impl Player {
-    /// A player without a campaign's lines, before the first line is read.
+    /// A player with an empty campaign, before the first line is read.
     fn new(alloc: Global, world: World) -> Player {
         Player {
             world,
@@ -88,8 +88,8 @@ impl Player {
         }
     }
 
-    /// Plays a case, and appends what came of it to the report if that differs from what is
-    /// written.
+    /// Plays a case, and appends its result to the report if it
+    /// differs from the lines that the file expects.
     fn play(&mut self, alloc: Global, case: &Case) -> Result<(), Failed> {
         let told = told_of(alloc, &self.world, &self.setting, self.run, case)?;
         self.played = self.played.wrapping_add(1);
@@ -118,7 +118,8 @@ impl Player {
         Some(())
     }
 
-    /// Adds what a `times` line says, as often as it says, to the campaign of the next cases.
+    /// Adds the units, goods or structures of a `times` line, as often as it says,
+    /// to the campaign of the next cases.
     fn set_times(&mut self, text: &str) -> Option<()> {
         let (count, line) = text.split_once(' ')?;
         self.set(count.parse::<u32>().ok()?, line)

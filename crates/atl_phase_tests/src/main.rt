@@ -1,6 +1,6 @@
-//! Plays files of cases: a campaign, mailings, and what must come of them (data/README.md says how
-//! a file is written). Each file of the command line is played, and each case that comes to
-//! something else is printed.
+//! Tests the phases of a month by files of cases: a campaign, mailings, and the expected result
+//! (data/README.md says how a file is written). Plays each file of the command line, and prints
+//! each case whose result differs.
 #![tactic(auto)]
 
 mod bookings;

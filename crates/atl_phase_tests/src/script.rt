@@ -3,7 +3,8 @@ use crate::settings::{Built, Had, Setting, Stocked, Stood};
 use atl_tables::{World, let_go};
 use std::alloc::{AllocError, Global};
 
-/// A case: its title, the mailings and the words of its month, and the lines that must come of it.
+/// A case: its title, the mailings and the words of its month,
+/// and the lines of the expected result.
 pub(crate) struct Case {
     pub title: String,
     pub mailings: Vec<String>,
@@ -37,7 +38,7 @@ impl Case {
         Ok(())
     }
 
-    /// Appends a line that must come of the case.
+    /// Appends a line of the expected result.
     fn add_wanted(&mut self, line: &str) -> Result<(), AllocError> {
         self.wanted.push_str(line)?;
         self.wanted.push_str("\n")

@@ -50,7 +50,8 @@ pub(crate) struct Stocked {
 }
 
 /// The campaign of a case: units and structures, numbered from 1, their goods, and stocks.
-/// Some units lose their men after it was made. The next unit's number is at least `next_unit`.
+/// Some units lose their men once the campaign is made.
+/// The next unit's number is at least `next_unit`.
 pub(crate) struct Setting {
     pub units: Vec<Stood>,
     pub has: Vec<Had>,
@@ -289,7 +290,7 @@ fn money_and_men(units: &[Stood]) -> (i64, i64) {
     (money, men)
 }
 
-/// Books all that the units have and all that is in stock under Joining, so that the books fit.
+/// Books all that the units have and all that is in stock under Joining, so that the books balance.
 fn book_all(
     world: &World,
     setting: &Setting,
