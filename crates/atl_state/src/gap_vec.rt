@@ -5,8 +5,8 @@ ghost use Rattle.std.specs.List.{insert, remove};
 use std::alloc::{AllocError, Global};
 use std::marker::Model;
 
-/// A vector whose first `free` items are unused, at most half of all. The list is those after them.
-/// To insert or remove an item takes the time in which the items on its nearer side move.
+/// A list in a vector whose first `free` items are unused, at most half of all. Inserting or
+/// removing an item moves only the items on its nearer side.
 #[derive(Drop, Debug)]
 pub(crate) struct GapVec<T> {
     items: Vec<T>,

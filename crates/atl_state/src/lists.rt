@@ -124,8 +124,8 @@ impl UnitLists {
     }
 }
 
-/// Moves a number from the list of one structure into that of another; 0 has no list. Without memory for it nothing
-/// changes.
+/// Moves a number from the list of one structure into that of another; 0 has no list. Without
+/// memory for it nothing changes.
 fn relist_inside(
     alloc: Global,
     lists: &mut Numbered<Numbers>,
