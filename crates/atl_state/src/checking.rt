@@ -290,8 +290,8 @@ pub fn check_as(
     answer
 }
 
-/// The campaign of these rows of the second format, with nothing marked, or the first rule that they
-/// break.
+/// The campaign of these rows of the second format, with nothing marked, or the first rule that
+/// they break.
 pub fn check(alloc: Global, world: &World, parts: Parts) -> Result<Campaign, CheckFault>
     ensures rules { Checks Second world.now parts result }
     ensures whole { IsWorld world.now → GivesBack Second world.now parts result }

@@ -52,8 +52,8 @@ impl Campaign {
         }
     }
 
-    /// Hands a structure from owner `from` to `to`, and marks it; nothing changes unless `from` owns
-    /// it.
+    /// Hands a structure from owner `from` to `to`, and marks it; unless `from` owns it, nothing
+    /// changes.
     fn hand_over(&mut self, structure: u32, from: u32, to: u32)
         ensures { self.new ≡ handed_marked self.old structure from to }
     {
