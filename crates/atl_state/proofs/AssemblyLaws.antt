@@ -46,7 +46,7 @@ module _ {R : Type 0} (thing amount : R → ℕ) (test : R → Bool) where
 pub min_small : (n most : ℕ) → n ≤ most → min n most ≡ n
 min_small n most h = grind arith
 
--- a number of a row from low to high, which is at most 32 bits, is read as itself, and is from low to high
+-- a number of a row from low to high, with high at most most_u32, is read as itself, which is from low to high
 pub from_range : (low high : ℕ) (z : ℤ) → high ≤ most_u32 → is_from low high z ≡ true → (z ≡ pos (as_u32 z)) × (low ≤ as_u32 z) × (as_u32 z ≤ high)
 from_range low high (pos n) h e =
     let parts = and_parts (nat_le low n) (nat_le n high) e in

@@ -1,4 +1,4 @@
--- Laws of reading books back: from the rows of books, in any order, the same books are assembled.
+-- Laws of reading books back: the rows of books, in any order, give these books again.
 use Rattle.std.proofs.Common.{◌≡◌, ℕ, ◌+◌, ◌≤◌, List, [], ◌∷◌, true, false, Some, None, refl, sym, ap, ◌∙◌, arith}
 use Rattle.std.specs.Prelude.{pos, ℤ, unwrap_or}
 use Rattle.std.specs.List.{AllByRecursion, IsDistinct}

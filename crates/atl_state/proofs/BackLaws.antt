@@ -180,7 +180,7 @@ pub append_each : {A : Type 0} (P : A → Type 0) (xs ys : List A) → AllByRecu
 append_each P [] ys h k = k
 append_each P (x ∷ xs) ys h k = (h.0, append_each P xs ys h.1 k)
 
--- if P holds for each element of two lists joined, it holds for each element of either list
+-- if P holds for each element of two lists joined, it holds for each element of both lists
 pub each_appended : {A : Type 0} (P : A → Type 0) (xs ys : List A) → AllByRecursion P (xs ++ ys) → AllByRecursion P xs × AllByRecursion P ys
 each_appended P [] ys h = (tt, h)
 each_appended P (x ∷ xs) ys h = let rest = each_appended P xs ys h.1 in ((h.0, rest.0), rest.1)
@@ -191,13 +191,13 @@ InOrder Before [] = ⊤
 InOrder Before (x ∷ xs) = AllByRecursion (Before x) xs × InOrder Before xs
 
 module _ {A : Type 0} (e : A → A → Bool) where
-  -- two lists, each distinct by e, are distinct when joined, if e tells each element of one from those of the other
+  -- two lists, each distinct by e, are distinct when joined, if e is false for each element of one and each of the other
   pub append_apart : (xs ys : List A) → IsDistinct e xs → IsDistinct e ys → AllByRecursion (λ x. AllByRecursion (λ y. e x y ≡ false) ys) xs → IsDistinct e (xs ++ ys)
   unfolding IsDistinct
   append_apart [] ys d f h = f
   append_apart (x ∷ xs) ys d f h = (append_each (λ y. e x y ≡ false) xs ys d.0 h.0, append_apart xs ys d.1 f h.1)
 
-  -- of lists one after another, each with rows of its own
+  -- lists f x joined, where rows of elements in order differ
   module _ {X : Type 0} (f : X → List A) (Before : X → X → Type 0) (Own : X → A → Type 0) (apart : (x y : X) (a b : A) → Before x y → Own x a → Own y b → e a b ≡ false) (own : (x : X) → AllByRecursion (Own x) (f x)) (one : (x : X) → IsDistinct e (f x)) where
     -- a row that belongs to x differs from all rows of elements that come after x
     against : (x : X) (a : A) (xs : List X) → Own x a → AllByRecursion (Before x) xs → AllByRecursion (λ b. e a b ≡ false) (flat_map f xs)
