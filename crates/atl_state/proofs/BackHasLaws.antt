@@ -49,6 +49,7 @@ module _ (units : FinMap nat_cmp Unit) where
   pub each_had : (P : StoredHas → Type 0) → AllByRecursion P (has_rows (entries units)) → Every (λ n u. (s : ℕ) → s < 2 → Every (λ i a. is_zero (pos a) ≡ false → P (has_row n s i a)) (goods_of s u)) units
   each_had P h n u is = of_sort (each_appended P (rows_of_sort n 0 (entries u.holding.items)) (rows_of_sort n 1 (entries u.holding.days)) (each_group held P units h n u is))
     where
+      -- if P holds for the rows of a unit's items and of its days, it holds for the row of each amount of either kind
       of_sort : AllByRecursion P (rows_of_sort n 0 (entries u.holding.items)) × AllByRecursion P (rows_of_sort n 1 (entries u.holding.days)) → (s : ℕ) → s < 2 → Every (λ i a. is_zero (pos a) ≡ false → P (has_row n s i a)) (goods_of s u)
       of_sort both zero l = each_line none (has_row n 0) u.holding.items P both.0
       of_sort both (suc zero) l = each_line none (has_row n 1) u.holding.days P both.1

@@ -191,7 +191,7 @@ InOrder Before [] = ⊤
 InOrder Before (x ∷ xs) = AllByRecursion (Before x) xs × InOrder Before xs
 
 module _ {A : Type 0} (e : A → A → Bool) where
-  -- two lists, each distinct by e, are distinct when joined, if e is false for each element of one and each of the other
+  -- two lists, each distinct by e, are distinct when joined, if e is false for each element of the first and the second
   pub append_apart : (xs ys : List A) → IsDistinct e xs → IsDistinct e ys → AllByRecursion (λ x. AllByRecursion (λ y. e x y ≡ false) ys) xs → IsDistinct e (xs ++ ys)
   unfolding IsDistinct
   append_apart [] ys d f h = f
@@ -204,6 +204,7 @@ module _ {A : Type 0} (e : A → A → Bool) where
     against x a [] mine h = tt
     against x a (y ∷ xs) mine h = append_each (λ b. e a b ≡ false) (f y) (flat_map f xs) (these (f y) (own y)) (against x a xs mine h.1)
       where
+        -- an element that belongs to x differs from each element that belongs to y, if x is before y
         these : (bs : List A) → AllByRecursion (Own y) bs → AllByRecursion (λ b. e a b ≡ false) bs
         these [] all = tt
         these (b ∷ bs) all = (apart x y a b h.0 mine all.0, these bs all.1)

@@ -1,4 +1,4 @@
--- Laws of beginning a structure and building on it: the campaign stays steady, no total changes, and changes are marked.
+-- Laws of beginning a structure and building on it: the campaign stays steady, totals are kept, and changes are marked.
 use Rattle.std.proofs.Common.{◌≡◌, ◌≢◌, ℕ, ◌+◌, ◌≤◌, ◌<◌, true, false, cond, length, Some, None, refl, sym, ap, subst, ◌∙◌, inl, inr, arith, true≢false}
 use Rattle.std.specs.Prelude.{IsTrue, is_some}
 use Rattle.std.proofs.lemmas.Bool.{cases_eq}
@@ -227,7 +227,7 @@ module _ (w : WorldValue) (c : CampaignValue) (k : ℕ) (s : Structure) (done : 
     apart_free : (j : ℕ) → get c.structures j ≡ None → get built.structures j ≡ None
     apart_free j none = get-insert_other c.structures k j further (λ same. none_some s (sym none ∙ ap (get c.structures) same ∙ is)) ∙ none
 
-    -- once more of a structure is done, factions and structures are numbered without a gap, and next unit numbers are free
+    -- once more of a structure is done, factions and structures are numbered without a gap; next unit numbers are free
     next_built : AreNumbered built
     next_built = record {
       factions = was.next.factions;

@@ -38,7 +38,7 @@ put_new a z (e ∷ es) h =
           IsPermutation-trans (e ∷ put account_cmp a z es) (e ∷ (a, z) ∷ es) ((a, z) ∷ e ∷ es) (IsPermutation-append_right (e ∷ []) (put account_cmp a z es) ((a, z) ∷ es) (put_new a z es is)) (IsPermutation-middle (e ∷ []) (a, z) es)
     ] h
 
--- the row of an account and its amount
+-- the row of `books` for an account with its amount
 abbrev line : Account × ℤ → StoredBooks
 line x = books_row x.0.0 x.0.1 x.1
 
