@@ -111,7 +111,7 @@ module _ (units : FinMap nat_cmp Unit) where
       unit : k ≡ n
       kind : s ≡ sort
 
-    -- if a row of unit k and kind s is read as one of unit n and kind `sort`, k is n and s is `sort`
+    -- if a row of unit k and kind s is read as of unit n and kind `sort`, k is n and s is `sort`
     of_row : (n sort k s i a : ℕ) → k ≤ most_u32 → s < 2 → is_of n sort (has_row k s i a) ≡ true → Of n sort k s
     of_row n sort k s i a few l e =
         let both = and_parts (as_u32 (pos k) == n) (as_u32 (pos s) == sort) e in

@@ -57,7 +57,7 @@ stay-trans one two = record {
   row = λ h. two.row (one.row h);
 }
 
--- if the marks m cover a change from a to b, and n keep these marks and cover one from b to c, n cover both changes
+-- if m covers a change from a to b, and n, which keeps m's marks, one from b to c, n covers both
 pub covers-trans : {m n : Marks} (a b c : CampaignValue) → StayMarked m n → Covers m a b → Covers n b c → Covers n a c
 covers-trans {m} {n} a b c stay one two = record {
   factions = λ k free. two.factions k free ∙ one.factions k (was_unmarked m.factions n.factions stay.factions k free);

@@ -42,14 +42,14 @@ use Rattle.atl_state.proofs.OrderLaws.{each_passes}
 -- ---- maps of rows
 
 module _ {R V : Type 0} (number : R → ℕ) (value : R → V) where
-  -- if P holds for a map's values and for each row's value, as the row passes a test, it does once the rows are put in
+  -- if P holds for a map's values and, by a test that all rows pass, for each row's value, it does once rows are put in
   put-every : (P : ℕ → V → Type 0) (p : R → Bool) → ((r : R) → p r ≡ true → P (number r) (value r)) → (rows : List R) (m : FinMap nat_cmp V) → list_all p rows ≡ true → Every P m → Every P (put_rows number value rows m)
   put-every P p each [] m all old = old
   put-every P p each (r ∷ rows) m all old =
       let parts = and_parts (p r) (list_all p rows) all in
       put-every P p each rows (insert m (number r) (value r)) parts.1 (every-insert P m (number r) (value r) (each r parts.0) old)
 
-  -- if all rows pass a test, and P holds for the value of each row that does, it holds for each value of the rows' map
+  -- if all rows pass a test, and P holds for each value that does, P holds for all values of the rows' map
   pub by_number-every : (P : ℕ → V → Type 0) (p : R → Bool) → ((r : R) → p r ≡ true → P (number r) (value r)) → (rows : List R) → list_all p rows ≡ true → Every P (by_number number value rows)
   by_number-every P p each rows all = put-every P p each rows empty all (every-empty P)
 

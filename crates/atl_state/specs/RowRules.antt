@@ -72,7 +72,7 @@ region_in_range r = is_from 0 most_amount r.peasants && is_from 0 most_amount r.
 abbrev pub unit_in_range : StoredUnit → Bool
 unit_in_range r = ((is_from 1 last_unit r.number && is_from 1 men_limit r.men) && is_from 0 holding_limit r.money) && is_from 0 1 r.guard
 
--- whether the sort of a row of `has` is 0 or 1, and the amount of an item in its range; days are judged by rule 6
+-- whether the sort of a row of `has` is 0 or 1, and the amount of an item is in its range; rule 6 is for days
 abbrev pub has_in_range : StoredHas → Bool
 has_in_range r = is_from 1 1 r.sort || (is_from 0 0 r.sort && is_from 1 holding_limit r.amount)
 

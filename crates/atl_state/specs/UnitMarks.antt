@@ -8,8 +8,8 @@ use Rattle.atl_records.specs.contracts.records.Unit as unit
 use Rattle.atl_state.specs.contracts.units.Units.{the_row}
 use Rattle.atl_state.specs.Roster.{Roster, with_unit_at}
 
--- after a loan u of unit n, roster r has u's last value, and the unit, its row and all its goods are marked;
--- without a loan r is unchanged
+-- after a loan u of unit n, roster r has u's last value, and the unit, its row and all its goods are marked.
+-- Without a loan r is unchanged.
 abbrev pub LendsUnit : MutBor Roster → ℕ → Option (MutBor Unit) → Fml
 LendsUnit r n u = LendsIf the_row unit.the_row r u (with_unit_at r.now n) r.now
 

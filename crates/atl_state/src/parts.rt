@@ -182,8 +182,8 @@ pub struct StoredHas {
     pub sort: i64,
     /// The index of the item, or of the skill, in the world's list of them, from 0.
     pub thing: i64,
-    /// How many pieces of the item, from 1 to HOLDING_LIMIT; or the days of the skill over all men,
-    /// at least 1 and at most MOST_DAYS for each man.
+    /// How many pieces of the item, from 1 to HOLDING_LIMIT, or the days of the skill over all men.
+    /// Of days there are at least 1 and at most MOST_DAYS for each man.
     pub amount: i64,
 }
 
