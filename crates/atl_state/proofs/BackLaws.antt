@@ -28,7 +28,7 @@ use Rattle.atl_state.proofs.OrderedLaws.{below}
 
 -- ---- facts of each row, in another order
 
--- if P holds for each row, it holds for each row of the same rows in another order
+-- if P holds for each row of a list, it holds for each row of the list in another order
 pub each_permuted : {R : Type 0} (P : R → Type 0) (xs ys : List R) → IsPermutation xs ys → AllByRecursion P xs → AllByRecursion P ys
 each_permuted P xs ys h all = recursion_from_All P ys (All-permutation P xs ys h (All-from_recursion P xs all))
 

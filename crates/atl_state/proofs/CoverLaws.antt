@@ -132,6 +132,7 @@ module _ (goods : FinSet nat_cmp) (things : Things) (n thing : ℕ) where
       by_thing true o = refl
       by_thing false o = refl
 
+      -- if k is n, the things of k are those of n and the new one; else they are unchanged
       by_unit : (b : Bool) → is_some (get (unwrap_or (cond b (Some (map.insert (group_of things n) thing tt)) (get things k)) map.empty) t)
           ≡ cond b (eq_by_cmp nat_cmp t thing || is_some (get (group_of things n) t)) (is_some (get (group_of things k) t))
       by_unit true = ap is_some (get-insert nat_cmp_total (group_of things n) thing tt t) ∙ by_thing (eq_by_cmp nat_cmp t thing) (get (group_of things n) t)
@@ -141,6 +142,7 @@ module _ (goods : FinSet nat_cmp) (things : Things) (n thing : ℕ) where
   pub thing_stays : ThingsStayMarked goods things goods (with_thing things n thing)
   thing_stays k t = both_stay (contains goods k) (contains goods k) (is_some (get (group_of things k) t)) (is_some (get (group_of (with_thing things n thing) k) t)) (λ h. h) (λ h. put_in k t ∙ by_unit h (eq_by_cmp nat_cmp k n) refl)
     where
+      -- a thing t of unit k that was marked still is, whether k is n or not
       by_unit : is_some (get (group_of things k) t) ≡ true → (b : Bool) → eq_by_cmp nat_cmp k n ≡ b → cond b (eq_by_cmp nat_cmp t thing || is_some (get (group_of things n) t)) (is_some (get (group_of things k) t)) ≡ true
       by_unit h true e = ap (λ q. eq_by_cmp nat_cmp t thing || is_some (get (group_of things q) t)) (sym (same_key k n e)) ∙ ap (λ b. eq_by_cmp nat_cmp t thing || b) h ∙ or-true (eq_by_cmp nat_cmp t thing)
       by_unit h false e = h
@@ -314,6 +316,7 @@ marks-faction f c n =
 pub shown_still : {V X : Type 0} (shows : Option V → X) (values : FinMap nat_cmp V) (n k : ℕ) (v w : V) → get values n ≡ Some v → (k ≡ n → shows (Some w) ≡ shows (Some v)) → shows (get (map.insert values n w) k) ≡ shows (get values k)
 shown_still shows values n k v w is same = ap shows (get-insert nat_cmp_total values n w k) ∙ by_number (eq_by_cmp nat_cmp k n) refl
   where
+    -- the view shows the same under k, whether k is n or not
     by_number : (b : Bool) → eq_by_cmp nat_cmp k n ≡ b → shows (cond b (Some w) (get values k)) ≡ shows (get values k)
     by_number true e = let here = same_key k n e in same here ∙ sym (ap shows (ap (get values) here ∙ is))
     by_number false e = refl
@@ -440,7 +443,7 @@ module _ (c : MarkedCampaign) (n item amount : ℕ) where
       was : (v : Region) → get c.value.regions n ≡ Some v → (stock_of c.value n item == amount) ≡ true → amount_of v.stocks item ≡ amount
       was v is same = sym (ap (in_stock item) is) ∙ equal (stock_of c.value n item) amount same
 
-      -- setting the stock satisfies MarksChanges with either mark, whether the amount is the same or not
+      -- setting the stock satisfies MarksChanges with either mark, whether the amount changes or not
       either : (b : Bool) → (stock_of c.value n item == amount) ≡ b → after_regions (changed stocked c.value.regions n) (item_alone (to_restock b)) × after_regions (changed stocked c.value.regions n) (all_of_region (to_restock b))
       either true same =
           let still = changed_there (λ regions o. after_regions regions c.marks) stocked c.value.regions n (marks-refl c) (λ v is. stock_stays v is (was v is same)) in
@@ -450,7 +453,7 @@ module _ (c : MarkedCampaign) (n item amount : ℕ) where
         changed_there (λ regions o. after_regions regions (all_of_region o)) stocked c.value.regions n (marks-refl c) stocks_change,
       )
 
-      -- setting the stock satisfies MarksChanges, whether the amount is the same or not
+      -- setting the stock satisfies MarksChanges, whether the amount changes or not
       by_amount : (b : Bool) → (stock_of c.value n item == amount) ≡ b → after_regions (changed stocked c.value.regions n) m
       by_amount b is = elim how [
         | inl e ↦ subst (after_regions (changed stocked c.value.regions n)) (sym (e ∙ ap (λ k. item_alone (to_restock k)) is)) (either b is).0

@@ -98,7 +98,7 @@ fn keeps_one_row(format: Format, parts: &Parts) -> bool
         && are_of_format(format, parts.markets.as_slice())
 }
 
-/// Checks rules 1 to 3, which are checked on the rows before a campaign is made of them.
+/// Checks rules 1 to 3 on the rows, before a campaign is made of them.
 fn check_rows(alloc: Global, world: &World, parts: &Parts, format: Format) -> Result<(), CheckFault>
     ensures { Passes format world.now parts.now 4 result }
 {

@@ -23,7 +23,7 @@ impl<T> Model for GapVec<T> {
     ghost invariant = { λ a. a.free + a.free ≤ length a.items.items };
 }
 
-/// Adds unused items in front of a vector that has none and isn't empty; returns how many. They are
+/// Adds unused items in front of a vector that has none and isn't empty. Returns how many it added:
 /// half as many as its items, and one. Without memory nothing changes.
 fn make_room<T: Copy + Drop>(items: &mut Vec<T>) -> Result<usize, AllocError>
     requires { 0 < length items.old.items }

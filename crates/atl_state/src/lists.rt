@@ -43,7 +43,7 @@ pub(crate) fn list_keys_of(unit: &Unit) -> ListKeys
 }
 
 impl UnitLists {
-    /// No lists, as of no units.
+    /// The lists of no units: all are empty.
     pub(crate) fn new(alloc: Global) -> UnitLists
         ensures { AreUnitLists map.empty result }
     {

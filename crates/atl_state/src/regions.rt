@@ -62,7 +62,7 @@ impl Regions {
         }
     }
 
-    /// These regions, with nothing marked. AllocError if there is no memory for their marks.
+    /// The given regions, with nothing marked. AllocError if there is no memory for their marks.
     pub(crate) fn of(alloc: Global, values: Numbered<Region>) -> Result<Regions, AllocError>
         ensures { IfOk result (λ regions. regions ≡ unmarked_regions values) }
     {
@@ -139,7 +139,7 @@ impl Regions {
         self.items.iter()
     }
 
-    /// Lends a region, and marks nothing.
+    /// Lends a region, if there is one, and marks nothing.
     fn lend(&mut self, number: u32) -> Option<&mut Region>
         ensures* writes_back { sem 𝓛 (LendsRegion self.entry number result) }
         ensures value { option_copied_mut result ≡ map.get self.old.values number }
