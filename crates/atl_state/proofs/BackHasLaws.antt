@@ -30,7 +30,7 @@ goods_of (suc n) u = u.holding.days
 abbrev none : StoredHas → Bool
 none r = is_zero r.amount
 
--- the rows of what a unit has
+-- the rows of `has` for the goods of a unit
 abbrev held : ℕ × Unit → List StoredHas
 held e = held_rows e.0 e.1.holding
 

@@ -24,7 +24,7 @@ use Rattle.atl_state.proofs.StockRowLaws.{IsKeyed, is_in, items_apart}
 abbrev none : StoredMarket → Bool
 none m = is_zero m.stock
 
--- the rows of a region's stocks
+-- the rows of `market` for the stocks of a region
 abbrev stocked : ℕ × Region → List StoredMarket
 stocked e = stock_rows e.0 (entries e.1.stocks)
 

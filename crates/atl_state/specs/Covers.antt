@@ -1,4 +1,4 @@
--- What change marks say of a campaign before and after some changes: all that is not marked is the same.
+-- What change marks say of a campaign before and after some changes: all that is not marked is unchanged.
 use Rattle.std.specs.Prelude.{◌≡◌, ℕ, List, true, false, Option, Some, None, option_map}
 use Rattle.std.specs.Ordering.{nat_cmp}
 use Rattle.std.specs.FinMap.{FinMap, get, empty}

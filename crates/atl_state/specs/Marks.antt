@@ -15,11 +15,11 @@ use Rattle.atl_records.specs.Books.{amount_number}
 abbrev pub Things : Type 0
 Things = map.FinMap nat_cmp (map.FinMap nat_cmp (Prim.Unit {0}))
 
--- the things with `thing` of unit or region n added
+-- the marked things with one more: `thing` of unit or region n
 abbrev pub with_thing : Things → ℕ → ℕ → Things
 with_thing things n thing = map.insert things n (map.insert (group_of things n) thing tt)
 
--- the things with `thing` of unit or region n added; unchanged if None is given for that unit or region
+-- the marked things with one more: `thing` of unit or region n; unchanged if None is given for that unit or region
 abbrev pub thing_marked : {V : Type 0} → Things → ℕ → ℕ → Option V → Things
 thing_marked things n thing None = things
 thing_marked things n thing (Some v) = with_thing things n thing

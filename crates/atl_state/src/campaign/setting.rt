@@ -23,7 +23,7 @@ impl Campaign {
         self.row_marked = true;
     }
 
-    /// Sets the name that a faction shows, and marks the faction.
+    /// Sets the shown name of a faction, if there is such a faction, and marks the faction.
     pub fn set_faction_name(&mut self, number: u32, name: Text)
         ensures what { self.new.value ≡ with_faction_name self.old.value number name }
         ensures marks { self.new.marks ≡ mark_faction self.old number }
@@ -33,7 +33,7 @@ impl Campaign {
         }
     }
 
-    /// Sets a faction's flag `gone`, and marks the faction.
+    /// Sets the flag `gone` of a faction, if there is such a faction, and marks it.
     pub fn set_gone(&mut self, number: u32)
         ensures what { self.new.value ≡ with_gone self.old.value number }
         ensures marks { self.new.marks ≡ mark_faction self.old number }
@@ -116,9 +116,9 @@ impl Campaign {
         self.units.set_item(self.alloc, unit, item, amount)
     }
 
-    /// Sets a unit's days of study of a skill over all men, and marks that skill, not the unit's row
-    /// or another of its goods. AllocError without memory, and then the campaign is as it was, but
-    /// that mark may be set.
+    /// Sets a unit's days of study of a skill over all men, and marks that skill, not the unit's
+    /// row or another of its goods. AllocError without memory, and then the campaign is as it was,
+    /// but that mark may be set.
     pub fn set_days(&mut self, unit: u32, skill: u32, days: u32) -> Result<(), AllocError>
         ensures ok { OnOk result (self.new.value ≡ with_skill self.old.value unit skill days) }
         ensures err { OnErr result
