@@ -1,4 +1,4 @@
--- Laws of books and totals of items not in the world: both are 0, so they balance.
+-- Laws of items that are not in the world: their total and the sum booked of them are both 0, so they balance.
 use Rattle.std.proofs.Common.{◌≡◌, ℕ, ◌+◌, ◌<◌, ◌≤◌, List, [], ◌∷◌, length, sum_by, refl, sym, ap, ◌∙◌, inl, inr, arith}
 use Rattle.std.specs.Prelude.{pos, unwrap_or}
 use Rattle.std.proofs.lemmas.Bool.{cases_lt}
@@ -30,13 +30,13 @@ pub none_weighed : {V : Type 0} (f : V → ℕ) (es : List (ℕ × V)) → EachO
 none_weighed f [] each = refl
 none_weighed {V} f (e ∷ es) each = let more = sum_by-cons (λ (e : ℕ × V). f e.1) e es in omega (arith, more, each.0, none_weighed f es each.1)
 
--- of items listed by indices below count, none at or above count is held
+-- if all items listed are below count, the amount of an item at or above count is 0
 unheld : (items : FinMap nat_cmp ℕ) (count i : ℕ) → Every (λ k amount. k < count) items → count ≤ i → amount_of items i ≡ 0
 unheld items count i known l = ap (λ o. unwrap_or o 0) (free_from items i (λ there. let few = known i there.0 there.1 in omega (arith, few)))
 
 module _ (w : WorldValue) (c : CampaignValue) (world : IsWorld w) (are : AreBooks (things_of w) c.books) (known : Every (λ n u. Every (λ i amount. i < length w.items) u.holding.items) c.units)
     (stocks : Every (λ n r. AreOfMarkets w n r.stocks) c.regions) where
-  -- no region has a stock of an item not in the world
+  -- no region has an item in stock that is not in the world
   none_kept : (i : ℕ) → length w.items ≤ i → EachOf (λ _ r. region_amount (Item i) r ≡ 0) (entries c.regions)
   none_kept i l = each-from_every (λ _ r. region_amount (Item i) r ≡ 0) c.regions (λ n r is. unheld r.stocks (length w.items) i (λ k amount at. market_known w world n k (stocks n r is k amount at)) l)
 
@@ -52,7 +52,7 @@ module _ (w : WorldValue) (c : CampaignValue) (world : IsWorld w) (are : AreBook
   unknown_booked : (i : ℕ) → length w.items ≤ i → booked c.books (Item i) ≡ pos 0
   unknown_booked i l = booked_past (things_of w) c.books are (Item i) (omega arith)
 
-  -- a campaign balances if money, people, and each item of the world do
+  -- the books balance for all things if they do for money, for people, and for each item of the world
   pub all_balance : (pos (total c Money) ≡ booked c.books Money) × (pos (total c People) ≡ booked c.books People) → ((i : ℕ) → i < length w.items → pos (total c (Item i)) ≡ booked c.books (Item i)) → Balances c
   all_balance both items Money = both.0
   all_balance both items People = both.1

@@ -16,7 +16,7 @@ use Rattle.atl_records.specs.declared.books.Entry.{Entry}
 use Rattle.atl_records.specs.declared.books.Thing.{Thing}
 use Rattle.atl_records.proofs.EveryEntryLaws.{entry_small}
 
--- what is so of n, and of k if it was there, is so of k where k is n or was there
+-- P holds for k if k is n or `there` is true, given that P holds for n, and for k if `there` is true
 or_there : (n k : ℕ) (there : Bool) (P : ℕ → Type 0) → (eq_by_cmp nat_cmp k n || there) ≡ true → P n → (there ≡ true → P k) → P k
 or_there n k there P h itself others = elim (nat_cmp k n) as (λ r. nat_cmp k n ≡ r → (is_eq r || there) ≡ true → P k) [
   | Less ↦ λ _ yes. others yes
@@ -32,16 +32,16 @@ number_small things e t small = omega (arith, small, entry_small e)
 pub none_marked : (things room : ℕ) → entry_count * things ≤ room → MarksAmounts things (record { numbers = set.empty; room = room })
 none_marked things room enough = record { room = enough; numbers = λ k there. absurd (false≢true (sym (set.contains-empty nat_cmp k) ∙ there)) }
 
--- a dirty set of amounts of these things is one once another of them is added
+-- a dirty set with only amounts of these things still has only such once an amount of one of them is added
 more_of_things : (things : ℕ) (s : set.FinSet nat_cmp) (e : Entry) (t : Thing) → thing_index t < things → AreOfThings things s → AreOfThings things (amount_marked s e t)
 more_of_things things s e t small are k there =
     or_there (amount_number e t) k (set.contains s k) (λ n. n < entry_count * things) (sym (set.contains-insert nat_cmp_total s (amount_number e t) k) ∙ there) (number_small things e t small) (are k)
 
--- MarksAmounts still holds once another amount is marked
+-- MarksAmounts still holds once an amount of one of these things is marked
 pub more_marked : (things : ℕ) (marks : RoomySet) (e : Entry) (t : Thing) → thing_index t < things → MarksAmounts things marks → MarksAmounts things (record marks { numbers = amount_marked marks.numbers e t })
 more_marked things marks e t small are = record { room = are.room; numbers = more_of_things things marks.numbers e t small are.numbers }
 
--- the dirty set has room for another amount
+-- if MarksAmounts holds, the dirty set has room for one more amount of these things
 pub fits_amount : (things : ℕ) (marks : RoomySet) (e : Entry) (t : Thing) → thing_index t < things → MarksAmounts things marks → set.len (amount_marked marks.numbers e t) ≤ marks.room
 fits_amount things marks e t small are =
     let few = len-below (entry_count * things) (amount_marked marks.numbers e t) (more_of_things things marks.numbers e t small are.numbers) in

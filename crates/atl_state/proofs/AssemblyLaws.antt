@@ -1,4 +1,4 @@
--- Laws of assembling a campaign from its rows, one after another.
+-- Laws of assembling a campaign from rows in range: their numbers are read as themselves, and items are within limits.
 use Rattle.std.proofs.Common.{◌≡◌, ◌≢◌, ◌==◌, ℕ, zero, suc, ◌≤◌, ◌<◌, ◌&&◌, ◌||◌, List, [], ◌∷◌, Bool, true, false, cond, filter, length, get_or, Some, None, nat_le, refl, sym, ap, subst, ◌∙◌, arith, inl, inr}
 use Rattle.std.specs.Prelude.{ℤ, pos, negsuc, min, Result, Ok, Err, IfOk, IsUtf8}
 use Rattle.std.specs.List.{list_all}
@@ -14,9 +14,9 @@ use Rattle.atl_records.specs.Holdings.{AreAmounts}
 use Rattle.atl_records.specs.Limits.{holding_limit, most_u32}
 use Rattle.atl_state.specs.RowRules.{is_from, has_in_range}
 
--- ---- what stands under a number after an insertion
+-- ---- what a map has under a number after an insertion
 
--- a value put under a number is found there
+-- a map has the value v under k once v is put in under k
 pub get_same : {V : Type 0} (m : FinMap nat_cmp V) (k : ℕ) (v : V) → get (insert m k v) k ≡ Some v
 get_same m k v = get-insert nat_cmp_total m k v k ∙ ap (λ b. cond b (Some v) (get m k)) ((eq_by_cmp_equiv nat_cmp_total).refl k)
 
@@ -28,25 +28,25 @@ other_key n k h = elim (nat_cmp n k) as (λ r. nat_cmp n k ≡ r → is_eq r ≡
   | Greater ↦ λ _. refl
 ] refl
 
--- a value put under a number changes nothing under another
+-- putting a value in under k changes nothing under another number n
 pub get_other : {V : Type 0} (m : FinMap nat_cmp V) (k n : ℕ) (v : V) → n ≢ k → get (insert m k v) n ≡ get m n
 get_other m k n v h = get-insert nat_cmp_total m k v n ∙ ap (λ b. cond b (Some v) (get m n)) (other_key n k h)
 
 -- ---- what units have, and regions in stock
 
 module _ {R : Type 0} (thing amount : R → ℕ) (test : R → Bool) where
-  -- one row more is put where it passes the test, and else changes nothing
+  -- putting in rows that pass a test puts in the first, if it passes, and then those of the rest that pass
   pub taken_or_not : (r : R) (rows : List R) (b : Bool) (m : FinMap nat_cmp ℕ) → test r ≡ b → put_rows thing amount (filter test (r ∷ rows)) m ≡ put_rows thing amount (filter test rows) (cond b (insert m (thing r) (amount r)) m)
   taken_or_not r rows true m h = ap (λ b. put_rows thing amount (cond b (r ∷ filter test rows) (filter test rows)) m) h
   taken_or_not r rows false m h = ap (λ b. put_rows thing amount (cond b (r ∷ filter test rows) (filter test rows)) m) h
 
--- ---- what is said of rows in their ranges
+-- ---- rows in their ranges
 
--- the minimum of a number and a bound that it is within is the number
+-- the minimum of n and a bound that n is at most is n
 pub min_small : (n most : ℕ) → n ≤ most → min n most ≡ n
 min_small n most h = grind arith
 
--- a number of a row that is in its range is read as it is
+-- a number of a row from low to high, with high at most most_u32, is read as itself, which is from low to high
 pub from_range : (low high : ℕ) (z : ℤ) → high ≤ most_u32 → is_from low high z ≡ true → (z ≡ pos (as_u32 z)) × (low ≤ as_u32 z) × (as_u32 z ≤ high)
 from_range low high (pos n) h e =
     let parts = and_parts (nat_le low n) (nat_le n high) e in
@@ -64,13 +64,13 @@ thing_of r = as_u32 r.thing
 abbrev amount_of : StoredHas → ℕ
 amount_of r = as_u32 r.amount
 
--- a kind that is read as 0 is not that of skills, 1
+-- a kind that is read as 0, items, is not 1, skills
 is_skill : (z : ℤ) → as_u32 z ≡ 0 → is_from 1 1 z ≡ false
 is_skill (pos zero) h = refl
 is_skill (pos (suc n)) h = absurd (grind arith)
 is_skill (negsuc n) h = refl
 
--- an or whose first part is false holds by its second
+-- if an or is true and its first part is false, its second part is true
 or_right : (b c : Bool) → b ≡ false → (b || c) ≡ true → c ≡ true
 or_right true c h e = absurd (false≢true (sym h))
 or_right false c h e = e
@@ -94,7 +94,7 @@ good_amount n r h of = item_amount r h (is_same (as_u32 r.sort) 0 (and_parts (as
 some_same : (a b : ℕ) → Some a ≡ Some b → a ≡ b
 some_same a b e = cc
 
--- amounts of items stay within their limits once one within them is put in
+-- amounts of items stay within their limits once an amount within them is put in
 AreAmounts-insert : (m : FinMap nat_cmp ℕ) (k v : ℕ) → (1 ≤ v) × (v ≤ holding_limit) → AreAmounts m → AreAmounts (insert m k v)
 AreAmounts-insert m k v h old item amount e =
     elim (cases_eq item k) [
@@ -124,20 +124,20 @@ no_some x e = cc
 pub none_held : (item amount : ℕ) → get (empty {X = ℕ} {R = nat_cmp}) item ≡ Some amount → (1 ≤ amount) × (amount ≤ holding_limit)
 none_held item amount e = absurd (no_some amount (sym (get-empty nat_cmp item) ∙ e))
 
--- the items that rows in range say a unit has are within their limits
+-- the items that a unit has by rows in range are within their limits
 pub AreAmounts-had : (n : ℕ) (rows : List StoredHas) → list_all has_in_range rows ≡ true → AreAmounts (things_had n 0 rows)
 AreAmounts-had n rows h = put_good n rows empty h none_held
 
 -- ---- texts
 
--- a text made of bytes that are UTF-8 has these bytes
+-- if bytes are UTF-8, a text that is made of them has these bytes
 pub IfOk-text : {E : Type 0} (r : Result (List ℕ) E) (some bytes : List ℕ) → some ≡ bytes → IsUtf8 bytes → IfOk r (λ made. IsUtf8 some → made ≡ some) → IfOk r (λ made. made ≡ bytes)
 IfOk-text (Ok made) some bytes e h f = f (subst IsUtf8 (sym e) h) ∙ e
 IfOk-text (Err x) some bytes e h f = tt
 
--- ---- what is so of each row
+-- ---- a test that all rows pass
 
--- what all rows pass, the row at an index passes
+-- a test that all rows pass is passed by the row at an index
 pub at_row : {R : Type 0} (p : R → Bool) (rows : List R) (i : ℕ) (r : R) → i < length rows → r ≡ get_or rows i r → list_all p rows ≡ true → p r ≡ true
 at_row p [] i r h is all = absurd (omega arith)
 at_row p (x ∷ rows) zero r h is all = ap p is ∙ (and_parts (p x) (list_all p rows) all).0

@@ -1,4 +1,4 @@
--- Laws of reading books back: from the rows of books, in any order, the same books are assembled.
+-- Laws of reading books back: the rows of books, in any order, give these books again.
 use Rattle.std.proofs.Common.{◌≡◌, ℕ, ◌+◌, ◌≤◌, List, [], ◌∷◌, true, false, Some, None, refl, sym, ap, ◌∙◌, arith}
 use Rattle.std.specs.Prelude.{pos, ℤ, unwrap_or}
 use Rattle.std.specs.List.{AllByRecursion, IsDistinct}
@@ -27,36 +27,36 @@ use Rattle.atl_state.proofs.HasLaws.{same}
 
 -- ---- each row
 
--- what is so of each entry's row is so of each row
+-- if P holds for the row of each entry, it holds for each row
 rows_each : (P : StoredBooks → Type 0) (es : List (Account × ℤ)) → AllByRecursion (λ x. P (books_row x.0.0 x.0.1 x.1)) es → AllByRecursion P (amounts_rows es)
 rows_each P [] h = tt
 rows_each P (x ∷ es) h = (h.0, rows_each P es h.1)
 
--- what is so of each row is so of each entry's row
+-- if P holds for each row, it holds for the row of each entry
 each_row : (P : StoredBooks → Type 0) (es : List (Account × ℤ)) → AllByRecursion P (amounts_rows es) → AllByRecursion (λ x. P (books_row x.0.0 x.0.1 x.1)) es
 each_row P [] h = tt
 each_row P (x ∷ es) h = (h.0, each_row P es h.1)
 
 module _ (books : BooksValue) where
-  -- what is so of the row of every listed amount is so of each row of the books
+  -- if P holds for the row of every listed amount of the books, it holds for each row of the books
   pub lines_each : (P : StoredBooks → Type 0) → ((e : Entry) (t : Thing) (z : ℤ) → get books.amounts (e, t) ≡ Some z → P (books_row e t z)) → AllByRecursion P (books_rows books)
   lines_each P h = rows_each P (entries books.amounts) (each_amount (λ a z. P (books_row a.0 a.1 z)) books.amounts (λ a z is. h a.0 a.1 z is))
 
-  -- what is so of each row of the books is so of the row of every listed amount
+  -- if P holds for each row of the books, it holds for the row of every listed amount
   pub line_at : (P : StoredBooks → Type 0) → AllByRecursion P (books_rows books) → (e : Entry) (t : Thing) (z : ℤ) → get books.amounts (e, t) ≡ Some z → P (books_row e t z)
   line_at P h e t z is = amount_of_each (λ a y. P (books_row a.0 a.1 y)) books.amounts (each_row P (entries books.amounts) h) (e, t) z is
 
 -- ---- books whose rows are the same are the same
 
--- an amount that is listed is the amount booked
+-- if an amount is listed in books, it is what they have under its entry and thing
 pub amount_is : (books : BooksValue) (e : Entry) (t : Thing) (z : ℤ) → get books.amounts (e, t) ≡ Some z → amount_in books e t ≡ z
 amount_is books e t z is = ap (λ o. unwrap_or o (pos 0)) is
 
--- the books have under the row's entry and thing the row's amount
+-- the books have the amount of a row under the row's entry and thing
 abbrev Says : BooksValue → StoredBooks → Type 0
 Says books r = (e : Entry) (t : Thing) → r.entry ≡ pos (entry_index e + 1) → r.thing ≡ pos (thing_index t) → amount_in books e t ≡ r.amount
 
--- books have the amounts of their own rows
+-- books have the amount of each of their own rows
 says_itself : (books : BooksValue) → AllByRecursion (Says books) (books_rows books)
 says_itself books =
     lines_each books (Says books) (λ e t z is f u entry thing.
@@ -64,11 +64,11 @@ says_itself books =
     let one = same_account e f t u (omega arith) (same_size (thing_index t) (thing_index u) thing) in
     sym (ap (λ (a : Account). amount_in books a.0 a.1) one) ∙ amount_is books e t z is)
 
--- a listed amount of books is that of other books with the same rows in another order
+-- if two books have the same rows in some order, each amount listed in the one is that in the other
 some_said : (a b : BooksValue) → IsPermutation (books_rows a) (books_rows b) → (e : Entry) (t : Thing) (z : ℤ) → get a.amounts (e, t) ≡ Some z → amount_in b e t ≡ z
 some_said a b h e t z is = line_at a (Says b) (each_back (Says b) (books_rows a) (books_rows b) h (says_itself b)) e t z is e t refl refl
 
--- books with the same rows in another order have the same amounts
+-- if two books have the same rows in some order, they have the same amounts
 same_amounts : (a b : BooksValue) → IsPermutation (books_rows a) (books_rows b) → (e : Entry) (t : Thing) → amount_in a e t ≡ amount_in b e t
 same_amounts a b h e t =
     elim (get a.amounts (e, t)) as (λ o. get a.amounts (e, t) ≡ o → unwrap_or o (pos 0) ≡ amount_in b e t) [
@@ -85,7 +85,7 @@ same_amounts a b h e t =
 less_itself : (a : Account) → is_lt (account_cmp a a) ≡ false
 less_itself a = ap is_lt (tied_itself account_total a)
 
--- a row has another key than the rows of all higher accounts
+-- the key of an account's row differs from the keys of the rows of all higher accounts
 others_apart : (x : Account × ℤ) (es : List (Account × ℤ)) → below_all account_cmp x.0 es ≡ true → AllByRecursion (λ r. same (books_key (books_row x.0.0 x.0.1 x.1)) (books_key r) ≡ false) (amounts_rows es)
 others_apart x [] h = tt
 others_apart x (y ∷ es) h =
@@ -104,7 +104,7 @@ entries_apart [] h = tt
 entries_apart (x ∷ es) h = let parts = and_parts (below_all account_cmp x.0 es) (is_sorted account_cmp es) h in (others_apart x es parts.0, entries_apart es parts.1)
 
 module _ (things : ℕ) (few : things ≤ 4294967294) (books : BooksValue) (are : AreBooks things books) where
-  -- each row of books is of an account of these things, with an amount that is not 0
+  -- each row of the books is of an account of these things, with an amount that is not 0
   pub lines_booked : AllByRecursion (IsBooked things) (books_rows books)
   lines_booked =
       lines_each books (IsBooked things) (λ e t z is.
@@ -121,15 +121,15 @@ module _ (things : ℕ) (few : things ≤ 4294967294) (books : BooksValue) (are 
       })
 
   module _ (rows : List StoredBooks) (h : IsPermutation (books_rows books) rows) where
-    -- rows of books, in any order, have distinct keys
+    -- the rows of the books, in any order, have distinct keys
     pub books_keys : HaveKeys books_key rows
     books_keys = keys_permuted books_key (books_rows books) rows h (entries_apart (entries books.amounts) (amounts_sorted books.amounts))
 
-    -- each of the rows, in any order, is of an account of these things, with an amount that is not 0
+    -- each row of the books, in any order, is of an account of these things, with an amount that is not 0
     pub all_booked : AllByRecursion (IsBooked things) rows
     all_booked = each_permuted (IsBooked things) (books_rows books) rows h lines_booked
 
-    -- from the rows of books, in any order, the same books are assembled
+    -- the books that are assembled from the rows of books, in any order, are these books
     pub books_back : put_amounts rows (no_amounts things) ≡ books
     books_back =
         let said = put_amounts rows (no_amounts things) in

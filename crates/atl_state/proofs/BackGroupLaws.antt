@@ -13,15 +13,15 @@ use Rattle.atl_records.proofs.EveryLaws.{every-from_each, each-from_every}
 use Rattle.atl_state.proofs.GroupLaws.{filter_apart, kept, unkept}
 use Rattle.atl_state.proofs.OrderLaws.{Apart, rows_found}
 
--- ---- what is so of each of a list that is made of others
+-- ---- what holds for each element of joined lists
 
 module _ {X R : Type 0} (P : R → Type 0) (f : X → List R) where
-  -- what is so of each element of each list is so of those of all lists together
+  -- if P holds for each element of each list f x, it holds for each element of all these lists joined
   pub flat_each : (xs : List X) → AllByRecursion (λ x. AllByRecursion P (f x)) xs → AllByRecursion P (flat_map f xs)
   flat_each [] h = tt
   flat_each (x ∷ xs) h = append_each P (f x) (flat_map f xs) h.0 (flat_each xs h.1)
 
-  -- what is so of the elements of all lists together is so of each element of each list
+  -- if P holds for each element of all lists f x joined, it holds for each element of each list f x
   pub each_flat : (xs : List X) → AllByRecursion P (flat_map f xs) → AllByRecursion (λ x. AllByRecursion P (f x)) xs
   each_flat [] h = tt
   each_flat (x ∷ xs) h = let both = each_appended P (f x) (flat_map f xs) h in (both.0, each_flat xs both.1)
@@ -29,21 +29,21 @@ module _ {X R : Type 0} (P : R → Type 0) (f : X → List R) where
 -- ---- the rows of all groups
 
 module _ {U R : Type 0} (f : ℕ × U → List R) (P : R → Type 0) where
-  -- what is so of each row of each entry is so of each row of each element, with entries as pairs
+  -- if P holds for all rows of each number and value of some entries, it holds for all rows of each entry as a pair
   of_each : (es : List (ℕ × U)) → EachOf (λ n u. AllByRecursion P (f (n, u))) es → AllByRecursion (λ e. AllByRecursion P (f e)) es
   of_each [] h = tt
   of_each (e ∷ es) h = (h.0, of_each es h.1)
 
-  -- the converse of of_each
+  -- if P holds for all rows of each entry as a pair, it holds for all rows of each number and value of the entries
   each_of : (es : List (ℕ × U)) → AllByRecursion (λ e. AllByRecursion P (f e)) es → EachOf (λ n u. AllByRecursion P (f (n, u))) es
   each_of [] h = tt
   each_of (e ∷ es) h = (h.0, each_of es h.1)
 
-  -- what is so of each row of each group is so of each row of all groups
+  -- if P holds for each row of each group, it holds for each row of all groups joined
   pub groups_each : (units : FinMap nat_cmp U) → Every (λ n u. AllByRecursion P (f (n, u))) units → AllByRecursion P (flat_map f (entries units))
   groups_each units h = flat_each P f (entries units) (of_each (entries units) (each-from_every (λ n u. AllByRecursion P (f (n, u))) units h))
 
-  -- what is so of each row of all groups is so of each row of each group
+  -- if P holds for each row of all groups joined, it holds for each row of each group
   pub each_group : (units : FinMap nat_cmp U) → AllByRecursion P (flat_map f (entries units)) → Every (λ n u. AllByRecursion P (f (n, u))) units
   each_group units h = every-from_each (λ n u. AllByRecursion P (f (n, u))) units (each_of (entries units) (each_flat P f (entries units) h))
 
@@ -54,15 +54,15 @@ module _ {R : Type 0} (none : R → Bool) (row : ℕ → ℕ → R) (m : FinMap 
   abbrev lines : List R
   lines = filter (λ r. not (none r)) (rows_by row (entries m))
 
-  -- what is so of the row of each amount that is not 0 is so of each row of the group
+  -- if P holds for the row of each amount that is not 0, it holds for each row of the group
   pub lines_each : (P : R → Type 0) → Every (λ i a. none (row i a) ≡ false → P (row i a)) m → AllByRecursion P lines
   lines_each P h = kept (λ r. not (none r)) P (rows_by row (entries m)) (rows_every row (λ r. not (none r) ≡ true → P r) m (λ i a is some. h i a is (not-true (none (row i a)) some)))
 
-  -- what is so of each row of the group is so of the row of each amount that is not 0
+  -- if P holds for each row of the group, it holds for the row of each amount that is not 0
   pub each_line : (P : R → Type 0) → AllByRecursion P lines → Every (λ i a. none (row i a) ≡ false → P (row i a)) m
   each_line P h i a is some = every_row row (λ r. not (none r) ≡ true → P r) m (unkept (λ r. not (none r)) P (rows_by row (entries m)) h) i a is (not_from_false (none (row i a)) some)
 
-  -- the rows of a group differ by e, if those of different things do
+  -- the rows of a group are distinct by e, if e is false for rows of two different things
   pub lines_apart : (e : R → R → Bool) → ((i k a b : ℕ) → i < k → e (row i a) (row k b) ≡ false) → IsDistinct e lines
   lines_apart e apart = filter_apart (λ r. not (none r)) e (rows_by row (entries m)) (rows_apart row e apart (entries m) (entries_rise m))
 
@@ -73,7 +73,7 @@ module _ {R : Type 0} (thing amount : R → ℕ) (mine : R → Bool) (m : FinMap
   abbrev IsIn : FinMap nat_cmp ℕ → R → Type 0
   IsIn k r = get k (thing r) ≡ Some (amount r)
 
-  -- rows whose amounts are all in the map, and that have one for each of it, are read back as the map
+  -- a map is read back from rows of distinct things that are all in the map, if each amount of the map has a row
   pub amounts_back : Apart thing (filter mine rows) → AllByRecursion (λ r. mine r ≡ true → IsIn m r) listed
       → ((P : R → Type 0) → AllByRecursion (λ r. mine r ≡ true → P r) listed → Every (λ i a. (r : R) × (thing r ≡ i) × (amount r ≡ a) × P r) m) → by_number thing amount (filter mine rows) ≡ m
   amounts_back apart of there =

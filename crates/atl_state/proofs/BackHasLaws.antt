@@ -1,4 +1,4 @@
--- Laws of reading back what units have: from its rows, in any order, each unit's items and days.
+-- Laws of reading back what units have: the rows of `has`, in any order, give each unit its items and days again.
 use Rattle.std.proofs.Common.{◌≡◌, ◌==◌, ℕ, zero, suc, ◌≤◌, ◌<◌, ◌&&◌, List, [], ◌∷◌, Bool, true, false, Some, refl, sym, ap, ◌∙◌, arith}
 use Rattle.std.specs.Prelude.{pos}
 use Rattle.std.specs.List.{AllByRecursion, IsDistinct}
@@ -30,25 +30,26 @@ goods_of (suc n) u = u.holding.days
 abbrev none : StoredHas → Bool
 none r = is_zero r.amount
 
--- the rows of what a unit has
+-- the rows of `has` for the goods of a unit
 abbrev held : ℕ × Unit → List StoredHas
 held e = held_rows e.0 e.1.holding
 
--- of one unit and kind no thing has two rows
+-- the rows of one unit and one kind have distinct keys
 sort_apart : (n sort : ℕ) (m : FinMap nat_cmp ℕ) → IsDistinct (λ a b. same (has_key a) (has_key b)) (rows_of_sort n sort (entries m))
 sort_apart n sort m =
     lines_apart none (has_row n sort) m (λ a b. same (has_key a) (has_key b)) (λ i k a b l. apart_keys (has_key (has_row n sort i a)) (has_key (has_row n sort k b)) (λ keys. let one = same_size i k keys.third in omega arith))
 
 module _ (units : FinMap nat_cmp Unit) where
-  -- what is so of the row of everything that units have is so of each row
+  -- if P holds for the row of each amount, not 0, that a unit has, it holds for each row of `has`
   pub has_each : (P : StoredHas → Type 0) → Every (λ n u. (s : ℕ) → s < 2 → Every (λ i a. is_zero (pos a) ≡ false → P (has_row n s i a)) (goods_of s u)) units → AllByRecursion P (has_rows (entries units))
   has_each P h = groups_each held P units (λ n u is.
       append_each P (rows_of_sort n 0 (entries u.holding.items)) (rows_of_sort n 1 (entries u.holding.days)) (lines_each none (has_row n 0) u.holding.items P (h n u is 0 (omega arith))) (lines_each none (has_row n 1) u.holding.days P (h n u is 1 (omega arith))))
 
-  -- what is so of each row is so of the row of everything that units have
+  -- if P holds for each row of `has`, it holds for the row of each amount, not 0, that a unit has
   pub each_had : (P : StoredHas → Type 0) → AllByRecursion P (has_rows (entries units)) → Every (λ n u. (s : ℕ) → s < 2 → Every (λ i a. is_zero (pos a) ≡ false → P (has_row n s i a)) (goods_of s u)) units
   each_had P h n u is = of_sort (each_appended P (rows_of_sort n 0 (entries u.holding.items)) (rows_of_sort n 1 (entries u.holding.days)) (each_group held P units h n u is))
     where
+      -- if P holds for the rows of a unit's items and of its days, it holds for the row of each amount of either kind
       of_sort : AllByRecursion P (rows_of_sort n 0 (entries u.holding.items)) × AllByRecursion P (rows_of_sort n 1 (entries u.holding.days)) → (s : ℕ) → s < 2 → Every (λ i a. is_zero (pos a) ≡ false → P (has_row n s i a)) (goods_of s u)
       of_sort both zero l = each_line none (has_row n 0) u.holding.items P both.0
       of_sort both (suc zero) l = each_line none (has_row n 1) u.holding.days P both.1
@@ -64,13 +65,13 @@ module _ (units : FinMap nat_cmp Unit) where
   all_differ [] ys h k = tt
   all_differ (a ∷ xs) ys h k = (sorts_differ a ys h.0 k, all_differ xs ys h.1 k)
 
-  -- the rows of one unit have distinct keys
+  -- the rows of `has` of one unit have distinct keys
   held_apart : (n : ℕ) (u : Unit) → IsDistinct (λ a b. same (has_key a) (has_key b)) (held_rows n u.holding)
   held_apart n u =
       append_apart (λ a b. same (has_key a) (has_key b)) (rows_of_sort n 0 (entries u.holding.items)) (rows_of_sort n 1 (entries u.holding.days)) (sort_apart n 0 u.holding.items) (sort_apart n 1 u.holding.days)
       (all_differ (rows_of_sort n 0 (entries u.holding.items)) (rows_of_sort n 1 (entries u.holding.days)) (lines_each none (has_row n 0) u.holding.items (λ r. r.sort ≡ pos 0) (λ i a is some. refl)) (lines_each none (has_row n 1) u.holding.days (λ r. r.sort ≡ pos 1) (λ i a is some. refl)))
 
-  -- the rows of all units have distinct keys
+  -- the rows of `has` of all units have distinct keys
   has_apart : IsDistinct (λ a b. same (has_key a) (has_key b)) (has_rows (entries units))
   has_apart =
       flat_apart (λ a b. same (has_key a) (has_key b)) (λ (e : ℕ × Unit). held_rows e.0 e.1.holding) (λ e f. e.0 < f.0) (λ e r. r.unit ≡ pos e.0)
@@ -84,11 +85,11 @@ module _ (units : FinMap nat_cmp Unit) where
     pub goods : Every (λ n u. (s : ℕ) → s < 2 → Every (λ i a. (i ≤ most_u32) × (1 ≤ a) × (a ≤ most_u32)) (goods_of s u)) units
 
   module _ (had : AreHad) (rows : List StoredHas) (h : IsPermutation (has_rows (entries units)) rows) where
-    -- the rows, in any order, have distinct keys
+    -- the rows of `has` of all units, in any order, have distinct keys
     pub has_keys : HaveKeys has_key rows
     has_keys = keys_permuted has_key (has_rows (entries units)) rows h has_apart
 
-    -- the keys of the rows, in any order, are read as they are
+    -- the numbers in the keys of the rows, in any order, are read as themselves
     pub all_keyed : AllByRecursion IsKeyed rows
     all_keyed =
         each_permuted IsKeyed (has_rows (entries units)) rows h (has_each IsKeyed (λ n u there s few i a is some. record {
@@ -105,18 +106,18 @@ module _ (units : FinMap nat_cmp Unit) where
     some_same : (u v : Unit) → Some u ≡ Some v → u ≡ v
     some_same u v e = cc
 
-    -- the numbers of a row of unit n and this kind
+    -- a row of unit k and kind s is of unit n and kind `sort`: k is n, and s is `sort`
     record Of (n sort k s : ℕ) : Type 0 where
       unit : k ≡ n
       kind : s ≡ sort
 
-    -- a row that is of unit n and this kind has these numbers
+    -- if a row of unit k and kind s is read as of unit n and kind `sort`, k is n and s is `sort`
     of_row : (n sort k s i a : ℕ) → k ≤ most_u32 → s < 2 → is_of n sort (has_row k s i a) ≡ true → Of n sort k s
     of_row n sort k s i a few l e =
         let both = and_parts (as_u32 (pos k) == n) (as_u32 (pos s) == sort) e in
         record { unit = sym (read_whole k few) ∙ is_same (as_u32 (pos k)) n both.0; kind = sym (read_whole s (omega arith)) ∙ is_same (as_u32 (pos s)) sort both.1 }
 
-    -- a unit's row of a kind is of that unit and kind
+    -- a row that is made for unit n and kind s is read as one of unit n and kind s
     of_itself : (n s i a : ℕ) → n ≤ most_u32 → s < 2 → is_of n s (has_row n s i a) ≡ true
     of_itself n s i a few l =
         let unit : (as_u32 (pos n) == n) ≡ true = let e = read_whole n few in grind (arith, nat_tests) in
@@ -124,7 +125,7 @@ module _ (units : FinMap nat_cmp Unit) where
         ap (λ b. b && (as_u32 (pos s) == s)) unit ∙ kind
 
     module _ (n : ℕ) (u : Unit) (there : get units n ≡ Some u) (sort : ℕ) (few : sort < 2) where
-      -- the things of a kind that the rows say a unit has are those that it has
+      -- the amounts of a kind that the rows give a unit are those that the unit has
       pub goods_back : things_had n sort rows ≡ goods_of sort u
       goods_back =
           amounts_back (λ r. as_u32 r.thing) (λ r. as_u32 r.amount) (is_of n sort) (goods_of sort u) (has_rows (entries units)) rows h (things_apart n sort rows all_keyed has_keys)

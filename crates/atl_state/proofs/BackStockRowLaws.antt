@@ -1,4 +1,4 @@
--- Laws of reading stocks back: from the rows of markets, in any order, each region's stocks.
+-- Laws of reading stocks back: the rows of `market`, in any order, give each region its stocks again.
 use Rattle.std.proofs.Common.{◌≡◌, ℕ, ◌≤◌, ◌<◌, List, true, false, Some, refl, sym, ap, ◌∙◌, arith}
 use Rattle.std.specs.Prelude.{pos, Bool}
 use Rattle.std.specs.List.{AllByRecursion, IsDistinct}
@@ -24,11 +24,11 @@ use Rattle.atl_state.proofs.StockRowLaws.{IsKeyed, is_in, items_apart}
 abbrev none : StoredMarket → Bool
 none m = is_zero m.stock
 
--- the rows of a region's stocks
+-- the rows of `market` for the stocks of a region
 abbrev stocked : ℕ × Region → List StoredMarket
 stocked e = stock_rows e.0 (entries e.1.stocks)
 
--- in one region no item has two rows
+-- the rows of the stocks of one region have distinct keys
 region_apart : (n : ℕ) (stocks : FinMap nat_cmp ℕ) → IsDistinct (λ a b. same (market_key a) (market_key b)) (stock_rows n (entries stocks))
 region_apart n stocks =
     lines_apart none (market_row n) stocks (λ a b. same (market_key a) (market_key b)) (λ i k a b l. apart_keys (market_key (market_row n i a)) (market_key (market_row n k b)) (λ keys. let one = same_size i k keys.second in omega arith))
@@ -41,16 +41,16 @@ nonzero a l = grind (arith, nat_tests)
 some_same : (r s : Region) → Some r ≡ Some s → r ≡ s
 some_same r s e = cc
 
--- a region's row of a stock is in that region
+-- a row that is made for a stock of region n is read as one of region n
 in_itself : (n i a : ℕ) → n ≤ most_u32 → is_in n (market_row n i a) ≡ true
 in_itself n i a few = let e = read_whole n few in grind (arith, nat_tests)
 
 module _ (regions : FinMap nat_cmp Region) where
-  -- what is so of the row of every stock that is not 0 is so of each row
+  -- if P holds for the row of every stock that is not 0, it holds for each row of `market`
   pub stocks_each : (P : StoredMarket → Type 0) → Every (λ n r. Every (λ i a. is_zero (pos a) ≡ false → P (market_row n i a)) r.stocks) regions → AllByRecursion P (market_rows Second (entries regions))
   stocks_each P h = groups_each stocked P regions (λ n r is. lines_each none (market_row n) r.stocks P (h n r is))
 
-  -- what is so of each row is so of the row of every stock that is not 0
+  -- if P holds for each row of `market`, it holds for the row of every stock that is not 0
   each_stock : (P : StoredMarket → Type 0) → AllByRecursion P (market_rows Second (entries regions)) → Every (λ n r. Every (λ i a. is_zero (pos a) ≡ false → P (market_row n i a)) r.stocks) regions
   each_stock P h n r is = each_line none (market_row n) r.stocks P (each_group stocked P regions h n r is)
 
@@ -67,16 +67,16 @@ module _ (regions : FinMap nat_cmp Region) where
     pub stocks : Every (λ n r. Every (λ i a. (i ≤ most_u32) × (1 ≤ a) × (a ≤ most_u32)) r.stocks) regions
 
   module _ (few : AreStocked) (rows : List StoredMarket) (h : IsPermutation (market_rows Second (entries regions)) rows) where
-    -- the rows, in any order, have distinct keys
+    -- the rows of all regions' stocks, in any order, have distinct keys
     pub market_keys : HaveKeys market_key rows
     market_keys = keys_permuted market_key (market_rows Second (entries regions)) rows h stocks_apart
 
-    -- the keys of the rows, in any order, are read as they are
+    -- the numbers in the keys of the rows, in any order, are read as themselves
     all_keyed : AllByRecursion IsKeyed rows
     all_keyed =
         each_permuted IsKeyed (market_rows Second (entries regions)) rows h (stocks_each IsKeyed (λ n r there i a is some. record { region = written_whole n (few.numbers n r there); item = written_whole i (few.stocks n r there i a is).0 }))
 
-    -- the stocks that the rows say a region has are those that it has
+    -- the stocks that the rows, in any order, give a region are those that the region has
     pub stocks_back : (n : ℕ) (r : Region) → get regions n ≡ Some r → stocks_of n rows ≡ r.stocks
     stocks_back n r there =
         amounts_back (λ m. as_u32 m.item) (λ m. as_u32 m.stock) (is_in n) r.stocks (market_rows Second (entries regions)) rows h (items_apart n rows all_keyed market_keys)

@@ -1,4 +1,4 @@
--- Laws of structures begun and built on: the campaign stays steady, totals stay, and what changed is marked.
+-- Laws of beginning a structure and building on it: the campaign stays steady, totals are kept, and changes are marked.
 use Rattle.std.proofs.Common.{◌≡◌, ◌≢◌, ℕ, ◌+◌, ◌≤◌, ◌<◌, true, false, cond, length, Some, None, refl, sym, ap, subst, ◌∙◌, inl, inr, arith, true≢false}
 use Rattle.std.specs.Prelude.{IsTrue, is_some}
 use Rattle.std.proofs.lemmas.Bool.{cases_eq}
@@ -21,7 +21,7 @@ use Rattle.atl_state.proofs.CoverLaws.{Row, Stays, Structures, Tells, apart_by, 
 use Rattle.atl_records.proofs.EveryLaws.{every-insert, get-insert_other, none_some}
 use Rattle.atl_state.proofs.RegionLaws.{changed-known, get-insert_same, same_len}
 
--- ---- a structure more
+-- ---- a structure is begun
 
 -- a structure that can be begun: on land, with a good name and no owner, and partly or fully done
 pub record IsFresh (w : WorldValue) (c : CampaignValue) (s : Structure) : Type 0 where
@@ -50,15 +50,15 @@ module _ (w : WorldValue) (c : CampaignValue) (s : Structure) (fresh : IsFresh w
   free : get c.structures next ≡ None
   free = old.next.structures.free next (omega arith)
 
-  -- a structure that was there stays
+  -- beginning a structure leaves each structure that was there unchanged
   stays : (k : ℕ) (y : Structure) → get c.structures k ≡ Some y → get structures k ≡ Some y
   stays k y there = get-insert_other c.structures next k s (λ same. none_some y (sym free ∙ ap (get c.structures) (sym same) ∙ there)) ∙ there
 
-  -- there is one structure more
+  -- once a structure is begun, there is one structure more
   one_more : len structures ≡ len c.structures + 1
   one_more = len-insert nat_cmp_total c.structures next s ∙ ap (λ o. cond (is_some o) (len c.structures) (len c.structures + 1)) free
 
-  -- the numbers of the campaign stay in range
+  -- once a structure is begun, all numbers of the campaign are in range
   numbers_kept : AreInRange w raised
   numbers_kept = record {
     month = old.numbers.month;
@@ -79,7 +79,7 @@ module _ (w : WorldValue) (c : CampaignValue) (s : Structure) (fresh : IsFresh w
   nobody : {P : Type 0} → s.owner ≢ 0 → P
   nobody some = absurd (some fresh.ownerless)
 
-  -- everything that is named by its number still exists
+  -- once a structure is begun, everything that is named by its number exists
   known_kept : AreKnown w raised
   known_kept = record {
     regions = old.known.regions;
@@ -92,7 +92,7 @@ module _ (w : WorldValue) (c : CampaignValue) (s : Structure) (fresh : IsFresh w
     posts = old.known.posts;
   }
 
-  -- factions and structures are still numbered without a gap, and no unit has a number from the next on
+  -- once a structure is begun, factions and structures are numbered without a gap, and next unit numbers are free
   next_kept : AreNumbered raised
   next_kept =
       let numbered = old.next.structures in
@@ -112,13 +112,13 @@ module _ (w : WorldValue) (c : CampaignValue) (s : Structure) (fresh : IsFresh w
       let (y, at, region) = (old.known.units m v there).structure (λ none. omega (arith, none, here, old.next.structures.count)) in
       none_some y (sym free ∙ ap (get c.structures) (sym here) ∙ at)
 
-  -- structures are still owned by units inside them
+  -- once a structure is begun, structures are owned by units inside them
   owners_kept : AreOwned raised
   owners_kept =
       every-insert (λ k x. IsOwned raised k x) c.structures next s (record { owned = λ some. nobody some; ownerless = λ none. nobody_inside })
       old.owners
 
-  -- what is on water is still afloat
+  -- once a structure is begun, what is on water is afloat
   water_kept : AreAfloat w raised
   water_kept = record {
     units = λ k x there wet. let (y, at, ship) = old.water.units k x there wet in (y, stays x.structure y at, ship);
@@ -154,7 +154,7 @@ module _ (w : WorldValue) (c : CampaignValue) (s : Structure) (fresh : IsFresh w
   pub raised_there : get raised.structures next ≡ Some s
   raised_there = get-insert_same c.structures next s
 
--- beginning a structure marks what changes
+-- beginning a structure marks all that it changes
 pub marks-raised : (c : MarkedCampaign) (s : Structure) → MarksChanges c (record { value = with_structure_begun c.value s; marks = mark_structure_begun c })
 marks-raised c s =
     let n = c.value.next_structure in
@@ -183,7 +183,7 @@ module _ (w : WorldValue) (c : CampaignValue) (k : ℕ) (s : Structure) (done : 
   built_is = ap (λ m. record c { structures = m }) (changed-known (λ x. record x { done = done }) c.structures k s is)
 
   module _ (more : s.done ≤ done) (most : done ≤ size_of w s.kind) (was : IsSteady w c) where
-    -- a structure with a property that the further one keeps is still there with it
+    -- a structure with a property P is still there with P once more of structure k is done, if building on k keeps P
     still : (P : Structure → Type 0) → (P s → P further) → (j : ℕ) → (y : Structure) × (get c.structures j ≡ Some y) × P y → (y : Structure) × (get built.structures j ≡ Some y) × P y
     still P keep j (y, there, p) = elim (cases_eq j k) [
       | inl same ↦
@@ -193,7 +193,7 @@ module _ (w : WorldValue) (c : CampaignValue) (k : ℕ) (s : Structure) (done : 
       | inr apart ↦ (y, get-insert_other c.structures k j further apart ∙ there, p)
     ]
 
-    -- the numbers of the campaign stay in range
+    -- once more of a structure is done, all numbers of the campaign are in range
     numbers_built : AreInRange w built
     numbers_built = record {
       month = was.numbers.month;
@@ -210,7 +210,7 @@ module _ (w : WorldValue) (c : CampaignValue) (k : ℕ) (s : Structure) (done : 
       books = was.numbers.books;
     }
 
-    -- everything that is named by its number still exists
+    -- once more of a structure is done, everything that is named by its number exists
     known_built : AreKnown w built
     known_built = record {
       regions = was.known.regions;
@@ -223,11 +223,11 @@ module _ (w : WorldValue) (c : CampaignValue) (k : ℕ) (s : Structure) (done : 
       posts = was.known.posts;
     }
 
-    -- a number without a structure still has none
+    -- once more of structure k is done, a number without a structure still has none
     apart_free : (j : ℕ) → get c.structures j ≡ None → get built.structures j ≡ None
     apart_free j none = get-insert_other c.structures k j further (λ same. none_some s (sym none ∙ ap (get c.structures) same ∙ is)) ∙ none
 
-    -- factions and structures are still numbered without a gap, and no unit has a number from the next on
+    -- once more of a structure is done, factions and structures are numbered without a gap; next unit numbers are free
     next_built : AreNumbered built
     next_built = record {
       factions = was.next.factions;
@@ -239,17 +239,17 @@ module _ (w : WorldValue) (c : CampaignValue) (k : ℕ) (s : Structure) (done : 
       units = was.next.units;
     }
 
-    -- structures are still owned by units inside them
+    -- once more of a structure is done, structures are owned by units inside them
     owners_built : AreOwned built
     owners_built =
         every-insert (λ j x. IsOwned built j x) c.structures k further (let o = was.owners k s is in record { owned = o.owned; ownerless = o.ownerless })
         was.owners
 
-    -- a structure that was complete still is
+    -- if structure s is complete, it is still complete once more of it is done
     complete : s.done ≡ size_of w s.kind → done ≡ size_of w s.kind
     complete e = omega (arith, e, more, most)
 
-    -- what is on water is still afloat
+    -- once more of a structure is done, what is on water is afloat
     water_built : AreAfloat w built
     water_built = record {
       units = λ j x there wet. still (λ y. is_ship w y ≡ true) (λ ship. ship) x.structure (was.water.units j x there wet);

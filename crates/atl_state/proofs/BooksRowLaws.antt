@@ -25,9 +25,9 @@ use Rattle.atl_records.proofs.EveryLaws.{none_some}
 use Rattle.atl_records.proofs.ListedLaws.{entries-none}
 use Rattle.atl_state.proofs.HasLaws.{IsWhole, same, ties_itself}
 
--- ---- an amount more
+-- ---- one more amount
 
--- an entry put under a new account is one more, in another order
+-- putting an amount under an account that has none yet adds one entry; the order of entries may differ
 put_new : (a : Account) (z : ℤ) (es : List (Account × ℤ)) → find account_cmp a es ≡ None → IsPermutation (put account_cmp a z es) ((a, z) ∷ es)
 put_new a z [] h = IsPermutation-refl ((a, z) ∷ [])
 put_new a z (e ∷ es) h =
@@ -38,11 +38,11 @@ put_new a z (e ∷ es) h =
           IsPermutation-trans (e ∷ put account_cmp a z es) (e ∷ (a, z) ∷ es) ((a, z) ∷ e ∷ es) (IsPermutation-append_right (e ∷ []) (put account_cmp a z es) ((a, z) ∷ es) (put_new a z es is)) (IsPermutation-middle (e ∷ []) (a, z) es)
     ] h
 
--- the row of an account and its amount
+-- the row of `books` for an account with its amount
 abbrev line : Account × ℤ → StoredBooks
 line x = books_row x.0.0 x.0.1 x.1
 
--- an amount set where none was gives one row more, in another order
+-- setting an amount other than 0 where there is none adds one row to those of the books; their order may differ
 one_amount : (books : BooksValue) (a : Account) (z : ℤ) → get books.amounts a ≡ None → z ≢ pos 0 → IsPermutation (books_rows (with_amount books a.0 a.1 z)) (line (a, z) ∷ books_rows books)
 one_amount books a z none some =
     let m = books.amounts in
@@ -51,7 +51,7 @@ one_amount books a z none some =
 
 -- ---- the amounts of rows, one after another
 
--- a row of an account of these things, with an amount that is not 0, read as it is
+-- a row of `books` is read as an account of these things, and its amount is not 0
 pub record IsBooked (things : ℕ) (r : StoredBooks) : Type 0 where
   pub account : Account
   pub row : books_row account.0 account.1 r.amount ≡ r
@@ -60,11 +60,11 @@ pub record IsBooked (things : ℕ) (r : StoredBooks) : Type 0 where
   pub there : as_u32 r.thing < things
   pub some : r.amount ≢ pos 0
 
--- one less and one more is the same number, from 1 on
+-- if n is at least 1, n - 1 + 1 is n
 one_up : (n i : ℕ) → 1 ≤ n → i ≡ n - 1 → i + 1 ≡ n
 one_up n i h e = omega arith
 
--- a row whose numbers are read as they are, with entry and thing in range and an amount other than 0, is booked
+-- a row of an entry and a thing in their ranges, read as themselves, with an amount other than 0, is booked
 pub booked_row : (things : ℕ) (r : StoredBooks) → IsWhole r.entry → IsWhole r.thing → 1 ≤ as_u32 r.entry → as_u32 r.entry ≤ entry_count → as_u32 r.thing < things → r.amount ≢ pos 0 → IsBooked things r
 booked_row things r entry thing least most there some =
     let (e, at) = entry_at (as_u32 r.entry - 1) (omega arith) in
@@ -108,11 +108,11 @@ accounts_apart things r s h k differ =
       | inr apart ↦ apart
     ]
 
--- where the row is booked, the books have no amount of its account yet
+-- the books have no amount yet for the account of a row, if the row is booked
 abbrev IsFree : ℕ → BooksValue → StoredBooks → Type 0
 IsFree things books r = (h : IsBooked things r) → get books.amounts h.account ≡ None
 
--- rows with other keys are still free once a row's amount is set
+-- rows whose keys differ from a booked row's are still free in the books once that row's amount is set
 stay_free : (things : ℕ) (books : BooksValue) (r : StoredBooks) (h : IsBooked things r) (rows : List StoredBooks) → AllByRecursion (λ y. same (books_key r) y ≡ false) (map books_key rows) → AllByRecursion (IsFree things books) rows
     → AllByRecursion (IsFree things (with_amount books h.account.0 h.account.1 r.amount)) rows
 stay_free things books r h [] d free = tt
@@ -121,7 +121,7 @@ stay_free things books r h (s ∷ rows) d free = (
   stay_free things books r h rows d.1 free.1,
 )
 
--- rows put into books give their rows besides those of before, in another order
+-- putting free rows with distinct keys into books adds just these rows to the rows of the books, in some order
 put_order : (things : ℕ) (rows : List StoredBooks) (books : BooksValue) → AreBooks things books → AllByRecursion (IsBooked things) rows → IsDistinct same (map books_key rows) → AllByRecursion (IsFree things books) rows → IsPermutation (books_rows books ++ rows) (books_rows (put_amounts rows books))
 unfolding IsDistinct
 put_order things [] books are all d free = subst (λ xs. IsPermutation xs (books_rows books)) (sym (append-nil (books_rows books))) (IsPermutation-refl (books_rows books))
@@ -136,12 +136,12 @@ put_order things (r ∷ rows) books are all d free =
     (IsPermutation-trans (books_rows books ++ r ∷ rows) (r ∷ (books_rows books ++ rows)) last (IsPermutation-middle (books_rows books) r rows)
     (IsPermutation-trans (r ∷ (books_rows books ++ rows)) (books_rows new ++ rows) last step (put_order things rows new also all.1 d.1 (stay_free things books r h rows d.0 free.1))))
 
--- all rows are free where the books are empty
+-- in empty books all rows are free: no account has an amount
 all_free : (things : ℕ) (rows : List StoredBooks) → AllByRecursion (IsFree things (no_amounts things)) rows
 all_free things [] = tt
 all_free things (r ∷ rows) = (λ h. get-empty {X = ℤ} account_cmp h.account, all_free things rows)
 
--- the rows of the books assembled from rows are these rows, in another order
+-- books assembled from booked rows with distinct keys have exactly these rows, in some order
 pub books_order : (things : ℕ) (rows : List StoredBooks) → AllByRecursion (IsBooked things) rows → IsDistinct same (map books_key rows) → IsPermutation (books_rows (put_amounts rows (no_amounts things))) rows
 books_order things rows all d =
     let last = books_rows (put_amounts rows (no_amounts things)) in

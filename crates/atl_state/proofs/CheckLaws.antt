@@ -1,4 +1,4 @@
--- Laws of checking: rows that keep all rules are those of a good campaign, and which rule is broken first.
+-- Laws of checking: rows that keep all rules are those of a good campaign; else one rule is the first that is broken.
 use Rattle.std.proofs.Common.{◌≡◌, ◌==◌, ℕ, ◌≤◌, ◌<◌, ◌+◌, ◌&&◌, List, [], ◌∷◌, length, nat_le, nat_lt, Bool, true, false, cond, refl, sym, ap, subst, ◌∙◌, arith, inl, inr}
 use Rattle.std.specs.Prelude.{pos, unwrap_or, Some, None}
 use Rattle.std.specs.Bool.{Decides}
@@ -38,7 +38,7 @@ abbrev rule_at : ℕ → Rule
 rule_at n =
     cond (n == 1) OneRow (cond (n == 2) Ranges (cond (n == 3) Names (cond (n == 4) Known (cond (n == 5) Next (cond (n == 6) Days (cond (n == 7) Gone (cond (n == 8) Owners (cond (n == 9) Water (cond (n == 10) Guards (cond (n == 11) Books Mail))))))))))
 
--- the rule with the number of r is r
+-- the rule that rule_at gives for the number of r is r
 its_rule : (r : Rule) → rule_at (rule_number r) ≡ r
 its_rule OneRow = refl
 its_rule _ = refl
@@ -52,20 +52,20 @@ from_one : (r : Rule) → 1 ≤ rule_number r
 from_one OneRow = omega arith
 from_one _ = omega arith
 
--- rows that are one campaign row are one row
+-- if there is exactly one campaign row by rule 1, the list of campaign rows has length 1
 only_one : (f : Format) (rows : List StoredCampaignRow) → is_one_campaign_row f rows ≡ true → length rows ≡ 1
 only_one f [] h = absurd (false≢true h)
 only_one f (r ∷ []) h = refl
 only_one f (r ∷ other ∷ rows) h = absurd (false≢true h)
 
--- the number of an entry past the first format's, up to entry_count, is not one of the first format
+-- no entry after those of the first format is an entry of the first format
 late_entry : (n : ℕ) → first_entry_count ≤ n → n < 16 → is_entry_in First (as_u32 (pos (n + 1))) ≡ true → ⊥
 late_entry n l small h =
     let read = read_whole (n + 1) (omega arith) in
     let most = from_le (as_u32 (pos (n + 1))) first_entry_count (and_parts (nat_le 1 (as_u32 (pos (n + 1)))) (nat_le (as_u32 (pos (n + 1))) first_entry_count) h).1 in
     absurd (omega (arith, read, most))
 
--- books whose rows are all of the first format's entries have no amount under a later entry
+-- books whose rows all have entries of the first format have the amount 0 under each later entry
 no_amount : (books : BooksValue) → AllByRecursion (λ (r : StoredBooks). is_entry_in First (as_u32 r.entry) ≡ true) (books_rows books) → (e : Entry) (t : Thing) → first_entry_count ≤ entry_index e → amount_in books e t ≡ pos 0
 no_amount books listed e t l =
     elim (get books.amounts (e, t)) as (λ o. get books.amounts (e, t) ≡ o → unwrap_or o (pos 0) ≡ pos 0) [
@@ -74,11 +74,11 @@ no_amount books listed e t l =
     ] refl
 
 module _ (f : Format) (w : WorldValue) (p : Parts) where
-  -- all rules below the first are kept
+  -- all rules with numbers below 1 are kept, as there are none
   pub below_first : KeepsRulesBelow f w p 1
   below_first r h = absurd (omega (arith, from_one r))
 
-  -- where the rules below r are kept, and r is, those below the next are
+  -- if the rules below r and r itself are kept, all rules below the next number are
   pub below_next : (r : Rule) → KeepsRulesBelow f w p (rule_number r) → KeepsRule f w p r → KeepsRulesBelow f w p (rule_number r + 1)
   below_next r before holds s h =
       elim (cases_eq (rule_number s) (rule_number r)) [
@@ -86,11 +86,11 @@ module _ (f : Format) (w : WorldValue) (p : Parts) where
         | inr apart ↦ before s (omega arith)
       ]
 
-  -- where the rules below r are kept, and r isn't, r is the first that is broken
+  -- if the rules below r are kept and r is decided to be broken, r is the first broken rule
   pub first_broken : (r : Rule) (b : Bool) → KeepsRulesBelow f w p (rule_number r) → Decides b (KeepsRule f w p r) → b ≡ false → IsFirstBroken f w p r
   first_broken r b before d e = record { before = before; broken = λ holds. false≢true (sym e ∙ d.1 holds) }
 
-  -- rows that keep the first 11 rules satisfy RowsKeep
+  -- rows of a world that keep rules 1 to 11 satisfy RowsKeep
   pub rows_keep : IsWorld w → KeepsRulesBelow f w p 12 → RowsKeep f w p
   rows_keep world k = record {
     world = world;
@@ -104,28 +104,28 @@ module _ (f : Format) (w : WorldValue) (p : Parts) where
     booked = (k Books (omega arith)).0;
   }
 
-  -- where all 12 rules are kept, the first 11 are
+  -- if rules 1 to 12 are kept, rules 1 to 11 are
   fewer : KeepsRulesBelow f w p 13 → KeepsRulesBelow f w p 12
   fewer k r h = k r (omega arith)
 
-  -- rows that keep all rules are those of the campaign assembled from them
+  -- rows that keep all rules are exactly those of the campaign assembled from them
   pub checked-rows : IsWorld w → KeepsRulesBelow f w p 13 → AreRowsOf f (campaign_of w p) p
   checked-rows world k = rows_said f w p (rows_keep world (fewer k))
 
-  -- a campaign assembled from rows of the first format has no stocks
+  -- a campaign assembled from rows of the first format that satisfy RowsKeep has no stocks
   no_stocks : f ≡ First → RowsKeep f w p → HasNoStocks (campaign_of w p)
   unfolding campaign_of
   no_stocks is rows =
       by_number-every (λ r. as_u32 r.number) (region_of p.markets) (λ n r. r.stocks ≡ empty) region_in_range (λ r good. ap (stocks_of (as_u32 r.number)) (none_in_first f w p rows is)) p.regions (ranges f w p rows).regions
 
-  -- a campaign assembled from rows of the first format has no amounts under later entries
+  -- if rows of the first format satisfy RowsKeep, the campaign assembled from them has 0 under all later entries
   first_entries : f ≡ First → RowsKeep f w p → (e : Entry) (t : Thing) → first_entry_count ≤ entry_index e → amount_in (campaign_of w p).books e t ≡ pos 0
   unfolding campaign_of
   first_entries is rows =
       no_amount (put_amounts p.books (no_amounts (things_of w))) (each_back (λ r. is_entry_in First (as_u32 r.entry) ≡ true) (books_rows (put_amounts p.books (no_amounts (things_of w)))) p.books (books_said f w p rows)
       (each_passes (is_booked f w) (λ r. is_entry_in First (as_u32 r.entry) ≡ true) (λ r h. subst (λ g. is_entry_in g (as_u32 r.entry) ≡ true) is (and_parts (is_entry_in f (as_u32 r.entry)) (nat_lt (as_u32 r.thing) (things_of w)) h).0) p.books rows.booked))
 
-  -- the campaign assembled from rows that keep all rules fits the format
+  -- the format can hold the campaign assembled from rows that keep all rules
   pub checked-fits : IsWorld w → KeepsRulesBelow f w p 13 → Fits f (campaign_of w p)
   checked-fits world k =
       let rows = rows_keep world (fewer k) in
@@ -158,33 +158,33 @@ module _ (f : Format) (w : WorldValue) (p : Parts) where
         reported = (k Mail (omega arith)).1;
       }
 
-  -- ---- what judging the later rules asks
+  -- ---- facts that checking the later rules requires
 
-  -- rows that keep the first 10 rules give a campaign whose totals can be counted
+  -- if rows keep rules 1 to 10, the campaign read from them has few enough units and regions to count totals
   pub few-said : KeepsRulesBelow f w p 11 → IsCountable (campaign_of w p)
   few-said k = let range = AreInRange-said w p (k Ranges (omega arith)) in omega (arith, range.few_units, range.few_regions)
 
-  -- rows that keep the first 10 rules give books of the world's things
+  -- if rows keep rules 1 to 10, the books read from them are books of the world's things
   pub books-said : KeepsRulesBelow f w p 11 → AreBooks (things_of w) (campaign_of w p).books
   books-said k = (AreInRange-said w p (k Ranges (omega arith))).books
 
-  -- rows that keep the first 10 rules give units that hold items of the world alone
+  -- if rows keep rules 1 to 10, the units read from them hold only items of the world
   pub items-said : KeepsRulesBelow f w p 11 → Every (λ n u. Every (λ i amount. i < length w.items) u.holding.items) (campaign_of w p).units
   items-said k n u is = ((k Known (omega arith)).0.units n u is).items
 
-  -- rows that keep the first 10 rules give stocks of the regions' markets alone
+  -- if rows keep rules 1 to 10, the regions read from them have stocks only of their markets
   pub stocks-said : KeepsRulesBelow f w p 11 → Every (λ n r. AreOfMarkets w n r.stocks) (campaign_of w p).regions
   stocks-said k = (k Known (omega arith)).0.markets
 
-  -- rows that keep the first 7 rules give units in regions that are there
+  -- if rows keep rules 1 to 7, the region of each unit read from them exists
   pub places-said : KeepsRulesBelow f w p 8 → Every (λ n u. IsThere (campaign_of w p).regions u.region) (campaign_of w p).units
   places-said k n u is = ((k Known (omega arith)).0.units n u is).region
 
-  -- rows that keep the first 3 rules have one campaign row
+  -- rows that keep rules 1 to 3 have exactly one campaign row
   pub one-said : KeepsRulesBelow f w p 4 → length p.campaign ≡ 1
   one-said k = only_one f p.campaign (k OneRow (omega arith)).0
 
-  -- rows that keep the first 3 rules have people in range
+  -- if rows keep rules 1 to 3, those of `faction`, `region`, `unit` and `has` are in their ranges
   pub people-said : KeepsRulesBelow f w p 4 → people_in_range p ≡ true
   people-said k =
       let head = campaign_row_in_range (campaign_row_of p) in

@@ -1,4 +1,4 @@
--- Laws of dirty flags: they cover what changes, over one change after another and part by part.
+-- Laws of change marks: each change of a campaign marks all that it changes, and so do several changes in turn.
 use Rattle.std.proofs.Common.{◌≡◌, ◌≢◌, ◌==◌, ◌||◌, ℕ, Bool, true, false, if◌then◌else◌, Option, Some, None, refl, sym, ap, ◌∙◌, subst, inl, inr, arith, true≢false}
 use Rattle.std.specs.Prelude.{ℤ, List, cond, is_some, option_map, unwrap_or}
 use Rattle.std.proofs.lemmas.Bool.Decides.{nat_tests}
@@ -29,16 +29,16 @@ use Rattle.atl_records.proofs.EveryLaws.{get-insert_other}
 use Rattle.atl_records.proofs.HoldingLaws.{set_amount, set_other}
 use Rattle.atl_state.proofs.RegionLaws.{amount-other}
 
--- what is not marked after, where marks stay, was not marked before
+-- if a implies b, and b is false, a is false
 without_marks : (a b : Bool) → (a ≡ true → b ≡ true) → b ≡ false → a ≡ false
 without_marks true b stays free = absurd (true≢false (sym (stays refl) ∙ free))
 without_marks false b stays free = refl
 
--- a number that is not marked now was not marked before, where marks stay
+-- if no mark is lost, a number that is not marked after a change was not marked before
 pub was_unmarked : (before after : FinSet nat_cmp) → StaysMarked before after → (n : ℕ) → contains after n ≡ false → contains before n ≡ false
 was_unmarked before after stays n free = without_marks (contains before n) (contains after n) (stays n) free
 
--- StayMarked is transitive
+-- StayMarked is transitive: if two changes each lose no mark, both together lose none
 pub stay-trans : {a b c : Marks} → StayMarked a b → StayMarked b c → StayMarked a c
 stay-trans one two = record {
   factions = λ n h. two.factions n (one.factions n h);
@@ -57,7 +57,7 @@ stay-trans one two = record {
   row = λ h. two.row (one.row h);
 }
 
--- marks that stay cover two changes together if each is covered by its marks
+-- if m covers a change from a to b, and n, which keeps m's marks, one from b to c, n covers both
 pub covers-trans : {m n : Marks} (a b c : CampaignValue) → StayMarked m n → Covers m a b → Covers n b c → Covers n a c
 covers-trans {m} {n} a b c stay one two = record {
   factions = λ k free. two.factions k free ∙ one.factions k (was_unmarked m.factions n.factions stay.factions k free);
@@ -73,7 +73,7 @@ covers-trans {m} {n} a b c stay one two = record {
   row = λ free. two.row free ∙ one.row (without_marks m.row n.row stay.row free);
 }
 
--- MarksChanges is transitive
+-- MarksChanges is transitive: if two changes each mark all that they change, both together do
 pub marks-trans : (a b c : MarkedCampaign) → MarksChanges a b → MarksChanges b c → MarksChanges a c
 marks-trans a b c one two = record { stay = stay-trans one.stay two.stay; covers = covers-trans a.value b.value c.value two.stay one.covers two.covers }
 
@@ -84,67 +84,70 @@ or-true : (b : Bool) → (b || true) ≡ true
 or-true true = refl
 or-true false = refl
 
--- marking a number leaves all others marked
+-- marking a number leaves all numbers marked that were marked before
 pub put_stays : (marks : FinSet nat_cmp) (n : ℕ) → StaysMarked marks (insert marks n)
 put_stays marks n k h = contains-insert nat_cmp_total marks n k ∙ ap (λ b. eq_by_cmp nat_cmp k n || b) h ∙ or-true (eq_by_cmp nat_cmp k n)
 
--- equal numbers compare equal
+-- equal numbers compare equal by nat_cmp
 ties : (k n : ℕ) → k ≡ n → eq_by_cmp nat_cmp k n ≡ true
 ties k n e = sym (unsigned_ties k n) ∙ (let t : (k == n) ≡ true = grind (arith, nat_tests) in t)
 
--- a number is marked once it was put
+-- a number is marked once it was put into the dirty set
 put_there : (marks : FinSet nat_cmp) (n k : ℕ) → k ≡ n → contains (insert marks n) k ≡ true
 put_there marks n k e = contains-insert nat_cmp_total marks n k ∙ ap (λ b. b || contains marks k) (ties k n e)
 
--- a number that is not marked is another than the one just put
+-- a number that is not marked once n is marked differs from n
 pub apart_by : (marks : FinSet nat_cmp) (n k : ℕ) → contains (insert marks n) k ≡ false → k ≢ n
 apart_by marks n k free same = absurd (true≢false (sym (put_there marks n k same) ∙ free))
 
 -- ---- things of units
 
--- an or holds still where each of its parts does
+-- if a implies b, and c implies d, `a or c` implies `b or d`
 both_stay : (a b c d : Bool) → (a ≡ true → b ≡ true) → (c ≡ true → d ≡ true) → (a || c) ≡ true → (b || d) ≡ true
 both_stay true b c d one two h = ap (λ x. x || d) (one refl)
 both_stay false b c d one two h = ap (λ x. b || x) (two h) ∙ or-true b
 
--- where an or is false both parts are
+-- if an or is false, both its parts are false
 neither : (a b : Bool) → (a || b) ≡ false → (a ≡ false) × (b ≡ false)
 neither true b h = absurd (true≢false h)
 neither false b h = (refl, h)
 
--- a thing stays marked when all goods of some unit are
+-- all things that were marked still are once all goods of unit n are marked
 pub whole_stays : (goods : FinSet nat_cmp) (things : Things) (n : ℕ) → ThingsStayMarked goods things (insert goods n) things
 whole_stays goods things n k t = both_stay (contains goods k) (contains (insert goods n) k) (is_some (get (group_of things k) t)) (is_some (get (group_of things k) t)) (put_stays goods n k) (λ h. h)
 
--- a thing that is not marked is of another unit than one all of whose goods are
+-- if a thing of unit k is not marked once all goods of unit n are, k differs from n
 pub apart_by_whole : (goods : FinSet nat_cmp) (things : Things) (n k t : ℕ) → is_thing_marked (insert goods n) things k t ≡ false → k ≢ n
 apart_by_whole goods things n k t free = apart_by goods n k (neither (contains (insert goods n) k) (is_some (get (group_of things k) t)) free).0
 
 module _ (goods : FinSet nat_cmp) (things : Things) (n thing : ℕ) where
-  -- once a thing of a unit is marked, just that thing is marked besides those of before
+  -- once a thing of unit n is marked, the single things marked are that one and those that were marked before
   put_in : (k t : ℕ) → is_some (get (group_of (with_thing things n thing) k) t) ≡ cond (eq_by_cmp nat_cmp k n) (eq_by_cmp nat_cmp t thing || is_some (get (group_of things n) t)) (is_some (get (group_of things k) t))
   put_in k t =
       ap (λ (o : Option (FinMap nat_cmp (Prim.Unit {0}))). is_some (get (unwrap_or o map.empty) t)) (get-insert nat_cmp_total things n (map.insert (group_of things n) thing tt) k)
       ∙ by_unit (eq_by_cmp nat_cmp k n)
     where
+      -- putting a thing in, if b is true, makes it there; else it is there if it was
       by_thing : (b : Bool) (o : Option (Prim.Unit {0})) → is_some (cond b (Some tt) o) ≡ (b || is_some o)
       by_thing true o = refl
       by_thing false o = refl
 
+      -- if k is n, the things of k are those of n and the new one; else they are unchanged
       by_unit : (b : Bool) → is_some (get (unwrap_or (cond b (Some (map.insert (group_of things n) thing tt)) (get things k)) map.empty) t)
           ≡ cond b (eq_by_cmp nat_cmp t thing || is_some (get (group_of things n) t)) (is_some (get (group_of things k) t))
       by_unit true = ap is_some (get-insert nat_cmp_total (group_of things n) thing tt t) ∙ by_thing (eq_by_cmp nat_cmp t thing) (get (group_of things n) t)
       by_unit false = refl
 
-  -- a thing stays marked when another is
+  -- all things that were marked still are once one more thing is marked
   pub thing_stays : ThingsStayMarked goods things goods (with_thing things n thing)
   thing_stays k t = both_stay (contains goods k) (contains goods k) (is_some (get (group_of things k) t)) (is_some (get (group_of (with_thing things n thing) k) t)) (λ h. h) (λ h. put_in k t ∙ by_unit h (eq_by_cmp nat_cmp k n) refl)
     where
+      -- a thing t of unit k that was marked still is, whether k is n or not
       by_unit : is_some (get (group_of things k) t) ≡ true → (b : Bool) → eq_by_cmp nat_cmp k n ≡ b → cond b (eq_by_cmp nat_cmp t thing || is_some (get (group_of things n) t)) (is_some (get (group_of things k) t)) ≡ true
       by_unit h true e = ap (λ q. eq_by_cmp nat_cmp t thing || is_some (get (group_of things q) t)) (sym (same_key k n e)) ∙ ap (λ b. eq_by_cmp nat_cmp t thing || b) h ∙ or-true (eq_by_cmp nat_cmp t thing)
       by_unit h false e = h
 
-  -- a thing that is not marked is another than the one just marked
+  -- if a thing of unit n is not marked once another is, the two things differ
   pub apart_by_thing : (k t : ℕ) → is_thing_marked goods (with_thing things n thing) k t ≡ false → k ≡ n → t ≢ thing
   apart_by_thing k t free same_unit same =
       let there = put_in k t ∙ ap (λ b. cond b (eq_by_cmp nat_cmp t thing || is_some (get (group_of things n) t)) (is_some (get (group_of things k) t))) (ties k n same_unit)
@@ -153,7 +156,7 @@ module _ (goods : FinSet nat_cmp) (things : Things) (n thing : ℕ) where
 
 -- ---- the parts of a campaign, which are marked each for itself
 
--- the parts of a campaign that have dirty sets of their own
+-- the parts of a campaign that have marks of their own
 pub data Part : Type 0 where
   Factions : Part
   Regions : Part
@@ -170,7 +173,7 @@ pub data Part : Type 0 where
   Books : Part
   Row : Part
 
--- what a dirty set of a part holds: numbers; of stocks the region's number and the item's, of items and skills the unit's and their own
+-- what is marked of a part: a number; of stocks a pair of region and item, of items and skills one of unit and thing
 abbrev pub Mark : Part → Type 0
 Mark Stocks = ℕ × ℕ
 Mark Items = ℕ × ℕ
@@ -178,7 +181,7 @@ Mark Skills = ℕ × ℕ
 Mark Row = Prim.Unit {0}
 Mark _ = ℕ
 
--- whether something of a part is marked
+-- whether something of a part is marked, alone or, of stocks and goods, with all of its region or unit
 abbrev pub is_marked : (p : Part) → Marks → Mark p → Bool
 is_marked Factions m k = contains m.factions k
 is_marked Regions m k = contains m.regions k
@@ -195,7 +198,7 @@ is_marked Skills m k = is_thing_marked m.goods m.skills k.0 k.1
 is_marked Books m k = contains m.books k
 is_marked Row m k = m.row
 
--- what a value of a part is looked up by: a number, of stocks, items, skills and amounts a pair
+-- what a value of a part is looked up by: a number, or a pair of numbers for stocks, items and skills, or an account
 abbrev pub IndexEntry : Part → Type 0
 IndexEntry Stocks = ℕ × ℕ
 IndexEntry Items = ℕ × ℕ
@@ -204,7 +207,7 @@ IndexEntry Books = Entry × Thing
 IndexEntry Row = Prim.Unit {0}
 IndexEntry _ = ℕ
 
--- the mark that covers a value: of a stock its region's number, of an amount its own
+-- the mark that covers the value of a part under an index: the index itself, or the number of an amount
 abbrev pub mark_at : (p : Part) → IndexEntry p → Mark p
 mark_at Books k = amount_number k.0 k.1
 mark_at _ k = k
@@ -243,15 +246,15 @@ shown Skills c k = get (days_under (get c.units k.0)) k.1
 shown Books c k = amount_in c.books k.0 k.1
 shown Row c k = own_row c
 
--- what of a part was marked still is
+-- all that was marked of a part under m is marked under n
 abbrev pub Stays : Marks → Marks → Part → Type 0
 Stays m n p = (k : Mark p) → is_marked p m k ≡ true → is_marked p n k ≡ true
 
--- what of a part is not marked is the same before and after
+-- each value of a part that is not marked in m is the same before and after
 abbrev pub Tells : Marks → CampaignValue → CampaignValue → Part → Type 0
 Tells m before after p = (k : IndexEntry p) → is_marked p m (mark_at p k) ≡ false → shown p after k ≡ shown p before k
 
--- MarksChanges holds if, of each part, marks stay and what is not marked is the same
+-- MarksChanges holds if for each part no mark is lost, and all values that are not marked are unchanged
 pub part_by_part : (a b : MarkedCampaign) → ((p : Part) → Stays a.marks b.marks p) → ((p : Part) → Tells b.marks a.value b.value p) → MarksChanges a b
 part_by_part a b stays tells = record {
   stay = record {
@@ -285,20 +288,21 @@ part_by_part a b stays tells = record {
   };
 }
 
--- MarksChanges holds of a campaign and itself
+-- MarksChanges holds if nothing changes
 pub marks-refl : (a : MarkedCampaign) → MarksChanges a a
 marks-refl a = part_by_part a a (λ p k h. h) (λ p k free. refl)
 
--- P holds of the changed map and the value before, if it does without one, and with each v replaced by f v
+-- P holds of a map with f applied under n and its old value there, if it does with no value there and with each one
 pub changed_there : {V : Type 0} (P : FinMap nat_cmp V → Option V → Type 0) (f : V → V) (values : FinMap nat_cmp V) (n : ℕ)
     → P values None → ((v : V) → get values n ≡ Some v → P (map.insert values n (f v)) (Some v)) → P (changed f values n) (get values n)
 changed_there {V} P f values n none some = by_value (get values n) refl
   where
+    -- P holds for a map with f applied under n, for the old value there, whether None or not
     by_value : (o : Option V) → get values n ≡ o → P (changed_at f values n o) o
     by_value None is = none
     by_value (Some v) is = some v is
 
--- a change of faction n alone, with its mark, satisfies MarksChanges
+-- applying f to faction n and marking the faction satisfies MarksChanges
 pub marks-faction : (f : Faction → Faction) (c : MarkedCampaign) (n : ℕ) → MarksChanges c (record { value = faction_changed f c.value n; marks = mark_faction c n })
 marks-faction f c n =
     let after : FinMap nat_cmp Faction → Option Faction → MarkedCampaign = λ m o. record { value = record c.value { factions = m }; marks = record c.marks { factions = marked_with c.marks.factions n o } } in
@@ -308,19 +312,20 @@ marks-faction f c n =
     (λ p. elim p as (Stays c.marks next.marks) [ Factions ↦ put_stays c.marks.factions n | _ ↦ λ k h. h ])
     (λ p. elim p as (Tells next.marks c.value next.value) [ Factions ↦ λ k free. get-insert_other c.value.factions n k (f v) (apart_by c.marks.factions n k free) | _ ↦ λ k free. refl ]))
 
--- what a map shows under each number stays where a value is put that shows the same
+-- replacing a value by one that a view shows alike changes nothing that the view shows of the map
 pub shown_still : {V X : Type 0} (shows : Option V → X) (values : FinMap nat_cmp V) (n k : ℕ) (v w : V) → get values n ≡ Some v → (k ≡ n → shows (Some w) ≡ shows (Some v)) → shows (get (map.insert values n w) k) ≡ shows (get values k)
 shown_still shows values n k v w is same = ap shows (get-insert nat_cmp_total values n w k) ∙ by_number (eq_by_cmp nat_cmp k n) refl
   where
+    -- the view shows the same under k, whether k is n or not
     by_number : (b : Bool) → eq_by_cmp nat_cmp k n ≡ b → shows (cond b (Some w) (get values k)) ≡ shows (get values k)
     by_number true e = let here = same_key k n e in same here ∙ sym (ap shows (ap (get values) here ∙ is))
     by_number false e = refl
 
--- how much of an item a region has in stock, 0 where there is no region
+-- how much of an item a region has in stock; 0 for None
 abbrev in_stock : ℕ → Option Region → ℕ
 in_stock item o = option_map_or (λ r. amount_of r.stocks item) o 0
 
--- a change of a region but for its stocks, with its mark, satisfies MarksChanges
+-- applying f, which leaves stocks alone, to region n and marking its row satisfies MarksChanges
 pub marks-region : (f : Region → Region) → ((r : Region) → (f r).stocks ≡ r.stocks) → (c : MarkedCampaign) (n : ℕ) → MarksChanges c (record { value = region_changed f c.value n; marks = mark_region c n })
 marks-region f same c n =
     let after : FinMap nat_cmp Region → Option Region → MarkedCampaign = λ m o. record { value = record c.value { regions = m }; marks = record c.marks { regions = marked_with c.marks.regions n o } } in
@@ -334,37 +339,38 @@ marks-region f same c n =
       | _ ↦ λ k free. refl
     ]))
 
--- the stock of an item that is set in a region and, if it was another amount, is marked alone or with all stocks of the region
+-- the stock of an item is set in a region; if it was another amount, it is marked, alone or with all of the region
 module _ (c : MarkedCampaign) (n item amount : ℕ) where
   -- the region with the stock of the item set
   abbrev stocked : Region → Region
   stocked r = record r { stocks = with_amount_of r.stocks item amount }
 
-  -- the campaign with these regions
+  -- the campaign with the given regions
   abbrev with_regions : FinMap nat_cmp Region → CampaignValue
   with_regions m = record c.value { regions = m }
 
-  -- the campaign with the stock set in a region that is there
+  -- the campaign with the stock of the item set in region n, given that region
   abbrev there_after : Region → CampaignValue
   there_after v = with_regions (map.insert c.value.regions n (stocked v))
 
-  -- of a region whose stock is set all but its stocks is the same
+  -- setting a stock changes nothing of a region but its stocks
   unstocked_stays : (v : Region) → get c.value.regions n ≡ Some v → (k : ℕ) → option_map unstocked (get (there_after v).regions k) ≡ option_map unstocked (get c.value.regions k)
   unstocked_stays v is k = shown_still (option_map unstocked) c.value.regions n k v (stocked v) is (λ _. refl)
 
-  -- a stock of another item, or of another region, is the same
+  -- setting a stock leaves the stocks of other items and other regions unchanged
   other_stays : (v : Region) → get c.value.regions n ≡ Some v → (k i : ℕ) → (k ≡ n → i ≢ item) → stock_of (there_after v) k i ≡ stock_of c.value k i
   other_stays v is k i other = shown_still (in_stock i) c.value.regions n k v (stocked v) is (λ here. set_other v.stocks item amount i (other here))
 
-  -- setting a stock to what it is changes no stock
+  -- setting a stock to the amount that it has changes no stock
   set_again : (stocks : FinMap nat_cmp ℕ) (i : ℕ) → amount_of stocks item ≡ amount → amount_of (with_amount_of stocks item amount) i ≡ amount_of stocks i
   set_again stocks i was = set_amount stocks item amount i ∙ by_item (eq_by_cmp nat_cmp i item) refl
     where
+      -- if the stock of the item is the amount, replacing it by the amount changes the stock of no item i
       by_item : (b : Bool) → eq_by_cmp nat_cmp i item ≡ b → cond b amount (amount_of stocks i) ≡ amount_of stocks i
       by_item true e = sym was ∙ ap (amount_of stocks) (sym (same_key i item e))
       by_item false e = refl
 
-  -- setting a stock to what it is needs no mark
+  -- setting a stock to the amount that it has satisfies MarksChanges without a mark
   stock_stays : (v : Region) → get c.value.regions n ≡ Some v → amount_of v.stocks item ≡ amount → MarksChanges c (record c { value = there_after v })
   stock_stays v is was =
       let next : MarkedCampaign = record c { value = there_after v } in
@@ -375,7 +381,7 @@ module _ (c : MarkedCampaign) (n item amount : ℕ) where
         | _ ↦ λ k free. refl
       ])
 
-  -- setting a stock, with the mark of that stock alone, satisfies MarksChanges
+  -- setting a stock and marking that stock alone satisfies MarksChanges
   item_changes : (v : Region) → get c.value.regions n ≡ Some v
       → MarksChanges c (record { value = there_after v; marks = record c.marks { markets = insert c.marks.markets n; stock_items = with_thing c.marks.stock_items n item } })
   item_changes v is =
@@ -392,7 +398,7 @@ module _ (c : MarkedCampaign) (n item amount : ℕ) where
         | _ ↦ λ k free. refl
       ])
 
-  -- setting a stock, with the mark of all stocks of its region, satisfies MarksChanges
+  -- setting a stock and marking all stocks of its region satisfies MarksChanges
   stocks_change : (v : Region) → get c.value.regions n ≡ Some v
       → MarksChanges c (record { value = there_after v; marks = record c.marks { markets = insert c.marks.markets n; stocks = insert c.marks.stocks n } })
   stocks_change v is =
@@ -409,32 +415,35 @@ module _ (c : MarkedCampaign) (n item amount : ℕ) where
         | _ ↦ λ k free. refl
       ])
 
-  -- that the campaign with these regions and marks has each change marked
+  -- MarksChanges holds from the campaign to one with the given regions and marks
   abbrev after_regions : FinMap nat_cmp Region → Marks → Type 0
   after_regions regions marks = MarksChanges c (record { value = with_regions regions; marks = marks })
 
-  -- the marks with that of the stock alone, if there is a region
+  -- the marks with the stock of the item in region n added, unless None is given for the region
   abbrev item_alone : Option Region → Marks
   item_alone o = record c.marks { markets = marked_with c.marks.markets n o; stock_items = thing_marked c.marks.stock_items n item o }
 
-  -- the marks with that of all stocks of the region, if there is one
+  -- the marks with all stocks of region n added, unless None is given for the region
   abbrev all_of_region : Option Region → Marks
   all_of_region o = record c.marks { markets = marked_with c.marks.markets n o; stocks = marked_with c.marks.stocks n o }
 
-  -- the region to mark, which is none if the stock is the same
+  -- the region to mark: None if the stock keeps its amount, else region n, if there is one
   abbrev to_restock : Bool → Option Region
   to_restock b = if b then None else get c.value.regions n
 
-  -- setting a stock, with its mark, satisfies MarksChanges
+  -- setting a stock, with the marks of that by MarksStock, satisfies MarksChanges
   pub marks-stock : (m : Marks) → MarksStock c n item amount m → MarksChanges c (record { value = with_stock c.value n item amount; marks = m })
   marks-stock m how = by_amount (stock_of c.value n item == amount) refl
     where
+      -- numbers that pass the test of equality are equal
       equal : (a b : ℕ) → (a == b) ≡ true → a ≡ b
       equal a b same = grind (arith, nat_tests)
 
+      -- if the test finds the stock equal to the amount, a region that is there has that amount
       was : (v : Region) → get c.value.regions n ≡ Some v → (stock_of c.value n item == amount) ≡ true → amount_of v.stocks item ≡ amount
       was v is same = sym (ap (in_stock item) is) ∙ equal (stock_of c.value n item) amount same
 
+      -- setting the stock satisfies MarksChanges with either mark, whether the amount changes or not
       either : (b : Bool) → (stock_of c.value n item == amount) ≡ b → after_regions (changed stocked c.value.regions n) (item_alone (to_restock b)) × after_regions (changed stocked c.value.regions n) (all_of_region (to_restock b))
       either true same =
           let still = changed_there (λ regions o. after_regions regions c.marks) stocked c.value.regions n (marks-refl c) (λ v is. stock_stays v is (was v is same)) in
@@ -444,13 +453,14 @@ module _ (c : MarkedCampaign) (n item amount : ℕ) where
         changed_there (λ regions o. after_regions regions (all_of_region o)) stocked c.value.regions n (marks-refl c) stocks_change,
       )
 
+      -- setting the stock satisfies MarksChanges, whether the amount changes or not
       by_amount : (b : Bool) → (stock_of c.value n item == amount) ≡ b → after_regions (changed stocked c.value.regions n) m
       by_amount b is = elim how [
         | inl e ↦ subst (after_regions (changed stocked c.value.regions n)) (sym (e ∙ ap (λ k. item_alone (to_restock k)) is)) (either b is).0
         | inr e ↦ subst (after_regions (changed stocked c.value.regions n)) (sym (e ∙ ap (λ k. all_of_region (to_restock k)) is)) (either b is).1
       ]
 
--- a change of unit n alone, with the marks of its row and goods, satisfies MarksChanges
+-- a change of unit n alone that marks the unit, its row and all its goods satisfies MarksChanges
 pub marks-unit : (c : MarkedCampaign) (units : FinMap nat_cmp Unit) (n : ℕ) → ((k : ℕ) → k ≢ n → get units k ≡ get c.value.units k)
     → MarksChanges c (record { value = record c.value { units = units }; marks = mark_unit_added c n })
 marks-unit c units n others =
@@ -471,7 +481,7 @@ marks-unit c units n others =
       | _ ↦ λ k free. refl
     ])
 
--- setting an amount of the books, with its mark, satisfies MarksChanges
+-- setting an amount of the books and marking it satisfies MarksChanges
 pub marks-amount : (c : MarkedCampaign) (f : Entry) (u : Thing) (z : ℤ) → MarksChanges c (record { value = with_amount c.value f u z; marks = mark_amount c f u })
 marks-amount c f u z =
     let next : MarkedCampaign = record { value = with_amount c.value f u z; marks = mark_amount c f u } in

@@ -8,7 +8,7 @@ use Rattle.atl_state.specs.Deciding.{JoinedNamesDiffer}
 use Rattle.atl_records.specs.Every.{Every}
 use Rattle.atl_records.proofs.EveryLaws.{none_some, each_of, later, first, not_below, sorted}
 
--- a sorted list of factions has no joined name twice, if equal joined names are of one number
+-- sorted entries of factions have no joined name twice, if factions with the same joined name have the same number
 differ_of : (es : List (ℕ × Faction)) → is_sorted nat_cmp es ≡ true → ((n k : ℕ) (f g : Faction) → find nat_cmp n es ≡ Some f → find nat_cmp k es ≡ Some g → f.joined_as ≡ g.joined_as → n ≡ k) → JoinedNamesDiffer es
 differ_of [] s h = tt
 differ_of (e ∷ es) s h = (
@@ -18,10 +18,10 @@ differ_of (e ∷ es) s h = (
   differ_of es (and_parts _ _ s).1 (λ n k f g is js same. h n k f g (later e es n f s is) (later e es k g s js) same),
 )
 
--- equal joined names are of one faction
+-- factions with the same joined name have the same number
 abbrev pub AllDiffer : FinMap nat_cmp Faction → Type 0
 AllDiffer m = Every (λ n f. Every (λ k g. f.joined_as ≡ g.joined_as → n ≡ k) m) m
 
--- the entries of a map of factions have no joined name twice, if equal ones are of one faction
+-- the entries of a map of factions have no joined name twice, if AllDiffer holds of the map
 pub entries_differ : (m : FinMap nat_cmp Faction) → AllDiffer m → JoinedNamesDiffer (entries m)
 entries_differ m every = differ_of (entries m) (sorted m) (λ n k f g is js same. every n f (get-entries m n ∙ is) k g (get-entries m k ∙ js) same)

@@ -1,4 +1,4 @@
--- Laws of 64 bits: what is booked as a campaign begins and as a faction joins fits them.
+-- Laws of 64 bits: amounts booked at founding and when a faction joins are in the range of signed 64-bit numbers.
 use Rattle.std.proofs.Common.{◌≤◌, ℕ, arith}
 use Rattle.std.specs.Prelude.{ℤ, pos, negsuc, ◌+ℤ◌, ◌≤ℤ◌}
 use Rattle.std.specs.Int.{w64}
@@ -6,15 +6,15 @@ use Rattle.std.specs.Int.RustNames.{FitsSigned}
 use Rattle.std.proofs.lemmas.Int.{ints}
 use Rattle.atl_records.specs.Books.{IsSmall}
 
--- an amount from -9 * 10^18 to 9 * 10^18 fits 64 bits
+-- an amount from -9 * 10^18 to 9 * 10^18 is in the range of signed 64-bit numbers
 by_sign : (z : ℤ) → z ≤ℤ pos 9000000000000000000 → pos 0 ≤ℤ (z +ℤ pos 9000000000000000000) → FitsSigned w64 z
 by_sign (pos n) most less = record { sfits = omega (arith, ints, most) }
 by_sign (negsuc n) most less = record { sfits = omega (arith, ints, less) }
 
--- a small amount and at most 4 * 10^18 more fit 64 bits
+-- a small amount (`IsSmall`) plus at most 4 * 10^18 is in the range of signed 64-bit numbers
 pub more_fits : (z : ℤ) (n : ℕ) → IsSmall z → n ≤ 4000000000000000000 → FitsSigned w64 (z +ℤ pos n)
 more_fits z n small few = by_sign (z +ℤ pos n) (omega (arith, ints, small.0, few)) (omega (arith, ints, small.1))
 
--- at most 4 * 10^18, booked where the amount is 0, fits 64 bits
+-- 0 plus at most 4 * 10^18 is in the range of signed 64-bit numbers
 pub first_fits : (n : ℕ) → n ≤ 4000000000000000000 → FitsSigned w64 (pos 0 +ℤ pos n)
 first_fits n few = more_fits (pos 0) n (omega (arith, ints), omega (arith, ints)) few

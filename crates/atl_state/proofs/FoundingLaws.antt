@@ -45,7 +45,7 @@ use Rattle.atl_records.proofs.BookLaws.{booked-after_booking, booked-no_amounts,
 pub AreKept-without_marks : (things : ℕ) (units : FinMap nat_cmp Unit) (lists : UnitLists) → AreUnitLists units lists → AreKept units lists things (record { numbers = set.empty; room = entry_count * things })
 AreKept-without_marks things units lists listed = record { unit_lists = listed; amounts = none_marked things (entry_count * things) (omega arith) }
 
--- the books after the two bookings of founding are books of as many things
+-- the books after both bookings of founding are books of the same number of things
 AreBooks-founding : (things money people : ℕ) → 2 ≤ things → AreBooks things (after_booking (after_booking (no_amounts things) Founding Money (pos money)) Founding People (pos people))
 AreBooks-founding things money people l =
     AreBooks-after_booking things (after_booking (no_amounts things) Founding Money (pos money)) Founding People (pos people) (AreBooks-after_booking things (no_amounts things) Founding Money (pos money) (AreBooks-no_amounts things) (omega arith)) (omega arith)
@@ -67,18 +67,19 @@ founding_booked things money people t =
     booked-after_booking (after_booking (no_amounts things) Founding Money (pos money)) Founding People (pos people) t
     ∙ ap (λ z. z +ℤ share_of t People (pos people)) (booked-after_booking (no_amounts things) Founding Money (pos money) t ∙ ap (λ z. z +ℤ share_of t Money (pos money)) (booked-no_amounts things t) ∙ from_nothing (share_of t Money (pos money)))
   where
+    -- 0 plus z is z
     from_nothing : (z : ℤ) → pos 0 +ℤ z ≡ z
     from_nothing z = omega (arith, ints)
 
--- money balances where units hold none
+-- money balances if units hold none, and all of it is booked
 held_money : (a m : ℕ) → a ≡ 0 → pos (a + m) ≡ pos m +ℤ pos 0
 held_money a m h = omega (arith, ints)
 
--- people balance where units hold none
+-- people balance if units have none, and all of them are booked
 held_people : (a p : ℕ) → a ≡ 0 → pos (a + p) ≡ pos 0 +ℤ pos p
 held_people a p h = omega (arith, ints)
 
--- items balance where neither units nor regions have any
+-- an item balances if neither units nor regions have any
 held_items : (a b i m p : ℕ) → a ≡ 0 → b ≡ 0 → (2 + i == 0) ≡ false → (2 + i == 1) ≡ false → pos (a + b) ≡ cond (2 + i == 0) (pos m) (pos 0) +ℤ cond (2 + i == 1) (pos p) (pos 0)
 held_items a b i m p h g e f = ap (λ n. pos (n + b)) h ∙ ap (λ n. pos (0 + n)) g ∙ sym (ap (λ q. cond q (pos m) (pos 0) +ℤ cond (2 + i == 1) (pos p) (pos 0)) e ∙ ap (λ q. pos 0 +ℤ cond q (pos p) (pos 0)) f)
 
@@ -92,15 +93,15 @@ founded-balances w pass (Item i) =
     (nobody (Item i)) (no_items w i) (grind (arith, nat_tests)) (grind (arith, nat_tests))
     ∙ sym (founding_booked (things_of w) _ _ (Item i))
 
--- the amounts of empty books are within 0
+-- each amount of empty books is 0
 none_within : (things : ℕ) (e : Entry) (t : Thing) → IsWithin 0 (amount_in (no_amounts things) e t)
 none_within things e t = rw (amount-no_amounts things e t) record { most = omega (arith, ints); least = omega (arith, ints) }
 
--- a region as founded by its plan is in range
+-- a region that is founded by a valid plan has all its numbers in range
 in_range : (w : WorldValue) (p : RegionPlan) (terrains items n : ℕ) → IsRegionPlan terrains items n p → IsRegion w n (founded_region p)
 in_range w p terrains items n plan = record { peasants = plan.peasants; money = plan.money; stocks = every-empty (λ i amount. (1 ≤ amount) × (amount ≤ stock_limit w n i)) }
 
--- the empty map is numbered, with 1 next
+-- the empty map is numbered without a gap, and its next number is 1
 numbered_none : {V : Type 0} → IsNumbered (empty {X = V} {R = nat_cmp}) 1
 numbered_none {V} = record { first = get-empty nat_cmp 0; count = ap (λ n. n + 1) (sym (len-empty nat_cmp V)); free = λ n _. get-empty nat_cmp n }
 
@@ -117,7 +118,7 @@ module _ (w : WorldValue) (pass : List ℕ) (world : IsWorld w) where
   abbrev people : ℕ
   people = sum_over (λ (r : Region). region_amount People r) regions
 
-  -- a founded campaign is in range
+  -- all numbers of a campaign that is founded are in range
   founded-numbers : AreInRange w (founded_of w pass)
   unfolding founded_of
   founded-numbers = record {
@@ -135,7 +136,7 @@ module _ (w : WorldValue) (pass : List ℕ) (world : IsWorld w) where
     books = AreBooks-founding (things_of w) money people (omega arith);
   }
 
-  -- a founded campaign has good names, if its pass text is good
+  -- names and pass texts of a campaign that is founded keep their rules, if its pass text does
   founded-names : IsTrue (pass_ok pass) → AreNamed (founded_of w pass)
   unfolding founded_of
   founded-names passes = record {
@@ -146,7 +147,7 @@ module _ (w : WorldValue) (pass : List ℕ) (world : IsWorld w) where
     structures = every-empty (λ n s. IsTrue (name_ok s.name));
   }
 
-  -- what a founded campaign names by number exists
+  -- everything that a campaign names by number exists when it is founded
   founded-known : AreKnown w (founded_of w pass)
   unfolding founded_of
   founded-known = record {
@@ -157,7 +158,7 @@ module _ (w : WorldValue) (pass : List ℕ) (world : IsWorld w) where
     posts = posted-nobody;
   }
 
-  -- a founded campaign is steady, if its pass text is good
+  -- a campaign is steady when it is founded, if its pass text keeps its rule
   founded-steady : IsTrue (pass_ok pass) → IsSteady w (founded_of w pass)
   unfolding founded_of
   founded-steady passes = record {
@@ -175,7 +176,7 @@ module _ (w : WorldValue) (pass : List ℕ) (world : IsWorld w) where
     guarded = every-empty (λ n u. Every (λ m v. guards u ≡ true → guards v ≡ true → u.region ≡ v.region → u.faction ≡ v.faction) empty);
   }
 
-  -- the amounts of a founded campaign are within their bound, if money and people are at most 10^14
+  -- the amounts of a founded campaign are within their bound, if its money and its people are at most 10^14
   founded-amounts : money ≤ 100000000000000 → people ≤ 100000000000000 → AreAmountsWithin (founded_of w pass)
   unfolding founded_of
   founded-amounts few_money few_people =
@@ -183,7 +184,7 @@ module _ (w : WorldValue) (pass : List ℕ) (world : IsWorld w) where
       let one = after_booking (no_amounts things) Founding Money (pos money) in
       IsWithin-after_booking one Founding People people money _ (IsWithin-after_booking (no_amounts things) Founding Money money 0 money (none_within things) (omega arith)) (omega arith)
 
-  -- a founded campaign is good, if its pass text is good, and money and people are at most 10^14
+  -- a founded campaign is good, if its pass text keeps its rule, and its money and people are at most 10^14
   pub founded-good : IsTrue (pass_ok pass) → money ≤ 100000000000000 → people ≤ 100000000000000 → IsGood w (founded_of w pass)
   unfolding founded_of
   founded-good passes few_money few_people = record {

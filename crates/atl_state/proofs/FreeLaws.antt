@@ -1,27 +1,27 @@
--- Laws of a gap vector: what comes after its free slots at the front, as elements come and go.
+-- Laws of a gap vector: which list comes after its free slots once an element is inserted or removed.
 use Rattle.std.proofs.Common.{◌≡◌, ℕ, suc, ◌+◌, ◌-◌, ◌<◌, ◌≤◌, List, ◌∷◌, ◌++◌, length, take, drop, set, get_or, sym, ap, ◌∙◌, append_assoc, length-drop, arith}
 use Rattle.std.proofs.lemmas.List.{drop_at, drop-drop, drop-take, drop-append-le, drop-set-add, drop_more, length-take-le, set_at}
 use Rattle.std.specs.List.{insert, remove, copy_within}
 
--- after copy_within, from index `at` on, there is the copied range and then the rest as before
+-- from index `at` on, copy_within gives the copied range, and then the rest of the list unchanged
 copied : {A : Type 0} (xs : List A) (from to at : ℕ) → at ≤ length xs → drop at (copy_within xs from to at) ≡ take (to - from) (drop from xs) ++ drop (at + (to - from)) xs
 copied xs from to at l =
     ap (drop at) (append_assoc (take at xs) (take (to - from) (drop from xs)) (drop (at + (to - from)) xs))
     ∙ drop_at (take at xs) (take (to - from) (drop from xs) ++ drop (at + (to - from)) xs) at (length-take-le at xs l)
 
 module _ {A : Type 0} (xs : List A) (free place : ℕ) where
-  -- an index past the free slots, less these, is the index among the elements
+  -- an index of the vector, less its free slots, is the index in the list after them
   count : free + place - free ≡ place
   count = omega arith
 
   -- ---- the elements before an index moved, towards it or away from it
-  -- moving the elements before an index one up removes the element at it
+  -- moving the elements before an index up by one removes the element at that index
   pub closed : free + place < length xs → drop (free + 1) (copy_within xs free (free + place) (free + 1)) ≡ remove (drop free xs) place
   closed l =
       let behind : free + 1 + place ≡ free + suc place = omega arith in
       rw (copied xs free (free + place) (free + 1) (omega arith), count, behind) (ap (λ ys. take place (drop free xs) ++ ys) (sym (drop-drop (suc place) free xs)))
 
-  -- moving the elements before an index one down makes room to insert one there
+  -- moving the elements before an index down by one, and setting the gap to x, inserts x at that index
   pub opened : (x : A) → 0 < free → free + place ≤ length xs → drop (free - 1) (set (copy_within xs free (free + place) (free - 1)) (free - 1 + place) x) ≡ insert (drop free xs) place x
   opened x some l =
       let behind : free - 1 + place + 1 ≡ free + place = omega arith in
@@ -29,15 +29,15 @@ module _ {A : Type 0} (xs : List A) (free place : ℕ) where
       rw (drop-set-add (free - 1) (copy_within xs free (free + place) (free - 1)) place x, copied xs free (free + place) (free - 1) (omega arith), count, drop_more xs (free - 1 + place) x (omega arith), behind)
       (set_at (take place (drop free xs)) (get_or xs (free - 1 + place) x) (drop (free + place) xs) x place (length-take-le place (drop free xs) long) ∙ ap (λ ys. take place (drop free xs) ++ x ∷ ys) (sym (drop-drop place free xs)))
 
-  -- ---- the elements after it moved
-  -- removing behind the free slots removes among the elements
+  -- ---- the elements after an index moved
+  -- removing from the vector at an index past its free slots removes from the list after these slots
   pub removed : free + place ≤ length xs → drop free (remove xs (free + place)) ≡ remove (drop free xs) place
   removed l =
       let long : free ≤ length (take (free + place) xs) = omega (arith, length-take-le (free + place) xs l) in
       let behind : suc (free + place) ≡ free + suc place = omega arith in
       drop-append-le free (take (free + place) xs) (drop (suc (free + place)) xs) long ∙ rw (drop-take free place xs, behind) (ap (λ ys. take place (drop free xs) ++ ys) (sym (drop-drop (suc place) free xs)))
 
-  -- inserting behind the free slots inserts among the elements
+  -- inserting into the vector at an index past its free slots inserts into the list after these slots
   pub inserted : (x : A) → free + place ≤ length xs → drop free (insert xs (free + place) x) ≡ insert (drop free xs) place x
   inserted x l =
       let long : free ≤ length (take (free + place) xs) = omega (arith, length-take-le (free + place) xs l) in

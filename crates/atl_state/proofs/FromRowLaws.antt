@@ -1,4 +1,4 @@
--- Laws of the campaign assembled from rows: rows in range give a campaign in range.
+-- Laws of the campaign assembled from rows: if the rows are in range, the campaign's numbers are, and units have men.
 use Rattle.std.proofs.Common.{◌≡◌, ◌==◌, ℕ, ◌≤◌, ◌<◌, ◌+◌, ◌&&◌, List, [], ◌∷◌, Bool, true, false, cond, filter, length, nat_le, refl, ap, subst, arith}
 use Rattle.std.specs.Prelude.{ℤ, pos, negsuc, min, nat_lt, Some, None}
 use Rattle.std.specs.List.{list_all}
@@ -42,14 +42,14 @@ use Rattle.atl_state.proofs.OrderLaws.{each_passes}
 -- ---- maps of rows
 
 module _ {R V : Type 0} (number : R → ℕ) (value : R → V) where
-  -- what is so of every value, and of each row that passes, is so of every value once the rows are put in
+  -- if P holds for a map's values and, by a test that all rows pass, for each row's value, it does once rows are put in
   put-every : (P : ℕ → V → Type 0) (p : R → Bool) → ((r : R) → p r ≡ true → P (number r) (value r)) → (rows : List R) (m : FinMap nat_cmp V) → list_all p rows ≡ true → Every P m → Every P (put_rows number value rows m)
   put-every P p each [] m all old = old
   put-every P p each (r ∷ rows) m all old =
       let parts = and_parts (p r) (list_all p rows) all in
       put-every P p each rows (insert m (number r) (value r)) parts.1 (every-insert P m (number r) (value r) (each r parts.0) old)
 
-  -- what is so of each row that passes is so of every value of the map that rows make, if all pass
+  -- if all rows pass a test, and P holds for each value that does, P holds for all values of the rows' map
   pub by_number-every : (P : ℕ → V → Type 0) (p : R → Bool) → ((r : R) → p r ≡ true → P (number r) (value r)) → (rows : List R) → list_all p rows ≡ true → Every P (by_number number value rows)
   by_number-every P p each rows all = put-every P p each rows empty all (every-empty P)
 
@@ -58,7 +58,7 @@ module _ {R V : Type 0} (number : R → ℕ) (value : R → V) where
   at_most true n = omega arith
   at_most false n = omega arith
 
-  -- rows put into a map give at most one value more each
+  -- putting rows into a map adds at most one value for each row
   put-len : (rows : List R) (m : FinMap nat_cmp V) → len (put_rows number value rows m) ≤ length rows + len m
   put-len [] m = omega arith
   put-len (r ∷ rows) m =
@@ -79,7 +79,7 @@ min_low low n most h k = grind arith
 min_high : (n high most : ℕ) → n ≤ high → min n most ≤ high
 min_high n high most h = grind arith
 
--- a number that is in its range as stored is in it as it is read
+-- a number from low to high, with low at most the largest that is read, is read as one from low to high
 pub in_range : (low high most : ℕ) (z : ℤ) → low ≤ most → is_from low high z ≡ true → (low ≤ clamp most z) × (clamp most z ≤ high)
 in_range low high most (pos n) h e =
     let parts = and_parts (nat_le low n) (nat_le n high) e in
@@ -88,13 +88,13 @@ in_range low high most (pos n) h e =
     (min_low low n most least h, min_high n high most highest)
 in_range low high most (negsuc n) h e = absurd (false≢true e)
 
--- a number that passes the test nat_le is at most the other
+-- if nat_le m n is true, m is at most n
 pub from_le : (m n : ℕ) → nat_le m n ≡ true → m ≤ n
 from_le m n h = grind (arith, nat_tests)
 
 -- ---- the books
 
--- books of these things stay so, whether a row's amount is put or not
+-- books of some things are still books of these once a row's amount is put in, if the row's thing is one of them
 row_put : (things : ℕ) (books : BooksValue) (e : Entry) (r : StoredBooks) (b : Bool) → nat_lt (as_u32 r.thing) books.things ≡ b → AreBooks things books → AreBooks things (cond b (with_amount books e (thing_at (as_u32 r.thing)) r.amount) books)
 row_put things books e r true inside are =
     let few : as_u32 r.thing < books.things = grind (arith, nat_tests) in
@@ -102,20 +102,20 @@ row_put things books e r true inside are =
     AreBooks-with_amount books e (thing_at (as_u32 r.thing)) r.amount things are (omega (arith, few, place, are.count))
 row_put things books e r false inside are = are
 
--- books of these things stay so once a row is read
+-- books of some things are still books of them once a row is read into them
 row_read : (things : ℕ) (books : BooksValue) (r : StoredBooks) → AreBooks things books → AreBooks things (with_books_row books r)
 row_read things books r are =
     let put = λ (e : Entry). cond (nat_lt (as_u32 r.thing) books.things) (with_amount books e (thing_at (as_u32 r.thing)) r.amount) books in
     elim (entry_numbered (as_u32 r.entry)) as (λ o. AreBooks things (option_map_or put o books)) [ None ↦ are | Some e ↦ row_put things books e r (nat_lt (as_u32 r.thing) books.things) refl are ]
 
--- a row of a thing that is not one of the books' changes nothing
+-- reading a row whose thing is not one of the books' leaves the books unchanged
 pub row_unread : (books : BooksValue) (r : StoredBooks) → books.things ≤ as_u32 r.thing → with_books_row books r ≡ books
 row_unread books r past =
     let none : nat_lt (as_u32 r.thing) books.things ≡ false = grind (arith, nat_tests) in
     let put = λ (e : Entry). with_amount books e (thing_at (as_u32 r.thing)) r.amount in
     elim (entry_numbered (as_u32 r.entry)) as (λ o. option_map_or (λ e. cond (nat_lt (as_u32 r.thing) books.things) (put e) books) o books ≡ books) [ None ↦ refl | Some e ↦ ap (λ b. cond b (put e) books) none ]
 
--- books of these things stay so once rows are read
+-- books of some things are still books of them once rows are read into them
 pub put-books : (things : ℕ) (rows : List StoredBooks) (books : BooksValue) → AreBooks things books → AreBooks things (put_amounts rows books)
 put-books things [] books are = are
 put-books things (r ∷ rows) books are = put-books things rows (with_books_row books r) (row_read things books r are)
@@ -126,18 +126,18 @@ put-books things (r ∷ rows) books are = put-books things rows (with_books_row 
 abbrev InStock : WorldValue → ℕ → StoredMarket → Type 0
 InStock w n m = (1 ≤ as_u32 m.stock) × (as_u32 m.stock ≤ stock_limit w n (as_u32 m.item))
 
--- a row in range, of region n, is in stock there
+-- a row of region n whose stock is in its range has a stock from 1 to the limit of its item's market there
 has_room : (w : WorldValue) (n : ℕ) (m : StoredMarket) → market_in_range w m ≡ true → (as_u32 m.region == n) ≡ true → InStock w n m
 has_room w n m range of =
     subst (λ k. InStock w k m) (is_same (as_u32 m.region) n of) (in_range 1 (stock_limit w (as_u32 m.region) (as_u32 m.item)) most_u32 m.stock (omega arith) range)
 
--- the stocks that rows in range give region n are within their limits
+-- the stocks that rows in range give region n are from 1 to the limits of their markets
 in_stock : (w : WorldValue) (n : ℕ) (markets : List StoredMarket) → list_all (market_in_range w) markets ≡ true → Every (λ i amount. (1 ≤ amount) × (amount ≤ stock_limit w n i)) (stocks_of n markets)
 in_stock w n markets all =
     every_by (λ m. as_u32 m.item) (λ m. as_u32 m.stock) (λ i amount. (1 ≤ amount) × (amount ≤ stock_limit w n i)) (filter (λ m. as_u32 m.region == n) markets)
     (kept (λ m. as_u32 m.region == n) (InStock w n) markets (each_passes (market_in_range w) (λ m. (as_u32 m.region == n) ≡ true → InStock w n m) (has_room w n) markets all))
 
--- a region assembled from rows in range is in range
+-- a region assembled from rows in range has peasants, money and stocks in their ranges
 region_good : (w : WorldValue) (markets : List StoredMarket) (r : StoredRegion) → list_all (market_in_range w) markets ≡ true → region_in_range r ≡ true → IsRegion w (as_u32 r.number) (region_of markets r)
 region_good w markets r all h =
     let parts = and_parts (is_from 0 most_amount r.peasants) (is_from 0 most_amount r.money) h in
@@ -153,14 +153,14 @@ structure_good w r h =
     let size = size_of w (as_u16 r.kind) in
     in_range 1 size most_u32 r.done (omega arith) (and_parts (is_from 1 most_structures r.number) (is_from 1 size r.done) h).1
 
--- the parts of a unit's row in range
+-- each number of a row of `unit` is in its range
 pub record UnitRanges (r : StoredUnit) : Type 0 where
   pub number : is_from 1 last_unit r.number ≡ true
   pub men : is_from 1 men_limit r.men ≡ true
   pub money : is_from 0 holding_limit r.money ≡ true
   pub guard : is_from 0 1 r.guard ≡ true
 
--- a unit's row in range has each of its parts in range
+-- a row of `unit` that passes unit_in_range has each of its numbers in its range
 pub unit_ranges : (r : StoredUnit) → unit_in_range r ≡ true → UnitRanges r
 unit_ranges r h =
     let number = is_from 1 last_unit r.number in
@@ -183,7 +183,7 @@ unit_good has r all h =
       },
     )
 
--- the parts of the rule of ranges: what each table's rows pass
+-- the campaign row and all rows of each table pass the test of their ranges
 pub record NumberRanges (w : WorldValue) (p : Parts) : Type 0 where
   pub head : campaign_row_in_range (campaign_row_of p) ≡ true
   pub factions : list_all faction_in_range p.factions ≡ true
@@ -194,7 +194,7 @@ pub record NumberRanges (w : WorldValue) (p : Parts) : Type 0 where
   pub books : list_all (books_in_range (books_bound p)) p.books ≡ true
   pub markets : list_all (market_in_range w) p.markets ≡ true
 
--- rows that pass the rule of ranges pass each of its parts
+-- if rows pass numbers_in_range, all rows of each table pass the test of their ranges
 pub number_ranges : (w : WorldValue) (p : Parts) → numbers_in_range w p ≡ true → NumberRanges w p
 number_ranges w p h =
     let head = campaign_row_in_range (campaign_row_of p) in
@@ -215,14 +215,14 @@ number_ranges w p h =
     let start = and_parts factions regions second.0 in
     record { head = first.0; factions = start.0; regions = start.1; units = second.1; has = fourth.1; structures = third.1; books = last.1; markets = whole.1 }
 
--- the parts of the campaign row in range
+-- each number of the campaign row is in its range
 pub record HeadRanges (h : StoredCampaignRow) : Type 0 where
   pub month : is_from 0 last_month h.month ≡ true
   pub next_faction : is_from 1 (last_faction + 1) h.next_faction ≡ true
   pub next_unit : is_from 1 (last_unit + 1) h.next_unit ≡ true
   pub next_structure : is_from 1 (most_structures + 1) h.next_structure ≡ true
 
--- a campaign row in range has each of its parts in range
+-- a campaign row that passes campaign_row_in_range has each of its numbers in its range
 pub head_ranges : (h : StoredCampaignRow) → campaign_row_in_range h ≡ true → HeadRanges h
 head_ranges h e =
     let month = is_from 0 last_month h.month in
@@ -234,14 +234,14 @@ head_ranges h e =
     let inner = and_parts month faction middle.0 in
     record { month = inner.0; next_faction = inner.1; next_unit = middle.1; next_structure = outer.1 }
 
--- each table has no more rows than its limit
+-- the tables of factions, regions, units and structures have no more rows than their limits
 pub record Counts (p : Parts) : Type 0 where
   pub factions : length p.factions ≤ last_faction
   pub regions : length p.regions ≤ most_regions
   pub units : length p.units ≤ most_units
   pub structures : length p.structures ≤ most_structures
 
--- rows that pass are_few are no more than the limits
+-- if rows pass are_few, the tables of factions, regions, units and structures have no more rows than their limits
 pub counts : (p : Parts) → are_few p ≡ true → Counts p
 counts p h =
     let factions = nat_le (length p.factions) last_faction in
@@ -254,14 +254,14 @@ counts p h =
     record { factions = from_le _ _ inner.0; regions = from_le _ _ inner.1; units = from_le _ _ middle.1; structures = from_le _ _ outer.1 }
 
 module _ (w : WorldValue) (p : Parts) (h : AreRowsInRange w p) where
-  -- in the campaign assembled from rows in range every unit has men
+  -- every unit of the campaign assembled from rows in range has men
   pub HaveMen-said : HaveMen (campaign_of w p)
   unfolding campaign_of
   HaveMen-said =
       let ranges = number_ranges w p h.numbers in
       by_number-every (λ r. as_u32 r.number) (unit_of p.has) (λ n u. 1 ≤ u.holding.men) unit_in_range (λ r good. (in_range 1 men_limit most_u32 r.men (omega arith) (unit_ranges r good).men).0) p.units ranges.units
 
-  -- the campaign assembled from rows in range is in range
+  -- all numbers of the campaign assembled from rows in range are in their ranges
   pub AreInRange-said : AreInRange w (campaign_of w p)
   unfolding campaign_of
   AreInRange-said =

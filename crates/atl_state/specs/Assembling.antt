@@ -20,7 +20,7 @@ use Rattle.atl_state.specs.Regions.{unmarked_regions}
 abbrev pub without_marks : {V : Type 0} → FinMap nat_cmp V → MarkedMapValue V
 without_marks m = record { values = m; marks = set.empty }
 
--- the maps of the campaign that rows say, but for its units, with nothing marked
+-- the factions, regions, structures, mail and reports that are read from rows, by number, with nothing marked
 abbrev pub campaign_maps_of : Parts → CampaignMaps
 campaign_maps_of p = record {
   factions = without_marks (by_number (λ r. as_u32 r.number) faction_of p.factions);
@@ -30,7 +30,7 @@ campaign_maps_of p = record {
   reports = without_marks (by_number (λ r. as_u32 r.faction) (λ r. r.text) p.reports);
 }
 
--- ---- what has nothing as yet
+-- ---- units and regions without goods and stocks
 
 -- the unit of a row, without items and days of study
 abbrev pub bare_unit : StoredUnit → Unit
@@ -55,7 +55,7 @@ holding_more r u =
 abbrev pub stocking_more : StoredMarket → Region → Region
 stocking_more r x = record x { stocks = insert x.stocks (as_u32 r.item) (as_u32 r.stock) }
 
--- the map after `more` changed, row by row, the value under the number `owner` of the row, where there is one
+-- the map after `more` changed, for one row after another, the value under the row's number `owner`, if there is one
 abbrev pub give : {R V : Type 0} → (R → ℕ) → (R → V → V) → List R → FinMap nat_cmp V → FinMap nat_cmp V
 give owner more [] m = m
 give owner more (r ∷ rows) m = give owner more rows (changed (more r) m (owner r))

@@ -18,8 +18,8 @@ use Rattle.atl_records.specs.Books.{BooksValue, after_booking, books_code, no_am
 use Rattle.atl_records.specs.Holdings.{with_amount_of}
 use Rattle.atl_state.specs.Marks.{Marks, marks_code, no_marks}
 
--- A campaign: the month last closed, the pass text, the next numbers, what there is by number, and the books.
--- The pass text is the moderator's. Mail and reports are by the numbers of their factions.
+-- A campaign: month last closed, the moderator's pass text, next numbers, all things by number, and the books.
+-- Mail and reports are by the numbers of their factions.
 pub record CampaignValue : Type 0 where
   pub month : ℕ
   pub pass : List ℕ
@@ -106,23 +106,23 @@ numbers_inside s units = if s == 0 then [] else numbers_where (λ u. u.structure
 
 -- ---- one entry changed; where there is none under the number nothing changes
 
--- the campaign with f applied to the faction of this number
+-- the campaign with f applied to faction n, if there is one
 abbrev pub faction_changed : (Faction → Faction) → CampaignValue → ℕ → CampaignValue
 faction_changed f c n = record c { factions = changed f c.factions n }
 
--- the campaign with f applied to the region of this number
+-- the campaign with f applied to region n, if there is one
 abbrev pub region_changed : (Region → Region) → CampaignValue → ℕ → CampaignValue
 region_changed f c n = record c { regions = changed f c.regions n }
 
--- the campaign with f applied to the unit of this number
+-- the campaign with f applied to unit n, if there is one
 abbrev pub unit_changed : (Unit → Unit) → CampaignValue → ℕ → CampaignValue
 unit_changed f c n = record c { units = changed f c.units n }
 
--- the campaign with f applied to the structure of this number
+-- the campaign with f applied to structure n, if there is one
 abbrev pub structure_changed : (Structure → Structure) → CampaignValue → ℕ → CampaignValue
 structure_changed f c n = record c { structures = changed f c.structures n }
 
--- the campaign with another name that a faction shows
+-- the campaign with the shown name of a faction changed
 abbrev pub with_faction_name : CampaignValue → ℕ → List ℕ → CampaignValue
 with_faction_name c n name = faction_changed (λ f. record f { name = name }) c n
 
@@ -182,7 +182,7 @@ with_structure_region c n region = structure_changed (λ s. record s { region = 
 abbrev pub with_owner : CampaignValue → ℕ → ℕ → CampaignValue
 with_owner c n owner = structure_changed (λ s. record s { owner = owner }) c n
 
--- the campaign with another month last closed
+-- the campaign with n as the month last closed
 abbrev pub with_month : CampaignValue → ℕ → CampaignValue
 with_month c n = record c { month = n }
 

@@ -36,7 +36,7 @@ rule_number Guards = 10
 rule_number Books = 11
 rule_number Mail = 12
 
--- the rows p of format f keep this rule, which speaks of the rows, or of the campaign that they say
+-- the rows p of format f keep this rule; some rules are about the rows, others about the campaign read from them
 abbrev pub KeepsRule : Format → WorldValue → Parts → Rule → Type 0
 KeepsRule f w p OneRow = IsTrue (is_one_campaign_row f p.campaign) × IsTrue (are_of_format f p.markets)
 KeepsRule f w p Ranges = AreRowsInRange w p
@@ -65,7 +65,7 @@ pub record IsWithoutMarkets (c : CampaignValue) : Type 0 where
   pub stocks : HasNoStocks c
   pub entries : (e : Entry) (t : Thing) → first_entry_count ≤ entry_index e → amount_in c.books e t ≡ pos 0
 
--- the tables of the format can hold the campaign: the first format one without markets, the second any
+-- the tables of the format can hold the campaign: the first format if it is `IsWithoutMarkets`, the second always
 abbrev pub Fits : Format → CampaignValue → Type 0
 Fits First c = IsWithoutMarkets c
 Fits Second c = ⊤

@@ -1,4 +1,4 @@
--- For proofs alone: steps to decide the rules on owners, guards and the names that factions joined under.
+-- For proofs alone: what is tested to decide the rules on owners, guards, and the names that factions joined under.
 use Rattle.std.specs.Prelude.{◌≡◌, ◌≢◌, ◌==◌, ◌&&◌, ℕ, Bool, true, List, [], ◌∷◌, ⊤, Option, Some, None, option_and_then, if◌then◌else◌}
 use Rattle.std.specs.Option.{option_or}
 use Rattle.std.specs.FinMap.{get}

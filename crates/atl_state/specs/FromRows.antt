@@ -1,4 +1,4 @@
--- The campaign that rows say, also where they break rules. See docs/FORMATS.md, "Tables".
+-- How a campaign is read from the rows of its tables, also from rows that break rules. See docs/FORMATS.md, "Tables".
 use Rattle.std.specs.Prelude.{ℕ, ℤ, pos, negsuc, Bool, not, ◌==◌, ◌&&◌, nat_lt, min, List, [], ◌∷◌, filter, slice_index_or, if◌then◌else◌}
 use Rattle.std.specs.Option.{option_map_or}
 use Rattle.std.specs.Ordering.{nat_cmp}
@@ -30,11 +30,11 @@ abbrev pub clamp : ℕ → ℤ → ℕ
 clamp most (pos n) = min n most
 clamp most (negsuc n) = most
 
--- a number of a row read as one of 32 bits; one that doesn't fit is read as the largest, which is above all limits
+-- a number of a row as one of 32 bits; a negative or larger one is read as the largest, which is above all limits
 abbrev pub as_u32 : ℤ → ℕ
 as_u32 z = clamp most_u32 z
 
--- a number of a row read as one of 16 bits; one that doesn't fit is read as the largest
+-- a number of a row as one of 16 bits; a negative or larger one is read as the largest
 abbrev pub as_u16 : ℤ → ℕ
 as_u16 z = clamp most_u16 z
 
@@ -67,7 +67,7 @@ by_number number value rows = put_rows number value rows empty
 abbrev pub is_of : ℕ → ℕ → StoredHas → Bool
 is_of n sort r = (as_u32 r.unit == n) && (as_u32 r.sort == sort)
 
--- what the rows of `has` give to unit n of a sort: amounts by the numbers of the things
+-- the amounts that the rows of `has` give unit n: of items (sort 0) or of days of skills (sort 1), by their numbers
 abbrev pub things_had : ℕ → ℕ → List StoredHas → FinMap nat_cmp ℕ
 things_had n sort has = by_number (λ r. as_u32 r.thing) (λ r. as_u32 r.amount) (filter (is_of n sort) has)
 
@@ -84,7 +84,7 @@ unit_with r items days = record {
 abbrev pub unit_of : List StoredHas → StoredUnit → Unit
 unit_of has r = unit_with r (things_had (as_u32 r.number) 0 has) (things_had (as_u32 r.number) 1 has)
 
--- what the rows of `market` have in stock in region n: amounts by the numbers of the items
+-- the stocks of region n in the rows of `market`: amounts by the numbers of the items
 abbrev pub stocks_of : ℕ → List StoredMarket → FinMap nat_cmp ℕ
 stocks_of n markets = by_number (λ r. as_u32 r.item) (λ r. as_u32 r.stock) (filter (λ r. as_u32 r.region == n) markets)
 
@@ -96,7 +96,7 @@ region_with r stocks = record { peasants = as_u32 r.peasants; money = as_u32 r.m
 abbrev pub region_of : List StoredMarket → StoredRegion → Region
 region_of markets r = region_with r (stocks_of (as_u32 r.number) markets)
 
--- the books with the amount of a row put in, where its entry and its thing are there
+-- the books with the amount of a row put in, if the row's entry exists and its thing is one of the books'
 abbrev pub with_books_row : BooksValue → StoredBooks → BooksValue
 with_books_row books r =
     option_map_or (λ e. if nat_lt (as_u32 r.thing) books.things then with_amount books e (thing_at (as_u32 r.thing)) r.amount else books)
@@ -107,7 +107,7 @@ abbrev pub put_amounts : List StoredBooks → BooksValue → BooksValue
 put_amounts [] books = books
 put_amounts (r ∷ rs) books = put_amounts rs (with_books_row books r)
 
--- ---- all of them
+-- ---- the whole campaign
 
 -- what is read where there is no campaign row: all numbers 0, and no pass text
 abbrev pub no_campaign_row : StoredCampaignRow
@@ -117,7 +117,7 @@ no_campaign_row = record { id = pos 0; format = pos 0; month = pos 0; next_facti
 abbrev pub campaign_row_of : Parts → StoredCampaignRow
 campaign_row_of p = slice_index_or p.campaign 0 no_campaign_row
 
--- the campaign that rows say, whatever they are
+-- the campaign that is read from rows, whether they keep the rules or not
 unfoldable pub campaign_of : WorldValue → Parts → CampaignValue
 campaign_of w p = record {
   month = as_u32 (campaign_row_of p).month;

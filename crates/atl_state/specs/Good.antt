@@ -25,7 +25,7 @@ use Rattle.atl_state.specs.Stocks.{stock_limit}
 use Rattle.atl_state.specs.Totals.{Balances}
 use Rattle.atl_records.specs.Every.{Every, IsThere}
 
--- the faction of this number is there, and not gone
+-- there is a faction n, and it is not gone
 abbrev pub IsActive : CampaignValue → ℕ → Type 0
 IsActive c n = (f : Faction) × (get c.factions n ≡ Some f) × (f.gone ≡ false)
 
@@ -78,9 +78,9 @@ pub record AreNamed (c : CampaignValue) : Type 0 where
   pub units : Every (λ n u. IsTrue (name_ok u.holding.name)) c.units
   pub structures : Every (λ n s. IsTrue (name_ok s.name)) c.structures
 
--- ---- of what is named by its number: all of it is there
+-- ---- of what is named by its number: all of it exists
 
--- the faction, region, items and skills of a unit are there, and its structure, which is in the unit's region
+-- a unit's faction, region, items and skills exist; its structure, unless 0, exists and is in the unit's region
 pub record IsPlacedAmong (w : WorldValue) (factions : FinMap nat_cmp Faction) (regions : FinMap nat_cmp Region) (structures : FinMap nat_cmp Structure) (u : Unit) : Type 0 where
   pub faction : IsThere factions u.faction
   pub region : IsThere regions u.region
@@ -88,17 +88,17 @@ pub record IsPlacedAmong (w : WorldValue) (factions : FinMap nat_cmp Faction) (r
   pub items : Every (λ i amount. i < length w.items) u.holding.items
   pub skills : Every (λ s days. s < length w.skills) u.holding.days
 
--- the faction, region, structure, items and skills of a unit of the campaign are there
+-- a unit's faction, region, items and skills exist in a campaign; its structure, unless 0, is in the unit's region
 abbrev pub IsPlaced : WorldValue → CampaignValue → Unit → Type 0
 IsPlaced w c u = IsPlacedAmong w c.factions c.regions c.structures u
 
--- the kind and region of a structure are there, and its owner, where it isn't 0
+-- a structure's kind and region exist, and so does its owner, unless that is 0
 pub record IsBuiltAmong (w : WorldValue) (regions : FinMap nat_cmp Region) (units : FinMap nat_cmp Unit) (s : Structure) : Type 0 where
   pub kind : s.kind < length w.kinds
   pub region : IsThere regions s.region
   pub owner : s.owner ≢ 0 → IsThere units s.owner
 
--- the kind, region and owner of a structure of the campaign are there
+-- a structure's kind and region exist in a campaign, and so does its owner, unless that is 0
 abbrev pub IsBuilt : WorldValue → CampaignValue → Structure → Type 0
 IsBuilt w c s = IsBuiltAmong w c.regions c.units s
 
@@ -115,7 +115,7 @@ pub record AreOfFactions (factions : FinMap nat_cmp Faction) (sent told : FinMap
 abbrev pub ArePosted : CampaignValue → Type 0
 ArePosted c = AreOfFactions c.factions c.mail c.reports
 
--- the regions are the world's, and everything that is named by a number is there
+-- the campaign's regions are the world's, and everything that is named by a number exists
 pub record AreKnown (w : WorldValue) (c : CampaignValue) : Type 0 where
   pub regions : (n : ℕ) → IsThere c.regions n ↔ IsThere w.regions n
   pub markets : Every (λ n r. AreOfMarkets w n r.stocks) c.regions
@@ -211,7 +211,8 @@ HasNoStocks c = Every (λ n r. r.stocks ≡ empty) c.regions
 
 -- ---- the campaigns
 
--- a campaign within a month: a unit may be without men, and a faction without units before it is gone
+-- a campaign within a month: the rules on numbers, names, days, owners, water and guards hold, and gone factions
+-- have no units. Unlike in a good campaign, a unit may have no men, and a faction without units needn't be gone yet.
 pub record IsSteady (w : WorldValue) (c : CampaignValue) : Type 0 where
   pub numbers : AreInRange w c
   pub names : AreNamed c
@@ -228,7 +229,7 @@ pub record IsEarly (w : WorldValue) (c : CampaignValue) : Type 0 where
   pub steady : IsSteady w c
   pub flags : AreOfOneFaction (λ u. u.holding.guard) c
 
--- a campaign between commands, except that the faction that has just joined may lack its report
+-- a campaign that keeps all rules of a good one, but that factions may lack reports, as one that just joined does
 pub record IsSound (w : WorldValue) (c : CampaignValue) : Type 0 where
   pub steady : IsSteady w c
   pub men : HaveMen c
@@ -237,7 +238,7 @@ pub record IsSound (w : WorldValue) (c : CampaignValue) : Type 0 where
   pub balances : Balances c
   pub mail : IsMail c
 
--- a campaign between commands: a sound one in which each faction has a report
+-- a good campaign, as it is between commands: a sound one in which each faction has a report
 pub record IsGood (w : WorldValue) (c : CampaignValue) : Type 0 where
   pub sound : IsSound w c
   pub reported : AreReported c

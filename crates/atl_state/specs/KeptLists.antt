@@ -16,7 +16,7 @@ use Rattle.atl_state.specs.declared.lists.UnitLists.{UnitLists}
 abbrev pub list_of : FinMap nat_cmp (List ℕ) → ℕ → List ℕ
 list_of lists k = unwrap_or (get lists k) []
 
--- under each key are the numbers of the units that belong to it, in rising order
+-- the list under each key has the numbers of the units that belong to the key, in rising order
 abbrev pub AreLists : (Unit → ℕ) → FinMap nat_cmp Unit → FinMap nat_cmp (List ℕ) → Type 0
 AreLists belongs_to units lists = (k : ℕ) → list_of lists k ≡ numbers_where (λ u. belongs_to u == k) units
 
@@ -36,7 +36,7 @@ unlisted_apart lists n key other = if key == other then lists else insert lists 
 abbrev pub AreInsideLists : FinMap nat_cmp Unit → FinMap nat_cmp (List ℕ) → Type 0
 AreInsideLists units lists = (s : ℕ) → list_of lists s ≡ numbers_inside s units
 
--- the lists with n moved from one structure's list to another's; structure 0 has no list
+-- the lists with n moved from the list of structure `from` to that of `to`; structure 0 has no list
 abbrev pub relisted_inside : FinMap nat_cmp (List ℕ) → ℕ → ℕ → ℕ → FinMap nat_cmp (List ℕ)
 relisted_inside lists n from to = if from == to then lists else unlisted_apart (listed_apart lists n to 0) n from 0
 
@@ -50,27 +50,27 @@ pub record AreUnitLists (units : FinMap nat_cmp Unit) (lists : UnitLists) : Type
 abbrev pub list_keys_of : Unit → ListKeys
 list_keys_of u = record { faction = u.faction; region = u.region; structure = u.structure }
 
--- where `old` has the lists of some units, `new` has those with one more: a unit n with the keys l
+-- if `old` has the lists of some units without a unit n, `new` has the lists with a unit n added, whose keys are l
 abbrev pub ListsUnit : ℕ → ListKeys → UnitLists → UnitLists → Type 0
 ListsUnit n l old new = (units : FinMap nat_cmp Unit) (u : Unit) → list_keys_of u ≡ l → get units n ≡ None → AreUnitLists units old → AreUnitLists (insert units n u) new
 
--- where `old` has the lists of units among which no n is, `new` has their lists too
+-- if `old` has the lists of some units without a unit n, `new` has the lists of the same units
 abbrev pub KeepsLists : ℕ → UnitLists → UnitLists → Type 0
 KeepsLists n old new = (units : FinMap nat_cmp Unit) → get units n ≡ None → AreUnitLists units old → AreUnitLists units new
 
--- where `old` has the lists of some units, `new` has those without unit n, whose keys are l
+-- if `old` has the lists of some units, `new` has the lists without unit n, whose keys are l
 abbrev pub UnlistsUnit : ℕ → ListKeys → UnitLists → UnitLists → Type 0
 UnlistsUnit n l old new = (units : FinMap nat_cmp Unit) (u : Unit) → list_keys_of u ≡ l → get units n ≡ Some u → AreUnitLists units old → AreUnitLists (remove units n) new
 
--- where `old` has the lists of some units, `new` has their lists too
+-- if `old` has the lists of some units, `new` has the lists of the same units
 abbrev pub KeepsAll : UnitLists → UnitLists → Type 0
 KeepsAll old new = (units : FinMap nat_cmp Unit) → AreUnitLists units old → AreUnitLists units new
 
--- where `old` has the lists of some units, `new` has those with the keys of unit n changed from `from` to `to`
+-- if `old` has the lists of some units, `new` has the lists with the keys of unit n changed from `from` to `to`
 abbrev pub RelistsUnit : ℕ → ListKeys → ListKeys → UnitLists → UnitLists → Type 0
 RelistsUnit n from to old new = (units : FinMap nat_cmp Unit) (u v : Unit) → list_keys_of u ≡ from → list_keys_of v ≡ to → get units n ≡ Some u → AreUnitLists units old → AreUnitLists (insert units n v) new
 
--- only amounts of the first `things` things are marked, and there is room to mark each of them
+-- only amounts of the first `things` things are marked, and the dirty set has room for all amounts of these things
 pub record MarksAmounts (things : ℕ) (marks : RoomySet) : Type 0 where
   pub room : entry_count * things ≤ marks.room
   pub numbers : AreOfThings things marks.numbers

@@ -9,19 +9,19 @@ use Rattle.atl_records.specs.declared.records.Unit.{Unit}
 use Rattle.atl_state.specs.contracts.campaign.Campaign.{the_row}
 use Rattle.atl_records.specs.contracts.holding.Holding as holding
 
--- the campaign with h as the holding of unit n, which is given; as it was where None is given
+-- the campaign with h as the holding of the given unit n; unchanged for None
 abbrev pub with_held : CampaignValue → ℕ → HoldingValue → Option Unit → CampaignValue
 with_held c n h None = c
 with_held c n h (Some u) = record c { units = insert c.units n (record u { holding = h }) }
 
--- the campaign with h as the holding of unit n, where that is there
+-- the campaign with h as the holding of unit n, if there is one
 abbrev pub with_holding : CampaignValue → ℕ → HoldingValue → CampaignValue
 with_holding c n h = with_held c n h (get c.units n)
 
--- the campaign after unit n was lent and its holding came back as h: the unit, its row and all its goods are marked
+-- the campaign with h as the holding of unit n after a loan; the unit, its row and all its goods are marked
 abbrev pub lent : MarkedCampaign → ℕ → HoldingValue → MarkedCampaign
 lent c n h = record { value = with_holding c.value n h; marks = mark_unit c n }
 
--- after the loan r, campaign c has the last holding of r for unit n, which is marked; without a loan nothing changes
+-- after a loan r of unit n's holding, campaign c has r's last value, and the unit is marked; without one c is unchanged
 abbrev pub LendsHolding : MutBor MarkedCampaign → ℕ → Option (MutBor HoldingValue) → Fml
 LendsHolding c n r = LendsIf the_row holding.the_row c r (lent c.now n) c.now

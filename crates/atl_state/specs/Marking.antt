@@ -35,7 +35,7 @@ marks_of_parts factions regions units structures mail reports books row = record
   row = row;
 }
 
--- the marks with unit n, its row and all its goods marked too, where the unit u is there
+-- the marks m with unit n, its row and all its goods marked too; unchanged if u is None
 abbrev pub whole_marked : Marks → ℕ → Option Unit → Marks
 whole_marked m n u = record m { units = marked_with m.units n u; rows = marked_with m.rows n u; goods = marked_with m.goods n u }
 
@@ -63,11 +63,11 @@ mark_item c n item = record c.marks { units = marked_with c.marks.units n (get c
 abbrev pub mark_skill : MarkedCampaign → ℕ → ℕ → Marks
 mark_skill c n skill = record c.marks { units = marked_with c.marks.units n (get c.value.units n); skills = thing_marked c.marks.skills n skill (get c.value.units n) }
 
--- the same campaign with an item of unit n marked
+-- the campaign with an item of unit n marked, if there is such a unit, and nothing else changed
 abbrev pub item_marked : MarkedCampaign → ℕ → ℕ → MarkedCampaign
 item_marked c n item = record c { marks = mark_item c n item }
 
--- the same campaign with a skill of unit n marked
+-- the campaign with a skill of unit n marked, if there is such a unit, and nothing else changed
 abbrev pub skill_marked : MarkedCampaign → ℕ → ℕ → MarkedCampaign
 skill_marked c n skill = record c { marks = mark_skill c n skill }
 
@@ -79,13 +79,13 @@ mark_faction c n = record c.marks { factions = marked_with c.marks.factions n (g
 abbrev pub mark_region : MarkedCampaign → ℕ → Marks
 mark_region c n = record c.marks { regions = marked_with c.marks.regions n (get c.value.regions n) }
 
--- a stock, and no other of its region, where it becomes another amount
+-- the marks after one stock was set: that stock alone of its region, if the amount is another than before
 abbrev pub mark_stock : MarkedCampaign → (region item : ℕ) → ℕ → Marks
 mark_stock c n item amount =
     let region = region_to_restock c.value.regions n item amount in
     record c.marks { markets = marked_with c.marks.markets n region; stock_items = thing_marked c.marks.stock_items n item region }
 
--- all stocks of a region, where this one becomes another amount
+-- the marks after one stock was set without memory for its own mark: all stocks of its region, if the amount is another
 abbrev pub mark_all_stocks : MarkedCampaign → (region item : ℕ) → ℕ → Marks
 mark_all_stocks c n item amount =
     let region = region_to_restock c.value.regions n item amount in
@@ -117,7 +117,7 @@ mark_all_mail c = record c.marks { mail = union c.marks.mail (from_list (keys c.
 
 -- ---- where units are: the campaign after each step, with its marks
 
--- the campaign with structure s handed from one owner to another and marked, where the former owns it
+-- the campaign with structure s handed from owner `from` to `to` and marked; unchanged unless `from` owns it
 abbrev pub handed_marked : MarkedCampaign → ℕ → ℕ → ℕ → MarkedCampaign
 handed_marked c s from to = if is_owned_by (get c.value.structures s) from then record { value = with_owner c.value s to; marks = mark_structure c s } else c
 
@@ -125,7 +125,7 @@ handed_marked c s from to = if is_owned_by (get c.value.structures s) from then 
 abbrev pub put_marked : MarkedCampaign → ℕ → ℕ → ℕ → MarkedCampaign
 put_marked c n r s = record { value = placed c.value n r s; marks = mark_unit_row c n }
 
--- `place_marked` with the unit of number n, or None, given
+-- the campaign with the given unit n put in region r and structure s, with the marks of that; unchanged for None
 abbrev pub place_marked_at : MarkedCampaign → ℕ → ℕ → ℕ → Option Unit → MarkedCampaign
 place_marked_at c n r s None = c
 place_marked_at c n r s (Some u) = if u.structure == s then put_marked c n r s else handed_marked (handed_marked (put_marked c n r s) u.structure n (heir c.value u.structure n)) s 0 n
@@ -134,11 +134,11 @@ place_marked_at c n r s (Some u) = if u.structure == s then put_marked c n r s e
 unfoldable pub place_marked : MarkedCampaign → ℕ → ℕ → ℕ → MarkedCampaign
 place_marked c n r s = place_marked_at c n r s (get c.value.units n)
 
--- the campaign without unit n, which is marked with its row and all its goods; no owner changes
+-- the campaign without unit n, which, if it was there, is marked with its row and goods; no owner changes
 abbrev pub taken_marked : MarkedCampaign → ℕ → MarkedCampaign
 taken_marked c n = record { value = record c.value { units = remove c.value.units n }; marks = mark_unit c n }
 
--- `gone_marked` with the unit of number n, or None, given
+-- the campaign without the given unit n, with its structure handed over, and the marks of that; unchanged for None
 abbrev pub gone_marked_at : MarkedCampaign → ℕ → Option Unit → MarkedCampaign
 gone_marked_at c n None = c
 gone_marked_at c n (Some u) = handed_marked (taken_marked c n) u.structure n (heir c.value u.structure n)

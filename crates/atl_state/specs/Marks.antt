@@ -1,4 +1,4 @@
--- The value of a campaign's change marks in contracts.
+-- The change marks of a campaign: what of it changed since it was last written.
 use Rattle.std.specs.Prelude.{◌≡◌, ◌<◌, ℕ, ◌+◌, ◌*◌, ◌||◌, refl, Bool, true, false, Option, Some, None, is_some, if◌then◌else◌}
 use Rattle.std.specs.Ordering.{nat_cmp}
 use Rattle.std.specs.Coded.{Coded, code_by, coded×, coded_ℕ, coded_bool}
@@ -11,21 +11,25 @@ use Rattle.atl_records.specs.declared.books.Entry.{Entry}
 use Rattle.atl_records.specs.declared.books.Thing.{Thing}
 use Rattle.atl_records.specs.Books.{amount_number}
 
--- single things by what has them: the numbers of some items, or of some skills, by the numbers of their units, or of items by
--- the numbers of the regions that have them in stock
+-- marked single things by owner: numbers of items or of skills by unit, or of items in stock by region
 abbrev pub Things : Type 0
 Things = map.FinMap nat_cmp (map.FinMap nat_cmp (Prim.Unit {0}))
 
--- things with one more under a number
+-- the marked things with one more: `thing` of unit or region n
 abbrev pub with_thing : Things → ℕ → ℕ → Things
 with_thing things n thing = map.insert things n (map.insert (group_of things n) thing tt)
 
--- likewise, where something stands under the number
+-- the marked things with one more: `thing` of unit or region n; unchanged if None is given for that unit or region
 abbrev pub thing_marked : {V : Type 0} → Things → ℕ → ℕ → Option V → Things
 thing_marked things n thing None = things
 thing_marked things n thing (Some v) = with_thing things n thing
 
--- The numbers that are marked of factions, regions, structures, and of the factions of mail and reports; the regions of which a stock is marked; of those, the ones all of whose stocks are, and single stocks by region and item; those of the units of which something is marked; of those, the units whose rows are, those all of whose goods are (their items and days), and single items and skills of units; those of the amounts of the books; and whether the campaign's own row is marked.
+-- The marks of a campaign: the numbers of what changed since it was last written. `factions`, `regions` (rows) and
+-- `structures` are by number, `mail` and `reports` by faction, and `books` by the numbers of amounts.
+-- `markets` has the regions of which a stock is marked: of these `stocks` has those all of whose stocks are, and
+-- `stock_items` single stocks by region. `units` has the units of which something is marked: of these `rows` has those
+-- whose rows are, `goods` those all of whose items and days are, and `items` and `skills` single ones by unit.
+-- `row` says whether the campaign row is marked.
 pub record Marks : Type 0 where
   pub factions : FinSet nat_cmp
   pub regions : FinSet nat_cmp
@@ -43,9 +47,11 @@ pub record Marks : Type 0 where
   pub books : FinSet nat_cmp
   pub row : Bool
 
+-- the coding of single things, as maps of maps
 abbrev pub things_code : Coded Things
 things_code = map.code coded_ℕ (map.code coded_ℕ coded_unit)
 
+-- the coding of marks, as tuples of their fields
 abbrev pub marks_code : Coded Marks
 marks_code =
     let numbers = code coded_ℕ in
@@ -71,18 +77,18 @@ marks_code =
     })
     (λ _. refl)
 
--- whether a thing of a unit is marked, alone or with all the unit's goods; or a stock of a region, alone or with all of them
+-- whether an item or skill of a unit, or a stock of a region, is marked: alone, or with all goods of unit or region
 abbrev pub is_thing_marked : FinSet nat_cmp → Things → ℕ → ℕ → Bool
 is_thing_marked goods things n thing = contains goods n || is_some (map.get (group_of things n) thing)
 
--- what of a unit is marked is marked only with the unit
+-- a unit is marked if its row, all its goods, or one of its items or skills is marked
 pub record AreWithin (units rows goods : FinSet nat_cmp) (items skills : Things) : Type 0 where
   pub rows_within : (n : ℕ) → contains rows n ≡ true → contains units n ≡ true
   pub goods_within : (n : ℕ) → contains goods n ≡ true → contains units n ≡ true
   pub items_within : (n : ℕ) → is_some (map.get items n) ≡ true → contains units n ≡ true
   pub skills_within : (n : ℕ) → is_some (map.get skills n) ≡ true → contains units n ≡ true
 
--- of the stocks of a region something is marked only with the region
+-- a region is in `markets` if all its stocks are marked, or one of them is
 pub record AreStocksWithin (markets stocks : FinSet nat_cmp) (stock_items : Things) : Type 0 where
   pub stocks_within : (n : ℕ) → contains stocks n ≡ true → contains markets n ≡ true
   pub items_within : (n : ℕ) → is_some (map.get stock_items n) ≡ true → contains markets n ≡ true
@@ -107,13 +113,15 @@ no_marks = record {
   row = false;
 }
 
--- how many things are marked; the campaign's row is one, so is a unit, whatever of it is marked, and so are the stocks of a region
+-- how many things are marked. A unit counts once, whatever of it is marked; so do the stocks of a region, and so does
+-- the campaign row.
 abbrev pub marks_in : Marks → ℕ
 marks_in m = len m.factions + len m.regions + len m.markets + len m.units + len m.structures + len m.mail + len m.reports + len m.books + (if m.row then 1 else 0)
 
+-- the dirty set of the books with the amount of an entry and a thing added
 abbrev pub amount_marked : FinSet nat_cmp → Entry → Thing → FinSet nat_cmp
 amount_marked marks e t = insert marks (amount_number e t)
 
--- only amounts of so many things are marked
+-- only amounts of the first `things` things are marked
 abbrev pub AreOfThings : ℕ → FinSet nat_cmp → Type 0
 AreOfThings things marks = (n : ℕ) → contains marks n ≡ true → n < entry_count * things

@@ -18,7 +18,7 @@ first_other ns leaving = first_or_zero (filter (λ n. not (n == leaving)) ns)
 abbrev pub heir : CampaignValue → ℕ → ℕ → ℕ
 heir c s leaving = first_other (numbers_inside s c.units) leaving
 
--- `owner_after` with the structure of number s, or None, given
+-- the owner of the given structure s once unit `leaving` has left it; 0 for None
 abbrev pub owner_after_at : CampaignValue → ℕ → ℕ → Option Structure → ℕ
 owner_after_at c s leaving None = 0
 owner_after_at c s leaving (Some x) = if x.owner == leaving then heir c s leaving else x.owner
@@ -32,7 +32,7 @@ abbrev pub is_owned_by : Option Structure → ℕ → Bool
 is_owned_by None n = false
 is_owned_by (Some x) n = x.owner == n
 
--- the campaign with structure s handed from one owner to another, where the former owns it
+-- the campaign with structure s handed from owner `from` to `to`; unchanged unless `from` owns it
 abbrev pub after_handover : CampaignValue → ℕ → ℕ → ℕ → CampaignValue
 after_handover c s from to = if is_owned_by (get c.structures s) from then with_owner c s to else c
 
@@ -40,7 +40,7 @@ after_handover c s from to = if is_owned_by (get c.structures s) from then with_
 abbrev pub placed : CampaignValue → ℕ → ℕ → ℕ → CampaignValue
 placed c n r s = unit_changed (λ u. record u { region = r; structure = s }) c n
 
--- `with_place` with the unit of number n, or None, given
+-- the campaign with the given unit n put in region r and structure s, and owners as they follow; unchanged for None
 abbrev pub with_place_at : CampaignValue → ℕ → ℕ → ℕ → Option Unit → CampaignValue
 with_place_at c n r s None = c
 with_place_at c n r s (Some u) = if u.structure == s then placed c n r s else after_handover (after_handover (placed c n r s) u.structure n (heir c u.structure n)) s 0 n
@@ -50,11 +50,11 @@ with_place_at c n r s (Some u) = if u.structure == s then placed c n r s else af
 unfoldable pub with_place : CampaignValue → ℕ → ℕ → ℕ → CampaignValue
 with_place c n r s = with_place_at c n r s (get c.units n)
 
--- `without_unit` with the unit of number n, or None, given
+-- the campaign without the given unit n, whose structure, if it owned that, has its next owner; unchanged for None
 abbrev pub without_unit_at : CampaignValue → ℕ → Option Unit → CampaignValue
 without_unit_at c n None = c
 without_unit_at c n (Some u) = after_handover (record c { units = remove c.units n }) u.structure n (heir c u.structure n)
 
--- the campaign without unit n; where that owned its structure, this gets its next owner
+-- the campaign without unit n; a structure that unit n owned gets its next owner
 unfoldable pub without_unit : CampaignValue → ℕ → CampaignValue
 without_unit c n = without_unit_at c n (get c.units n)

@@ -7,6 +7,6 @@ use Rattle.atl_records.specs.contracts.records.Region as region
 use Rattle.atl_state.specs.contracts.regions.Regions.{the_row}
 use Rattle.atl_state.specs.Regions.{MarkedRegions}
 
--- the regions end with the last value written through the lent region under its number, or unchanged if none is there
+-- after a loan q of region n, the regions have q's last value there, and no mark changes; else they are unchanged
 abbrev pub LendsRegion : MutBor MarkedRegions → ℕ → Option (MutBor Region) → Fml
 LendsRegion r n q = LendsIf the_row region.the_row r q (λ w. record r.now { values = map.insert r.now.values n w }) r.now

@@ -13,7 +13,8 @@ use Rattle.atl_records.specs.contracts.records.Region as region
 use Rattle.atl_state.specs.Marks.{AreStocksWithin, Things, thing_marked, things_code}
 use Rattle.atl_state.specs.Stocks.{stock_in}
 
--- The regions; those whose rows are marked; those of which a stock is, all of whose stocks are, and single stocks by region and item.
+-- The regions by number, with their marks: `rows` has the regions whose rows are marked, and `markets` those of which
+-- a stock is. Of these, `stocks` has the regions all of whose stocks are marked, and `items` single stocks by region.
 pub record MarkedRegions : Type 0 where
   pub values : map.FinMap nat_cmp Region
   pub rows : set.FinSet nat_cmp
@@ -21,6 +22,7 @@ pub record MarkedRegions : Type 0 where
   pub stocks : set.FinSet nat_cmp
   pub items : Things
 
+-- the coding of regions with marks, as tuples of their fields
 abbrev pub regions_code : Coded MarkedRegions
 regions_code =
     let numbers = set.code coded_ℕ in
@@ -34,34 +36,35 @@ regions_code =
 abbrev pub unmarked_regions : map.FinMap nat_cmp Region → MarkedRegions
 unmarked_regions values = record { values = values; rows = set.empty; markets = set.empty; stocks = set.empty; items = map.empty }
 
--- a region whose row changed, and none of its stocks
+-- the regions with f applied to region n and its row marked, if there is such a region; no stock is marked
 abbrev pub with_region_row : (Region → Region) → MarkedRegions → ℕ → MarkedRegions
 with_region_row f r n = record r { values = changed f r.values n; rows = marked_with r.rows n (map.get r.values n) }
 
--- the regions with another stock of an item of one of them
+-- the regions with another stock of an item in region n, if there is such a region
 abbrev pub with_stock_at : map.FinMap nat_cmp Region → (region item : ℕ) → ℕ → map.FinMap nat_cmp Region
 with_stock_at values n item amount = changed (λ r. record r { stocks = with_amount_of r.stocks item amount }) values n
 
--- the regions with the mark of one stock of a region, if it is there
+-- the regions with the stock of an item in region n marked; unchanged if None is given for that region
 abbrev pub with_item_marked_in : MarkedRegions → (region item : ℕ) → Option Region → MarkedRegions
 with_item_marked_in r n item region = record r { markets = marked_with r.markets n region; items = thing_marked r.items n item region }
 
--- the regions with the mark of all stocks of a region, if it is there
+-- the regions with all stocks of region n marked; unchanged if None is given for that region
 abbrev pub with_items_marked_in : MarkedRegions → (region : ℕ) → Option Region → MarkedRegions
 with_items_marked_in r n region = record r { markets = marked_with r.markets n region; stocks = marked_with r.stocks n region }
 
--- the same of the region under the number
+-- the regions with the stock of an item in region n marked, if there is such a region
 abbrev pub with_item_marked : MarkedRegions → (region item : ℕ) → MarkedRegions
 with_item_marked r n item = with_item_marked_in r n item (map.get r.values n)
 
+-- the regions with all stocks of region n marked, if there is such a region
 abbrev pub with_items_marked : MarkedRegions → (region : ℕ) → MarkedRegions
 with_items_marked r n = with_items_marked_in r n (map.get r.values n)
 
--- the region under a number, if it has another amount of an item than this
+-- region n, if there is one and its stock of an item is another amount than this; else None
 abbrev pub region_to_restock : map.FinMap nat_cmp Region → (region item : ℕ) → ℕ → Option Region
 region_to_restock values n item amount = if stock_in values n item == amount then None else map.get values n
 
--- A stock that is to become another amount is marked, alone or with all stocks of its region, and nothing else is.
+-- What setting a stock marks, if its amount changes: that stock alone, or all stocks of its region, and nothing else.
 abbrev pub MarksStockAt : (before after : MarkedRegions) → (region item : ℕ) → ℕ → Type 0
 MarksStockAt before after n item amount =
     let region = region_to_restock before.values n item amount in

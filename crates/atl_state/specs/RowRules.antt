@@ -1,4 +1,4 @@
--- Rules that are said of rows themselves: rules 1 to 3, and parts of rules 4 and 11.
+-- The rules that are about rows, and not about the campaign read from them: rules 1 to 3, and parts of rules 4 and 11.
 -- See docs/FORMATS.md, "Rules of the tables".
 use Rattle.std.specs.Prelude.{◌+◌, ◌*◌, ◌==◌, ℕ, ℤ, pos, negsuc, Bool, false, true, not, ◌&&◌, ◌||◌, nat_le, nat_lt, nat_abs, is_some, IsTrue, List, [], ◌∷◌, length, map}
 use Rattle.std.specs.List.{list_all, IsDistinct}
@@ -72,7 +72,7 @@ region_in_range r = is_from 0 most_amount r.peasants && is_from 0 most_amount r.
 abbrev pub unit_in_range : StoredUnit → Bool
 unit_in_range r = ((is_from 1 last_unit r.number && is_from 1 men_limit r.men) && is_from 0 holding_limit r.money) && is_from 0 1 r.guard
 
--- whether the sort of a row of `has` is 0 or 1, and the amount of an item in its range; days are judged by rule 6
+-- whether the sort of a row of `has` is 0 or 1, and the amount of an item is in its range; rule 6 is for days
 abbrev pub has_in_range : StoredHas → Bool
 has_in_range r = is_from 1 1 r.sort || (is_from 0 0 r.sort && is_from 1 holding_limit r.amount)
 
@@ -80,7 +80,7 @@ has_in_range r = is_from 1 1 r.sort || (is_from 0 0 r.sort && is_from 1 holding_
 abbrev pub structure_in_range : WorldValue → StoredStructure → Bool
 structure_in_range w r = is_from 1 most_structures r.number && is_from 1 (size_of w (as_u16 r.kind)) r.done
 
--- how large an amount of the books may be, without its sign
+-- how large an amount of the books may be, without its sign: 2*10^14*(month + 1) + 10^9*factions
 abbrev pub books_bound : Parts → ℕ
 books_bound p = most_in_month * (as_u32 (campaign_row_of p).month + 1) + most_in_joining * length p.factions
 
@@ -88,7 +88,7 @@ books_bound p = most_in_month * (as_u32 (campaign_row_of p).month + 1) + most_in
 abbrev pub books_in_range : ℕ → StoredBooks → Bool
 books_in_range bound r = not (is_zero r.amount) && is_within bound r.amount
 
--- whether the stock of a row of `market` is from 1 to the limit of its market
+-- whether the stock of a row of `market` is from 1 to its market's limit, or to 999,999,999 where there is no market
 abbrev pub market_in_range : WorldValue → StoredMarket → Bool
 market_in_range w r = is_from 1 (stock_limit w (as_u32 r.region) (as_u32 r.item)) r.stock
 
@@ -146,7 +146,7 @@ market_key r = (r.region, r.item, pos 0)
 abbrev pub HaveKeys : {R : Type 0} → (R → Key) → List R → Type 0
 HaveKeys key rows = IsDistinct (eq_by_cmp key_cmp) (map key rows)
 
--- in none of the tables but `campaign` do two rows have the same key
+-- no two rows of a table have the same key, in each table but `campaign`
 pub record AreKeyed (p : Parts) : Type 0 where
   pub factions : HaveKeys faction_key p.factions
   pub regions : HaveKeys region_key p.regions
@@ -158,7 +158,7 @@ pub record AreKeyed (p : Parts) : Type 0 where
   pub books : HaveKeys books_key p.books
   pub markets : HaveKeys market_key p.markets
 
--- ---- all of them
+-- ---- the numbers of all rows
 
 -- whether there are at most 9,999 factions, 10,000 regions, 100,000 units and 10,000 structures
 abbrev pub are_few : Parts → Bool

@@ -36,7 +36,7 @@ flag false = pos 0
 
 -- ---- one row
 
--- the campaign row, whose id is 1
+-- the campaign row of a campaign in a format, with the id 1
 abbrev pub campaign_row : Format → CampaignValue → StoredCampaignRow
 campaign_row f c = record { id = pos 1; format = pos (format_number f); month = pos c.month; next_faction = pos c.next_faction; next_unit = pos c.next_unit; next_structure = pos c.next_structure; pass = c.pass }
 
@@ -115,9 +115,9 @@ abbrev pub market_rows : Format → List (ℕ × Region) → List StoredMarket
 market_rows First es = []
 market_rows Second es = flat_map (λ e. stock_rows e.0 (entries e.1.stocks)) es
 
--- ---- all of them
+-- ---- the rows of all tables
 
--- the rows of a campaign, each once
+-- the rows of a campaign in each table of a format
 unfoldable pub rows_of : Format → CampaignValue → Parts
 rows_of f c = record {
   campaign = campaign_row f c ∷ [];
@@ -132,7 +132,7 @@ rows_of f c = record {
   markets = market_rows f (entries c.regions);
 }
 
--- both have the same rows in each table, in any order
+-- two sets of tables have the same rows in each table, in any order
 pub record AreSameRows (some others : Parts) : Type 0 where
   pub campaign : IsPermutation some.campaign others.campaign
   pub factions : IsPermutation some.factions others.factions

@@ -6,6 +6,6 @@ use Rattle.std.specs.Borrow.{LendsIf, MutBor, Fml}
 use denote.RattleType.{RattleType}
 use Rattle.atl_state.specs.contracts.arena.Arena.{the_row}
 
--- after the loan r, arena m has the last value of r under the number; without a loan it is as it was
+-- after a loan r of the value under a number, arena m has r's last value there; without a loan m is unchanged
 abbrev pub LendsSlot : (V : RattleType) → MutBor (map.FinMap nat_cmp V.Denot) → ℕ → Option (MutBor V.Denot) → Fml
 LendsSlot V m number r = LendsIf (the_row V) V m r (λ w. map.insert m.now number w) m.now

@@ -8,11 +8,11 @@ use Rattle.atl_records.specs.contracts.records.Unit as unit
 use Rattle.atl_state.specs.contracts.units.Units.{the_row}
 use Rattle.atl_state.specs.Roster.{Roster, with_unit_at}
 
--- after the loan u, roster r has its last value under n, with row and all goods marked; without a loan nothing
--- changes
+-- after a loan u of unit n, roster r has u's last value, and the unit, its row and all its goods are marked.
+-- Without a loan r is unchanged.
 abbrev pub LendsUnit : MutBor Roster → ℕ → Option (MutBor Unit) → Fml
 LendsUnit r n u = LendsIf the_row unit.the_row r u (with_unit_at r.now n) r.now
 
--- after the loan u, roster r has its last value under n, with its row alone marked; without a loan nothing changes
+-- after a loan u of unit n, roster r has u's last value, and the unit and its row are marked; else r is unchanged
 abbrev pub LendsRow : MutBor Roster → ℕ → Option (MutBor Unit) → Fml
 LendsRow r n u = LendsIf the_row unit.the_row r u (λ w. record r.now { values = map.insert r.now.values n w; marks = set.insert r.now.marks n; rows = set.insert r.now.rows n }) r.now

@@ -149,7 +149,8 @@ impl Campaign {
         self.factions.iter()
     }
 
-    /// The numbers of the factions that aren't gone, in rising order. AllocError without memory for them.
+    /// The numbers of the factions that aren't gone, in rising order. AllocError without memory for
+    /// them.
     pub fn active(&self) -> Result<Vec<u32>, AllocError>
         ensures { IfOk result (λ numbers. numbers.items ≡ active self.now.value) }
     {
@@ -239,7 +240,8 @@ impl Campaign {
         self.structures.len()
     }
 
-    /// A faction's mail for the month to come, byte for byte as it was sent; None where it sent none.
+    /// A faction's mail for the month to come, byte for byte as it was sent; None where the faction
+    /// sent none.
     pub fn mail_of(&self, faction: u32) -> Option<&Sequence<u8>>
         ensures { option_copied result ≡ map.get self.now.value.mail faction }
     {
@@ -285,8 +287,8 @@ impl Campaign {
         &self.books
     }
 
-    /// What came in of a thing under an entry so far, less what went. The thing is money, men and
-    /// peasants, or pieces of an item.
+    /// The amount booked of a thing under an entry so far: what came in less what went. The thing
+    /// is money, men and peasants, or pieces of an item.
     pub fn booked(&self, entry: Entry, thing: Thing) -> i64
         requires { thing_index thing < self.now.value.books.things }
         ensures { result ≡ amount_in self.now.value.books entry thing }
@@ -306,14 +308,16 @@ impl Campaign {
         numbers_under(&self.lists.by_region, region)
     }
 
-    /// The numbers of the units of a faction, in rising order; none where there is no such faction, or it is gone.
+    /// The numbers of the units of a faction, in rising order; none where there is no such faction,
+    /// or it is gone.
     pub fn of_faction(&self, faction: u32) -> &[u32]
         ensures { result.now ≡ numbers_of faction self.now.value.units }
     {
         numbers_under(&self.lists.by_faction, faction)
     }
 
-    /// The numbers of the units inside a structure, in rising order; none where it is 0, which is no structure.
+    /// The numbers of the units inside a structure, in rising order; none for 0, which is no
+    /// structure.
     pub fn inside(&self, structure: u32) -> &[u32]
         ensures { result.now ≡ numbers_inside structure self.now.value.units }
     {

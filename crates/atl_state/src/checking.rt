@@ -26,8 +26,8 @@ use std::alloc::Global;
 use std::error::Error;
 use std::fmt;
 
-/// A rule of the tables, by its number. Each is judged of rows that keep the rules before it. See
-/// docs/FORMATS.md, "Rules of the tables".
+/// A rule of the tables, by its number. Each is checked only on rows that keep the rules before it.
+/// See docs/FORMATS.md, "Rules of the tables".
 #[derive(Drop, Clone, Copy, Debug, PartialEq, Eq)]
 pub enum Rule {
     /// There is one campaign row, with the id 1 and the format that is asked for. In the first
@@ -37,7 +37,7 @@ pub enum Rule {
     Ranges = 2,
     /// Names and pass texts keep their rules, and no two factions joined under the same name.
     Names = 3,
-    /// The regions are the world's, and all that a row names is there, markets too.
+    /// The regions are the world's, and all that a row names by its number exists, markets too.
     Known = 4,
     /// Factions and structures are numbered from 1 without a gap, and all next numbers are free.
     Next = 5,
@@ -53,8 +53,8 @@ pub enum Rule {
     Guards = 10,
     /// The amounts of the books are of entries and things that are there, and the books balance.
     Books = 11,
-    /// Mail is of factions that aren't gone, and in order; each faction has a report. It is in
-    /// order with at most 65,536 bytes, and a header with the faction's number.
+    /// Mail is of factions that aren't gone, and has at most 65,536 bytes and a header with the
+    /// faction's number. Each faction has a report.
     Mail = 12,
 }
 
@@ -88,7 +88,7 @@ impl fmt::Display for CheckFault {
 
 impl Error for CheckFault {}
 
-/// Whether rows keep rule 1.
+/// Whether rows keep rule 1: one campaign row of the format, and in the first no market rows.
 fn keeps_one_row(format: Format, parts: &Parts) -> bool
     ensures { IsTrue result ↔
         (IsTrue (is_one_campaign_row format parts.now.campaign)
@@ -98,7 +98,7 @@ fn keeps_one_row(format: Format, parts: &Parts) -> bool
         && are_of_format(format, parts.markets.as_slice())
 }
 
-/// Checks rules 1 to 3, which are judged before a campaign is made of the rows.
+/// Checks rules 1 to 3 on the rows, before a campaign is made of them.
 fn check_rows(alloc: Global, world: &World, parts: &Parts, format: Format) -> Result<(), CheckFault>
     ensures { Passes format world.now parts.now 4 result }
 {
@@ -167,7 +167,7 @@ fn are_goods_known(world: &World, parts: &Parts, campaign: &Campaign) -> bool
     are_of_units(parts, campaign) && are_of_markets(world, parts.markets.as_slice())
 }
 
-/// Whether rows keep rule 4. The campaign is the one that they say.
+/// Whether rows keep rule 4: all that they name exists. The campaign is the one read from the rows.
 fn keeps_known(world: &World, parts: &Parts, campaign: &Campaign) -> bool
     requires { campaign.now.value ≡ campaign_of world.now parts.now }
     ensures { IsTrue result ↔
@@ -178,7 +178,8 @@ fn keeps_known(world: &World, parts: &Parts, campaign: &Campaign) -> bool
     are_known(world, campaign) && are_goods_known(world, parts, campaign)
 }
 
-/// Whether rows keep rule 11, if they keep those before. The campaign is the one that they say.
+/// Whether rows that keep rules 1 to 10 keep rule 11: the books balance, and have only entries and
+/// things that exist. The campaign is the one read from the rows.
 fn keeps_books(format: Format, world: &World, parts: &Parts, campaign: &Campaign) -> bool
     requires what { campaign.now.value ≡ campaign_of world.now parts.now }
     requires before { KeepsRulesBelow format world.now parts.now 11 }
@@ -187,7 +188,8 @@ fn keeps_books(format: Format, world: &World, parts: &Parts, campaign: &Campaign
     are_booked(format, world, parts) && are_balanced(world, campaign)
 }
 
-/// Whether rows keep rule 12. The campaign is the one that they say.
+/// Whether rows keep rule 12: mail is in order, and each faction has a report. The campaign is the
+/// one read from the rows.
 fn keeps_mail(world: &World, parts: &Parts, campaign: &Campaign) -> bool
     requires { campaign.now.value ≡ campaign_of world.now parts.now }
     ensures { IsTrue result ↔
@@ -196,7 +198,7 @@ fn keeps_mail(world: &World, parts: &Parts, campaign: &Campaign) -> bool
     are_mailings(campaign) && are_reported(campaign)
 }
 
-/// Checks rules 4 to 7: what is there, the next numbers, the days, and which factions are gone.
+/// Checks rules 4 to 7: what rows name exists, next numbers, days, and which factions are gone.
 fn check_places(
     world: &World,
     parts: &Parts,
@@ -251,7 +253,7 @@ fn check_holders(
     Ok(())
 }
 
-/// Checks the rules one after another, and makes the campaign of the rows.
+/// Checks rules 1 to 12 one after another, and returns the campaign that is read from the rows.
 fn check_parts(
     alloc: Global,
     world: &World,
@@ -288,7 +290,8 @@ pub fn check_as(
     answer
 }
 
-/// The campaign of these rows of the second format, as by `check_as`.
+/// The campaign of these rows of the second format, with nothing marked, or the first rule that
+/// they break.
 pub fn check(alloc: Global, world: &World, parts: Parts) -> Result<Campaign, CheckFault>
     ensures rules { Checks Second world.now parts result }
     ensures whole { IsWorld world.now → GivesBack Second world.now parts result }

@@ -5,8 +5,8 @@ ghost use Rattle.std.specs.List.{insert, remove};
 use std::alloc::{AllocError, Global};
 use std::marker::Model;
 
-/// A vector whose first `free` items are unused, at most half of all. The list is those after them.
-/// To insert or remove an item takes the time in which the items on its nearer side move.
+/// A list in a vector whose first `free` items are unused, at most half of all. Inserting or
+/// removing an item moves only the items on its nearer side.
 #[derive(Drop, Debug)]
 pub(crate) struct GapVec<T> {
     items: Vec<T>,
@@ -23,7 +23,7 @@ impl<T> Model for GapVec<T> {
     ghost invariant = { λ a. a.free + a.free ≤ length a.items.items };
 }
 
-/// Adds unused items in front of a vector that has none and isn't empty; returns how many. They are
+/// Adds unused items in front of a vector that has none and isn't empty. Returns how many it added:
 /// half as many as its items, and one. Without memory nothing changes.
 fn make_room<T: Copy + Drop>(items: &mut Vec<T>) -> Result<usize, AllocError>
     requires { 0 < length items.old.items }

@@ -118,8 +118,8 @@ impl Index {
     }
 }
 
-/// The index of a number's entry, if no number is missing between the first entry and it. So the
-/// index is the number less the first one.
+/// The index of a number's entry, if no number between the first entry's and this one is missing;
+/// else None. The index is then the number less the first entry's.
 fn guess_position(places: &[IndexEntry], number: u32) -> Option<usize>
     ensures { IfSome result (λ place. IsAt (index_numbers places.now) number place) }
 {
@@ -142,8 +142,8 @@ fn is_above(places: &[IndexEntry], number: u32) -> bool
     }
 }
 
-/// The index of a number's entry in sorted entries, or as Err the index where it belongs. It is
-/// searched for only where it is not above all, and some number before it is missing.
+/// The index of a number's entry in sorted entries, or as Err the index where it belongs. A binary
+/// search is made only where the number is not above all, and the guess of its index failed.
 fn position_of(places: &[IndexEntry], number: u32) -> Result<usize, usize>
     requires { IsStrictlySortedBy nat_cmp (index_numbers places.now) }
     ensures found { IfOk result (λ place. IsAt (index_numbers places.now) number place) }

@@ -43,7 +43,7 @@ pub(crate) fn list_keys_of(unit: &Unit) -> ListKeys
 }
 
 impl UnitLists {
-    /// No lists, as of no units.
+    /// The lists of no units: all are empty.
     pub(crate) fn new(alloc: Global) -> UnitLists
         ensures { AreUnitLists map.empty result }
     {
@@ -124,8 +124,8 @@ impl UnitLists {
     }
 }
 
-/// Moves a number from the list of one structure into that of another; 0 has no list. Without memory for it nothing
-/// changes.
+/// Moves a number from the list of one structure into that of another; 0 has no list. Without
+/// memory for it nothing changes.
 fn relist_inside(
     alloc: Global,
     lists: &mut Numbered<Numbers>,

@@ -33,6 +33,7 @@ fn first_above(items: &[u32], number: u32) -> usize
 }
 
 impl Numbers {
+    /// An empty list. It takes no memory.
     pub(crate) fn new(alloc: Global) -> Numbers
         ensures { result ≡ [] }
     {
@@ -52,7 +53,7 @@ impl Numbers {
         Ok(())
     }
 
-    /// Removes the first number that is not below another: that one, where the list has it. It
+    /// Removes the first number that is not below `number`: `number` itself, if the list has it. It
     /// takes no memory.
     #[tactic(auto, unfolding(crate::specs::Ordered::take_number))]
     pub(crate) fn take(&mut self, number: u32)
@@ -64,6 +65,7 @@ impl Numbers {
         }
     }
 
+    /// The numbers, in rising order.
     pub(crate) fn as_slice(&self) -> &[u32]
         ensures { result.now ≡ self.now }
     {

@@ -44,7 +44,8 @@ pub struct StoredCampaignRow {
     pub format: i64,
     /// The month last closed, from 0 to LAST_MONTH.
     pub month: i64,
-    /// The number of the faction that joins next, from 1; one more than the last where no more can join.
+    /// The number of the faction that joins next, from 1; one more than the last number where no
+    /// more can join.
     pub next_faction: i64,
     /// The number of the unit that comes next, from 1 to one more than LAST_UNIT.
     pub next_unit: i64,
@@ -181,8 +182,8 @@ pub struct StoredHas {
     pub sort: i64,
     /// The index of the item, or of the skill, in the world's list of them, from 0.
     pub thing: i64,
-    /// How many pieces of the item, from 1 to HOLDING_LIMIT; or the days of the skill over all men, at least 1 and at most
-    /// MOST_DAYS for each man.
+    /// How many pieces of the item, from 1 to HOLDING_LIMIT, or the days of the skill over all men.
+    /// Of days there are at least 1 and at most MOST_DAYS for each man.
     pub amount: i64,
 }
 

@@ -13,8 +13,8 @@ use atl_tables::{Entries, MarkedNumbers, Marks, Numbered, let_go};
 use std::alloc::{AllocError, Global};
 use std::marker::Model;
 
-/// The regions by their numbers. The row of each, all of its stocks, and single stocks can be marked,
-/// each for itself.
+/// The regions by their numbers. The row of each, all of its stocks, and single stocks can be
+/// marked, each for itself.
 pub(crate) struct Regions {
     values: Numbered<Region>,
     // The regions whose rows are marked, those of which a stock is, and those all of whose stocks
@@ -62,7 +62,7 @@ impl Regions {
         }
     }
 
-    /// These regions, with nothing marked. AllocError if there is no memory for their marks.
+    /// The given regions, with nothing marked. AllocError if there is no memory for their marks.
     pub(crate) fn of(alloc: Global, values: Numbered<Region>) -> Result<Regions, AllocError>
         ensures { IfOk result (λ regions. regions ≡ unmarked_regions values) }
     {
@@ -109,7 +109,7 @@ impl Regions {
         }
     }
 
-    /// How many rows are marked, and of how many regions a stock is, in one sum.
+    /// The number of regions whose rows are marked, plus the number of regions with a marked stock.
     pub(crate) fn marked(&self) -> usize
         ensures value { result ≡ set.len self.now.rows + set.len self.now.markets }
         ensures small { result ≤ 2 * number_count }
@@ -139,7 +139,7 @@ impl Regions {
         self.items.iter()
     }
 
-    /// Lends a region, and marks nothing.
+    /// Lends a region, if there is one, and marks nothing.
     fn lend(&mut self, number: u32) -> Option<&mut Region>
         ensures* writes_back { sem 𝓛 (LendsRegion self.entry number result) }
         ensures value { option_copied_mut result ≡ map.get self.old.values number }
@@ -158,7 +158,7 @@ impl Regions {
         self.rows.mark_present(&self.values, number);
     }
 
-    /// Marks one stock of a region, or all of them where there is no memory for that mark.
+    /// Marks one stock of a region, or all its stocks where there is no memory for that mark.
     fn mark_item(&mut self, alloc: Global, number: u32, item: u32)
         ensures { (self.new ≡ with_item_marked self.old number item) ⊎ (self.new
             ≡ with_items_marked self.old number) }
@@ -175,8 +175,8 @@ impl Regions {
         self.stocks.mark_present(&self.values, number);
     }
 
-    /// Marks one stock of a region, if it has another amount of the item than this, or all of them
-    /// where there is no memory for that mark.
+    /// Marks one stock of a region, if it has another amount of the item than this. Where there is
+    /// no memory for that mark, all stocks of the region are marked.
     pub(crate) fn mark_stock(&mut self, alloc: Global, number: u32, item: u32, amount: u32)
         ensures marks { MarksStockAt self.old self.new number item amount }
         ensures values { self.new.values ≡ self.old.values }
@@ -207,8 +207,8 @@ impl Regions {
         }
     }
 
-    /// Sets how many pieces of an item a region has in stock, and marks nothing. An amount of 0 takes
-    /// no memory. Without memory nothing changes.
+    /// Sets how many pieces of an item a region has in stock, and marks nothing. An amount of 0
+    /// takes no memory. Without memory nothing changes.
     pub(crate) fn put_stock(&mut self, region: u32, item: u32, stock: u32) -> Result<(), AllocError>
         ensures ok { OnOk result
             (self.new.values ≡ with_stock_at self.old.values region item stock) }
@@ -222,7 +222,7 @@ impl Regions {
         put_amount(&mut lent.stocks, item, stock)
     }
 
-    /// Leaves nothing marked. It takes no memory.
+    /// Clears all marks. It takes no memory.
     pub(crate) fn unmark(&mut self)
         ensures { self.new ≡ unmarked_regions self.old.values }
     {

@@ -39,7 +39,7 @@ fn flag(set: bool) -> i64
     if set { 1 } else { 0 }
 }
 
-/// The campaign row.
+/// The campaign row of a campaign in a format.
 fn campaign_row(
     alloc: Global,
     format: Format,

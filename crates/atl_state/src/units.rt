@@ -52,6 +52,7 @@ impl Units {
     ghost use Rattle.std.specs.Borrow.{sem};
     ghost use Rattle.atl_state.specs.UnitMarks.{LendsUnit, LendsRow};
 
+    /// No units, and nothing marked. It takes no memory.
     pub(crate) fn new(alloc: Global) -> Units
         ensures { result ≡ no_units }
     {
@@ -65,7 +66,7 @@ impl Units {
         }
     }
 
-    /// These units, with nothing marked.
+    /// The given units, with nothing marked. AllocError if there is no memory for their marks.
     pub(crate) fn of(alloc: Global, values: Arena<Unit>) -> Result<Units, AllocError>
         ensures { IfOk result (λ units. units ≡ unmarked_units values) }
     {
@@ -96,6 +97,7 @@ impl Units {
         self.units.iter()
     }
 
+    /// How many units there are.
     pub(crate) fn len(&self) -> usize
         ensures { result ≡ map.len self.now.values }
     {
@@ -147,7 +149,7 @@ impl Units {
         self.skills.iter()
     }
 
-    /// Lends a unit, and marks it, its row and all its goods. It takes no memory.
+    /// Lends a unit, if there is one, and marks it, its row and all its goods. It takes no memory.
     pub(crate) fn get_mut(&mut self, number: u32) -> Option<&mut Unit>
         ensures* writes_back { sem 𝓛 (LendsUnit self.entry number result) }
         ensures value { option_copied_mut result ≡ map.get self.old.values number }
@@ -165,7 +167,7 @@ impl Units {
         }
     }
 
-    /// Lends a unit, and marks it and its row. It takes no memory.
+    /// Lends a unit, if there is one, and marks it and its row. It takes no memory.
     fn row_mut(&mut self, number: u32) -> Option<&mut Unit>
         ensures* writes_back { sem 𝓛 (LendsRow self.entry number result) }
         ensures value { option_copied_mut result ≡ map.get self.old.values number }
@@ -235,8 +237,8 @@ impl Units {
         }
     }
 
-    /// Sets how many pieces of an item a unit has, at most 999,999,999, and marks that item. Its
-    /// row isn't marked. Without memory the units are as they were, but for that mark.
+    /// Sets how many pieces of an item a unit has, at most 999,999,999, and marks that item, not
+    /// the unit's row. Without memory the units are as they were, but that mark may be set.
     pub(crate) fn set_item(
         &mut self,
         alloc: Global,
@@ -262,8 +264,8 @@ impl Units {
         unit.holding.set_amount(item, amount)
     }
 
-    /// Sets a unit's days of a skill over all men, and marks that skill. Its row isn't marked.
-    /// Without memory the units are as they were, but for that mark.
+    /// Sets a unit's days of a skill over all men, and marks that skill, not the unit's row.
+    /// Without memory the units are as they were, but that mark may be set.
     pub(crate) fn set_days(
         &mut self,
         alloc: Global,

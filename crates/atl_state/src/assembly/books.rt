@@ -22,7 +22,7 @@ fn put_row(books: &mut Books, row: &StoredBooks)
     }
 }
 
-/// The books of rows, for this many things.
+/// The books that are read from rows, for this many things.
 pub(crate) fn books_of(
     alloc: Global,
     things: usize,

@@ -107,7 +107,7 @@ pub(crate) fn reports_of(alloc: Global, rows: &[StoredReport]) -> Result<Numbere
     Ok(reports)
 }
 
-/// The maps of a campaign that rows say, but for its units; nothing in them is marked.
+/// The factions, regions, structures, mail and reports of a campaign, by number.
 pub(crate) struct CampaignMaps {
     pub(crate) factions: MarkedMap<Faction>,
     pub(crate) regions: Regions,
@@ -179,8 +179,8 @@ fn marked_map_of_reports(
     MarkedMap::of(alloc, reports)
 }
 
-/// The maps of the campaign that rows say, but for its units, with nothing marked. Names and pass
-/// texts keep their rules.
+/// The factions, regions, structures, mail and reports that are read from rows, with nothing
+/// marked. Names and pass texts keep their rules. AllocError without memory.
 pub(crate) fn campaign_maps_of(alloc: Global, parts: &Parts) -> Result<CampaignMaps, AllocError>
     requires factions { list_all faction_named parts.now.factions ≡ true }
     requires structures { list_all (λ r. name_ok r.name) parts.now.structures ≡ true }

@@ -13,7 +13,7 @@ use atl_records::{ENTRY_COUNT, FIRST_ITEM};
 use atl_tables::{Marks, World};
 use std::alloc::{AllocError, Global};
 
-/// The campaign that rows say, with nothing marked. AllocError without memory.
+/// The campaign that is read from rows, with nothing marked. AllocError without memory.
 #[tactic(auto, unfolding(crate::specs::FromRows::campaign_of))]
 pub(crate) fn assemble(alloc: Global, world: &World, parts: &Parts) -> Result<Campaign, AllocError>
     requires one { length parts.now.campaign ≡ 1 }

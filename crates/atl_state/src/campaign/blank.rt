@@ -11,8 +11,8 @@ use atl_tables::{MarkedMap, Marks, Text};
 use std::alloc::Global;
 
 impl Campaign {
-    /// An empty campaign, with nothing marked. It is put where a campaign was taken out, and
-    /// founding never gives it. It takes no memory.
+    /// An empty campaign, with nothing marked. Callers leave it where they move a campaign out;
+    /// founding never returns it. It takes no memory.
     pub fn blank(alloc: Global) -> Campaign
         ensures { result ≡ blank }
     {

@@ -11,8 +11,8 @@ use atl_records::{Structure, Unit};
 use std::alloc::AllocError;
 
 impl Campaign {
-    /// Adds a unit under a number that no unit has, and marks it and its goods as dirty. Without
-    /// memory for it nothing changes.
+    /// Adds a unit under a number that no unit has, and marks it, its row and all its goods.
+    /// Without memory for it nothing changes.
     fn add_unit(&mut self, number: u32, unit: Unit) -> Result<(), AllocError>
         requires { map.get self.old.value.units number ≡ None }
         ensures ok { OnOk result
@@ -34,8 +34,8 @@ impl Campaign {
         }
     }
 
-    /// Adds a unit under the next unit number, and returns that number. It is at most LAST_UNIT,
-    /// and the next one is one more. The unit, its goods and the campaign row are marked.
+    /// Adds a unit under the next unit number, at most LAST_UNIT, and returns that number. The next
+    /// unit number rises by one. The unit, its row, its goods and the campaign row are marked.
     /// AllocError without memory, and then nothing changes.
     /// See docs/RULES.md, "Limits".
     pub fn begin_unit(&mut self, unit: Unit) -> Result<u32, AllocError>
@@ -53,8 +53,8 @@ impl Campaign {
         Ok(number)
     }
 
-    /// Adds a structure under the next structure number, and returns that number. It is at most
-    /// MOST_STRUCTURES, and the next one is one more. The structure and the campaign row are
+    /// Adds a structure under the next structure number, at most MOST_STRUCTURES, and returns that
+    /// number. The next structure number rises by one. The structure and the campaign row are
     /// marked. AllocError without memory, and then nothing changes.
     /// See docs/RULES.md, "Limits".
     pub fn begin_structure(&mut self, structure: Structure) -> Result<u32, AllocError>

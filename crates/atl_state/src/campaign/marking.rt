@@ -41,15 +41,16 @@ impl Campaign {
         self.regions.marked_rows()
     }
 
-    /// The numbers of the regions all of whose stocks are marked, in rising order. It takes no memory.
+    /// The numbers of the regions all of whose stocks are marked, in rising order. It takes no
+    /// memory.
     pub fn marked_stocks(&self) -> MarkedNumbers<'_>
         ensures { Lists self.now.marks.stocks result }
     {
         self.regions.marked_stocks()
     }
 
-    /// The single stocks that are marked, by the numbers of their regions and of their items, in rising order. It takes no
-    /// memory.
+    /// The single stocks that are marked, by the numbers of their regions and of their items, in
+    /// rising order. It takes no memory.
     pub fn marked_stock_items(&self) -> Entries<'_, Numbered<()>>
         ensures { result ≡ map.entries self.now.marks.stock_items }
     {

@@ -22,9 +22,9 @@ fn first_other(numbers: &[u32], leaving: u32) -> u32
 }
 
 impl Campaign {
-    /// The owner of a structure once a unit has left it; 0 where there is no such structure. It is
-    /// the owner as before where that unit isn't it, else the lowest-numbered other unit inside, or
-    /// 0 where there is none. It takes no memory. See docs/RULES.md, "Owners".
+    /// The owner of a structure once a unit has left it; 0 where there is no such structure. If the
+    /// unit didn't own it, the owner stays; else it is the lowest-numbered other unit inside, or 0
+    /// where there is none. It takes no memory. See docs/RULES.md, "Owners".
     pub fn owner_after(&self, structure: u32, leaving: u32) -> u32
         ensures { result ≡ owner_after self.now.value structure leaving }
     {
@@ -52,7 +52,8 @@ impl Campaign {
         }
     }
 
-    /// Hands a structure from one owner to another, where the former owns it.
+    /// Hands a structure from owner `from` to `to`, and marks it; unless `from` owns it, nothing
+    /// changes.
     fn hand_over(&mut self, structure: u32, from: u32, to: u32)
         ensures { self.new ≡ handed_marked self.old structure from to }
     {

@@ -23,7 +23,7 @@ impl Campaign {
         self.row_marked = true;
     }
 
-    /// Sets the name that a faction shows, and marks the faction.
+    /// Sets the shown name of a faction, if there is such a faction, and marks the faction.
     pub fn set_faction_name(&mut self, number: u32, name: Text)
         ensures what { self.new.value ≡ with_faction_name self.old.value number name }
         ensures marks { self.new.marks ≡ mark_faction self.old number }
@@ -33,7 +33,7 @@ impl Campaign {
         }
     }
 
-    /// Sets a faction's flag `gone`, and marks the faction.
+    /// Sets the flag `gone` of a faction, if there is such a faction, and marks it.
     pub fn set_gone(&mut self, number: u32)
         ensures what { self.new.value ≡ with_gone self.old.value number }
         ensures marks { self.new.marks ≡ mark_faction self.old number }
@@ -43,7 +43,7 @@ impl Campaign {
         }
     }
 
-    /// Sets how many peasants a region has, and marks its row; its stocks stay unmarked. In a good
+    /// Sets how many peasants a region has, and marks its row, none of its stocks. In a good
     /// campaign there are 0 to atl_tables' MOST_AMOUNT.
     pub fn set_peasants(&mut self, region: u32, peasants: u32)
         ensures what { self.new.value ≡ with_peasants self.old.value region peasants }
@@ -52,8 +52,8 @@ impl Campaign {
         self.regions.set_peasants(region, peasants);
     }
 
-    /// Sets how much money a region has, and marks its row; its stocks stay unmarked. In a good
-    /// campaign it is 0 to atl_tables' MOST_AMOUNT.
+    /// Sets how much money a region has, and marks its row, none of its stocks. In a good campaign
+    /// it is 0 to atl_tables' MOST_AMOUNT.
     pub fn set_region_money(&mut self, region: u32, money: u32)
         ensures what { self.new.value ≡ with_region_money self.old.value region money }
         ensures marks { self.new.marks ≡ mark_region self.old region }
@@ -76,7 +76,7 @@ impl Campaign {
         self.regions.put_stock(region, item, amount)
     }
 
-    /// Sets the name of a unit, and marks its row; its goods stay unmarked.
+    /// Sets the name of a unit, and marks its row, none of its goods.
     pub fn set_unit_name(&mut self, unit: u32, name: Text)
         ensures what { self.new.value ≡ with_unit_name self.old.value unit name }
         ensures marks { self.new.marks ≡ mark_unit_row self.old unit }
@@ -84,8 +84,8 @@ impl Campaign {
         self.units.set_name(unit, name);
     }
 
-    /// Sets how many men a unit has, at most MEN_LIMIT, and marks its row. Its goods stay unmarked,
-    /// and its days of study stay as they are.
+    /// Sets how many men a unit has, at most MEN_LIMIT, and marks its row, none of its goods. Its
+    /// days of study stay as they are.
     pub fn set_men(&mut self, unit: u32, men: u32)
         requires { men ≤ men_limit }
         ensures what { self.new.value ≡ with_men self.old.value unit men }
@@ -94,7 +94,7 @@ impl Campaign {
         self.units.set_men(unit, men);
     }
 
-    /// Sets a unit's money, at most HOLDING_LIMIT, and marks its row; its goods stay unmarked.
+    /// Sets a unit's money, at most HOLDING_LIMIT, and marks its row, none of its goods.
     pub fn set_money(&mut self, unit: u32, money: u32)
         requires { money ≤ holding_limit }
         ensures what { self.new.value ≡ with_money self.old.value unit money }
@@ -103,9 +103,9 @@ impl Campaign {
         self.units.set_money(unit, money);
     }
 
-    /// Sets how many pieces of an item a unit has, at most HOLDING_LIMIT, and marks that item.
-    /// Neither the unit's row nor another of its goods is marked. AllocError without memory, and
-    /// then the campaign is as it was, but for that mark.
+    /// Sets how many pieces of an item a unit has, at most HOLDING_LIMIT, and marks that item, not
+    /// the unit's row or another of its goods. AllocError without memory, and then the campaign is
+    /// as it was, but that mark may be set.
     pub fn set_item(&mut self, unit: u32, item: u32, amount: u32) -> Result<(), AllocError>
         requires { amount ≤ holding_limit }
         ensures ok { OnOk result (self.new.value ≡ with_item self.old.value unit item amount) }
@@ -116,9 +116,9 @@ impl Campaign {
         self.units.set_item(self.alloc, unit, item, amount)
     }
 
-    /// Sets a unit's days of study of a skill over all men, and marks that skill. Neither the
-    /// unit's row nor another of its goods is marked. AllocError without memory, and then the
-    /// campaign is as it was, but for that mark.
+    /// Sets a unit's days of study of a skill over all men, and marks that skill, not the unit's
+    /// row or another of its goods. AllocError without memory, and then the campaign is as it was,
+    /// but that mark may be set.
     pub fn set_days(&mut self, unit: u32, skill: u32, days: u32) -> Result<(), AllocError>
         ensures ok { OnOk result (self.new.value ≡ with_skill self.old.value unit skill days) }
         ensures err { OnErr result
@@ -128,7 +128,7 @@ impl Campaign {
         self.units.set_days(self.alloc, unit, skill, days)
     }
 
-    /// Sets or clears a unit's guard flag, and marks its row; its goods stay unmarked.
+    /// Sets or clears a unit's guard flag, and marks its row, none of its goods.
     pub fn set_guard(&mut self, unit: u32, guard: bool)
         ensures what { self.new.value ≡ with_guard self.old.value unit guard }
         ensures marks { self.new.marks ≡ mark_unit_row self.old unit }

@@ -143,7 +143,7 @@ fn have_keys<R: Keyed>(alloc: Global, rows: &[R]) -> Result<bool, AllocError>
     are_distinct(alloc, &keys)
 }
 
-/// Whether in no table two rows have the same key.
+/// Whether no two rows of a table have the same key, in each table but `campaign`.
 pub(super) fn are_keyed(alloc: Global, parts: &Parts) -> Result<bool, AllocError>
     ensures { IfOk result (λ yes. IsTrue yes ↔ (AreKeyed parts.now)) }
 {

@@ -54,7 +54,7 @@ fn unit_in_range(row: &StoredUnit) -> bool
         && is_from(0, 1, row.guard)
 }
 
-/// Whether the sort is 0 or 1, and the amount of an item is in its range; days aren't judged.
+/// Whether the sort is 0 or 1, and the amount of an item is in its range; days aren't checked.
 fn has_in_range(row: &StoredHas) -> bool
     ensures { result ≡ has_in_range row.now }
 {
@@ -87,18 +87,21 @@ fn market_in_range(world: &World, row: &StoredMarket) -> bool
     is_from(1, limit, row.stock)
 }
 
+/// Whether each row of `faction` is in its ranges.
 fn factions_in_range(rows: &[StoredFaction]) -> bool
     ensures { result ≡ list_all faction_in_range rows.now }
 {
     rows.iter().all(|row| faction_in_range(row))
 }
 
+/// Whether each row of `region` is in its ranges.
 fn regions_in_range(rows: &[StoredRegion]) -> bool
     ensures { result ≡ list_all region_in_range rows.now }
 {
     rows.iter().all(|row| region_in_range(row))
 }
 
+/// Whether each row of `unit` is in its ranges.
 fn units_in_range(rows: &[StoredUnit]) -> bool
     ensures { result ≡ list_all unit_in_range rows.now }
 {
@@ -112,6 +115,7 @@ fn all_has_in_range(rows: &[StoredHas]) -> bool
     rows.iter().all(|row| has_in_range(row))
 }
 
+/// Whether each row of `structure` is in its ranges.
 fn structures_in_range(world: &World, rows: &[StoredStructure]) -> bool
     ensures { result ≡ list_all (structure_in_range world.now) rows.now }
 {
@@ -125,6 +129,7 @@ fn all_books_in_range(bound: u128, rows: &[StoredBooks]) -> bool
     rows.iter().all(|row| books_in_range(bound, row))
 }
 
+/// Whether the stock of each row of `market` is in its range.
 fn markets_in_range(world: &World, rows: &[StoredMarket]) -> bool
     ensures { result ≡ list_all (market_in_range world.now) rows.now }
 {
@@ -151,7 +156,7 @@ fn people_in_range(parts: &Parts) -> bool
         && all_has_in_range(parts.has.as_slice())
 }
 
-/// How large an amount of the books may be, without its sign.
+/// How large an amount of the books may be, without its sign, by the month and the factions.
 fn books_bound(parts: &Parts) -> u128
     requires { length parts.now.campaign ≡ 1 }
     ensures { result ≡ books_bound parts.now }

@@ -50,8 +50,8 @@ fn are_people_balanced(campaign: &Campaign) -> bool
     is_balanced(campaign, Thing::Money) && is_balanced(campaign, Thing::People)
 }
 
-/// Whether for each thing the total of all units and regions is the sum of its entries, where all items held are the
-/// world's, and all stocks those of its markets. It takes no memory.
+/// Whether the total of each thing over all units and regions is the sum of its entries. All items
+/// held must be the world's, and all stocks of its markets. It takes no memory.
 pub(crate) fn are_balanced(world: &World, campaign: &Campaign) -> bool
     requires few { IsCountable campaign.now.value }
     requires books { AreBooks (things_of world.now) campaign.now.value.books }

@@ -251,8 +251,9 @@ fn are_posts_known(campaign: &Campaign) -> bool
     are_mail_known(campaign) && are_reports_known(campaign)
 }
 
-/// Whether the regions are exactly the world's, with stocks of their markets, all that is named by its number is there, and
-/// each unit's structure is in the unit's region. It takes no memory.
+/// Whether the regions are exactly the world's, with stocks of their markets alone. All that is
+/// named by its number must exist, and each unit's structure be in the unit's region. It takes no
+/// memory.
 pub(crate) fn are_known(world: &World, campaign: &Campaign) -> bool
     ensures { IsTrue result ↔ (AreKnown world.now campaign.now.value) }
 {

@@ -24,8 +24,8 @@ fn is_kept(campaign: &Campaign, number: u32, text: &Sequence<u8>) -> bool
     is_mailing_of(number, text.as_slice()) && is_active(campaign, number)
 }
 
-/// Whether each mail is of a faction that is not gone, is not too long and has a header that names the faction. It
-/// takes no memory.
+/// Whether each mail is of a faction that is not gone, is not too long and has a header that names
+/// the faction. It takes no memory.
 pub(crate) fn are_mailings(campaign: &Campaign) -> bool
     ensures { IsTrue result ↔ (IsMail campaign.now.value) }
 {
