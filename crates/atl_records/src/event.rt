@@ -65,7 +65,7 @@ pub enum EventFault {
     Complete = 15,
     /// No further structure may be begun.
     StructureLimit = 16,
-    /// There is no region in that direction that the unit can enter.
+    /// There is no region in that direction that can be entered in this way.
     NoWay = 17,
     /// The load is more than can be carried.
     TooHeavy = 18,
