@@ -1,4 +1,5 @@
--- Laws of a unit that leaves a campaign: it stays steady, totals lose what the unit held, and what changed is marked.
+-- Laws of a unit that is removed: the campaign stays steady, totals lose what the unit held, and what changed is
+-- marked.
 use Rattle.std.proofs.Common.{◌≡◌, ◌≢◌, ◌==◌, ℕ, ◌+◌, ◌≤◌, ◌<◌, Bool, true, false, length, not, List, Option, Some, None, refl, sym, ap, subst, ◌∙◌, arith, true≢false}
 use Rattle.std.specs.Prelude.{option_map, if◌then◌else◌}
 use Rattle.std.proofs.lemmas.Bool.{not-false}
@@ -56,7 +57,7 @@ module _ (w : WorldValue) (c : CampaignValue) (n : ℕ) (u : Unit) (is : get c.u
     abbrev after : CampaignValue
     after = reduced structures
 
-    -- what is so of every structure, whoever owns it, is so of the reowned ones
+    -- if P holds of every structure, whoever owns it, it holds of the reowned structures
     every_owned : (P : ℕ → Structure → Type 0) → ((k o : ℕ) (y : Structure) → P k y → P k (owned_by o y)) → Every P c.structures → Every P structures
     every_owned P free old k x there = let (y, o, was, same) = re.back k x there in subst (P k) same (free k o y (old k y was))
 
@@ -85,7 +86,7 @@ module _ (w : WorldValue) (c : CampaignValue) (n : ℕ) (u : Unit) (is : get c.u
       books = old.books;
     }
 
-    -- what the units left name still exists
+    -- everything that the remaining units name still exists
     placed_left : AreKnown w c → Every (λ k v. IsPlaced w after v) left
     placed_left old k v there =
         let p = old.units k v (still c.units n k v there).1 in
@@ -97,7 +98,7 @@ module _ (w : WorldValue) (c : CampaignValue) (n : ℕ) (u : Unit) (is : get c.u
           skills = p.skills;
         }
 
-    -- what the structures name still exists
+    -- everything that the structures name still exists
     built_left : AreKnown w c → Every (λ k s. IsBuilt w after s) structures
     built_left old k x there =
         let (y, o, was, same) = re.back k x there in
@@ -170,7 +171,7 @@ module _ (w : WorldValue) (c : CampaignValue) (n : ℕ) (u : Unit) (is : get c.u
         let one : Some v ≡ Some u = sym at ∙ ap (get c.units) own ∙ is in
         sym (ap (λ o. structure_in o u) one) ∙ inside
 
-    -- a structure that another owns is still owned well
+    -- a structure that another unit owns still satisfies IsOwned once unit n is removed
     still_owned : (k : ℕ) (x : Structure) (structures : FinMap nat_cmp Structure) → get c.structures k ≡ Some x → x.owner ≢ n → IsOwned (reduced structures) k x
     still_owned k x structures there apart =
         let o = old k x there in
@@ -179,7 +180,7 @@ module _ (w : WorldValue) (c : CampaignValue) (n : ℕ) (u : Unit) (is : get c.u
           ownerless = λ none. every-remove c.units n (λ m v. v.structure ≢ k) (o.ownerless none);
         }
 
-    -- where the unit owns no structure, the structures as they were are reowned
+    -- the unchanged structures satisfy AreReowned, if unit n does not own the structure that it is inside
     as_they_were : is_owned_by (get c.structures u.structure) n ≡ false → AreReowned c.structures
     as_they_were free = record {
       count = refl;
@@ -202,7 +203,7 @@ module _ (w : WorldValue) (c : CampaignValue) (n : ℕ) (u : Unit) (is : get c.u
         not_owner : (k : ℕ) (x : Structure) → get c.structures k ≡ Some x → x.owner ≡ n → ⊥
         not_owner k x there own = owner_test (get c.structures u.structure) x (ap (get c.structures) (owns_own k x there own) ∙ there) own free
 
-    -- where it owns the structure that it is inside
+    -- for a unit that owns the structure that it is inside
     module _ (mine : Structure) (here : get c.structures u.structure ≡ Some mine) (some_place : u.structure ≢ 0) where
       -- the next owner of the structure: the first other unit inside, or 0
       abbrev next : ℕ
@@ -216,7 +217,7 @@ module _ (w : WorldValue) (c : CampaignValue) (n : ℕ) (u : Unit) (is : get c.u
       abbrev among : List ℕ
       among = numbers_inside u.structure c.units
 
-      -- a number that passes the test of being another is another
+      -- a number that passes the test of not being n is not n
       is_other : (k : ℕ) → not (k == n) ≡ true → k ≢ n
       is_other k t same = let e : (k == n) ≡ true = grind (arith, nat_tests) in other_not (k == n) t e
         where
@@ -224,7 +225,7 @@ module _ (w : WorldValue) (c : CampaignValue) (n : ℕ) (u : Unit) (is : get c.u
           other_not true a b = cc
           other_not false a b = cc
 
-      -- a number that fails the test of being another is the same
+      -- a number that fails the test of not being n is n
       is_same : (k : ℕ) → not (k == n) ≡ false → k ≡ n
       is_same k t = let e : (k == n) ≡ true = not-false (k == n) t in grind (arith, nat_tests)
 
@@ -232,7 +233,7 @@ module _ (w : WorldValue) (c : CampaignValue) (n : ℕ) (u : Unit) (is : get c.u
       listed_low : (k : ℕ) → IsListed k among → 1 ≤ k
       listed_low k h = let (v, at, inside) = listed_is_inside u.structure c.units k h in low k v at
 
-      -- the structure is owned well by its next owner
+      -- the unit's structure with its next owner satisfies IsOwned
       heir_owns : IsOwned (reduced handed_on) u.structure (owned_by next mine)
       heir_owns =
           let first = first_of (λ k. not (k == n)) among listed_low in
@@ -246,7 +247,7 @@ module _ (w : WorldValue) (c : CampaignValue) (n : ℕ) (u : Unit) (is : get c.u
                 apart (is_same k (first.1 none k (inside_is_listed u.structure c.units some_place k v at within)));
           }
 
-      -- the structures, with the unit's structure handed on, are reowned
+      -- the structures, with the next owner of the unit's structure, satisfy AreReowned
       as_handed_on : AreReowned handed_on
       as_handed_on = record {
         count = same_len c.structures u.structure mine (owned_by next mine) here;
@@ -296,11 +297,11 @@ module _ (w : WorldValue) (c : CampaignValue) (n : ℕ) (u : Unit) (is : get c.u
       by_owner None here = steady_left c.structures (as_they_were old.owners low (ap (λ o. is_owned_by o n) here)) old
       by_owner (Some s) here = by_test s here (is_owned_by (Some s) n) (ap (λ o. is_owned_by o n) here)
 
-  -- a campaign stays steady without a unit
+  -- a steady campaign stays steady when a unit is removed
   pub steady-without : IsSteady w c → IsSteady w (without_unit c n)
   steady-without old = subst (IsSteady w) (sym without-known) (steady_handed old)
 
-  -- a total loses what the unit held
+  -- removing a unit lowers each total by what the unit held
   pub total-without : (t : Thing) → total (without_unit c n) t + unit_amount t u.holding ≡ total c t
   unfolding total
   total-without t =
