@@ -12,7 +12,7 @@ use Rattle.atl_records.specs.Limits.{holding_limit}
 use Rattle.atl_records.proofs.EveryLaws.{every-insert, get-insert_other}
 use Rattle.atl_records.proofs.RemovedLaws.{every-remove, get-remove_other}
 
--- what is so of every amount, and of the amount that is set if it isn't 0, is so of every amount after that
+-- if P holds of every amount, and of the one that is set unless it is 0, it holds of every amount after setting
 pub every_amount : (P : ℕ → ℕ → Type 0) (items : FinMap nat_cmp ℕ) (i amount : ℕ) → (1 ≤ amount → P i amount) → Every P items → Every P (with_amount_of items i amount)
 every_amount P items i amount here old = by_zero (amount == 0) refl
   where
@@ -57,14 +57,14 @@ module _ (items : FinMap nat_cmp ℕ) (i amount : ℕ) where
   pub set_same : amount_of (with_amount_of items i amount) i ≡ amount
   set_same = let same : (i == i) ≡ true = grind (arith, nat_tests) in set_amount items i amount i ∙ ap (λ b. cond b amount (amount_of items i)) (sym (unsigned_ties i i) ∙ same)
 
-  -- another amount is as before
+  -- each other number has its amount as before
   pub set_other : (j : ℕ) → j ≢ i → amount_of (with_amount_of items i amount) j ≡ amount_of items j
   set_other j apart = elim (cases_Bool (eq_by_cmp nat_cmp j i)) [
     | inl same ↦ absurd (apart (alike i j same))
     | inr other ↦ set_amount items i amount j ∙ ap (λ b. cond b amount (amount_of items j)) other
   ]
 
-  -- another number is listed as before
+  -- each other number is listed as before
   pub get-set_other : (j : ℕ) → j ≢ i → get (with_amount_of items i amount) j ≡ get items j
   get-set_other j apart = by_zero (amount == 0)
     where

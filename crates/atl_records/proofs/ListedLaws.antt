@@ -17,9 +17,9 @@ use Rattle.atl_records.proofs.BookLaws.{get-listed, listed, none_past, zero_is}
 use Rattle.atl_records.proofs.EveryLaws.{is_true, none_some}
 use Rattle.atl_records.proofs.GridLaws.{any_accounts}
 
--- ---- accounts that rise
+-- ---- sorted accounts
 
--- the account is less than each of the list
+-- account a is less than each account of the list
 abbrev pub Behind : Account → List Account → Type 0
 Behind a chosen = AllByRecursion (λ c. account_cmp a c ≡ Less) chosen
 
@@ -47,7 +47,7 @@ rise_append : (xs ys : List Account) → Rise xs → Rise ys → AllByRecursion 
 rise_append [] ys h k all = k
 rise_append (x ∷ xs) ys h k all = (all_append (λ c. account_cmp x c ≡ Less) xs ys h.0 all.0, rise_append xs ys h.1 k all.1)
 
--- what is so of an entry's account with every thing is so of its accounts for some things
+-- if P holds of an entry's account with every thing, it holds of its accounts with some things
 all_under : (P : Account → Type 0) (e : Entry) (numbers : List ℕ) → ((i : ℕ) → P (e, thing_at i)) → AllByRecursion P (map (λ i. (e, thing_at i)) numbers)
 all_under P e [] h = tt
 all_under P e (i ∷ numbers) h = (h i, all_under P e numbers h)

@@ -1,4 +1,4 @@
--- Laws of a report's part on orders, and that events of others make no difference to it.
+-- Laws of a report's part on orders, and that other factions' events make no difference to a report.
 use Rattle.std.proofs.Common.{◌≡◌, ◌==◌, ◌++◌, ℕ, Bool, true, false, cond, ◌||◌, ◌&&◌, not, List, [], ◌∷◌, length, refl, sym, ap, ◌∙◌, arith}
 use Rattle.std.specs.Prelude.{codes, filter}
 use Rattle.std.specs.List.{list_any}
@@ -52,7 +52,7 @@ told_something faction [] events h = by_test (list_any (λ (e : Event). e.factio
     by_test true h rest = rest refl
     by_test false h rest = absurd (false≢true (sym h))
 
--- two lists of events with the same own events give one report
+-- two lists of events with the same events of a faction give that faction the same report
 pub others_events_are_not_told : OthersEventsAreNotTold
 unfolding report_of orders_part
 others_events_are_not_told w v faults events others h = ap (λ own. header_line v ++ ((codes "Orders:\n" ++ results_text faults own) ++ region_parts w v.regions)) h

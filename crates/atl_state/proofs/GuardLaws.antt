@@ -57,7 +57,7 @@ module _ {V : Type 0} (p : V → Bool) where
   of_listed : (m : FinMap nat_cmp V) (n : ℕ) → In n (numbers_where p m) → (v : V) × (get m n ≡ Some v) × (p v ≡ true)
   of_listed m n h = let (i, l, is) = position_of n (numbers_where p m) h in subst (λ k. (v : V) × (get m k ≡ Some v) × (p v ≡ true)) is (passes-listed p m i 0 l)
 
--- ---- those who hold
+-- ---- the faction that holds a region
 
 -- equal Some's have equal numbers
 same_value : (x y : ℕ) → Some x ≡ Some y → x ≡ y

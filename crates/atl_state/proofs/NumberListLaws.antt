@@ -43,17 +43,17 @@ module _ {V : Type 0} (p : V → Bool) where
   abbrev chosen : List (ℕ × V) → List ℕ
   chosen es = map (λ e. e.0) (filter (λ e. p e.1) es)
 
-  -- a number on a list is on it with one more in front, or without
+  -- a number on a list is still on it when n is put in front, or not
   further : (n : ℕ) (ns : List ℕ) (b : Bool) (k : ℕ) → IsListed k ns → IsListed k (cond b (n ∷ ns) ns)
   further n ns true k h = inr h
   further n ns false k h = h
 
-  -- a number put in front is on the list
+  -- n is on a list in front of which n is put
   foremost : (n : ℕ) (ns : List ℕ) (b : Bool) → b ≡ true → IsListed n (cond b (n ∷ ns) ns)
   foremost n ns true h = inl refl
   foremost n ns false h = cc
 
-  -- what is listed in one list is listed in a list that has all of it
+  -- if the numbers of passing entries are on a list, they are on each list that has all numbers of the first
   all_further : (ks ns : List ℕ) → ((k : ℕ) → IsListed k ks → IsListed k ns) → (es : List (ℕ × V)) → EachOf (λ n v. p v ≡ true → IsListed n ks) es → EachOf (λ n v. p v ≡ true → IsListed n ns) es
   all_further ks ns more [] h = tt
   all_further ks ns more (e ∷ es) h = (λ t. more e.0 (h.0 t), all_further ks ns more es h.1)
