@@ -23,6 +23,7 @@ at_place Money = refl
 at_place People = refl
 at_place (Item i) = item_at (2 + i) i (omega arith)
   where
+    -- the thing with number i + 2 is item i
     item_at : (n i : ℕ) → n ≡ suc (suc i) → thing_at n ≡ Item i
     item_at n i is = ap thing_at is
 

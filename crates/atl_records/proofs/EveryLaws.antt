@@ -99,7 +99,7 @@ module _ {V : Type 0} where
         | Greater ↦ λ o. let l = ranked e.0 e.0 Greater (sym o) in absurd (omega arith)
       ] refl
 
-  -- what EachOf says of the entries of a list is so of each value that is found in it
+  -- if P holds of each entry of a list (EachOf), it holds of each value that is found in it
   pub found_of : (P : ℕ → V → Type 0) (es : List (ℕ × V)) (n : ℕ) (v : V) → EachOf P es → find nat_cmp n es ≡ Some v → P n v
   found_of P [] n v h is = none_some v is
   found_of P (e ∷ es) n v h is =
@@ -193,9 +193,11 @@ module _ {V W : Type 0} (f : V → W) where
   pub there-mapped : (m : FinMap nat_cmp V) (n : ℕ) → IsThere (mapped f m) n ↔ IsThere m n
   there-mapped m n = (back, forth)
     where
+      -- a number that has a value in the mapped map has one in the map
       back : IsThere (mapped f m) n → IsThere m n
       back (x, is) = let (v, there, same) = under (get m n) x (sym (get-mapped f m n) ∙ is) in (v, there)
 
+      -- a number that has a value in the map has one in the mapped map
       forth : IsThere m n → IsThere (mapped f m) n
       forth (v, is) = (f v, get-mapped f m n ∙ ap (option_map f) is)
 

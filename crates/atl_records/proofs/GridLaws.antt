@@ -89,7 +89,7 @@ get-filled amount (c ∷ others) books a =
 cell_past : (rows : List (List ℤ)) (a : Account) → length rows ≤ thing_index a.1 → cell rows a ≡ pos 0
 cell_past rows a past = ap (λ row. get_or row (entry_index a.0) (pos 0)) (get_or_past rows (thing_index a.1) [] past)
 
--- rows stand for books of as many things as rows
+-- the books that rows stand for count as many things as there are rows
 pub things-as_books : (rows : List (List ℤ)) → (as_books rows).things ≡ length rows
 unfolding as_books
 things-as_books rows = refl

@@ -47,6 +47,7 @@ module _ {V : Type 0} (m : FinMap nat_cmp V) (k : ℕ) where
   pub fewer : len (remove m k) ≤ len m
   fewer = let is = len-remove nat_cmp_total m k in less (contains_key m k) (len (remove m k)) (len m) is
     where
+      -- a number, or one less, is at most that number
       less : (b : Bool) (x y : ℕ) → x ≡ cond b (y - 1) y → x ≤ y
       less true x y h = omega arith
       less false x y h = omega arith

@@ -54,7 +54,7 @@ few_numbered m next most is few n v there = let range = every-from_each (λ n v.
 few_before : {V : Type 0} (m : FinMap nat_cmp V) (next most : ℕ) → ((n : ℕ) → next ≤ n → get m n ≡ None) → next ≤ most + 1 → Every (λ n v. n ≤ most) m
 few_before m next most free few n v there = let low = every_before m next free n v there in omega (arith, low, few)
 
--- numbers up to a bound of at most 32 bits fit 32 bits
+-- numbers up to a bound that fits 32 bits fit 32 bits
 small_enough : {V : Type 0} (m : FinMap nat_cmp V) (most : ℕ) → most ≤ most_u32 → Every (λ n v. n ≤ most) m → Every (λ n v. n ≤ most_u32) m
 small_enough m most few every n v there = let here = every n v there in omega (arith, few, here)
 

@@ -44,6 +44,7 @@ module _ {R : Type 0} (test : R → Bool) where
   filter_apart e [] d = tt
   filter_apart e (r ∷ rows) d = either (filter_apart e rows d.1) (test r)
     where
+      -- the filtered rows are distinct, whether r passes the test or not
       either : IsDistinct e (filter test rows) → (b : Bool) → IsDistinct e (cond b (r ∷ filter test rows) (filter test rows))
       either rest true = (filter_each (λ s. e r s ≡ false) rows d.0, rest)
       either rest false = rest
@@ -53,6 +54,7 @@ module _ {R : Type 0} (test : R → Bool) where
   filter_both other [] = refl
   filter_both other (r ∷ rows) = either (filter_both other rows) (test r)
     where
+      -- filtering by both tests is the same, whether r passes the first or not
       either : filter other (filter test rows) ≡ filter (λ r. test r && other r) rows → (b : Bool)
           → filter other (cond b (r ∷ filter test rows) (filter test rows)) ≡ cond (b && other r) (r ∷ filter (λ r. test r && other r) rows) (filter (λ r. test r && other r) rows)
       either rest true = ap (λ rs. cond (other r) (r ∷ rs) rs) rest

@@ -29,7 +29,7 @@ use Rattle.atl_records.proofs.EveryLaws.{every-insert, get-insert_other, none_so
 use Rattle.atl_records.proofs.HoldingLaws.{get-set_other}
 use Rattle.atl_state.proofs.RegionLaws.{get-insert_same, same_len}
 
--- what a unit may hold in place of its holding: within the limits, of the world, guarding only if it did
+-- what a unit may hold instead: within the limits, of the world, and guarding only if it guarded before
 pub record MayHold (w : WorldValue) (u : Unit) (h : HoldingValue) : Type 0 where
   pub limits : IsHolding h
   pub name : IsTrue (name_ok h.name)
@@ -139,13 +139,13 @@ module _ (w : WorldValue) (c : CampaignValue) (n : ℕ) (u : Unit) (h : HoldingV
     structures = old.structures;
   }
 
-  -- those that pass a test are still of one faction, if the unit passes it only where it did
+  -- for a test that the unit with the new holding passes only where it did before
   module _ (test : Unit → Bool) (only : test new_unit ≡ true → test u ≡ true) where
     -- two units that pass the test in one region are of one faction
     abbrev Agree : Unit → Unit → Type 0
     Agree x y = test x ≡ true → test y ≡ true → x.region ≡ y.region → x.faction ≡ y.faction
 
-    -- those that pass a test stay of one faction in each region, if the unit passes only where it did
+    -- all units of a region that pass the test are still of one faction
     pub of_one_faction_kept : AreOfOneFaction test c → AreOfOneFaction test supplied
     of_one_faction_kept old =
         every-insert (λ k x. Every (λ m y. Agree x y) supplied.units) c.units n new_unit

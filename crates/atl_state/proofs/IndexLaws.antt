@@ -224,18 +224,23 @@ BelongsAt-above ps p n s is above =
       behind = λ k m w. absurd (omega (arith, size, m, w));
     }
   where
+    -- the numbers of the entries
     ns : List ℕ
     ns = index_numbers ps
 
+    -- there are as many numbers as entries
     size : length ns ≡ length ps
     size = length-map ps (λ (p : IndexEntry). p.number)
 
+    -- the index of the last entry
     last : ℕ
     last = length ps - 1
 
+    -- the index of the last entry is below the length
     some : last < length ps
     some = slice_get_within ps last p is
 
+    -- the last number is that of entry p
     end : get_or ns last 0 ≡ p.number
     end = get_or-map (λ (p : IndexEntry). p.number) ps last p 0 some ∙ ap (λ (q : IndexEntry). q.number) (get_or_from_slice_get ps last p p is)
 

@@ -29,7 +29,7 @@ itself k = elim (nat_cmp k k) as (λ o. nat_cmp k k ≡ o → is_eq o ≡ true) 
 gone : (units : FinMap nat_cmp Unit) (k : ℕ) → get (remove units k) k ≡ None
 gone units k = get-remove nat_cmp_total units k k ∙ ap (λ b. cond b None (get units k)) (itself k)
 
--- what is so of the new list under k, and of each other list, is so of each list
+-- if P holds of the new list under k, and of each list under another key, it holds of each list
 by_key : (lists : FinMap nat_cmp (List ℕ)) (k : ℕ) (xs : List ℕ) (P : ℕ → List ℕ → Type 0) → P k xs → ((r : ℕ) → k ≢ r → P r (list_of lists r)) → (r : ℕ) → P r (list_of (insert lists k xs) r)
 by_key lists k xs P here there r =
     rw (get-insert nat_cmp_total lists k xs r)
@@ -278,6 +278,7 @@ AreInsideLists-relisted units old new n from to u v is own goes same lists =
 pub AreUnitLists-changed : (f : Unit → Unit) → ((u : Unit) → list_keys_of u ≡ list_keys_of (f u)) → (units : FinMap nat_cmp Unit) (lists : UnitLists) (n : ℕ) → AreUnitLists units lists → AreUnitLists (changed f units n) lists
 AreUnitLists-changed f stays units lists n is = by_unit (get units n) refl
   where
+    -- all lists stay right, whether unit n is there or not
     by_unit : (o : Option Unit) → get units n ≡ o → AreUnitLists (changed_at f units n o) lists
     by_unit None e = is
     by_unit (Some u) e = AreUnitLists-kept units lists n u (f u) e (stays u) is

@@ -34,6 +34,7 @@ first_of q (n ∷ ns) low =
       | false ↦ λ t. (λ some. let found = rest.0 some in (inr found.0, found.1), λ none k h. passed t (rest.1 none) k h)
     ] refl
   where
+    -- if n does not pass, and no number of ns does, no number of the list with n in front does
     passed : q n ≡ false → ((k : ℕ) → IsListed k ns → q k ≡ false) → (k : ℕ) → IsListed k (n ∷ ns) → q k ≡ false
     passed t others k (inl same) = ap q same ∙ t
     passed t others k (inr h) = others k h

@@ -21,6 +21,7 @@ use Rattle.atl_records.proofs.EveryLaws.{none_some, every-from_each, each-from_e
 pub Decides-there : {V : Type 0} (m : FinMap nat_cmp V) (n : ℕ) (b : Bool) → b ≡ is_some (get m n) → Decides b (IsThere m n)
 Decides-there {V} m n b is = (λ e. found (get m n) (sym is ∙ e), λ there. is ∙ ap is_some there.1)
   where
+    -- an option that is Some has a value
     found : (o : Option V) → is_some o ≡ true → (v : V) × (o ≡ Some v)
     found None e = absurd (false≢true e)
     found (Some v) e = (v, refl)

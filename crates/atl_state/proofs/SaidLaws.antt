@@ -115,7 +115,7 @@ small_format Second = omega arith
 abbrev head_as_read : Format → StoredCampaignRow → StoredCampaignRow
 head_as_read f h = record { id = pos 1; format = pos (format_number f); month = pos (as_u32 h.month); next_faction = pos (as_u32 h.next_faction); next_unit = pos (as_u32 h.next_unit); next_structure = pos (as_u32 h.next_structure); pass = h.pass }
 
--- one campaign row in range is the row made again of what is read of it
+-- the only campaign row, if in range, is the row made of its numbers and text as they are read
 one_head : (f : Format) (rows : List StoredCampaignRow) → is_one_campaign_row f rows ≡ true → campaign_row_in_range (slice_index_or rows 0 no_campaign_row) ≡ true → head_as_read f (slice_index_or rows 0 no_campaign_row) ∷ [] ≡ rows
 one_head f [] e r = absurd (false≢true e)
 one_head f (h ∷ []) e r =

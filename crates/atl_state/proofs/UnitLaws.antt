@@ -48,6 +48,7 @@ within_things g r n v h q e =
 within-none : AreWithin set.empty set.empty set.empty empty empty
 within-none = record { rows_within = λ q e. e; goods_within = λ q e. e; items_within = nothing; skills_within = nothing }
   where
+    -- nothing is marked in an empty map of marks
     nothing : (q : ℕ) → is_some (get {X = FinMap nat_cmp (Prim.Unit {0})} {R = nat_cmp} empty q) ≡ true → set.contains {R = nat_cmp} set.empty q ≡ true
     nothing q e = absurd (false≢true (sym (ap is_some (get-empty nat_cmp q)) ∙ e))
 
