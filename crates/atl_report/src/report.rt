@@ -388,9 +388,9 @@ pub fn others_events_are_not_told()
     ensures { OthersEventsAreNotTold }
 {}
 
-/// The law that a report depends only on the faction's view, its faulty lines and its own events. Two
-/// campaigns of one world with the same view, faulty lines and own events give one report. It does
-/// nothing.
+/// The law that a report depends only on the faction's view, its faulty lines and its own events.
+/// Two campaigns of one world with the same view, faulty lines and own events give one report. It
+/// does nothing.
 pub fn only_what_is_seen_is_told()
     ensures { OnlyWhatIsSeenIsTold }
 {}

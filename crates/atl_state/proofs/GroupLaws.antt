@@ -14,7 +14,7 @@ use Rattle.atl_state.proofs.OrderLaws.{Apart, Apart-keys, HasNumber, each_so, fl
 -- ---- rows that pass a test
 
 module _ {R : Type 0} (test : R → Bool) where
-  -- if P holds of rows, and of r if r passes, it holds of the rows with r in front, if r passes, and else of the rows
+  -- if P holds of rows, and of r if r passes, it holds of the rows with r put in front if it passes
   first_kept : (P : R → Type 0) (r : R) (rows : List R) (b : Bool) → test r ≡ b → (test r ≡ true → P r) → AllByRecursion P rows → AllByRecursion P (cond b (r ∷ rows) rows)
   first_kept P r rows true e one all = (one e, all)
   first_kept P r rows false e one all = all

@@ -1,4 +1,5 @@
--- Laws of the regions' dirty sets, of rows and of stocks: there is room for the marks of all regions, and a marked stock's region is marked.
+-- Laws of the regions' dirty sets, of rows and of stocks: there is room for the marks of all regions,
+-- and a marked stock's region is marked.
 use Rattle.std.proofs.Common.{◌≡◌, ℕ, Some, true, refl, sym, ap, subst, ◌∙◌}
 use Rattle.std.specs.Prelude.{is_some}
 use Rattle.std.specs.Ordering.{nat_cmp}

@@ -8,8 +8,9 @@ use std::alloc::Global;
 use std::process::Abort;
 use std::test::Fail;
 
-/// A step, and what is wanted after it: the owners of both structures, the units inside each, in
-/// region 3 and of faction 1, and how many parts the step marked.
+/// A step, and what is wanted after it: who owns both structures, and which units are where. These
+/// are the units inside each structure, in region 3 and of faction 1. The last number is how many
+/// parts the step marked.
 struct Case {
     step: Step,
     owners: (u32, u32),
