@@ -1,5 +1,4 @@
--- Laws of the grid (a row of amounts for each thing): the books that its rows stand for, made, read, written and
--- summed.
+-- Laws of the grid, a row of amounts for each thing: making, reading, writing and summing the books that its rows are.
 use Rattle.std.proofs.Common.{◌≡◌, ◌==◌, ℕ, zero, suc, ◌≤◌, ◌<◌, ◌+◌, Bool, true, false, cond, ◌||◌, List, [], ◌∷◌, ◌++◌, map, length, get_or, set, refl, sym, ap, subst, ◌∙◌, arith, inl, inr}
 use Rattle.std.specs.Prelude.{ℤ, pos, replicate, unwrap_or}
 use Rattle.std.specs.List.{flat_map, list_any, range_with_len}
@@ -38,8 +37,7 @@ module _ {A : Type 0} (p : A → Bool) where
   any_later [] ys h = h
   any_later (x ∷ xs) ys h = or_later (p x) (list_any p (xs ++ ys)) (any_later xs ys h)
 
-  -- if some element of entry e's list passes a test, and e is among the entries, some element of all lists together
-  -- does
+  -- if some element of entry e's list passes a test, and e is in es, some element of the lists of es together does
   any_flat : (f : Entry → List A) (e : Entry) (es : List Entry) → list_any (λ d. entry_index d == entry_index e) es ≡ true → list_any p (f e) ≡ true → list_any p (flat_map f es) ≡ true
   any_flat f e [] h its = absurd (false≢true h)
   any_flat f e (d ∷ es) h its =

@@ -94,8 +94,7 @@ impl Entry {
 }
 
 impl Thing {
-    /// The number of a thing: 0 for money, 1 for people, 2 + i for the item with index i in the
-    /// world.
+    /// The number of a thing: 0 for money, 1 for people, 2 + i for the world's item with index i.
     pub fn number(self) -> u32
         ensures place { result ≡ thing_index self }
         ensures small { result < possible_things }

@@ -168,8 +168,7 @@ OthersEventsAreNotTold =
     → own_events v.faction events ≡ own_events v.faction others
     → report_of w v faults events ≡ report_of w v faults others
 
--- if a faction sees the same of two campaigns of one world, its reports are the same for the same faulty lines and own
--- events
+-- if a faction sees the same of two campaigns, its reports are the same for the same faulty lines and own events
 abbrev pub OnlyWhatIsSeenIsTold : Type 0
 OnlyWhatIsSeenIsTold =
     (w : WorldValue) (c d : CampaignValue) (faction : ℕ) (faults : List FaultyLine) (events others : List Event)

@@ -216,8 +216,7 @@ fn write_region(out: &mut String, world: &World, region: &RegionView) -> Result<
     )
 }
 
-/// Writes one exit of a region, after a comma if it isn't the first; nothing where there is no
-/// exit.
+/// Writes one exit of a region, if it is there, after a comma if it isn't the first.
 fn write_exit(
     out: &mut String,
     is_first: bool,

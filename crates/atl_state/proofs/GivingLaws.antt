@@ -1,5 +1,4 @@
--- Laws of assembling units and regions from rows: adding each row of goods to its unit, and each stock to its region,
--- gives them.
+-- Laws of assembling units and regions by adding each row of goods to its unit, and each row of stock to its region.
 use Rattle.std.proofs.Common.{◌≡◌, ◌≢◌, ◌==◌, ℕ, ◌&&◌, List, [], ◌∷◌, Bool, true, false, cond, filter, Option, Some, None, refl, sym, ap, subst, ◌∙◌, arith, inl, inr}
 use Rattle.std.specs.Prelude.{option_map}
 use Rattle.std.specs.Ordering.{nat_cmp}
@@ -78,8 +77,7 @@ module _ {R V : Type 0} (owner : R → ℕ) (more : R → V → V) where
           | inr apart ↦ ap (option_map (given n rows)) (get_other m k n (before t) (λ e. apart (sym e))) ∙ all n ∙ sym (get_other l k n (after t) (λ e. apart (sym e)))
         ]
 
-    -- Becomes still holds once all elements' bare values are put into the first map, and their full values into the
-    -- second
+    -- Becomes still holds once all elements are put in, with bare values in the first map and full ones in the second
     put_each : (ts : List T) (m l : FinMap nat_cmp V) → Becomes m l → Becomes (put_rows number before ts m) (put_rows number after ts l)
     put_each [] m l all = all
     put_each (t ∷ ts) m l all = put_each ts (insert m (number t) (before t)) (insert l (number t) (after t)) (put_one t m l all)

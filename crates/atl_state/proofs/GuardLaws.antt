@@ -103,8 +103,7 @@ module _ (faction : ℕ → Option ℕ) where
   abbrev Fits : Option ℕ → List ℕ → Type 0
   Fits holder ns = (n x y : ℕ) → In n ns → faction n ≡ Some x → holder ≡ Some y → x ≡ y
 
-  -- each faction of the rest is the holder's, or the first number's where there is no holder yet, if Fits holds of the
-  -- list
+  -- if Fits holds of a list, each faction of the rest is the holder's, or else the first number's
   fits_on : (holder : Option ℕ) (m : ℕ) (ms : List ℕ) → Alike (m ∷ ms) → Fits holder (m ∷ ms) → Fits (option_or holder (faction m)) ms
   fits_on None m ms same fits n x y mine is first = same n m x y (inr mine) (inl refl) is first
   fits_on (Some z) m ms same fits n x y mine is held = fits n x y (inr mine) is held

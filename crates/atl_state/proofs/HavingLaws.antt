@@ -38,8 +38,7 @@ module _ (w : WorldValue) (c : CampaignValue) (n : ℕ) (u : Unit) (h : HoldingV
   abbrev supplied : CampaignValue
   supplied = record c { units = insert c.units n new_unit }
 
-  -- the campaign stays steady with a holding that satisfies MayHave, if the guards of each region are then of one
-  -- faction
+  -- with a holding that satisfies MayHave the campaign stays steady, if guards of one region are of one faction
   pub steady-having : MayHave w h → AreOfOneFaction guards supplied → IsSteady w c → IsSteady w supplied
   steady-having may guarded old = record {
     numbers = numbers_kept w c n u h is may.limits old.numbers;

@@ -1,5 +1,4 @@
--- Laws of a unit that is removed: the campaign stays steady, totals lose what the unit held, and what changed is
--- marked.
+-- Laws of removing a unit: the campaign stays steady, totals lose what the unit held, and what changed is marked.
 use Rattle.std.proofs.Common.{◌≡◌, ◌≢◌, ◌==◌, ℕ, ◌+◌, ◌≤◌, ◌<◌, Bool, true, false, length, not, List, Option, Some, None, refl, sym, ap, subst, ◌∙◌, arith, true≢false}
 use Rattle.std.specs.Prelude.{option_map, if◌then◌else◌}
 use Rattle.std.proofs.lemmas.Bool.{not-false}

@@ -152,8 +152,7 @@ bare_inside : (units : FinMap nat_cmp Unit) (some all : FinMap nat_cmp (List ℕ
 bare_inside units some all bare are k = bare k ∙ ap (cond (k == 0) []) (are k)
 
 module _ (units : FinMap nat_cmp Unit) (old new : FinMap nat_cmp (List ℕ)) (n key : ℕ) (u : Unit) (own : u.structure ≡ key) where
-  -- the lists by structure are right with a new unit, whose number is put into the list of its structure if it is in
-  -- one
+  -- the lists by structure are right with a new unit, which is put into the list of its structure if it has one
   pub AreInsideLists-came : get units n ≡ None → new ≡ listed_apart old n key 0 → AreInsideLists units old → AreInsideLists (insert units n u) new
   AreInsideLists-came fresh put is =
       let all = whole units old is in
@@ -161,8 +160,7 @@ module _ (units : FinMap nat_cmp Unit) (old new : FinMap nat_cmp (List ℕ)) (n 
       (bare_inside (insert units n u) _ (insert all key (put_number n (list_of all key))) (bare_put (put_number n) old all key (whole_bare units old is))
       (AreLists-came (λ v. v.structure) units all _ n key u own fresh refl (whole_listed units old is)))
 
-  -- the lists by structure are right without a unit, whose number is taken out of the list of its structure if it was
-  -- in one
+  -- the lists by structure are right without a unit, which is taken out of the list of its structure if it had one
   pub AreInsideLists-went : get units n ≡ Some u → SameLists new (unlisted_apart old n key 0) → AreInsideLists units old → AreInsideLists (remove units n) new
   AreInsideLists-went there same is k =
       let all = whole units old is in

@@ -35,8 +35,7 @@ exchange a b c =
     subst (λ xs. IsPermutation xs (b ++ (a ++ c))) (append_assoc a b c) (subst (λ ys. IsPermutation ((a ++ b) ++ c) ys) (append_assoc b a c) (IsPermutation-append_left c (a ++ b) (b ++ a) (IsPermutation-append_comm a b)))
 
 module _ {V A : Type 0} (f : ℕ × V → List A) where
-  -- the list made of entries, once one is put under a new number, is that entry's elements and the old list, in another
-  -- order
+  -- once an entry is put under a new number, the list made of all has its elements and the old ones, in another order
   flat_put : (k : ℕ) (v : V) (es : List (ℕ × V)) → find nat_cmp k es ≡ None → IsPermutation (f (k, v) ++ flat_map f es) (flat_map f (put nat_cmp k v es))
   flat_put k v [] h = IsPermutation-refl (f (k, v) ++ [])
   flat_put k v (e ∷ es) h =

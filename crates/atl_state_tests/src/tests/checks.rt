@@ -43,8 +43,7 @@ const OLD: Rows = Rows {
     ..GOOD
 };
 
-/// Cases of rows that break a rule: the rows, and the number of the first rule that they break, or
-/// 0.
+/// Cases: rows, and the number of the first rule that they break, or 0 if they break none.
 static CASES: [(Rows, u64); 15] = [
     (GOOD, 0),
     (Rows { days: 450, ..GOOD }, 0),

@@ -92,8 +92,7 @@ fn go_round(rt: &impl Abort, alloc: Global, world: &World) -> Result<(), Fail> {
     come_back(rt, alloc, world, &campaign)
 }
 
-/// Tests who is there and what is marked when units go and come, and that the rows give the
-/// campaign.
+/// Tests which units are there and marked when units go and come, and that rows give them again.
 #[test]
 fn units_go_and_come(rt: HostRuntime) -> Result<(), Fail> {
     let world = read_world(rt.alloc(), ISLE)?;

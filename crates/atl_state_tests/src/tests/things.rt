@@ -99,8 +99,7 @@ static AS_A_WHOLE: [Row; 8] = [
     (Step::Unmark, GOODS, "none", "0"),
 ];
 
-/// Tests that an item or skill that is set is marked by itself, and a unit lent or removed as a
-/// whole.
+/// Tests that an item or skill that is set is marked by itself, and a lent or removed unit whole.
 #[test]
 fn goods_are_marked(rt: HostRuntime) -> Result<(), Fail> {
     let mut campaign = joined_by(rt.alloc(), ISLE)?;
