@@ -47,8 +47,7 @@ module _ {V A : Type 0} (f : ℕ × V → List A) where
             (IsPermutation-append_right (f e) (f (k, v) ++ flat_map f es) (flat_map f (put nat_cmp k v es)) (flat_put k v es g))
       ] h
 
-  -- the list made of a map, once a value is inserted under a new number, is its elements and the old list, in another
-  -- order
+  -- once a value is inserted under a new number, the list made of the map is its elements and the old, reordered
   flat_insert : (m : FinMap nat_cmp V) (k : ℕ) (v : V) → get m k ≡ None → IsPermutation (f (k, v) ++ flat_map f (entries m)) (flat_map f (entries (insert m k v)))
   flat_insert m k v h = subst (λ es. IsPermutation (f (k, v) ++ flat_map f (entries m)) (flat_map f es)) (sym (entries-insert nat_cmp_total m k v)) (flat_put k v (entries m) (sym (get-entries m k) ∙ h))
 
@@ -68,8 +67,7 @@ module _ {R V : Type 0} (number : R → ℕ) (value : R → V) where
     abbrev pub flat_of : List R → List A
     flat_of rows = flat_map (λ r. f (number r, value r)) rows
 
-    -- the list made of a map, once rows with new numbers are put in, is the old list and the rows' elements, in another
-    -- order
+    -- once rows with new numbers are put in, the list made of the map is the old elements and theirs, reordered
     put_order : (rows : List R) (m : FinMap nat_cmp V) → Apart number rows → AllByRecursion (λ s. get m (number s) ≡ None) rows → IsPermutation (flat_map f (entries m) ++ flat_of rows) (flat_map f (entries (put_rows number value rows m)))
     put_order [] m h n = subst (λ xs. IsPermutation xs (flat_map f (entries m))) (sym (append-nil (flat_map f (entries m)))) (IsPermutation-refl (flat_map f (entries m)))
     put_order (r ∷ rows) m h n =

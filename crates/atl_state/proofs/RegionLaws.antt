@@ -50,8 +50,7 @@ module _ (w : WorldValue) (c : CampaignValue) (regions : FinMap nat_cmp Region) 
       books = booked;
     }
 
-    -- everything that the campaign names by number exists, if the regions have the same numbers and stocks of their
-    -- markets
+    -- all that is named by number exists, if the regions have the same numbers, and stocks of their markets only
     stocked-known : AreKnown w c → AreKnown w stocked
     stocked-known old = record {
       regions = λ n. (λ h. (old.regions n).0 ((there n).1 h), λ h. (there n).0 ((old.regions n).1 h));
