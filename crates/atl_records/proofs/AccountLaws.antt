@@ -1,4 +1,4 @@
--- Laws of accounts: numbers tell entries and things apart, and account_cmp is a total order.
+-- Laws of accounts: entries and things with equal numbers are equal, and account_cmp is a total order.
 use Rattle.std.proofs.Common.{◌≡◌, ◌≢◌, ◌+◌, ℕ, zero, suc, true, false, Some, refl, sym, ap, ◌∙◌, ◌⊎◌, inl, inr, arith}
 use Rattle.std.specs.List.{slice_get}
 use Rattle.std.specs.declared.cmp.Ordering.TheVariants.{Less, Equal, Greater}
@@ -23,10 +23,11 @@ at_place Money = refl
 at_place People = refl
 at_place (Item i) = item_at (2 + i) i (omega arith)
   where
+    -- the thing with number i + 2 is item i
     item_at : (n i : ℕ) → n ≡ suc (suc i) → thing_at n ≡ Item i
     item_at n i is = ap thing_at is
 
--- ---- numbers tell them apart
+-- ---- things and entries with equal numbers
 
 -- things with the same number are equal
 pub same_thing : (t u : Thing) → thing_index t ≡ thing_index u → t ≡ u
@@ -44,7 +45,7 @@ same_entry d e h = inside d e (sym (entry_there d) ∙ ap (slice_get all_entries
 pub same_account : (e f : Entry) (t u : Thing) → entry_index e ≡ entry_index f → thing_index t ≡ thing_index u → ◌≡◌ {A = Account} (e, t) (f, u)
 same_account e f t u entries things i = (same_entry e f entries i, same_thing t u things i)
 
--- ---- their order
+-- ---- the order of accounts
 
 -- account_cmp is a total order
 pub account_total : IsTotalOrder account_cmp

@@ -1,4 +1,4 @@
--- Laws of the books: what a booking and another amount change, and how great amounts become.
+-- Laws of the books: what setting and booking an amount change, and how great amounts become.
 use Rattle.std.proofs.Common.{◌≡◌, ◌≢◌, ◌==◌, ℕ, zero, suc, ◌≤◌, ◌<◌, ◌+◌, true, false, cond, List, [], ◌∷◌, map, Option, Some, None, refl, sym, ap, ◌∙◌, arith, inl, inr, ◌⊎◌}
 use Rattle.std.specs.Prelude.{ℤ, pos, negsuc, ◌+ℤ◌, unwrap_or}
 use Rattle.std.specs.Ordering.{eq_by_cmp}
@@ -72,7 +72,7 @@ module _ (books : BooksValue) (e : Entry) (t : Thing) (z : ℤ) where
   pub other_amount : (f : Entry) (u : Thing) → eq_by_cmp account_cmp (f, u) (e, t) ≡ false → amount_in (with_amount books e t z) f u ≡ amount_in books f u
   other_amount f u apart = amount-with_amount f u ∙ ap (λ b. cond b z (amount_in books f u)) apart
 
-  -- books of these things stay so once an amount of one of them is set
+  -- AreBooks still holds once an amount of one of the things is set
   pub AreBooks-with_amount : (things : ℕ) → AreBooks things books → thing_index t < things → AreBooks things (with_amount books e t z)
   AreBooks-with_amount things old there =
       record {
@@ -86,7 +86,7 @@ module _ (books : BooksValue) (e : Entry) (t : Thing) (z : ℤ) where
         ];
       }
 
--- books of these things stay so once an amount of one of them is booked
+-- AreBooks still holds once an amount of one of the things is booked
 pub AreBooks-after_booking : (things : ℕ) (books : BooksValue) (e : Entry) (t : Thing) (n : ℤ) → AreBooks things books → thing_index t < things → AreBooks things (after_booking books e t n)
 AreBooks-after_booking things books e t n old there = AreBooks-with_amount books e t (amount_in books e t +ℤ n) things old there
 
@@ -104,11 +104,11 @@ under e n f = cond (entry_index f == entry_index e) n (pos 0)
 nothing : (z : ℤ) → z ≡ z +ℤ pos 0
 nothing z = omega (arith, ints)
 
--- the sum of two sums, regrouped
+-- (x + y) + (z + w) is (x + z) + (y + w)
 regroup : (x y z w : ℤ) → (x +ℤ y) +ℤ (z +ℤ w) ≡ (x +ℤ z) +ℤ (y +ℤ w)
 regroup x y z w = omega (arith, ints)
 
--- the sum of sums over a list of entries is the sum of both sums
+-- the sum of a + b over a list of entries is the sum of a plus the sum of b
 sum_of-raised : (a b : Entry → ℤ) (es : List Entry) → sum_of (map (λ e. a e +ℤ b e) es) ≡ sum_of (map a es) +ℤ sum_of (map b es)
 sum_of-raised a b [] = nothing (pos 0)
 sum_of-raised a b (e ∷ es) = ap (λ z. (a e +ℤ b e) +ℤ z) (sum_of-raised a b es) ∙ regroup (a e) (b e) (sum_of (map a es)) (sum_of (map b es))
@@ -180,7 +180,7 @@ none_booked books t none i = sum_of (map (λ e. none e i) all_entries)
 pub booked-no_amounts : (things : ℕ) (t : Thing) → booked (no_amounts things) t ≡ pos 0
 booked-no_amounts things t = none_booked (no_amounts things) t (λ e. amount-no_amounts things e t)
 
--- empty books of so many things are books of these
+-- empty books satisfy AreBooks with the number of things that they were made for
 pub AreBooks-no_amounts : (things : ℕ) → AreBooks things (no_amounts things)
 AreBooks-no_amounts things = record { count = refl; listed = λ e t amount is. none_some amount (sym (get-empty {X = ℤ} account_cmp (e, t)) ∙ is) }
 

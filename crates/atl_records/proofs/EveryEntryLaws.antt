@@ -1,4 +1,4 @@
--- Laws of the 16 entries: each is in all_entries at its index, and a test of all of them is one of each.
+-- Laws of the 16 entries: each is in all_entries at its index, and a test that all_entries pass is passed by each.
 use Rattle.std.proofs.Common.{◌≡◌, ◌+◌, ◌<◌, ℕ, Bool, true, get_or, Some, refl, sym, ap, ◌∙◌, inl, inr, arith}
 use Rattle.std.specs.List.{list_all, slice_get}
 use Rattle.std.proofs.lemmas.Bool.{cases_Bool, true≢false}

@@ -25,11 +25,11 @@ none_some x e = cc
 -- ---- a value put in
 
 module _ {V : Type 0} where
-  -- anything is so of every value of the empty map
+  -- P holds of every value of the empty map, whatever P is
   pub every-empty : (P : ℕ → V → Type 0) → Every P (empty {X = V} {R = nat_cmp})
   every-empty P n v is = none_some v (sym (get-empty nat_cmp n) ∙ is)
 
-  -- what is so of the value put in, and of every value before, is so of every value
+  -- if P holds of a value put in, and of every value before, it holds of every value
   pub every-insert : (P : ℕ → V → Type 0) (m : FinMap nat_cmp V) (k : ℕ) (v : V) → P k v → Every P m → Every P (insert m k v)
   every-insert P m k v here old n x is =
       elim (nat_cmp n k) as (λ o. nat_cmp n k ≡ o → cond (is_eq o) (Some v) (get m n) ≡ Some x → P n x) [
@@ -99,7 +99,7 @@ module _ {V : Type 0} where
         | Greater ↦ λ o. let l = ranked e.0 e.0 Greater (sym o) in absurd (omega arith)
       ] refl
 
-  -- what EachOf says of the entries of a list is so of each value that is found in it
+  -- if P holds of each entry of a list (EachOf), it holds of each value that is found in it
   pub found_of : (P : ℕ → V → Type 0) (es : List (ℕ × V)) (n : ℕ) (v : V) → EachOf P es → find nat_cmp n es ≡ Some v → P n v
   found_of P [] n v h is = none_some v is
   found_of P (e ∷ es) n v h is =
@@ -109,7 +109,7 @@ module _ {V : Type 0} where
         | Greater ↦ λ _. found_of P es n v h.1
       ] refl is
 
-  -- what is so of each value that is found in a sorted list is so of each of its entries
+  -- if P holds of each value that is found in a sorted list, it holds of each of its entries
   pub each_of : (P : ℕ → V → Type 0) (es : List (ℕ × V)) → is_sorted nat_cmp es ≡ true → ((n : ℕ) (v : V) → find nat_cmp n es ≡ Some v → P n v) → EachOf P es
   each_of P [] s h = tt
   each_of P (e ∷ es) s h = (h e.0 e.1 (first e es), each_of P es (and_parts _ _ s).1 (λ n v is. h n v (later e es n v s is)))
@@ -118,11 +118,11 @@ module _ {V : Type 0} where
   pub sorted : (m : FinMap nat_cmp V) → is_sorted nat_cmp (entries m) ≡ true
   sorted m = is_true _ (entries_sorted m)
 
-  -- what is so of each entry of a map is so of every value
+  -- if P holds of each entry of a map, it holds of every value
   pub every-from_each : (P : ℕ → V → Type 0) (m : FinMap nat_cmp V) → EachOf P (entries m) → Every P m
   every-from_each P m h n v is = found_of P (entries m) n v h (sym (get-entries m n) ∙ is)
 
-  -- what is so of every value of a map is so of each entry
+  -- if P holds of every value of a map, it holds of each entry
   pub each-from_every : (P : ℕ → V → Type 0) (m : FinMap nat_cmp V) → Every P m → EachOf P (entries m)
   each-from_every P m h = each_of P (entries m) (sorted m) (λ n v is. h n v (get-entries m n ∙ is))
 
@@ -137,6 +137,7 @@ module _ {V : Type 0} where
         | Greater ↦ fails p es n v apart.1
       ] is
     where
+      -- if an or is false, both its parts are false
       or_parts : (a b : Bool) → (a || b) ≡ false → (a ≡ false) × (b ≡ false)
       or_parts true b h = cc
       or_parts false b h = (refl, h)
@@ -156,18 +157,18 @@ module _ {V : Type 0} where
     abbrev Passing : List (ℕ × V) → ℕ → Type 0
     Passing es n = (v : V) × (find nat_cmp n es ≡ Some v) × (p v ≡ true)
 
-    -- a number that passes in the rest of a sorted list passes in the list
+    -- a number with a value that passes in the rest of a sorted list has one in the whole list
     behind : (e : ℕ × V) (es : List (ℕ × V)) (n : ℕ) → is_sorted nat_cmp (e ∷ es) ≡ true → Passing es n → Passing (e ∷ es) n
     behind e es n s (v, is, h) = (v, later e es n v s is, h)
 
-    -- a chosen number passes, by whether the first entry does
+    -- each chosen number has a value that passes, if each chosen number of the rest has
     listed_in : (b : Bool) (e : ℕ × V) (es : List (ℕ × V)) → p e.1 ≡ b → is_sorted nat_cmp (e ∷ es) ≡ true → (d : ℕ) → ((i : ℕ) → i < length (chosen es) → Passing es (get_or (chosen es) i d))
         → (i : ℕ) → i < length (cond b (e.0 ∷ chosen es) (chosen es)) → Passing (e ∷ es) (get_or (cond b (e.0 ∷ chosen es) (chosen es)) i d)
     listed_in true e es t s d rest zero h = (e.1, first e es, t)
     listed_in true e es t s d rest (suc i) h = behind e es (get_or (chosen es) i d) s (rest i (omega arith))
     listed_in false e es t s d rest i h = behind e es (get_or (chosen es) i d) s (rest i h)
 
-    -- each chosen number of a sorted list passes
+    -- each chosen number of a sorted list has a value that passes
     listed : (es : List (ℕ × V)) → is_sorted nat_cmp es ≡ true → (d i : ℕ) → i < length (chosen es) → Passing es (get_or (chosen es) i d)
     listed [] s d i h = absurd (omega arith)
     listed (e ∷ es) s d i h = subst (λ (ns : List ℕ). i < length ns → Passing (e ∷ es) (get_or ns i d)) (sym (chosen-cons p e es)) (listed_in (p e.1) e es refl s d (listed es (and_parts _ _ s).1 d) i) h
@@ -184,7 +185,7 @@ module _ {V W : Type 0} (f : V → W) where
   under None x is = none_some x is
   under (Some v) x is = let same : f v ≡ x = cc in (v, refl, same)
 
-  -- what is so of f of every value is so of every value of the mapped map
+  -- if P holds of f of every value, it holds of every value of the mapped map
   pub every-mapped : (P : ℕ → W → Type 0) (m : FinMap nat_cmp V) → Every (λ n v. P n (f v)) m → Every P (mapped f m)
   every-mapped P m h n x is = let (v, there, same) = under (get m n) x (sym (get-mapped f m n) ∙ is) in subst (P n) same (h n v there)
 
@@ -192,9 +193,11 @@ module _ {V W : Type 0} (f : V → W) where
   pub there-mapped : (m : FinMap nat_cmp V) (n : ℕ) → IsThere (mapped f m) n ↔ IsThere m n
   there-mapped m n = (back, forth)
     where
+      -- a number that has a value in the mapped map has one in the map
       back : IsThere (mapped f m) n → IsThere m n
       back (x, is) = let (v, there, same) = under (get m n) x (sym (get-mapped f m n) ∙ is) in (v, there)
 
+      -- a number that has a value in the map has one in the mapped map
       forth : IsThere m n → IsThere (mapped f m) n
       forth (v, is) = (f v, get-mapped f m n ∙ ap (option_map f) is)
 

@@ -1,4 +1,4 @@
--- Laws of the grid: the books that its rows stand for, when it is made, read, written and summed.
+-- Laws of the grid, a row of amounts for each thing: making, reading, writing and summing the books that its rows are.
 use Rattle.std.proofs.Common.{◌≡◌, ◌==◌, ℕ, zero, suc, ◌≤◌, ◌<◌, ◌+◌, Bool, true, false, cond, ◌||◌, List, [], ◌∷◌, ◌++◌, map, length, get_or, set, refl, sym, ap, subst, ◌∙◌, arith, inl, inr}
 use Rattle.std.specs.Prelude.{ℤ, pos, replicate, unwrap_or}
 use Rattle.std.specs.List.{flat_map, list_any, range_with_len}
@@ -26,18 +26,18 @@ or_later true y h = refl
 or_later false y h = h
 
 module _ {A : Type 0} (p : A → Bool) where
-  -- what some element of a list passes, some element of it and more passes
+  -- if some element of xs passes a test, some element of xs ++ ys does
   any_first : (xs ys : List A) → list_any p xs ≡ true → list_any p (xs ++ ys) ≡ true
   any_first [] ys h = absurd (false≢true h)
   any_first (x ∷ xs) ys h =
       elim (p x) as (λ b. (b || list_any p xs) ≡ true → (b || list_any p (xs ++ ys)) ≡ true) [ true ↦ λ _. refl | false ↦ λ later. any_first xs ys later ] h
 
-  -- what some element of a list passes, some element of more and it passes
+  -- if some element of ys passes a test, some element of xs ++ ys does
   any_later : (xs ys : List A) → list_any p ys ≡ true → list_any p (xs ++ ys) ≡ true
   any_later [] ys h = h
   any_later (x ∷ xs) ys h = or_later (p x) (list_any p (xs ++ ys)) (any_later xs ys h)
 
-  -- an element of the list of one entry is in the lists of all entries one after another
+  -- if some element of entry e's list passes a test, and e is in es, some element of the lists of es together does
   any_flat : (f : Entry → List A) (e : Entry) (es : List Entry) → list_any (λ d. entry_index d == entry_index e) es ≡ true → list_any p (f e) ≡ true → list_any p (flat_map f es) ≡ true
   any_flat f e [] h its = absurd (false≢true h)
   any_flat f e (d ∷ es) h its =
@@ -67,9 +67,9 @@ any_under e t a (suc n) l h =
 pub any_accounts : (things : ℕ) (e : Entry) (t : Thing) → thing_index t < things → list_any (eq_by_cmp account_cmp (e, t)) (accounts things) ≡ true
 any_accounts things e t h = any_flat (eq_by_cmp account_cmp (e, t)) (accounts_under things) e all_entries (each_listed e) (any_under e t 0 things (omega arith) (omega arith))
 
--- ---- what rows say
+-- ---- the books that rows stand for
 
--- filled books list an account's own amount where it was filled, else as before
+-- filled books list the given amount of each chosen account, and other accounts as before
 get-filled : (amount : Account → ℤ) (chosen : List Account) (books : BooksValue) (a : Account) → get (filled amount chosen books).amounts a ≡ cond (list_any (eq_by_cmp account_cmp a) chosen) (listed (amount a)) (get books.amounts a)
 get-filled amount [] books a = refl
 get-filled amount (c ∷ others) books a =
@@ -87,7 +87,7 @@ get-filled amount (c ∷ others) books a =
 cell_past : (rows : List (List ℤ)) (a : Account) → length rows ≤ thing_index a.1 → cell rows a ≡ pos 0
 cell_past rows a past = ap (λ row. get_or row (entry_index a.0) (pos 0)) (get_or_past rows (thing_index a.1) [] past)
 
--- rows stand for books of as many things as rows
+-- the books that rows stand for count as many things as there are rows
 pub things-as_books : (rows : List (List ℤ)) → (as_books rows).things ≡ length rows
 unfolding as_books
 things-as_books rows = refl
@@ -110,7 +110,7 @@ get-as_books rows a =
 pub amount-as_books : (rows : List (List ℤ)) (e : Entry) (t : Thing) → amount_in (as_books rows) e t ≡ cell rows (e, t)
 amount-as_books rows e t = ap (λ o. unwrap_or o (pos 0)) (get-as_books rows (e, t)) ∙ amount_listed (cell rows (e, t))
 
--- rows stand for books of as many things as there are rows
+-- the books that rows stand for satisfy AreBooks, with as many things as rows
 pub AreBooks-as_books : (rows : List (List ℤ)) → AreBooks (length rows) (as_books rows)
 AreBooks-as_books rows =
     record {
@@ -159,7 +159,7 @@ module _ (rows : List (List ℤ)) (grid : IsGrid rows) (e : Entry) (t : Thing) (
   wide : length (row_of rows t) ≡ entry_count
   wide = grid.wide (thing_index t) [] there
 
-  -- a grid stays one once a cell is written
+  -- rows that are a grid still are once a cell is written
   pub IsGrid-with_cell : IsGrid (with_cell rows e t z)
   IsGrid-with_cell =
       record {
@@ -215,7 +215,7 @@ booked-as_books rows t grid there =
     let each : (e : Entry) → amount_in (as_books rows) e t ≡ cell rows (e, t) = λ e. amount-as_books rows e t in
     (λ i. sum_of (map (λ e. each e i) all_entries)) ∙ ap sum_of (row_listed (row_of rows t) (grid.wide (thing_index t) [] there))
 
--- ---- in the code
+-- ---- for the code of Books
 
 -- a thing of the books has a row
 pub grid_there : (rows : List (List ℤ)) (books : BooksValue) (t : Thing) → as_books rows ≡ books → thing_index t < books.things → thing_index t < length rows

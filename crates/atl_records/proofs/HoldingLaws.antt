@@ -12,10 +12,11 @@ use Rattle.atl_records.specs.Limits.{holding_limit}
 use Rattle.atl_records.proofs.EveryLaws.{every-insert, get-insert_other}
 use Rattle.atl_records.proofs.RemovedLaws.{every-remove, get-remove_other}
 
--- what is so of every amount, and of the amount that is set if it isn't 0, is so of every amount after that
+-- if P holds of every amount, and of the one that is set unless it is 0, it holds of every amount after setting
 pub every_amount : (P : ℕ → ℕ → Type 0) (items : FinMap nat_cmp ℕ) (i amount : ℕ) → (1 ≤ amount → P i amount) → Every P items → Every P (with_amount_of items i amount)
 every_amount P items i amount here old = by_zero (amount == 0) refl
   where
+    -- P holds of every amount, whether the amount set is 0 or not
     by_zero : (b : Bool) → (amount == 0) ≡ b → Every P (if b then remove items i else insert items i amount)
     by_zero true is = every-remove items i P old
     by_zero false is = let some : 1 ≤ amount = grind (arith, nat_tests) in every-insert P items i amount (here some) old
@@ -24,14 +25,17 @@ every_amount P items i amount here old = by_zero (amount == 0) refl
 pub set_amount : (items : FinMap nat_cmp ℕ) (i amount j : ℕ) → amount_of (with_amount_of items i amount) j ≡ cond (eq_by_cmp nat_cmp j i) amount (amount_of items j)
 set_amount items i amount j = by_zero (amount == 0) refl
   where
+    -- an amount that is put in is read back under its number alone
     put : (b : Bool) → unwrap_or (cond b (Some amount) (get items j)) 0 ≡ cond b amount (amount_of items j)
     put true = refl
     put false = refl
 
+    -- an amount of 0 that is taken off the list is read back as 0
     taken : (b : Bool) → 0 ≡ amount → unwrap_or (cond b None (get items j)) 0 ≡ cond b amount (amount_of items j)
     taken true e = e
     taken false e = refl
 
+    -- amounts are read back, whether the amount set is 0 or not
     by_zero : (b : Bool) → (amount == 0) ≡ b → amount_of (if b then remove items i else insert items i amount) j ≡ cond (eq_by_cmp nat_cmp j i) amount (amount_of items j)
     by_zero true is =
         let none : 0 ≡ amount = grind (arith, nat_tests) in
@@ -42,6 +46,7 @@ set_amount items i amount j = by_zero (amount == 0) refl
 pub amount_within : (h : HoldingValue) (i : ℕ) → IsHolding h → amount_of h.items i ≤ holding_limit
 amount_within h i is = by_option (get h.items i) refl
   where
+    -- an amount is at most holding_limit, whether it is listed or not
     by_option : (o : Option ℕ) → get h.items i ≡ o → unwrap_or o 0 ≤ holding_limit
     by_option None e = omega arith
     by_option (Some amount) e = (is.items i amount e).1
@@ -57,17 +62,18 @@ module _ (items : FinMap nat_cmp ℕ) (i amount : ℕ) where
   pub set_same : amount_of (with_amount_of items i amount) i ≡ amount
   set_same = let same : (i == i) ≡ true = grind (arith, nat_tests) in set_amount items i amount i ∙ ap (λ b. cond b amount (amount_of items i)) (sym (unsigned_ties i i) ∙ same)
 
-  -- another amount is as before
+  -- each other number has its amount as before
   pub set_other : (j : ℕ) → j ≢ i → amount_of (with_amount_of items i amount) j ≡ amount_of items j
   set_other j apart = elim (cases_Bool (eq_by_cmp nat_cmp j i)) [
     | inl same ↦ absurd (apart (alike i j same))
     | inr other ↦ set_amount items i amount j ∙ ap (λ b. cond b amount (amount_of items j)) other
   ]
 
-  -- another number is listed as before
+  -- each other number is listed as before
   pub get-set_other : (j : ℕ) → j ≢ i → get (with_amount_of items i amount) j ≡ get items j
   get-set_other j apart = by_zero (amount == 0)
     where
+      -- another number is listed as before, whether the amount set is 0 or not
       by_zero : (b : Bool) → get (if b then remove items i else insert items i amount) j ≡ get items j
       by_zero true = get-remove_other items i j apart
       by_zero false = get-insert_other items i j amount apart

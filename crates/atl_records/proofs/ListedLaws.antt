@@ -17,9 +17,9 @@ use Rattle.atl_records.proofs.BookLaws.{get-listed, listed, none_past, zero_is}
 use Rattle.atl_records.proofs.EveryLaws.{is_true, none_some}
 use Rattle.atl_records.proofs.GridLaws.{any_accounts}
 
--- ---- accounts that rise
+-- ---- sorted accounts
 
--- the account is less than each of the list
+-- account a is less than each account of the list
 abbrev pub Behind : Account → List Account → Type 0
 Behind a chosen = AllByRecursion (λ c. account_cmp a c ≡ Less) chosen
 
@@ -37,7 +37,7 @@ less_thing : (e : Entry) (i k : ℕ) → i < k → account_cmp (e, thing_at i) (
 less_thing e i k h =
     ap (λ o. ordering_then o (nat_cmp (thing_index (thing_at i)) (thing_index (thing_at k)))) (tied_itself nat_cmp_total (entry_index e)) ∙ (λ j. nat_cmp (place_at i j) (place_at k j)) ∙ sym (nat_cmp_is i k Less h)
 
--- what is so of the elements of two lists is so of those of both together
+-- if P holds of the elements of two lists, it holds of those of both together
 all_append : {A : Type 0} (P : A → Type 0) (xs ys : List A) → AllByRecursion P xs → AllByRecursion P ys → AllByRecursion P (xs ++ ys)
 all_append P [] ys h k = k
 all_append P (x ∷ xs) ys h k = (h.0, all_append P xs ys h.1 k)
@@ -47,7 +47,7 @@ rise_append : (xs ys : List Account) → Rise xs → Rise ys → AllByRecursion 
 rise_append [] ys h k all = k
 rise_append (x ∷ xs) ys h k all = (all_append (λ c. account_cmp x c ≡ Less) xs ys h.0 all.0, rise_append xs ys h.1 k all.1)
 
--- what is so of an entry's account with every thing is so of its accounts for some things
+-- if P holds of an entry's account with every thing, it holds of its accounts with some things
 all_under : (P : Account → Type 0) (e : Entry) (numbers : List ℕ) → ((i : ℕ) → P (e, thing_at i)) → AllByRecursion P (map (λ i. (e, thing_at i)) numbers)
 all_under P e [] h = tt
 all_under P e (i ∷ numbers) h = (h i, all_under P e numbers h)
@@ -180,14 +180,14 @@ later_found e es a z h is =
     ]
 
 module _ (P : Account → ℤ → Type 0) where
-  -- what is so of each amount found in a sorted list is so of each of its entries
+  -- if P holds of each amount found in a sorted list, it holds of each of its entries
   each_of : (es : List (Account × ℤ)) → is_sorted account_cmp es ≡ true → ((a : Account) (z : ℤ) → find account_cmp a es ≡ Some z → P a z) → AllByRecursion (λ x. P x.0 x.1) es
   each_of [] s h = tt
   each_of (e ∷ es) s h =
       let parts = and_parts (below_all account_cmp e.0 es) (is_sorted account_cmp es) s in
       (h e.0 e.1 (ap (λ b. cond b (Some e.1) (find account_cmp e.0 es)) (account_itself e.0)), each_of es parts.1 (λ a z is. h a z (later_found e es a z parts.0 is)))
 
-  -- what is so of each entry of a list is so of each amount found in it
+  -- if P holds of each entry of a list, it holds of each amount found in it
   found_of : (es : List (Account × ℤ)) (a : Account) (z : ℤ) → AllByRecursion (λ x. P x.0 x.1) es → find account_cmp a es ≡ Some z → P a z
   found_of [] a z h is = none_some z is
   found_of (e ∷ es) a z h is =
@@ -199,14 +199,15 @@ module _ (P : Account → ℤ → Type 0) where
         | inr apart ↦ found_of es a z h.1 (sym (ap (λ b. cond b (Some e.1) (find account_cmp a es)) apart) ∙ is)
       ]
     where
+      -- equal Some's have equal amounts
       inside : (x y : ℤ) → Some x ≡ Some y → x ≡ y
       inside x y e = cc
 
-  -- what is so of each amount of a map is so of each of its entries
+  -- if P holds of each amount of a map, it holds of each of its entries
   pub each_amount : (m : FinMap account_cmp ℤ) → ((a : Account) (z : ℤ) → get m a ≡ Some z → P a z) → AllByRecursion (λ x. P x.0 x.1) (entries m)
   each_amount m h = each_of (entries m) (amounts_sorted m) (λ a z is. h a z (get-entries m a ∙ is))
 
-  -- what is so of each entry of a map is so of each amount
+  -- if P holds of each entry of a map, it holds of each amount
   pub amount_of_each : (m : FinMap account_cmp ℤ) → AllByRecursion (λ x. P x.0 x.1) (entries m) → (a : Account) (z : ℤ) → get m a ≡ Some z → P a z
   amount_of_each m h a z is = found_of (entries m) a z h (sym (get-entries m a) ∙ is)
 

@@ -39,7 +39,7 @@ module _ {V : Type 0} (m : FinMap nat_cmp V) (k : ℕ) where
         | Greater ↦ λ o e. (λ same. let l = ranked n k Greater (sym o) in absurd (omega arith), e)
       ] refl (sym (get-remove nat_cmp_total m k n) ∙ is)
 
-  -- what was so of every value is so once one is removed
+  -- if P holds of every value, it still does once one is removed
   pub every-remove : (P : ℕ → V → Type 0) → Every P m → Every P (remove m k)
   every-remove P old n v is = old n v (still n v is).1
 
@@ -47,6 +47,7 @@ module _ {V : Type 0} (m : FinMap nat_cmp V) (k : ℕ) where
   pub fewer : len (remove m k) ≤ len m
   fewer = let is = len-remove nat_cmp_total m k in less (contains_key m k) (len (remove m k)) (len m) is
     where
+      -- a number, or one less, is at most that number
       less : (b : Bool) (x y : ℕ) → x ≡ cond b (y - 1) y → x ≤ y
       less true x y h = omega arith
       less false x y h = omega arith
@@ -55,7 +56,7 @@ module _ {V : Type 0} (m : FinMap nat_cmp V) (k : ℕ) where
   pub sum_over-remove : (f : V → ℕ) (v : V) → get m k ≡ Some v → sum_over f (remove m k) + f v ≡ sum_over f m
   sum_over-remove f v is = sym (sum_over-insert_new f (remove m k) k v get-remove_same) ∙ ap (sum_over f) (sym (put_back m k v is))
 
--- what is so of the value put under k, and of each value under another number, is so of every value
+-- if P holds of the value put under k, and of each value under another number, it holds of every value
 pub every-insert_other : {V : Type 0} (P : ℕ → V → Type 0) (m : FinMap nat_cmp V) (k : ℕ) (v : V) → P k v → ((n : ℕ) (x : V) → n ≢ k → get m n ≡ Some x → P n x) → Every P (insert m k v)
 every-insert_other P m k v here others n x is =
     elim (nat_cmp n k) as (λ o. nat_cmp n k ≡ o → cond (is_eq o) (Some v) (get m n) ≡ Some x → P n x) [

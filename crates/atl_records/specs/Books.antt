@@ -91,7 +91,7 @@ with_amount books e t amount = record books { amounts = if is_zero amount then r
 abbrev pub after_booking : BooksValue → Entry → Thing → ℤ → BooksValue
 after_booking books e t n = with_amount books e t (amount_in books e t +ℤ n)
 
--- books of so many things in which every amount is 0
+-- books that count this many things, with every amount 0
 abbrev pub no_amounts : ℕ → BooksValue
 no_amounts things = record { things = things; amounts = empty }
 

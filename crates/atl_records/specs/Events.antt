@@ -38,9 +38,11 @@ event_fault CannotTeach = (22, codes "CannotTeach")
 event_fault NoFee = (23, codes "NoFee")
 event_fault NoMarket = (24, codes "NoMarket")
 
+-- the number of an event fault, from 1 to 24
 abbrev pub event_fault_number : EventFault → ℕ
 event_fault_number fault = (event_fault fault).0
 
+-- the name of an event fault, as reports print it
 abbrev pub event_fault_name : EventFault → List ℕ
 event_fault_name fault = (event_fault fault).1
 

@@ -23,15 +23,15 @@ cell rows a = slice_index_or (row_of rows a.1) (entry_index a.0) (pos 0)
 abbrev pub with_cell : List (List ℤ) → Entry → Thing → ℤ → List (List ℤ)
 with_cell rows e t amount = slice_set rows (thing_index t) (slice_set (row_of rows t) (entry_index e) amount)
 
--- the accounts of an entry with each of the first things, by the things' numbers
+-- the accounts of an entry with each thing whose number is below `things`, by number
 abbrev pub accounts_under : ℕ → Entry → List Account
 accounts_under things e = map (λ i. (e, thing_at i)) (range_with_len 0 things)
 
--- all accounts of the first things, in the order of account_cmp
+-- the accounts of every entry with each thing whose number is below `things`, in the order of account_cmp
 abbrev pub accounts : ℕ → List Account
 accounts things = flat_map (accounts_under things) all_entries
 
--- the books once each account of a list has its amount
+-- the books with the amount of each listed account set
 abbrev pub filled : (Account → ℤ) → List Account → BooksValue → BooksValue
 filled amount [] books = books
 filled amount (a ∷ others) books = with_amount (filled amount others books) a.0 a.1 (amount a)

@@ -17,11 +17,11 @@ abbrev pub greatest : (ℕ → Bool) → ℕ → ℕ
 greatest passes zero = 0
 greatest passes (suc n) = if passes (suc n) then suc n else greatest passes n
 
--- the days of study that so many men need for a level: 15 * level * (level + 1) each
+-- the days of study that this many men together need for a level: 15 * level * (level + 1) each
 abbrev pub days_for : ℕ → ℕ → ℕ
 days_for level men = level_days * level * (level + 1) * men
 
--- the greatest level from 0 to 5 for which the days of so many men are enough, 0 without men
+-- the level of men with these days together: the greatest from 0 to 5 for which the days are enough; 0 without men
 unfoldable pub level_of : ℕ → ℕ → ℕ
 level_of days men = if men == 0 then 0 else greatest (λ level. nat_le (days_for level men) days) last_level
 
@@ -61,10 +61,10 @@ goods_of w h = sum_by (λ e. e.1 * weight_of w e.0) (entries h.items)
 abbrev pub carried_by_goods : WorldValue → HoldingValue → ℕ
 carried_by_goods w h = sum_by (λ e. e.1 * carry_of w e.0) (entries h.items)
 
--- what a unit weighs
+-- the weight of a unit: its men, at man_weight each, and its goods
 abbrev pub load_of : WorldValue → HoldingValue → ℕ
 load_of w h = h.men * w.rules.man_weight + goods_of w h
 
--- what a unit can carry
+-- the weight that a unit can carry: its men, at man_carry each, and its goods that carry
 abbrev pub carried_by : WorldValue → HoldingValue → ℕ
 carried_by w h = h.men * w.rules.man_carry + carried_by_goods w h

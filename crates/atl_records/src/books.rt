@@ -22,11 +22,11 @@ pub enum Entry {
     Income = 3,
     /// The money that units earn by work.
     Wages = 4,
-    /// The money that goes for recruits.
+    /// The money that is paid for recruits.
     Recruiting = 5,
-    /// The money that goes for study.
+    /// The money that is paid for study.
     Study = 6,
-    /// The money that goes for the upkeep of men.
+    /// The money that is paid for the upkeep of men.
     Upkeep = 7,
     /// The money and the items of units that are removed, where nobody receives them.
     Lost = 8,
@@ -40,9 +40,9 @@ pub enum Entry {
     Made = 12,
     /// The items that are used for building and producing.
     Used = 13,
-    /// The money that goes for what is bought of markets.
+    /// The money that is paid to markets for what units buy.
     Bought = 14,
-    /// The money that comes in for what is sold to markets.
+    /// The money that markets pay for what units sell.
     Sold = 15,
     /// The items that come into the stocks of markets.
     Stocked = 16,
@@ -94,7 +94,7 @@ impl Entry {
 }
 
 impl Thing {
-    /// The thing's number: 0 of money, 1 of people, and then the items'.
+    /// The number of a thing: 0 for money, 1 for people, 2 + i for the world's item with index i.
     pub fn number(self) -> u32
         ensures place { result ≡ thing_index self }
         ensures small { result < possible_things }
@@ -106,7 +106,7 @@ impl Thing {
         }
     }
 
-    /// The thing of a number.
+    /// The thing with a number: money for 0, people for 1, the item with index i for 2 + i.
     pub fn of_number(number: usize) -> Thing
         requires { number < possible_things }
         ensures { result ≡ thing_at number }
@@ -146,8 +146,8 @@ fn row_sum(row: &[i64; ENTRY_COUNT]) -> i128
     sum
 }
 
-/// What is booked of each thing under each entry: what came in so far less what went, so that the sum of a thing's entries
-/// is what all units and regions hold. See docs/RULES.md, "Books".
+/// The books: what came in so far of each thing under each entry, less what went. The sum of a
+/// thing's entries is what all units and regions hold. See docs/RULES.md, "Books".
 #[derive(Drop)]
 pub struct Books {
     rows: Vec<[i64; ENTRY_COUNT]>,
@@ -168,9 +168,8 @@ impl Model for Books {
 }
 
 impl Books {
-    /// Books of so many things, all amounts 0.
-    /// The things are money, people, and at most one item for each number of 16 bits.
-    /// AllocError without memory.
+    /// Books that count this many things, with all amounts 0. The things are money, people, and at
+    /// most one item for each number of 16 bits. AllocError without memory.
     pub fn new(alloc: Global, things: usize) -> Result<Books, AllocError>
         requires { things ≤ possible_things }
         ensures { IfOk result (λ made. made ≡ no_amounts things) }
@@ -200,7 +199,8 @@ impl Books {
         self.rows.len()
     }
 
-    /// What came in of a thing under an entry so far, less what went: money, men and peasants, or pieces of an item.
+    /// What came in of a thing under an entry so far, less what went: money, men and peasants, or
+    /// pieces of an item.
     pub fn amount(&self, entry: Entry, thing: Thing) -> i64
         requires { thing_index thing < self.now.things }
         ensures { result ≡ amount_in self.now entry thing }

@@ -29,7 +29,8 @@ impl EventVerb {
     }
 }
 
-/// Why an order isn't carried out. Nothing of the campaign changes by it then. See docs/RULES.md, "Events".
+/// Why an order isn't carried out. It then changes nothing of the campaign. See docs/RULES.md,
+/// "Events".
 #[derive(Drop, Clone, Copy, Debug, PartialEq, Eq)]
 pub enum EventFault {
     /// The unit isn't there, or is another faction's.
@@ -64,9 +65,9 @@ pub enum EventFault {
     Complete = 15,
     /// No further structure may be begun.
     StructureLimit = 16,
-    /// No region lies there that can be entered so.
+    /// There is no region in that direction that can be entered in this way.
     NoWay = 17,
-    /// What is to be carried is more than can be.
+    /// The load is more than can be carried.
     TooHeavy = 18,
     /// The ship isn't complete.
     NotComplete = 19,
@@ -132,22 +133,23 @@ impl fmt::Display for EventFault {
 
 impl Error for EventFault {}
 
-/// What an order, or a unit's upkeep, came to.
+/// The outcome of an order, or of a unit's upkeep: done, a fault, or men that starved.
 #[derive(Drop, Clone, Copy, Debug, PartialEq, Eq)]
 pub enum Outcome {
-    /// It was carried out. The number is the one that the order's rule names (a unit that was formed, or how many men, days,
-    /// pieces or how much money), or 0 where it names none.
+    /// The order was carried out. The number is the one that the order's rule names (a unit that
+    /// was formed, or how many men, days, pieces or how much money), or 0 where it names none.
     Done(u64),
-    /// It was not, for the fault with this number (`EventFault::number`).
+    /// The order was not carried out, for the fault with this number (`EventFault::number`).
     Fault(u8),
-    /// So many men starved.
+    /// This many men starved.
     Starved(u64),
 }
 
-/// What came of one order, or of a unit's upkeep.
+/// An event of a month: one order, or a unit's upkeep, and its outcome.
 #[derive(Drop, Clone, Copy, Debug, PartialEq, Eq)]
 pub struct Event {
-    /// The number of the faction whose report tells of it: the one that wrote the order, or whose unit it is.
+    /// The number of the faction whose report has the event: the one that wrote the order, or whose
+    /// unit it is.
     pub faction: u32,
     /// The number of the unit that the order is for, or 0 for an alias without a unit.
     pub unit: u32,
@@ -155,6 +157,6 @@ pub struct Event {
     pub line: u32,
     /// The order's verb, or upkeep.
     pub verb: EventVerb,
-    /// What came of it.
+    /// The outcome of the order or the upkeep.
     pub outcome: Outcome,
 }

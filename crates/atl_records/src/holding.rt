@@ -8,9 +8,9 @@ use atl_tables::{Entries, Numbered, Text, let_go};
 use std::alloc::AllocError;
 use std::marker::Model;
 
-/// A unit's name, men, money, guard flag, items and days of study. It has at most MEN_LIMIT men, and at most HOLDING_LIMIT
-/// of money and pieces of each item. Days of study are kept over all men. See docs/RULES.md, "Limits" and "Levels and
-/// loads".
+/// A unit's name, men, money, guard flag, items and days of study. It has at most MEN_LIMIT men,
+/// and at most HOLDING_LIMIT of money and pieces of each item. Days of study are those of all men
+/// together. See docs/RULES.md, "Limits" and "Levels and loads".
 pub struct Holding {
     name: Text,
     men: u32,
@@ -51,8 +51,8 @@ pub fn amount_under(amounts: &Numbered<u32>, number: u32) -> u32
     }
 }
 
-/// Sets the amount under a number; with 0 the number is listed no more, which takes no memory.
-/// Without memory nothing changes.
+/// Sets the amount under a number. An amount of 0 takes the number off the list, which takes no
+/// memory. Without memory nothing changes.
 pub fn put_amount(amounts: &mut Numbered<u32>, number: u32, amount: u32) -> Result<(), AllocError>
     ensures ok { OnOk result (amounts.new ≡ with_amount_of amounts.old number amount) }
     ensures err { OnErr result (amounts.new ≡ amounts.old) }
@@ -66,8 +66,9 @@ pub fn put_amount(amounts: &mut Numbered<u32>, number: u32, amount: u32) -> Resu
 }
 
 impl Holding {
-    /// A holding without the guard flag, of at most MEN_LIMIT men and HOLDING_LIMIT of money, with the pieces of each item and
-    /// the days of each skill over all men, where they are not 0. It takes no memory.
+    /// A holding without the guard flag, of at most MEN_LIMIT men and HOLDING_LIMIT of money. It
+    /// has the pieces of each item and the days of each skill over all men, where they are not 0.
+    /// It takes no memory.
     pub fn new(
         name: Text,
         men: u32,
@@ -128,14 +129,14 @@ impl Holding {
         amount_under(&self.items, item)
     }
 
-    /// How many pieces are held of each item, where they are not 0, with the items' numbers in rising order.
+    /// How many pieces are held of each item, where they are not 0, sorted by item number.
     pub fn items(&self) -> Entries<'_, u32>
         ensures { result ≡ map.entries self.now.items }
     {
         self.items.iter()
     }
 
-    /// The days of study over all men, where they are not 0, with the skills' numbers in rising order.
+    /// The days of study over all men in each skill, where they are not 0, sorted by skill number.
     pub fn days(&self) -> Entries<'_, u32>
         ensures { result ≡ map.entries self.now.days }
     {
@@ -164,8 +165,9 @@ impl Holding {
         self.men = men;
     }
 
-    /// Sets how many pieces of an item are held, at most HOLDING_LIMIT. Where they are 0 the item is listed no more, which
-    /// takes no memory. AllocError without memory, and then nothing changes.
+    /// Sets how many pieces of an item are held, at most HOLDING_LIMIT. An amount of 0 takes the
+    /// item off the list, which takes no memory. AllocError without memory, and then nothing
+    /// changes.
     pub fn set_amount(&mut self, item: u32, amount: u32) -> Result<(), AllocError>
         requires { amount ≤ holding_limit }
         ensures ok { OnOk result
@@ -176,8 +178,8 @@ impl Holding {
         put_amount(&mut self.items, item, amount)
     }
 
-    /// Sets the days of study of a skill over all men. Where they are 0 the skill is listed no more, which takes no memory.
-    /// AllocError without memory, and then nothing changes.
+    /// Sets the days of study of a skill over all men. Days of 0 take the skill off the list, which
+    /// takes no memory. AllocError without memory, and then nothing changes.
     pub fn set_days(&mut self, skill: u32, days: u32) -> Result<(), AllocError>
         ensures ok { OnOk result
             (self.new ≡ record self.old { days = with_amount_of self.old.days skill days }) }
@@ -223,8 +225,8 @@ impl Holding {
         self.guard = guard;
     }
 
-    /// Replaces all days of study: of each skill over all men, where they are not 0.
-    /// It takes no memory.
+    /// Replaces the days of study in all skills by these, over all men and not 0. It takes no
+    /// memory.
     pub fn set_all_days(&mut self, days: Numbered<u32>)
         ensures { self.new ≡ record self.old { days = days } }
     {

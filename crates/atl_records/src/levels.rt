@@ -9,7 +9,7 @@ use crate::limits::LEVEL_DAYS;
 use atl_tables::World;
 use atl_tables::limits::LAST_LEVEL;
 
-/// Whether the days of study of so many men are enough for a level, which is at most 5.
+/// Whether days of study are enough for this many men to have a level, which is at most 5.
 fn is_reached(level: u32, days: u32, men: u32) -> bool
     requires { level ≤ last_level }
     ensures { result ≡ nat_le (days_for level men) days }
@@ -17,9 +17,9 @@ fn is_reached(level: u32, days: u32, men: u32) -> bool
     u64::from(LEVEL_DAYS * level * (level + 1)) * u64::from(men) <= u64::from(days)
 }
 
-/// The level of so many men with so many days of study among them: the greatest number `n` from 0 to 5 with
-/// `15 * n * (n + 1) * men` at most the days, and 0 without men. It takes no memory. See docs/RULES.md, "Levels and
-/// loads".
+/// The level of this many men with this many days of study together: the greatest number `n` from 0
+/// to 5 with `15 * n * (n + 1) * men` at most the days, and 0 without men. It takes no memory. See
+/// docs/RULES.md, "Levels and loads".
 #[tactic(auto, unfolding(crate::specs::Levels::level_of))]
 pub fn level(days: u32, men: u32) -> u32
     ensures value { result ≡ level_of days men }
@@ -91,9 +91,9 @@ fn times(amount: u32, each: u32) -> u64
 /// Which property of goods is summed: their weight, or what they carry.
 #[derive(Drop, Clone, Copy)]
 enum Measure {
-    /// What they weigh.
+    /// The weight of the goods.
     Weight,
-    /// What they carry.
+    /// The weight that the goods carry.
     Carry,
 }
 
@@ -121,8 +121,8 @@ fn goods_measure(world: &World, holding: &Holding, of: Measure) -> u64
     sum
 }
 
-/// The weight of a unit's goods: the sum of amount times weight over the items that it holds. Money weighs nothing. It
-/// takes no memory. See docs/RULES.md, "Levels and loads".
+/// The weight of a unit's goods: the sum of amount times weight over the items that it holds. Money
+/// weighs nothing. It takes no memory. See docs/RULES.md, "Levels and loads".
 pub fn goods(world: &World, holding: &Holding) -> u64
     ensures value { result ≡ goods_of world.now holding.now }
     ensures small { result ≤ most_u32 * most_weight * most_items }
@@ -138,15 +138,16 @@ fn carried_by_goods(world: &World, holding: &Holding) -> u64
     goods_measure(world, holding, Measure::Carry)
 }
 
-/// The weight of a unit: that of its men and of its goods. It takes no memory. See docs/RULES.md, "Levels and loads".
+/// The weight of a unit: that of its men and of its goods. It takes no memory. See docs/RULES.md,
+/// "Levels and loads".
 pub fn load(world: &World, holding: &Holding) -> u64
     ensures { result ≡ load_of world.now holding.now }
 {
     u64::from(holding.men()) * u64::from(world.rules().man_weight) + goods(world, holding)
 }
 
-/// The weight of goods that a unit can carry: what its men and its goods carry. It takes no memory. See docs/RULES.md,
-/// "Levels and loads".
+/// The weight that a unit can carry: what its men and its goods carry. It takes no memory. See
+/// docs/RULES.md, "Levels and loads".
 pub fn carry(world: &World, holding: &Holding) -> u64
     ensures { result ≡ carried_by world.now holding.now }
 {

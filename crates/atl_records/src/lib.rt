@@ -1,5 +1,5 @@
-//! What a campaign consists of: factions, regions, units and structures, what units hold, the books, and the events of a
-//! month.
+//! What a campaign consists of: factions, regions, units and structures, what units hold, the
+//! books, and the events of a month.
 #![tactic(auto)]
 
 mod amounts;

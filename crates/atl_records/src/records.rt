@@ -4,7 +4,8 @@ use atl_tables::{Numbered, Text, let_go};
 use std::error::Error;
 use std::fmt;
 
-/// A player's faction. Names and pass texts keep their rules (docs/RULES.md, "Names and pass texts").
+/// A player's faction. Names and pass texts obey the rules of docs/RULES.md, "Names and pass
+/// texts".
 pub struct Faction {
     /// From 1 to atl_orders' LAST_FACTION, in the order of joining.
     pub number: u32,
@@ -28,7 +29,7 @@ impl Drop for Faction {
 pub struct Unit {
     /// The number of its faction.
     pub faction: u32,
-    /// The number of the region where it stands.
+    /// The number of the region where it is.
     pub region: u32,
     /// The number of the structure that it is inside, or 0 where it is inside none.
     pub structure: u32,
@@ -48,7 +49,8 @@ pub struct Region {
     pub peasants: u32,
     /// The money that no unit has, from 0 to atl_tables' MOST_AMOUNT.
     pub money: u32,
-    /// The stocks of its markets: how many pieces of each item, where they are not 0, up to the limit of the item's market.
+    /// The stocks of its markets: how many pieces of each item, where they are not 0, up to the
+    /// limit of the item's market.
     pub stocks: Numbered<u32>,
 }
 
@@ -77,7 +79,7 @@ pub struct Structure {
     pub kind: u16,
     /// The name that is shown.
     pub name: Text,
-    /// The number of the region where it stands.
+    /// The number of the region where it is.
     pub region: u32,
     /// How much of it is built, from 1 to the size of its kind, with which it is complete.
     pub done: u32,
@@ -91,7 +93,7 @@ pub struct Structure {
 pub enum JoinFault {
     /// Some faction joined under this name.
     NameTaken,
-    /// The last faction has joined, MOST_UNITS units stand, or the last unit's number is given.
+    /// The last faction has joined, there are MOST_UNITS units, or the last unit number is used.
     Full,
     /// There is no memory for the faction or its unit.
     Memory,

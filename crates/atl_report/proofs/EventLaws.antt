@@ -1,4 +1,4 @@
--- Laws of a report's part on orders, and that events of others make no difference to it.
+-- Laws of a report's part on orders, and that other factions' events make no difference to a report.
 use Rattle.std.proofs.Common.{◌≡◌, ◌==◌, ◌++◌, ℕ, Bool, true, false, cond, ◌||◌, ◌&&◌, not, List, [], ◌∷◌, length, refl, sym, ap, ◌∙◌, arith}
 use Rattle.std.specs.Prelude.{codes, filter}
 use Rattle.std.specs.List.{list_any}
@@ -15,6 +15,7 @@ none_passes : (p : Event → Bool) (es : List Event) → list_any p es ≡ false
 none_passes p [] h = refl
 none_passes p (e ∷ es) h = by_test (p e) h (none_passes p es)
   where
+    -- the text is `None.`, by whether the first event passes
     by_test : (t : Bool) → (t || list_any p es) ≡ false → (list_any p es ≡ false → results_text [] (filter p es) ≡ codes "None.\n") → results_text [] (cond t (e ∷ filter p es) (filter p es)) ≡ codes "None.\n"
     by_test true h rest = absurd (false≢true (sym h))
     by_test false h rest = rest h
@@ -24,6 +25,7 @@ some_passes : (p : Event → Bool) (es : List Event) → list_any p es ≡ true 
 some_passes p [] h = absurd (false≢true h)
 some_passes p (e ∷ es) h = by_test (p e) h (some_passes p es)
   where
+    -- the text is the lines of the passing events, by whether the first event passes
     by_test : (t : Bool) → (t || list_any p es) ≡ true → (list_any p es ≡ true → results_text [] (filter p es) ≡ event_lines (filter p es)) → results_text [] (cond t (e ∷ filter p es) (filter p es)) ≡ event_lines (cond t (e ∷ filter p es) (filter p es))
     by_test true h rest = refl
     by_test false h rest = rest h
@@ -38,6 +40,7 @@ pub told_nothing : (faction : ℕ) (faults : List FaultyLine) (events : List Eve
 told_nothing faction (f ∷ fs) events h = absurd (false≢true (sym (ap (λ b. b && not (list_any (λ (e : Event). e.faction == faction) events)) (some_length f fs)) ∙ h))
 told_nothing faction [] events h = by_test (list_any (λ (e : Event). e.faction == faction) events) h (none_passes (λ (e : Event). e.faction == faction) events)
   where
+    -- without own events the text is `None.`
     by_test : (t : Bool) → not t ≡ true → (t ≡ false → results_text [] (own_events faction events) ≡ codes "None.\n") → results_text [] (own_events faction events) ≡ codes "None.\n"
     by_test true h rest = absurd (false≢true h)
     by_test false h rest = rest refl
@@ -48,11 +51,12 @@ pub told_something : (faction : ℕ) (faults : List FaultyLine) (events : List E
 told_something faction (f ∷ fs) events h = refl
 told_something faction [] events h = by_test (list_any (λ (e : Event). e.faction == faction) events) h (some_passes (λ (e : Event). e.faction == faction) events)
   where
+    -- with own events the text is their lines
     by_test : (t : Bool) → not t ≡ false → (t ≡ true → results_text [] (own_events faction events) ≡ event_lines (own_events faction events)) → results_text [] (own_events faction events) ≡ event_lines (own_events faction events)
     by_test true h rest = rest refl
     by_test false h rest = absurd (false≢true (sym h))
 
--- two lists of events with the same own events give one report
+-- two lists of events with the same events of a faction give that faction the same report
 pub others_events_are_not_told : OthersEventsAreNotTold
 unfolding report_of orders_part
 others_events_are_not_told w v faults events others h = ap (λ own. header_line v ++ ((codes "Orders:\n" ++ results_text faults own) ++ region_parts w v.regions)) h

@@ -49,7 +49,7 @@ module _ {X : Type 0} (p : X → Bool) (g : Option X → Bool) where
       ]
       ∙ ap (list_any (λ n. g (find nat_cmp n fs))) (sym (chosen-cons p e es))
 
-  -- looked up in a sorted list, some chosen number passes g just where some chosen entry does
+  -- in a sorted list, some chosen number, looked up, passes g just where some chosen entry passes g
   some_found : (es : List (ℕ × X)) → is_sorted nat_cmp es ≡ true → list_any (λ n. g (find nat_cmp n es)) (numbers_among p es) ≡ list_any (λ e. p e.1 && g (Some e.1)) es
   some_found [] h = refl
   some_found (e ∷ es) h =
@@ -72,7 +72,7 @@ abbrev watches_in : ℕ → ℕ → Option Unit → Bool
 watches_in f q None = false
 watches_in f q (Some u) = is_watching f (Some u) && eq_by_cmp nat_cmp q u.region
 
--- the same three tests in another order
+-- a test made twice, and two others, are the same in another order
 regrouped : (a m e b : Bool) → e ≡ b → (a && ((a && m) && e)) ≡ (b && (a && m))
 regrouped true true e true h = h
 regrouped true true e false h = h
@@ -99,7 +99,7 @@ abbrev number_alone : {V : Type 0} → ℕ × V → ℕ × Prim.Unit {0}
 number_alone e = (e.0, tt)
 
 module _ {V : Type 0} where
-  -- looking up in the entries without values tells whether there was a value
+  -- looking up a number in the entries without values finds it just where it had a value
   find-alone : (q : ℕ) (es : List (ℕ × V)) → find nat_cmp q (map number_alone es) ≡ option_map forget_value (find nat_cmp q es)
   find-alone q [] = refl
   find-alone q (e ∷ es) = elim (is_eq (nat_cmp q e.0)) as (λ b. cond b (Some tt) (find nat_cmp q (map number_alone es)) ≡ option_map forget_value (cond b (Some e.1) (find nat_cmp q es))) [
@@ -135,6 +135,7 @@ module _ (c : CampaignValue) (f q : ℕ) where
     | Greater ↦ λ _. refl
   ] refl
     where
+      -- None, chosen or not, is None
       absent : (b : Bool) (o : Option (Prim.Unit {0})) → o ≡ None → cond b o None ≡ o
       absent true o h = refl
       absent false o h = sym h
@@ -168,7 +169,7 @@ module _ (c : CampaignValue) (f q : ℕ) where
       all_watched ns (with_watched c f seen (get c.units n)) (watches_in f q (get c.units n) || b) (one_watched seen b (get c.units n) was)
       ∙ ap (λ t. cond t (there q) None) (or_order (list_any (λ n. watches_in f q (get c.units n)) ns) (watches_in f q (get c.units n)) b)
 
-  -- an alternative that is false adds nothing
+  -- an or with false is its first part
   or_none : (a : Bool) → (a || false) ≡ a
   or_none true = refl
   or_none false = refl
@@ -191,7 +192,7 @@ entries-with_all_watched c f =
     ∙ alone_chosen (sees_region c f q) (get c.regions q))))
     ∙ entries-from_sorted nat_cmp numbers sorted
 
--- what is made of the regions looked up by the numbers of some is what is made of these
+-- regions looked up by the numbers of chosen entries
 module _ {A : Type 0} (m : FinMap nat_cmp Region) (make : ℕ → Region → A) where
   -- regions looked up by their entries' numbers make what the entries make
   looked_up : (p : ℕ × Region → Bool) (es : List (ℕ × Region)) → EachOf (λ n r. get m n ≡ Some r) es

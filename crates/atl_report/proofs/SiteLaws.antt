@@ -11,13 +11,13 @@ use Rattle.atl_records.specs.declared.records.Structure.{Structure}
 use Rattle.atl_state.specs.KeptLists.{list_of}
 use Rattle.atl_report.specs.Sites.{with_site}
 
--- with a structure added to one region's list, each region's list and the rest come to the same
+-- a region's list and the numbers still to come are together the same, whether n is added to the list or still to come
 by_region : (b : Bool) (o : Option (List ℕ)) (listed rest : List ℕ) (n : ℕ) → (b ≡ true → listed ≡ unwrap_or o [])
     → unwrap_or (cond b (Some (listed ++ (n ∷ []))) o) [] ++ rest ≡ unwrap_or o [] ++ cond b (n ∷ rest) rest
 by_region true o listed rest n h = ap (λ l. (l ++ (n ∷ [])) ++ rest) (h refl) ∙ append_assoc (unwrap_or o []) (n ∷ []) rest
 by_region false o listed rest n h = refl
 
--- equal numbers have the same list
+-- the lists under equal numbers are the same
 same_list : (sites : FinMap nat_cmp (List ℕ)) (q r : ℕ) → (r == q) ≡ true → list_of sites r ≡ list_of sites q
 same_list sites q r h = ap (list_of sites) (is_equal r q h)
 

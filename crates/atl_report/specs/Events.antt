@@ -41,7 +41,7 @@ event_line e = event_text e e.outcome
 abbrev pub event_lines : List Event → List ℕ
 event_lines = each_text event_line
 
--- ---- what a faction is told
+-- ---- what a faction's report says of orders
 
 -- the events whose faction is this one
 abbrev pub own_events : ℕ → List Event → List Event

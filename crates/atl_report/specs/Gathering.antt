@@ -17,7 +17,7 @@ abbrev pub with_watched : CampaignValue → ℕ → FinMap nat_cmp (Prim.Unit {0
 with_watched c f seen None = seen
 with_watched c f seen (Some u) = if is_watching f (Some u) then with_region seen u.region (get c.regions u.region) else seen
 
--- the set with the regions of some units added, as with_watched adds each
+-- the set with the region of each listed unit added, if the unit is the faction's, has men, and its region exists
 abbrev pub with_all_watched : CampaignValue → ℕ → List ℕ → FinMap nat_cmp (Prim.Unit {0}) → FinMap nat_cmp (Prim.Unit {0})
 with_all_watched c f [] seen = seen
 with_all_watched c f (n ∷ ns) seen = with_all_watched c f ns (with_watched c f seen (get c.units n))

@@ -157,7 +157,7 @@ region_parts w = each_text (region_part w)
 
 -- ---- the whole
 
--- the text of a report on a view, with the mailing's faulty lines, and of the events the faction's own alone
+-- the text of a report on a view, with the mailing's faulty lines and those of the events that are the faction's own
 unfoldable pub report_of : WorldValue → View → List FaultyLine → List Event → List ℕ
 report_of w v faults events = header_line v ▸ orders_part v.faction faults events ▸ region_parts w v.regions
 
@@ -168,7 +168,7 @@ OthersEventsAreNotTold =
     → own_events v.faction events ≡ own_events v.faction others
     → report_of w v faults events ≡ report_of w v faults others
 
--- two campaigns of one world of which a faction sees the same give it one report, if faulty lines and own events are the same
+-- if a faction sees the same of two campaigns, its reports are the same for the same faulty lines and own events
 abbrev pub OnlyWhatIsSeenIsTold : Type 0
 OnlyWhatIsSeenIsTold =
     (w : WorldValue) (c d : CampaignValue) (faction : ℕ) (faults : List FaultyLine) (events others : List Event)

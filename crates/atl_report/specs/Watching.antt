@@ -39,7 +39,7 @@ observation_in w c faction region = greatest (map (λ n. observation_of w factio
 abbrev pub watch_over : WorldValue → CampaignValue → ℕ → ℕ → Watch
 watch_over w c faction region = record { faction = faction; region = region; observation = observation_in w c faction region }
 
--- the unit is the faction's own, guards, or has a stealth level at most the faction's best observation level there
+-- whether a unit in the watch's region is seen: the faction's own, a guard, or of stealth at most its observation
 abbrev pub is_seen : WorldValue → Watch → Unit → Bool
 is_seen w watch u = u.faction == watch.faction || (guards u || nat_le (level_in_any u.holding w.rules.stealth) watch.observation)
 

@@ -9,6 +9,7 @@ use atl_state::{Event, EventFault, Outcome};
 use std::alloc::AllocError;
 use std::fmt::Write;
 
+/// Writes the line for a line of the mailing that was not read: its line number and its fault.
 #[tactic(auto, unfolding(crate::specs::Events::faulty_line))]
 fn write_faulty_line(out: &mut String, faulty: &FaultyLine) -> Result<(), AllocError>
     ensures { OnOk result (string_bytes out.new ≡ string_bytes out.old ++ faulty_line faulty.now) }
@@ -19,6 +20,7 @@ fn write_faulty_line(out: &mut String, faulty: &FaultyLine) -> Result<(), AllocE
     write!(out, "Line {line}: {number} {name}.\n")
 }
 
+/// Writes the lines for all faulty lines of the mailing, in their order.
 fn write_faulty_lines(out: &mut String, faults: &[FaultyLine]) -> Result<(), AllocError>
     ensures { OnOk result (string_bytes out.new ≡ string_bytes out.old ++ faulty_lines faults.now) }
 {
@@ -28,7 +30,7 @@ fn write_faulty_lines(out: &mut String, faults: &[FaultyLine]) -> Result<(), All
     Ok(())
 }
 
-/// The name of the fault with a number; none where no fault has it.
+/// The name of the fault with a number; empty where no fault has the number.
 fn name_of_number(number: u8) -> &'static str
     ensures { result.now ≡ name_of_number number }
 {
@@ -38,6 +40,7 @@ fn name_of_number(number: u8) -> &'static str
     }
 }
 
+/// Writes the line of an event, by its outcome.
 #[tactic(auto, unfolding(crate::specs::Events::event_line))]
 fn write_event(out: &mut String, event: &Event) -> Result<(), AllocError>
     ensures { OnOk result (string_bytes out.new ≡ string_bytes out.old ++ event_line event.now) }

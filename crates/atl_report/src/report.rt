@@ -14,7 +14,7 @@ use atl_tables::{Item, Kind, Market, RegionPlan, World};
 use std::alloc::{AllocError, Global};
 use std::fmt::Write;
 
-/// A view of which a report has a text; the world gives the names.
+/// A part of a view that has a text in reports; the world gives the names in the text.
 trait InReport {
     ghost use Rattle.std.specs.Prelude.{List, ℕ};
     ghost use Rattle.atl_tables.specs.Worlds.{WorldValue};
@@ -37,6 +37,7 @@ fn write_each<T: InReport>(out: &mut String, world: &World, list: &[T]) -> Resul
     Ok(())
 }
 
+/// Writes the first line of a report: the month, and the faction's number and name.
 #[tactic(auto, unfolding(crate::specs::Report::header_line))]
 fn write_header(out: &mut String, view: &View) -> Result<(), AllocError>
     ensures { OnOk result (string_bytes out.new ≡ string_bytes out.old ++ header_line view.now) }
@@ -50,7 +51,8 @@ fn write_header(out: &mut String, view: &View) -> Result<(), AllocError>
     )
 }
 
-/// Writes the start of a unit's line: number, name, another's faction, men, an own unit's money.
+/// Writes the start of a unit's line: number, name and men, with the money of an own unit or the
+/// faction of another's.
 fn write_head(out: &mut String, unit: &UnitView) -> Result<(), AllocError>
     ensures { OnOk result (string_bytes out.new
         ≡ string_bytes out.old ++ unit_head unit.now unit.now.side) }
@@ -78,7 +80,7 @@ fn write_head(out: &mut String, unit: &UnitView) -> Result<(), AllocError>
     }
 }
 
-/// Writes the word `guard` where a unit guards.
+/// Writes the word `guard`, after a comma, if a unit guards; else nothing.
 fn write_guard(out: &mut String, guard: bool) -> Result<(), AllocError>
     ensures { OnOk result (string_bytes out.new ≡ string_bytes out.old ++ guard_text guard) }
 {
@@ -214,7 +216,7 @@ fn write_region(out: &mut String, world: &World, region: &RegionView) -> Result<
     )
 }
 
-/// Writes an exit that is there, after a comma if it isn't the first.
+/// Writes one exit of a region, if it is there, after a comma if it isn't the first.
 fn write_exit(
     out: &mut String,
     is_first: bool,
@@ -237,7 +239,7 @@ fn write_exit(
     }
 }
 
-/// Writes the exits that are there, with commas between them.
+/// Writes the exits of a region in the order north, south, east, west, with commas between them.
 fn write_directions(out: &mut String, plan: &RegionPlan) -> Result<(), AllocError>
     ensures { OnOk result (string_bytes out.new
         ≡ string_bytes out.old ++ separated_texts (codes ", ") (exit_texts plan.now)) }
@@ -252,6 +254,7 @@ fn write_directions(out: &mut String, plan: &RegionPlan) -> Result<(), AllocErro
     Ok(())
 }
 
+/// Whether a region has no exit.
 fn has_no_exit(plan: &RegionPlan) -> bool
     ensures { result
         ≡ (((is_none plan.now.north && is_none plan.now.south) && is_none plan.now.east)
@@ -327,6 +330,7 @@ fn write_market(
     }
 }
 
+/// Writes the lines of some markets of a region, in their order.
 fn write_markets(
     out: &mut String,
     world: &World,
@@ -342,7 +346,7 @@ fn write_markets(
     Ok(())
 }
 
-/// All lines of a region: its own, exits, markets, structures and units.
+/// The text of a region: its own line, exits, markets, structures and units.
 impl InReport for RegionView {
     ghost text = { region_part };
 
@@ -357,8 +361,9 @@ impl InReport for RegionView {
     }
 }
 
-/// The text of a report on what a faction sees, of a world with which the view was made, with the faulty lines of its mailing
-/// and those of the events that are its own. See docs/FORMATS.md, "Reports".
+/// The text of a report on a view, with the faulty lines of the faction's mailing and those of the
+/// events that are its own. The world must be the one with which the view was made. See
+/// docs/FORMATS.md, "Reports".
 #[tactic(auto, unfolding(crate::specs::Report::report_of))]
 pub fn report_text(
     alloc: Global,
@@ -377,13 +382,14 @@ pub fn report_text(
     Ok(out)
 }
 
-/// Does nothing. Its clause is the law that events of other factions make no difference to a report.
+/// The law that events of other factions make no difference to a report. It does nothing.
 pub fn others_events_are_not_told()
     ensures { OthersEventsAreNotTold }
 {}
 
-/// Does nothing. Its clause is the law that nothing of a campaign but what a faction sees makes a difference to its report: two
-/// campaigns of one world with the same view, faulty lines and own events give one report.
+/// The law that a report depends only on the faction's view, its faulty lines and its own events.
+/// Two campaigns of one world with the same view, faulty lines and own events give one report. It
+/// does nothing.
 pub fn only_what_is_seen_is_told()
     ensures { OnlyWhatIsSeenIsTold }
 {}

@@ -25,6 +25,7 @@ fn shown_name(alloc: Global, campaign: &Campaign, faction: u32) -> Result<Text, 
     }
 }
 
+/// The views of all items that a unit holds, in the order of the world.
 fn item_views(alloc: Global, holding: &Holding) -> Result<Sequence<ItemView>, AllocError>
     ensures { IfOk result (λ items. items ≡ item_views holding.now) }
 {
@@ -38,6 +39,7 @@ fn item_views(alloc: Global, holding: &Holding) -> Result<Sequence<ItemView>, Al
     Ok(items)
 }
 
+/// The views of all skills of a unit that have days, in the order of the world.
 fn skill_views(alloc: Global, holding: &Holding) -> Result<Sequence<SkillView>, AllocError>
     ensures { IfOk result (λ skills. skills ≡ skill_views holding.now) }
 {
@@ -75,6 +77,7 @@ fn side_of(
     })
 }
 
+/// The view that a faction has of a unit that it sees.
 fn unit_view(
     alloc: Global,
     campaign: &Campaign,
@@ -125,6 +128,7 @@ fn shown_owner(world: &World, campaign: &Campaign, watch: Watch, structure: &Str
     }
 }
 
+/// The view of a structure, with 0 for an owner that isn't seen.
 fn structure_view(
     alloc: Global,
     world: &World,
@@ -166,6 +170,7 @@ fn structure_views(
     Ok(structures)
 }
 
+/// The view of a market: its stock, and how many more pieces its limit leaves room for.
 fn market_view(number: u32, market: &Market, region: &Region) -> MarketView
     ensures { result ≡ market_view region.now (number, market.now) }
 {
@@ -208,6 +213,7 @@ fn region_market_views(
     }
 }
 
+/// The view of a region: peasants, money, markets, all structures, and the units that are seen.
 fn region_view(
     alloc: Global,
     world: &World,
@@ -284,9 +290,10 @@ fn region_views(
     Ok(regions)
 }
 
-/// What a faction sees, like `view`, with the structures of each region found before (`sites_of`), so that the views of many
-/// factions go over the structures of the campaign once. It goes over the faction's units and what stands in the regions
-/// seen, and no further. AllocError without memory.
+/// What a faction sees, as `view` gives it, from lists of each region's structures (`sites_of`).
+/// With these lists the views of many factions go over the campaign's structures only once.
+/// Besides, it goes over the faction's units and what is in the regions seen, and no further.
+/// AllocError without memory.
 #[tactic(auto, unfolding(crate::specs::Sight::view_of))]
 pub fn view_over(
     alloc: Global,
@@ -306,11 +313,12 @@ pub fn view_over(
     })
 }
 
-/// What a faction sees: the regions where it has a unit with men, and there all markets and structures, and each unit that is its own,
-/// guards, or has a stealth level at most the best observation level of its own units there. Of its own units it sees the
-/// money, the items and the skills too. A structure's owner is 0 where he isn't seen. It goes over the campaign's structures
-/// once, and else over the faction's units and what stands in the regions seen. AllocError without memory. See
-/// docs/RULES.md, "Sight".
+/// What a faction sees: the regions where it has a unit with men, and what is seen there.
+/// These are all markets and structures, and each unit that is its own, guards, or has a stealth
+/// level at most the best observation level of the faction's own units there. Of its own units it
+/// sees the money, the items and the skills too. A structure's owner is 0 where he isn't seen. It
+/// goes over the campaign's structures once, and else over the faction's units and what is in the
+/// regions seen. AllocError without memory. See docs/RULES.md, "Sight".
 pub fn view(
     alloc: Global,
     world: &World,

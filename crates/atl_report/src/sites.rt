@@ -26,8 +26,8 @@ fn add_site(alloc: Global, sites: &mut Sites, region: u32, number: u32) -> Resul
     }
 }
 
-/// The numbers of each region's structures, from one pass over the campaign.
-/// They stay right until a structure is begun or moves. AllocError without memory.
+/// The numbers of each region's structures, sorted, from one pass over the campaign. They stay
+/// right until a structure is begun or moved. AllocError without memory.
 pub fn sites_of(alloc: Global, campaign: &Campaign) -> Result<Sites, AllocError>
     ensures { IfOk result (AreSites campaign.now.value.structures) }
 {

@@ -7,9 +7,9 @@ pub struct View {
     pub month: u32,
     /// The number of the faction.
     pub faction: u32,
-    /// The name that the faction shows.
+    /// The name of the faction that is shown.
     pub name: Text,
-    /// The regions that it sees, by number.
+    /// The views of the regions that the faction sees, by number.
     pub regions: Sequence<RegionView>,
 }
 
@@ -24,11 +24,11 @@ pub struct RegionView {
     pub number: u32,
     pub peasants: u32,
     pub money: u32,
-    /// All markets that are there, in the order of the world's items.
+    /// All markets of the region, in the order of the world's items.
     pub markets: Sequence<MarketView>,
-    /// All structures that stand there, by number.
+    /// All structures in the region, by number.
     pub structures: Sequence<StructureView>,
-    /// The units that are seen there, by number.
+    /// The units that are seen in the region, by number.
     pub units: Sequence<UnitView>,
 }
 
@@ -41,11 +41,11 @@ impl Drop for RegionView {
 /// A market of a region that is seen.
 #[derive(Drop, Clone, Copy)]
 pub struct MarketView {
-    /// The number of its item in the world.
+    /// The index of the item in the world.
     pub item: u16,
     /// How many pieces there are in stock.
     pub stock: u32,
-    /// How many more the stock has room for.
+    /// How many more pieces the market's limit leaves room for.
     pub wanted: u32,
 }
 
@@ -53,12 +53,12 @@ pub struct MarketView {
 #[derive(Drop)]
 pub struct StructureView {
     pub number: u32,
-    /// The number of its kind in the world.
+    /// The index of the kind in the world.
     pub kind: u16,
     pub name: Text,
-    /// How much of its kind's size is done.
+    /// How much of the structure is built.
     pub done: u32,
-    /// The number of the unit that owns it, or 0 where none does or that unit isn't seen.
+    /// The number of the unit that owns the structure; 0 if nobody does, or that unit isn't seen.
     pub owner: u32,
 }
 
@@ -67,9 +67,9 @@ pub struct UnitView {
     pub number: u32,
     pub name: Text,
     pub men: u32,
-    /// Whether it guards the region.
+    /// Whether the unit guards the region: its guard flag is set, and it has men.
     pub guard: bool,
-    /// The number of the structure that it is inside, or 0.
+    /// The number of the structure that the unit is inside, or 0.
     pub structure: u32,
     pub side: Side,
 }
@@ -114,7 +114,7 @@ impl Drop for Side {
 /// How many pieces of an item an own unit holds.
 #[derive(Drop, Clone, Copy)]
 pub struct ItemView {
-    /// The number of the item in the world.
+    /// The index of the item in the world.
     pub item: u32,
     pub amount: u32,
 }
@@ -122,7 +122,7 @@ pub struct ItemView {
 /// The level and the days of an own unit in a skill.
 #[derive(Drop, Clone, Copy)]
 pub struct SkillView {
-    /// The number of the skill in the world.
+    /// The index of the skill in the world.
     pub skill: u32,
     pub level: u32,
     /// The days of study over all men.

@@ -1,4 +1,4 @@
--- Laws of assembling by giving: rows of goods given to units, and of stocks to regions, one after another.
+-- Laws of assembling units and regions by adding each row of goods to its unit, and each row of stock to its region.
 use Rattle.std.proofs.Common.{◌≡◌, ◌≢◌, ◌==◌, ℕ, ◌&&◌, List, [], ◌∷◌, Bool, true, false, cond, filter, Option, Some, None, refl, sym, ap, subst, ◌∙◌, arith, inl, inr}
 use Rattle.std.specs.Prelude.{option_map}
 use Rattle.std.specs.Ordering.{nat_cmp}
@@ -17,33 +17,33 @@ use Rattle.atl_state.proofs.AssemblyLaws.{get_same, get_other, taken_or_not, is_
 
 -- ---- what may be there
 
--- mapping by the identity changes nothing
+-- mapping an option by the identity changes nothing
 map_none : {V : Type 0} (o : Option V) → o ≡ option_map (λ v. v) o
 map_none None = refl
 map_none (Some v) = refl
 
--- mapping twice is mapping once by both
+-- mapping an option by g and then by f is mapping it once by both
 map_twice : {V : Type 0} (f g : V → V) (o : Option V) → option_map f (option_map g o) ≡ option_map (λ v. f (g v)) o
 map_twice f g None = refl
 map_twice f g (Some v) = refl
 
--- the changed number has its value changed
+-- `changed_at` changes the value under its number by f
 at_same : {V : Type 0} (f : V → V) (m : FinMap nat_cmp V) (k : ℕ) (o : Option V) → get m k ≡ o → get (changed_at f m k o) k ≡ option_map f o
 at_same f m k None e = e
 at_same f m k (Some v) e = get_same m k (f v)
 
--- another number has its value as before
+-- `changed_at` changes no value under another number
 at_other : {V : Type 0} (f : V → V) (m : FinMap nat_cmp V) (k n : ℕ) (o : Option V) → n ≢ k → get (changed_at f m k o) n ≡ get m n
 at_other f m k n None apart = refl
 at_other f m k n (Some v) apart = get_other m k n (f v) apart
 
 module _ {R V : Type 0} (owner : R → ℕ) (more : R → V → V) where
-  -- the value under number n once each row of n is given to it
+  -- a value of number n once each row of number n is added to it
   abbrev pub given : ℕ → List R → V → V
   given n [] v = v
   given n (r ∷ rows) v = given n rows (cond (owner r == n) (more r v) v)
 
-  -- one row given changes the value under its number alone
+  -- adding one row changes the value under the row's number alone
   get-changed : (r : R) (m : FinMap nat_cmp V) (n : ℕ) → get (changed (more r) m (owner r)) n ≡ option_map (λ v. cond (owner r == n) (more r v) v) (get m n)
   get-changed r m n =
       let k = owner r in
@@ -56,17 +56,17 @@ module _ {R V : Type 0} (owner : R → ℕ) (more : R → V → V) where
             at_other (more r) m k n (get m k) (λ e. apart (sym e)) ∙ map_none (get m n) ∙ ap (λ b. option_map (λ v. cond b (more r v) v) (get m n)) (sym other)
       ]
 
-  -- rows given change each value by those of its number
+  -- adding rows changes each value by the rows of its number
   get-give : (rows : List R) (m : FinMap nat_cmp V) (n : ℕ) → get (give owner more rows m) n ≡ option_map (given n rows) (get m n)
   get-give [] m n = map_none (get m n)
   get-give (r ∷ rows) m n = get-give rows (changed (more r) m (owner r)) n ∙ ap (option_map (given n rows)) (get-changed r m n) ∙ map_twice (given n rows) (λ v. cond (owner r == n) (more r v) v) (get m n)
 
   module _ {T : Type 0} (number : T → ℕ) (before after : T → V) (rows : List R) (each : (t : T) → given (number t) rows (before t) ≡ after t) where
-    -- two maps have the same numbers, and the value of the second is that of the first once the rows are given
+    -- the maps have the same numbers, and each value of the second is that of the first once the rows are added
     abbrev Becomes : FinMap nat_cmp V → FinMap nat_cmp V → Type 0
     Becomes m l = (n : ℕ) → option_map (given n rows) (get m n) ≡ get l n
 
-    -- Becomes holds once one element is put into both, before and after
+    -- Becomes still holds once an element's bare value is put into the first map, and its full value into the second
     put_one : (t : T) (m l : FinMap nat_cmp V) → Becomes m l → Becomes (insert m (number t) (before t)) (insert l (number t) (after t))
     put_one t m l all n =
         let k = number t in
@@ -77,12 +77,12 @@ module _ {R V : Type 0} (owner : R → ℕ) (more : R → V → V) where
           | inr apart ↦ ap (option_map (given n rows)) (get_other m k n (before t) (λ e. apart (sym e))) ∙ all n ∙ sym (get_other l k n (after t) (λ e. apart (sym e)))
         ]
 
-    -- Becomes holds once all elements are put into both, before and after
+    -- Becomes still holds once all elements are put in, with bare values in the first map and full ones in the second
     put_each : (ts : List T) (m l : FinMap nat_cmp V) → Becomes m l → Becomes (put_rows number before ts m) (put_rows number after ts l)
     put_each [] m l all = all
     put_each (t ∷ ts) m l all = put_each ts (insert m (number t) (before t)) (insert l (number t) (after t)) (put_one t m l all)
 
-    -- a map of bare values, once all rows are given to it, is the map of the full values
+    -- adding all rows to the map of bare values gives the map of full values
     pub give_all : (ts : List T) → give owner more rows (by_number number before ts) ≡ by_number number after ts
     give_all ts =
         let none : Becomes empty empty = λ n. ap (option_map (given n rows)) (get-empty nat_cmp n) ∙ sym (get-empty nat_cmp n) in
@@ -110,7 +110,7 @@ picked r items items' days days' true false false h = refl
 no_skill : (s : ℕ) → (s == 0) ≡ true → (s == 1) ≡ false
 no_skill s h = ap (λ k. k == 1) (is_same s 0 h)
 
--- the bare unit of a row, once all rows of goods are given, holds what they say
+-- the bare unit of a row, once all rows of goods are added, has the items and days that its rows of goods name
 unit_given : (r : StoredUnit) (n : ℕ) (has : List StoredHas) (items days : FinMap nat_cmp ℕ)
     → given (λ h. as_u32 h.unit) holding_more n has (unit_with r items days) ≡ unit_with r (put_rows thing_of amount_of (filter (is_of n 0) has) items) (put_rows thing_of amount_of (filter (is_of n 1) has) days)
 unit_given r n [] items days = refl
@@ -122,7 +122,7 @@ unit_given r n (h ∷ has) items days =
     ∙ ap (λ m. unit_with r m (put_rows thing_of amount_of (filter (is_of n 1) has) (cond (is_of n 1 h) days' days))) (sym (taken_or_not thing_of amount_of (is_of n 0) h has (is_of n 0 h) items refl))
     ∙ ap (λ m. unit_with r (put_rows thing_of amount_of (filter (is_of n 0) (h ∷ has)) items) m) (sym (taken_or_not thing_of amount_of (is_of n 1) h has (is_of n 1 h) days refl))
 
--- bare units, once all rows of goods are given, are the units assembled with them
+-- the bare units, once all rows of goods are added, are the units assembled with these rows
 pub units_given : (has : List StoredHas) (rows : List StoredUnit) → give (λ h. as_u32 h.unit) holding_more has (by_number (λ r. as_u32 r.number) bare_unit rows) ≡ by_number (λ r. as_u32 r.number) (unit_of has) rows
 units_given has rows = give_all (λ (h : StoredHas). as_u32 h.unit) holding_more (λ (r : StoredUnit). as_u32 r.number) bare_unit (unit_of has) has (λ r. unit_given r (as_u32 r.number) has empty empty) rows
 
@@ -136,12 +136,12 @@ item_of r = as_u32 r.item
 abbrev stock_of : StoredMarket → ℕ
 stock_of r = as_u32 r.stock
 
--- the region with the stocks chosen is the choice of the regions
+-- a choice between two regions that differ in their stocks is the region with the chosen stocks
 stocked : (r : StoredRegion) (stocks stocks' : FinMap nat_cmp ℕ) (mine : Bool) → cond mine (region_with r stocks') (region_with r stocks) ≡ region_with r (cond mine stocks' stocks)
 stocked r stocks stocks' true = refl
 stocked r stocks stocks' false = refl
 
--- the bare region of a row, once all rows of markets are given, has the stocks that they say
+-- the bare region of a row, once all rows of markets are added, has the stocks that its rows of markets name
 region_given : (r : StoredRegion) (n : ℕ) (markets : List StoredMarket) (stocks : FinMap nat_cmp ℕ)
     → given (λ m. as_u32 m.region) stocking_more n markets (region_with r stocks) ≡ region_with r (put_rows item_of stock_of (filter (λ m. as_u32 m.region == n) markets) stocks)
 region_given r n [] stocks = refl
@@ -152,7 +152,7 @@ region_given r n (m ∷ markets) stocks =
     ∙ region_given r n markets (cond mine stocks' stocks)
     ∙ ap (region_with r) (sym (taken_or_not item_of stock_of (λ m. as_u32 m.region == n) m markets mine stocks refl))
 
--- bare regions, once all rows of markets are given, are the regions assembled with them
+-- the bare regions, once all rows of markets are added, are the regions assembled with these rows
 pub regions_given : (markets : List StoredMarket) (rows : List StoredRegion)
     → give (λ m. as_u32 m.region) stocking_more markets (by_number (λ r. as_u32 r.number) bare_region rows) ≡ by_number (λ r. as_u32 r.number) (region_of markets) rows
 regions_given markets rows = give_all (λ (m : StoredMarket). as_u32 m.region) stocking_more (λ (r : StoredRegion). as_u32 r.number) bare_region (region_of markets) markets (λ r. region_given r (as_u32 r.number) markets empty) rows

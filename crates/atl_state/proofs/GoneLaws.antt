@@ -44,7 +44,7 @@ module _ (c : CampaignValue) (n : ℕ) (x : Faction) (is : get c.factions n ≡ 
   there : (k : ℕ) → IsThere c.factions k → IsThere factions k
   there k h = there-insert c.factions n k (as_gone x) h
 
-  -- the numbers of the campaign stay in range
+  -- the campaign's numbers stay in range when faction n is set gone
   numbers_kept : (w : WorldValue) → AreInRange w c → AreInRange w left
   numbers_kept w old = record {
     month = old.month;
@@ -65,7 +65,7 @@ module _ (c : CampaignValue) (n : ℕ) (x : Faction) (is : get c.factions n ≡ 
   abbrev JoinedOnce : ℕ → Faction → ℕ → Faction → Type 0
   JoinedOnce k f m g = f.joined_as ≡ g.joined_as → k ≡ m
 
-  -- names stay good
+  -- all names stay good when faction n is set gone
   names_kept : AreNamed c → AreNamed left
   names_kept old = record {
     pass = old.pass;
@@ -77,7 +77,7 @@ module _ (c : CampaignValue) (n : ℕ) (x : Faction) (is : get c.factions n ≡ 
     structures = old.structures;
   }
 
-  -- everything that is named by its number still exists
+  -- everything that the campaign names by number still exists when faction n is set gone
   known_kept : (w : WorldValue) → AreKnown w c → AreKnown w left
   known_kept w old = record {
     regions = old.regions;
@@ -117,27 +117,27 @@ module _ (c : CampaignValue) (n : ℕ) (x : Faction) (is : get c.factions n ≡ 
   pub steady-gone : (w : WorldValue) → numbers_of n c.units ≡ [] → IsSteady w c → IsSteady w (with_gone c n)
   steady-gone w none old = subst (IsSteady w) (sym gone-known) (steady_gone w none old)
 
-  -- there are as many factions as before
+  -- setting a faction gone leaves the number of factions
   pub count-gone : len (with_gone c n).factions ≡ len c.factions
   count-gone = ap (λ (d : CampaignValue). len d.factions) gone-known ∙ same_len c.factions n x (as_gone x) is
 
-  -- a faction that is there was there
+  -- a faction that is there once n is set gone was there before
   was_there : (k : ℕ) → IsThere factions k → IsThere c.factions k
   was_there k (f, here) = every-insert (λ k f. IsThere c.factions k) c.factions n (as_gone x) (x, is) (λ k f here. (f, here)) k f here
 
-  -- a faction that is there once n is gone was there
+  -- each faction that with_gone leaves was there before
   pub known-gone : (k : ℕ) → IsThere (with_gone c n).factions k → IsThere c.factions k
   known-gone k h = was_there k (subst (λ (d : CampaignValue). IsThere d.factions k) gone-known h)
 
-  -- faction n is found as gone
+  -- once faction n is set gone, it is found with the flag gone
   pub get-gone : get (with_gone c n).factions n ≡ Some (as_gone x)
   get-gone = ap (λ (d : CampaignValue). get d.factions n) gone-known ∙ get-insert_same c.factions n (as_gone x)
 
-  -- each other faction is as it was
+  -- setting faction n gone changes no other faction
   pub get-gone_other : (k : ℕ) → k ≢ n → get (with_gone c n).factions k ≡ get c.factions k
   get-gone_other k apart = ap (λ (d : CampaignValue). get d.factions k) gone-known ∙ get-insert_other c.factions n k (as_gone x) apart
 
--- where there is no faction n, nothing changes
+-- with_gone changes nothing where there is no faction n
 pub none-gone : (c : CampaignValue) (n : ℕ) → get c.factions n ≡ None → with_gone c n ≡ c
 none-gone c n is = ap (λ o. record c { factions = changed_at as_gone c.factions n o }) is
 

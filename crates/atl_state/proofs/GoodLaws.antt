@@ -20,7 +20,7 @@ use Rattle.atl_records.proofs.EveryLaws.{every-empty, every-insert, there-new, t
 
 -- ---- mail and reports
 
--- mail and reports are of factions that are there, if each faction that was there is
+-- mail and reports are still of factions that are there, if no faction is removed
 pub posted-there : {factions later : FinMap nat_cmp Faction} {mail reports : FinMap nat_cmp (List ℕ)} → ((n : ℕ) → IsThere factions n → IsThere later n) → AreOfFactions factions mail reports → AreOfFactions later mail reports
 posted-there stays posts = record { mail = λ n text is. stays n (posts.mail n text is); reports = λ n text is. stays n (posts.reports n text is) }
 
@@ -54,16 +54,16 @@ module _ (w : WorldValue) (c : CampaignValue) (month : ℕ) (mail reports : FinM
     books = old.books;
   }
 
-  -- names stay good with other mail and reports
+  -- all names stay good with other mail and reports
   posted-names : AreNamed c → AreNamed posted
   posted-names old = record { pass = old.pass; factions = old.factions; joined = old.joined; units = old.units; structures = old.structures }
 
   module _ (early : month ≤ last_month) (posts : AreOfFactions c.factions mail reports) where
-    -- what is named by number exists, with mail and reports of factions that are there
+    -- everything that the campaign names by number exists, if mail and reports are of factions that are there
     posted-known : AreKnown w c → AreKnown w posted
     posted-known old = record { regions = old.regions; markets = old.markets; units = old.units; structures = old.structures; posts = posts }
 
-    -- the campaign stays steady, in a month up to the last, with mail and reports of factions that are there
+    -- the campaign stays steady, if the month is at most the last, and mail and reports are of factions that are there
     pub posted-steady : IsSteady w c → IsSteady w posted
     posted-steady old = record {
       numbers = posted-numbers early old.numbers;
@@ -77,7 +77,7 @@ module _ (w : WorldValue) (c : CampaignValue) (month : ℕ) (mail reports : FinM
       guarded = old.guarded;
     }
 
--- a sound campaign with other mail and reports of its factions is sound, if the mail is good
+-- a sound campaign with other mail and reports is sound, if they are of its factions and the mail is good
 posted-sound : (w : WorldValue) (c : CampaignValue) (mail reports : FinMap nat_cmp (List ℕ)) → AreOfFactions c.factions mail reports
     → Every (λ n text. IsMailingOf n text × IsActive c n) mail → IsSound w c → IsSound w (record c { mail = mail; reports = reports })
 unfolding total
@@ -114,13 +114,13 @@ IsGood-with_mail w c faction text sent active good =
       reported = good.reported;
     }
 
--- a joining that is not refused gives its only possible result
+-- where the answer of a joining is Ok y, y is the joined campaign with its numbers
 let_in : (taken full : Bool) (x y : CampaignValue × (ℕ × ℕ)) → ◌≡◌ {A = Result (CampaignValue × (ℕ × ℕ)) JoinFault} (cond taken (Err NameTaken) (cond full (Err Full) (Ok x))) (Ok y) → x ≡ y
 let_in true full x y e = cc
 let_in false true x y e = cc
 let_in false false x y e = cc
 
--- a good campaign that a faction joined is good once the faction has its report
+-- a good campaign that a faction joined is good once a report of the faction is stored, if it is sound
 pub IsGood-joined : (w : WorldValue) (name pass : List ℕ) (word : ℕ) (c d : CampaignValue) (faction unit : ℕ) (text : List ℕ) → join_of w name pass word c ≡ Ok (d, (faction, unit)) → IsGood w c → IsSound w d → IsGood w (with_report d faction text)
 unfolding join_of joined
 IsGood-joined w name pass word c d faction unit text is good sound =
@@ -134,7 +134,7 @@ IsGood-joined w name pass word c d faction unit text is good sound =
 
 -- ---- a sound campaign is early, and so a good one
 
--- a flag that is set, of a unit with men, is that of a guard
+-- a unit with men whose guard flag is set guards
 set_guards : (flag : Bool) (men : ℕ) → 1 ≤ men → flag ≡ true → (flag && nat_lt 0 men) ≡ true
 set_guards flag men h set = let some : nat_lt 0 men ≡ true = grind (arith, nat_tests) in both_true set some
 

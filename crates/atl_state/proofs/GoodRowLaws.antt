@@ -50,11 +50,11 @@ use Rattle.atl_state.proofs.MarketLaws.{market_known}
 few_numbered : {V : Type 0} (m : FinMap nat_cmp V) (next most : ℕ) → IsNumbered m next → len m ≤ most → Every (λ n v. (1 ≤ n) × (n ≤ most)) m
 few_numbered m next most is few n v there = let range = every-from_each (λ n v. (1 ≤ n) × (n < next)) m (each_numbered m next is) n v there in (range.0, omega (arith, range.1, is.count, few))
 
--- numbers that are free from the next on are below the next
+-- numbers are at most `most`, if those from next on have no value and next is at most most + 1
 few_before : {V : Type 0} (m : FinMap nat_cmp V) (next most : ℕ) → ((n : ℕ) → next ≤ n → get m n ≡ None) → next ≤ most + 1 → Every (λ n v. n ≤ most) m
 few_before m next most free few n v there = let low = every_before m next free n v there in omega (arith, low, few)
 
--- numbers up to a bound of at most 32 bits fit 32 bits
+-- numbers up to a bound that fits 32 bits fit 32 bits
 small_enough : {V : Type 0} (m : FinMap nat_cmp V) (most : ℕ) → most ≤ most_u32 → Every (λ n v. n ≤ most) m → Every (λ n v. n ≤ most_u32) m
 small_enough m most few every n v there = let here = every n v there in omega (arith, few, here)
 
@@ -144,7 +144,7 @@ module _ {V R : Type 0} (row : ℕ → V → R) (key : R → ℤ) (value : R →
 
 -- ---- the campaign's own row
 
--- rows that are one, and each x, are x alone
+-- a list of one row, each row of which is x, is x alone
 single : {R : Type 0} (x : R) (rows : List R) → length rows ≡ 1 → AllByRecursion (λ r. r ≡ x) rows → rows ≡ x ∷ []
 single x [] l all = absurd (omega (arith, l))
 single x (r ∷ []) l all = ap (λ s. s ∷ []) all.0
@@ -161,18 +161,18 @@ none_listed (r ∷ rows) h = let count = length_permutation [] (r ∷ rows) h in
 
 -- ---- what is so of a good campaign's numbers
 
--- a unit whose numbers are within their limits fits its row
+-- the numbers of a unit fit 32 bits, if they are within their limits
 unit_small_enough : (u : Unit) → u.faction ≤ last_faction → u.region ≤ last_region → u.structure ≤ most_structures → u.holding.men ≤ men_limit → u.holding.money ≤ holding_limit → UnitFits u
 unit_small_enough u f r s m y = record { faction = omega (arith, f); region = omega (arith, r); structure = omega (arith, s); men = omega (arith, m); money = omega (arith, y) }
 
--- a structure whose numbers are within their limits fits its row
+-- the numbers of a structure fit 16 and 32 bits, if they are within their limits
 structure_small_enough : (w : WorldValue) → IsWorld w → (s : Structure) → s.kind < length w.kinds → s.region ≤ last_region → s.done ≤ size_of w s.kind → s.owner ≤ last_unit → StructureFits s
 structure_small_enough w world s k r d o =
     let kinds = world.few_kinds in
     let size = small_size w world s.kind in
     record { kind = omega (arith, k, kinds); region = omega (arith, r); done = omega (arith, d, size); owner = omega (arith, o) }
 
--- what a unit holds of the world, within the limits, fits its rows
+-- a unit's items and skills have numbers of 32 bits, and amounts from 1 to most_u32, if all are within their limits
 few_goods : (w : WorldValue) → IsWorld w → (u : Unit) → Every (λ i a. i < length w.items) u.holding.items → Every (λ i a. i < length w.skills) u.holding.days → AreAmounts u.holding.items → u.holding.men ≤ men_limit
     → Every (λ i a. (1 ≤ a) × (a ≤ most_days * u.holding.men)) u.holding.days → (s : ℕ) → s < 2 → Every (λ i a. (i ≤ most_u32) × (1 ≤ a) × (a ≤ most_u32)) (goods_of s u)
 few_goods w world u items skills amounts men days zero l i a is =
@@ -215,7 +215,7 @@ module _ (w : WorldValue) (world : IsWorld w) (c : CampaignValue) (good : IsGood
   pub structure_small : (n : ℕ) → IsThere c.structures n → n ≤ most_structures
   structure_small n there = (few_structures n there.0 there.1).1
 
-  -- every unit fits its row
+  -- the numbers of every unit fit 32 bits
   unit_fits : Every (λ n u. UnitFits u) c.units
   unit_fits n u is =
       let placed = good.sound.steady.known.units n u is in
@@ -227,14 +227,14 @@ module _ (w : WorldValue) (world : IsWorld w) (c : CampaignValue) (good : IsGood
       let money : u.holding.money ≤ holding_limit = holding.money in
       unit_small_enough u faction region structure men money
 
-  -- every structure fits its row
+  -- the numbers of every structure fit 16 and 32 bits
   pub structure_fits : Every (λ n s. StructureFits s) c.structures
   structure_fits n s is =
       let built = good.sound.steady.known.structures n s is in
       let done = (good.sound.steady.numbers.structures n s is).1 in
       structure_small_enough w world s built.kind (region_small s.region built.region) done (none_or_below c.units s.owner last_unit few_units built.owner)
 
-  -- the goods of every unit fit their rows
+  -- the numbers of every unit's items and skills fit 32 bits, and each amount is from 1 to most_u32
   goods_few : Every (λ n u. (s : ℕ) → s < 2 → Every (λ i a. (i ≤ most_u32) × (1 ≤ a) × (a ≤ most_u32)) (goods_of s u)) c.units
   goods_few n u is =
       let placed = good.sound.steady.known.units n u is in
@@ -263,7 +263,7 @@ module _ (w : WorldValue) (world : IsWorld w) (c : CampaignValue) (good : IsGood
   }
 
   module _ (f : Format) (fits : Fits f c) (p : Parts) (rows : AreRowsOf f c p) where
-    -- the campaign row's table is the campaign's row, in any order
+    -- the table of the campaign's own row is that row, in any order
     head_listed : IsPermutation (campaign_row f c ∷ []) p.campaign
     unfolding rows_of
     head_listed = rows.campaign
@@ -313,11 +313,11 @@ module _ (w : WorldValue) (world : IsWorld w) (c : CampaignValue) (good : IsGood
     unfolding rows_of
     markets_listed = rows.markets
 
-    -- the campaign row's table is the campaign's row
+    -- the table of the campaign's own row is that row alone
     pub its_head : p.campaign ≡ campaign_row f c ∷ []
     its_head = only_row (campaign_row f c) p.campaign head_listed
 
-    -- the campaign row that is read is the campaign's
+    -- the campaign row read from the tables is the campaign's own row
     pub head_said : campaign_row_of p ≡ campaign_row f c
     head_said = ap (λ hs. slice_index_or hs 0 no_campaign_row) its_head
 
@@ -349,7 +349,7 @@ module _ (w : WorldValue) (world : IsWorld w) (c : CampaignValue) (good : IsGood
     amount_small : (n : ℕ) → n ≤ most_amount → n ≤ most_u32
     amount_small n h = omega (arith, h)
 
-    -- what is so of the row of every stock is so of each row of markets
+    -- if P holds of the row of every stock, it holds of each row of the table of markets
     pub each_market : (P : StoredMarket → Type 0) → Every (λ n r. Every (λ i a. P (market_row n i a)) r.stocks) c.regions → AllByRecursion P p.markets
     each_market P h = elim f as (λ g. IsPermutation (market_rows g (entries c.regions)) p.markets → AllByRecursion P p.markets) [
       | First ↦ λ listed. subst (AllByRecursion P) (sym (none_listed p.markets listed)) tt

@@ -111,7 +111,7 @@ head_true First c = refl
 head_true Second c = refl
 
 module _ (f : Format) (w : WorldValue) (world : IsWorld w) (c : CampaignValue) (good : IsGood w c) (fits : Fits f c) (p : Parts) (rows : AreRowsOf f c p) where
-  -- the campaign assembled from the rows is the good campaign
+  -- the campaign assembled from the rows is the good campaign whose rows they are
   back : campaign_of w p ≡ c
   back = row.state_back w world c good f fits p rows
 
@@ -202,6 +202,7 @@ module _ (f : Format) (w : WorldValue) (world : IsWorld w) (c : CampaignValue) (
       all_pass has_in_range (λ r. has_in_range r ≡ true) (λ r e. e) p.has (each_permuted (λ r. has_in_range r ≡ true) (has_rows (entries c.units)) p.has (row.has_listed w world c good f fits p rows)
       (has_each c.units (λ r. has_in_range r ≡ true) (λ n u there s l i a is some. in_range n s i a l (λ item. (good.sound.steady.numbers.units n u there).1.items i a (subst (λ k. get (goods_of k u) i ≡ Some a) item is)))))
     where
+      -- a row of goods is in range, if its kind is 0 or 1, and an item's amount is from 1 to holding_limit
       in_range : (n s i a : ℕ) → s < 2 → (s ≡ 0 → (1 ≤ a) × (a ≤ holding_limit)) → has_in_range (has_row n s i a) ≡ true
       in_range n zero i a l h = let range = h refl in from_true 1 holding_limit a range.0 range.1
       in_range n (suc zero) i a l h = refl
@@ -282,16 +283,17 @@ module _ (f : Format) (w : WorldValue) (world : IsWorld w) (c : CampaignValue) (
   entry_few : (e : Entry) (t : Thing) → amount_in c.books e t ≢ pos 0 → entry_index e < entries_in f
   entry_few e t some = elim f as (λ g. Fits g c → entry_index e < entries_in g) [ First ↦ λ bare. early bare | Second ↦ λ _. entry_small e ] fits
     where
+      -- in a campaign without markets the entry is one of the first format's
       early : IsWithoutMarkets c → entry_index e < first_entry_count
       early bare = elim (cases_lt (entry_index e) first_entry_count) [ inl few ↦ few | inr late ↦ absurd (some (bare.entries e t late)) ]
 
-  -- an entry of the format passes the test of one
+  -- the number of an entry of the format passes the test is_entry_in
   entry_true : (e : ℕ) → e < entries_in f → e < entry_count → is_entry_in f (as_u32 (pos (e + 1))) ≡ true
   entry_true e few small =
       let least : nat_le 1 (e + 1) ≡ true = le_true 1 (e + 1) (omega arith) in
       ap (is_entry_in f) (read_whole (e + 1) (omega arith)) ∙ and_true _ _ least (le_true (e + 1) (entries_in f) (omega (arith, few)))
 
-  -- a thing of the world passes the test of one
+  -- the number of a thing of the world passes the test nat_lt
   thing_true : (t : ℕ) → t < things_of w → nat_lt (as_u32 (pos t)) (things_of w) ≡ true
   thing_true t inside =
       let few = row.few_things w world c good f fits p rows in
@@ -307,7 +309,7 @@ module _ (f : Format) (w : WorldValue) (world : IsWorld w) (c : CampaignValue) (
       let few = entry_few e t (λ none. some (sym (amount_is c.books e t z is) ∙ none)) in
       and_true _ _ (entry_true (entry_index e) few (entry_small e)) (thing_true (thing_index t) inside))))
 
-  -- what is so of the good campaign is so of the one assembled from the rows
+  -- if P holds of the good campaign, it holds of the campaign assembled from the rows
   said : (P : CampaignValue → Type 0) → P c → P (campaign_of w p)
   said P h = subst P (sym back) h
 
@@ -326,7 +328,7 @@ module _ (f : Format) (w : WorldValue) (world : IsWorld w) (c : CampaignValue) (
   keeps Books = (of_books, said Balances good.sound.balances)
   keeps Mail = (said IsMail good.sound.mail, said AreReported good.reported)
 
--- checking the rows of a good campaign gives that campaign, or has no memory
+-- checking the rows of a good campaign gives that campaign, or reports that memory ran out
 pub gives_back : (f : Format) (w : WorldValue) → IsWorld w → (p : Parts) (r : Result MarkedCampaign CheckFault) → Checks f w p r → GivesBack f w p r
 gives_back f w world p (Ok m) h = λ c good fits rows. sym (row.state_back w world m.value h.good f h.fits p h.rows) ∙ row.state_back w world c good f fits p rows
 gives_back f w world p (Err (Damaged r)) h = λ c good fits rows. h.broken (keeps f w world c good fits p rows r)

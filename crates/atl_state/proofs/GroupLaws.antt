@@ -14,36 +14,37 @@ use Rattle.atl_state.proofs.OrderLaws.{Apart, Apart-keys, HasNumber, each_so, fl
 -- ---- rows that pass a test
 
 module _ {R : Type 0} (test : R → Bool) where
-  -- what is so of each kept row, and of r if it passes, is so of r and them
+  -- if P holds of rows, and of r if r passes, it holds of the rows with r put in front if it passes
   first_kept : (P : R → Type 0) (r : R) (rows : List R) (b : Bool) → test r ≡ b → (test r ≡ true → P r) → AllByRecursion P rows → AllByRecursion P (cond b (r ∷ rows) rows)
   first_kept P r rows true e one all = (one e, all)
   first_kept P r rows false e one all = all
 
-  -- what is so of each row that passes is so of the filtered rows
+  -- P holds of the filtered rows, if it holds of each row that passes
   pub kept : (P : R → Type 0) (rows : List R) → AllByRecursion (λ r. test r ≡ true → P r) rows → AllByRecursion P (filter test rows)
   kept P [] all = tt
   kept P (r ∷ rows) all = first_kept P r (filter test rows) (test r) refl all.0 (kept P rows all.1)
 
-  -- the converse of first_kept
+  -- if P holds of the rows, with r in front if r passes, it holds of the rows, and of r if r passes
   first_unkept : (P : R → Type 0) (r : R) (rows : List R) (b : Bool) → test r ≡ b → AllByRecursion P (cond b (r ∷ rows) rows) → (test r ≡ true → P r) × AllByRecursion P rows
   first_unkept P r rows true e all = (λ _. all.0, all.1)
   first_unkept P r rows false e all = (λ passes. absurd (false≢true (sym e ∙ passes)), all)
 
-  -- what is so of the filtered rows is so of each row that passes
+  -- if P holds of the filtered rows, it holds of each row that passes
   pub unkept : (P : R → Type 0) (rows : List R) → AllByRecursion P (filter test rows) → AllByRecursion (λ r. test r ≡ true → P r) rows
   unkept P [] all = tt
   unkept P (r ∷ rows) all = let first = first_unkept P r (filter test rows) (test r) refl all in (first.0, unkept P rows first.1)
 
-  -- what is so of each row is so of the filtered rows
+  -- if P holds of each row, it holds of the filtered rows
   pub filter_each : (P : R → Type 0) (rows : List R) → AllByRecursion P rows → AllByRecursion P (filter test rows)
   filter_each P rows all = kept P rows (each_so P (λ r. test r ≡ true → P r) (λ r h _. h) rows all)
 
-  -- rows that differ still differ when filtered
+  -- distinct rows are still distinct once they are filtered
   pub filter_apart : (e : R → R → Bool) (rows : List R) → IsDistinct e rows → IsDistinct e (filter test rows)
   unfolding IsDistinct
   filter_apart e [] d = tt
   filter_apart e (r ∷ rows) d = either (filter_apart e rows d.1) (test r)
     where
+      -- the filtered rows are distinct, whether r passes the test or not
       either : IsDistinct e (filter test rows) → (b : Bool) → IsDistinct e (cond b (r ∷ filter test rows) (filter test rows))
       either rest true = (filter_each (λ s. e r s ≡ false) rows d.0, rest)
       either rest false = rest
@@ -53,17 +54,18 @@ module _ {R : Type 0} (test : R → Bool) where
   filter_both other [] = refl
   filter_both other (r ∷ rows) = either (filter_both other rows) (test r)
     where
+      -- filtering by both tests is the same, whether r passes the first or not
       either : filter other (filter test rows) ≡ filter (λ r. test r && other r) rows → (b : Bool)
           → filter other (cond b (r ∷ filter test rows) (filter test rows)) ≡ cond (b && other r) (r ∷ filter (λ r. test r && other r) rows) (filter (λ r. test r && other r) rows)
       either rest true = ap (λ rs. cond (other r) (r ∷ rs) rs) rest
       either rest false = rest
 
--- a row that may be there, in front of rows, as one choice
+-- a row if b, and then rows, is a choice between the rows with it in front and without
 single : {R : Type 0} (b : Bool) (r : R) (rows : List R) → cond b (r ∷ []) [] ++ rows ≡ cond b (r ∷ rows) rows
 single true r rows = refl
 single false r rows = refl
 
--- filtering each row by itself is filtering the rows
+-- filtering each row by itself, one after another, is filtering the rows
 pub filter_lines : {X R : Type 0} (test : R → Bool) (f : X → R) (xs : List X) → flat_map (λ x. filter test (f x ∷ [])) xs ≡ filter test (map f xs)
 filter_lines test f [] = refl
 filter_lines test f (x ∷ xs) = ap (λ rs. filter test (f x ∷ []) ++ rs) (filter_lines test f xs) ∙ single (test (f x)) (f x) (filter test (map f xs))
@@ -99,14 +101,14 @@ module _ {R U : Type 0} (group : R → ℕ) (number : U → ℕ) where
   same_groups n rows (u ∷ units) apart =
       ap (λ rs. rs ++ flat_map (λ u. of_group (number u) rows) units) (same_group n (number u) apart.0 rows) ∙ ap (λ rs. of_group (number u) (others n rows) ++ rs) (same_groups n rows units apart.1)
 
-  -- a number of some unit, other than n, is that of one of the other units
+  -- a number that n or some unit has is one that some unit has, if it is not n
   of_others : (n g : ℕ) (units : List U) → (n ≡ g) ⊎ HasNumber number units g → not (g == n) ≡ true → HasNumber number units g
   of_others n g units (inl e) other =
       let same : (g == n) ≡ true = grind (arith, nat_tests) in
       absurd (false≢true (sym (ap not same) ∙ other))
   of_others n g units (inr there) other = there
 
-  -- the rows of all groups together are the rows, in another order, if each row is of one of them
+  -- all groups' rows, one group after another, are the rows in another order, if groups differ and each row is of one
   by_group : (units : List U) (rows : List R) → Apart number units → AllByRecursion (λ r. HasNumber number units (group r)) rows → IsPermutation (flat_map (λ u. of_group (number u) rows) units) rows
   by_group [] [] apart all = IsPermutation-refl []
   by_group [] (r ∷ rows) apart all = absurd all.0
@@ -125,7 +127,7 @@ module _ {R U : Type 0} (group : R → ℕ) (number : U → ℕ) where
   each_group f g same [] = IsPermutation-refl []
   each_group f g same (u ∷ units) = IsPermutation-append (f u) (g u) (flat_map f units) (flat_map g units) (same u) (each_group f g same units)
 
-  -- what gives each group's rows in some order gives all rows in some order
+  -- each group's rows in some order give all rows in some order, if groups differ and each row is of one
   pub gathered : (f : U → List R) (units : List U) (rows : List R) → ((u : U) → IsPermutation (f u) (of_group (number u) rows)) → Apart number units → AllByRecursion (λ r. HasNumber number units (group r)) rows
       → IsPermutation (flat_map f units) rows
   gathered f units rows same apart all =
@@ -143,7 +145,7 @@ module _ {R K : Type 0} (key : R → K) (same : K → K → Bool) (itself : (k :
   pub all_mine : (rows : List R) → AllByRecursion P rows → AllByRecursion IsMine (filter mine rows)
   all_mine rows all = kept mine IsMine rows (each_so P (λ r. mine r ≡ true → IsMine r) (λ r one passes. (one, passes)) rows all)
 
-  -- where those of one thing have one key, no thing stands twice
+  -- if rows of one thing have one key, no thing occurs twice among rows with different keys
   module _ (same_key : (r s : R) → IsMine r → IsMine s → thing r ≡ thing s → ◌≡◌ {A = K} (key s) (key r)) where
     -- rows of the group with different keys are of different things
     other_thing : (r s : R) → IsMine r → IsMine s → same (key s) (key r) ≡ false → thing r ≢ thing s
@@ -170,7 +172,7 @@ module _ {R : Type 0} (thing amount : R → ℕ) where
         let itself : line (thing r, amount r) ≡ r ∷ [] = ap (λ s. filter some (s ∷ [])) all.0.0 ∙ ap (λ b. cond b (r ∷ []) []) all.0.1 in
         ap (λ rs. rs ++ flat_map (λ r. line (thing r, amount r)) rows) itself ∙ ap (λ rs. r ∷ rs) (row_lines rows all.1)
 
-    -- the rows of the map that a group's rows make are these rows, in another order
+    -- the rows made of the map of a group's things and amounts are the group's rows, in another order
     pub lines_order : (rows : List R) → Apart thing rows → AllByRecursion (λ r. (row (thing r) (amount r) ≡ r) × (some r ≡ true)) rows → IsPermutation (filter some (rows_by row (entries (by_number thing amount rows)))) rows
     lines_order rows apart all =
         let es = entries (by_number thing amount rows) in

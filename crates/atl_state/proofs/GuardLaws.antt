@@ -34,7 +34,7 @@ module _ {V : Type 0} (p : V → Bool) where
   abbrev chosen : List (ℕ × V) → List ℕ
   chosen es = map (λ e. e.0) (filter (λ e. p e.1) es)
 
-  -- a number in a list is in it with one more in front, or without
+  -- a number in a list is still in it when k is put in front, or not
   behind : (b : Bool) (n k : ℕ) (ns : List ℕ) → In n ns → In n (cond b (k ∷ ns) ns)
   behind true n k ns h = inr h
   behind false n k ns h = h
@@ -57,7 +57,7 @@ module _ {V : Type 0} (p : V → Bool) where
   of_listed : (m : FinMap nat_cmp V) (n : ℕ) → In n (numbers_where p m) → (v : V) × (get m n ≡ Some v) × (p v ≡ true)
   of_listed m n h = let (i, l, is) = position_of n (numbers_where p m) h in subst (λ k. (v : V) × (get m k ≡ Some v) × (p v ≡ true)) is (passes-listed p m i 0 l)
 
--- ---- those who hold
+-- ---- the faction that holds a region
 
 -- equal Some's have equal numbers
 same_value : (x y : ℕ) → Some x ≡ Some y → x ≡ y
@@ -70,7 +70,7 @@ agree_true (Some x) None h = refl
 agree_true (Some x) (Some y) h = (Decides-eqb x y).1 (h x y refl refl)
 
 module _ (faction : ℕ → Option ℕ) where
-  -- where all agree with a holder, each faction is the holder's
+  -- if a list passes one_holder with holder x, each faction of its numbers is x
   like_holder : (x : ℕ) (ns : List ℕ) → one_holder faction (Some x) ns ≡ true → (n y : ℕ) → In n ns → faction n ≡ Some y → y ≡ x
   like_holder x [] h n y mine is = absurd mine
   like_holder x (m ∷ ms) h n y (inl same) is = (Decides-eqb y x).0 (ap (λ o. agree o (Some x)) (sym (ap faction (sym same) ∙ is)) ∙ (and_parts _ _ h).0)
@@ -80,12 +80,12 @@ module _ (faction : ℕ → Option ℕ) where
   abbrev Alike : List ℕ → Type 0
   Alike ns = (n k x y : ℕ) → In n ns → In k ns → faction n ≡ Some x → faction k ≡ Some y → x ≡ y
 
-  -- where all agree with the first faction, each is the first
+  -- if a list passes one_holder with the first number's faction, each faction of its numbers is that one
   first_holds : (m z : ℕ) (ms : List ℕ) → faction m ≡ Some z → one_holder faction (Some z) ms ≡ true → (n x : ℕ) → In n (m ∷ ms) → faction n ≡ Some x → x ≡ z
   first_holds m z ms first h n x (inl same) is = same_value x z (sym is ∙ ap faction same ∙ first)
   first_holds m z ms first h n x (inr mine) is = like_holder z ms h n x mine is
 
-  -- a number with a faction is not the first of a list if that has none
+  -- a number that has a faction is in the rest of a list, if the first number has none
   not_first : (m : ℕ) (ms : List ℕ) → faction m ≡ None → (n x : ℕ) → In n (m ∷ ms) → faction n ≡ Some x → In n ms
   not_first m ms none n x (inl same) is = none_some x (sym none ∙ ap faction (sym same) ∙ is)
   not_first m ms none n x (inr mine) is = mine
@@ -103,7 +103,7 @@ module _ (faction : ℕ → Option ℕ) where
   abbrev Fits : Option ℕ → List ℕ → Type 0
   Fits holder ns = (n x y : ℕ) → In n ns → faction n ≡ Some x → holder ≡ Some y → x ≡ y
 
-  -- the rest of a list fits the holder, or the first's faction where there is none yet
+  -- if Fits holds of a list, each faction of the rest is the holder's, or else the first number's
   fits_on : (holder : Option ℕ) (m : ℕ) (ms : List ℕ) → Alike (m ∷ ms) → Fits holder (m ∷ ms) → Fits (option_or holder (faction m)) ms
   fits_on None m ms same fits n x y mine is first = same n m x y (inr mine) (inl refl) is first
   fits_on (Some z) m ms same fits n x y mine is held = fits n x y (inr mine) is held
@@ -121,7 +121,7 @@ module _ (faction : ℕ → Option ℕ) where
 guard_is : (c : CampaignValue) (n : ℕ) (u : Unit) → get c.units n ≡ Some u → guards u ≡ true → guard_of c n ≡ Some u.faction
 guard_is c n u is on = ap (option_and_then (λ (v : Unit). cond (guards v) (Some v.faction) None)) is ∙ ap (λ b. cond b (Some u.faction) None) on
 
--- a conditional Some tells that the condition holds, and its value
+-- if `cond b (Some f) None` is Some x, b is true and f is x
 guarding : (b : Bool) (f x : ℕ) → cond b (Some f) None ≡ Some x → (b ≡ true) × (f ≡ x)
 guarding true f x e = (refl, same_value f x e)
 guarding false f x e = none_some x e
@@ -134,7 +134,7 @@ is_guard c n x u is e = guarding (guards u) u.faction x (sym (ap (option_and_the
 abbrev pub IsHeldByOne : CampaignValue → ℕ → Type 0
 IsHeldByOne c r = one_holder (guard_of c) None (numbers_in r c.units) ≡ true
 
--- the guards are of one faction in each region, if they are by each region's list
+-- the guards of each region are of one faction, if those in each region's list are, and each unit's region exists
 pub of_one_faction : (c : CampaignValue) → Every (λ n u. IsThere c.regions u.region) c.units → Every (λ r x. IsHeldByOne c r) c.regions → AreOfOneFaction guards c
 of_one_faction c placed held n u is m v there on also same =
     let r = u.region in
@@ -144,10 +144,11 @@ of_one_faction c placed held n u is m v there on also same =
     alike (guard_of c) (numbers_in r c.units) (held r x known) n m u.faction v.faction (listed (λ (w : Unit). w.region == r) c.units n u is (here.1 refl)) (listed (λ (w : Unit). w.region == r) c.units m v there (beside.1 (sym same)))
     (guard_is c n u is on) (guard_is c m v there also)
 
--- by each region's list the guards are of one faction, if they are in each region
+-- the guards in each region's list are of one faction, if those of each region are
 pub held_by_one : (c : CampaignValue) → AreOfOneFaction guards c → Every (λ r x. IsHeldByOne c r) c.regions
 held_by_one c one r x known = hold (guard_of c) None (numbers_in r c.units) alike_here (λ n y z mine is e. none_some z e)
   where
+    -- the guards in the list of region r are of one faction
     alike_here : Alike (guard_of c) (numbers_in r c.units)
     alike_here n k y z a b is js =
         let (u, there, here) = of_listed (λ (w : Unit). w.region == r) c.units n a in

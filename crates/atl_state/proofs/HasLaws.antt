@@ -37,10 +37,12 @@ by_sort n has sorts =
     subst (λ hs. IsPermutation hs mine) (ap (λ hs. of_sort 0 ++ hs) (append-nil (of_sort 1)) ∙ ap (λ hs. hs ++ of_sort 1) (both 0) ∙ ap (λ hs. filter (is_of n 0) has ++ hs) (both 1))
     (gathered (λ h. as_u32 h.sort) (λ s. s) of_sort (0 ∷ 1 ∷ []) mine (λ s. IsPermutation-refl (of_sort s)) (((λ e. absurd (omega arith)), tt), (tt, tt)) all)
   where
+    -- the kind of a row of items or days is one of 0 and 1
     among : (h : StoredHas) → (as_u32 h.sort ≡ 0) ⊎ (as_u32 h.sort ≡ 1) → HasNumber (λ s. s) (0 ∷ 1 ∷ []) (as_u32 h.sort)
     among h (inl item) = inl (sym item)
     among h (inr skill) = inr (inl (sym skill))
 
+    -- filtering unit n's rows by a kind is filtering all rows by unit n and that kind
     both : (s : ℕ) → filter (λ h. as_u32 h.sort == s) (rows_of_unit n has) ≡ filter (is_of n s) has
     both s = filter_both (λ h. as_u32 h.unit == n) (λ h. as_u32 h.sort == s) has
 
@@ -74,15 +76,15 @@ amount_of h = as_u32 h.amount
 abbrev IsHadBy : ℕ → ℕ → StoredHas → Type 0
 IsHadBy n sort h = IsKeyed h × (is_of n sort h ≡ true)
 
--- the unit of a row of unit n is n
+-- a row of unit n, whose key is read as it is, has the unit number n
 its_unit : (n sort : ℕ) (h : StoredHas) → IsHadBy n sort h → h.unit ≡ pos n
 its_unit n sort h (exact, of) = exact.unit ∙ ap pos (is_same (as_u32 h.unit) n (and_parts (as_u32 h.unit == n) (as_u32 h.sort == sort) of).0)
 
--- the kind of a row of this kind is this one
+-- a row of a kind, whose key is read as it is, has the number of that kind
 its_sort : (n sort : ℕ) (h : StoredHas) → IsHadBy n sort h → h.sort ≡ pos sort
 its_sort n sort h (exact, of) = exact.sort ∙ ap pos (is_same (as_u32 h.sort) sort (and_parts (as_u32 h.unit == n) (as_u32 h.sort == sort) of).1)
 
--- the row made again of a row's thing and amount is that row
+-- a row of goods is the row made of its unit, kind, thing and amount, if all are read as they are
 same_row : (n sort : ℕ) (h : StoredHas) → IsHadBy n sort h → IsWhole h.amount → has_row n sort (thing_of h) (amount_of h) ≡ h
 same_row n sort h had amount = λ i. record { unit = sym (its_unit n sort h had) i; sort = sym (its_sort n sort h had) i; thing = sym had.0.thing i; amount = sym amount i }
 

@@ -1,4 +1,4 @@
--- Laws of what one unit holds, where it may come to guard: the campaign stays steady and early.
+-- Laws of a unit with another holding, by which it may begin to guard: the campaign stays steady and early.
 use Rattle.std.proofs.Common.{◌≡◌, ◌==◌, ℕ, ◌*◌, ◌≤◌, ◌<◌, true, length, Some, refl, ◌∙◌}
 use Rattle.std.specs.Prelude.{IsTrue, nat_lt}
 use Rattle.std.proofs.lemmas.Bool.{and_parts}
@@ -23,7 +23,7 @@ pub record MayHave (w : WorldValue) (h : HoldingValue) : Type 0 where
   pub skills : Every (λ s days. s < length w.skills) h.days
   pub days : Every (λ s days. (1 ≤ days) × (days ≤ most_days * h.men)) h.days
 
--- what a unit of a steady campaign holds it may have
+-- the holding of a unit of a steady campaign satisfies MayHave
 pub may_have : (w : WorldValue) (c : CampaignValue) (n : ℕ) (u : Unit) → get c.units n ≡ Some u → IsSteady w c → MayHave w u.holding
 may_have w c n u is steady =
     let place = steady.known.units n u is in
@@ -34,11 +34,11 @@ module _ (w : WorldValue) (c : CampaignValue) (n : ℕ) (u : Unit) (h : HoldingV
   abbrev new_unit : Unit
   new_unit = record u { holding = h }
 
-  -- the campaign with the holding h of unit n
+  -- the campaign in which unit n has the holding h
   abbrev supplied : CampaignValue
   supplied = record c { units = insert c.units n new_unit }
 
-  -- the campaign stays steady if the guards of each region are of one faction after it
+  -- with a holding that satisfies MayHave the campaign stays steady, if guards of one region are of one faction
   pub steady-having : MayHave w h → AreOfOneFaction guards supplied → IsSteady w c → IsSteady w supplied
   steady-having may guarded old = record {
     numbers = numbers_kept w c n u h is may.limits old.numbers;
@@ -58,11 +58,12 @@ module _ (w : WorldValue) (c : CampaignValue) (n : ℕ) (u : Unit) (h : HoldingV
     guarded = guarded;
   }
 
-  -- the campaign stays early if the guard flag is set only where it was
+  -- the campaign stays early with a holding that satisfies MayHave, if its guard flag is set only where it was
   pub early-having : MayHave w h → (h.guard ≡ true → u.holding.guard ≡ true) → IsEarly w c → IsEarly w supplied
   early-having may flag early =
       let flags = of_one_faction_kept w c n u h is (λ x. x.holding.guard) flag early.flags in
       record { steady = steady-having may (λ k x here m y there g k2 same. flags k x here m y there (flagged x g) (flagged y k2) same) early.steady; flags = flags }
     where
+      -- a unit that guards has its guard flag set
       flagged : (x : Unit) → guards x ≡ true → x.holding.guard ≡ true
       flagged x g = (and_parts x.holding.guard (nat_lt 0 x.holding.men) g).0

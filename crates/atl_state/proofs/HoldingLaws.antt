@@ -1,4 +1,4 @@
--- Laws of what one unit holds, where it guards only if it did: steady campaigns, totals, and marks.
+-- Laws of a unit with another holding, by which it does not begin to guard: steadiness, totals and marks.
 use Rattle.std.proofs.Common.{◌≡◌, ◌≢◌, ◌==◌, ℕ, ◌+◌, ◌*◌, ◌≤◌, ◌<◌, Bool, true, Option, Some, None, length, refl, sym, ap, ◌∙◌, arith}
 use Rattle.std.specs.Prelude.{IsTrue, option_map}
 use Rattle.std.specs.Ordering.{nat_cmp}
@@ -29,7 +29,7 @@ use Rattle.atl_records.proofs.EveryLaws.{every-insert, get-insert_other, none_so
 use Rattle.atl_records.proofs.HoldingLaws.{get-set_other}
 use Rattle.atl_state.proofs.RegionLaws.{get-insert_same, same_len}
 
--- what a unit may hold in place of its holding: within the limits, of the world, guarding only if it did
+-- what a unit may hold instead: within the limits, of the world, and guarding only if it guarded before
 pub record MayHold (w : WorldValue) (u : Unit) (h : HoldingValue) : Type 0 where
   pub limits : IsHolding h
   pub name : IsTrue (name_ok h.name)
@@ -52,7 +52,7 @@ may_hold_money w c n money u is most steady =
       guard = λ g. g;
     }
 
--- the structure of a unit, or of another unit where it is not there
+-- the structure of the first unit, or of the second where the first is not there
 abbrev pub structure_in : Option Unit → Unit → ℕ
 structure_in (Some y) z = y.structure
 structure_in None z = z.structure
@@ -62,7 +62,7 @@ module _ (w : WorldValue) (c : CampaignValue) (n : ℕ) (u : Unit) (h : HoldingV
   abbrev new_unit : Unit
   new_unit = record u { holding = h }
 
-  -- the campaign with the holding h of unit n
+  -- the campaign in which unit n has the holding h
   abbrev supplied : CampaignValue
   supplied = record c { units = insert c.units n new_unit }
 
@@ -111,7 +111,7 @@ module _ (w : WorldValue) (c : CampaignValue) (n : ℕ) (u : Unit) (h : HoldingV
   gone_kept : GoneHaveNone c → GoneHaveNone supplied
   gone_kept old m f there gone = numbers_where-insert_known (λ x. x.faction == m) c.units n u new_unit is refl ∙ old m f there gone
 
-  -- a unit inside a structure still is
+  -- a unit inside a structure is still inside it
   inside_still : (k m : ℕ) → (x : Unit) × (get c.units k ≡ Some x) × (x.structure ≡ m) → (x : Unit) × (get supplied.units k ≡ Some x) × (x.structure ≡ m)
   inside_still k m (x, there, inside) =
       elim (nat_cmp k n) as (λ o. nat_cmp k n ≡ o → (y : Unit) × (get supplied.units k ≡ Some y) × (y.structure ≡ m)) [
@@ -139,20 +139,20 @@ module _ (w : WorldValue) (c : CampaignValue) (n : ℕ) (u : Unit) (h : HoldingV
     structures = old.structures;
   }
 
-  -- those that pass a test are still of one faction, if the unit passes it only where it did
+  -- for a test that the unit with the new holding passes only where it did before
   module _ (test : Unit → Bool) (only : test new_unit ≡ true → test u ≡ true) where
     -- two units that pass the test in one region are of one faction
     abbrev Agree : Unit → Unit → Type 0
     Agree x y = test x ≡ true → test y ≡ true → x.region ≡ y.region → x.faction ≡ y.faction
 
-    -- those that pass a test stay of one faction in each region, if the unit passes only where it did
+    -- all units of a region that pass the test are still of one faction
     pub of_one_faction_kept : AreOfOneFaction test c → AreOfOneFaction test supplied
     of_one_faction_kept old =
         every-insert (λ k x. Every (λ m y. Agree x y) supplied.units) c.units n new_unit
         (every-insert (λ m y. Agree new_unit y) c.units n new_unit (λ g k same. refl) (λ m y there g k same. old n u is m y there (only g) k same))
         (λ k x here. every-insert (λ m y. Agree x y) c.units n new_unit (λ g k2 same. old k x here n u is g (only k2) same) (old k x here))
 
-  -- the campaign stays steady with a holding that the unit may hold
+  -- the campaign stays steady with a holding that satisfies MayHold
   pub steady-unit_amount : MayHold w u h → IsSteady w c → IsSteady w supplied
   steady-unit_amount may old = record {
     numbers = numbers_kept may.limits old.numbers;
@@ -176,7 +176,7 @@ module _ (w : WorldValue) (c : CampaignValue) (n : ℕ) (u : Unit) (h : HoldingV
   regrouped : (r a b p q : ℕ) → a + p ≡ b + q → (a + r) + p ≡ (b + r) + q
   regrouped r a b p q e = omega arith
 
-  -- a total changes by what the new holding has more or less than the old
+  -- a total changes by what the new holding has more or less of the thing than the old
   pub total-unit_amount : (t : Thing) → total supplied t + unit_amount t u.holding ≡ total c t + unit_amount t h
   unfolding total
   total-unit_amount t =

@@ -46,13 +46,13 @@ module _ {X : Type 0} where
   put_back (x ∷ xs) (suc i) d l = ap (λ ys. x ∷ ys) (put_back xs i d (omega (arith, l)))
 
 module _ {X Y : Type 0} (f : X → Y) where
-  -- mapping a list with an element inserted inserts the mapped one
+  -- mapping a list into which x is inserted is inserting f x into the mapped list
   map-insert : (xs : List X) (i : ℕ) (x : X) → map f (insert xs i x) ≡ insert (map f xs) i (f x)
   map-insert xs zero x = refl
   map-insert [] (suc i) x = refl
   map-insert (y ∷ xs) (suc i) x = ap (λ ys. f y ∷ ys) (map-insert xs i x)
 
-  -- mapping a list with an element removed removes the mapped one
+  -- mapping a list from which an element is removed is removing that element from the mapped list
   map-remove : (xs : List X) (i : ℕ) → map f (remove xs i) ≡ remove (map f xs) i
   map-remove [] zero = refl
   map-remove [] (suc i) = refl
@@ -131,7 +131,7 @@ number-stands : (ps : List IndexEntry) (n i : ℕ) (d : IndexEntry) → IsAt (in
 number-stands ps n i d h =
     sym (get_or-map (λ (p : IndexEntry). p.number) ps i d d.number (inside ps n i h)) ∙ get_or_default (index_numbers ps) i d.number 0 h.within ∙ h.is
 
--- the map is that without an entry, with the entry put again
+-- the map is the map without the entry of a number, with the slot of that entry put in again
 put_again : (ps : List IndexEntry) (n i : ℕ) (d : IndexEntry) → IsSorted ps → IsAt (index_numbers ps) n i → as_map ps ≡ finmap.insert (as_map (remove ps i)) n (get_or ps i d).slot
 put_again ps n i d s h =
     let p = get_or ps i d in
@@ -224,21 +224,27 @@ BelongsAt-above ps p n s is above =
       behind = λ k m w. absurd (omega (arith, size, m, w));
     }
   where
+    -- the numbers of the entries
     ns : List ℕ
     ns = index_numbers ps
 
+    -- there are as many numbers as entries
     size : length ns ≡ length ps
     size = length-map ps (λ (p : IndexEntry). p.number)
 
+    -- the index of the last entry
     last : ℕ
     last = length ps - 1
 
+    -- the index of the last entry is below the length
     some : last < length ps
     some = slice_get_within ps last p is
 
+    -- the last number is that of entry p
     end : get_or ns last 0 ≡ p.number
     end = get_or-map (λ (p : IndexEntry). p.number) ps last p 0 some ∙ ap (λ (q : IndexEntry). q.number) (get_or_from_slice_get ps last p p is)
 
+    -- each number of the list is below n, whether it is the last or not
     by_order : (k : ℕ) → (k ≡ last) ⊎ ((k < last) ⊎ (last < k)) → k < length ps → get_or ns k 0 < n
     by_order k (inl e) m = let same : get_or ns k 0 ≡ p.number = ap (λ i. get_or ns i 0) e ∙ end in omega (arith, same, above)
     by_order k (inr (inl before)) m =

@@ -23,7 +23,7 @@ listed_is_inside s units k listed =
 pub inside_is_listed : (s : ℕ) (units : FinMap nat_cmp Unit) → s ≢ 0 → Every (λ k v. v.structure ≡ s → IsListed k (numbers_inside s units)) units
 inside_is_listed s units some k v is inside = rw (other_number s 0 some) (passing_listed (λ u. u.structure == s) units k v is (ap (λ q. q == s) inside ∙ same_number s))
 
--- the list stays if the same units are inside
+-- the list of units inside a structure stays if the same units are inside
 pub inside_as_before : (s : ℕ) (units others : FinMap nat_cmp Unit) → numbers_where (λ u. u.structure == s) others ≡ numbers_where (λ u. u.structure == s) units → numbers_inside s others ≡ numbers_inside s units
 inside_as_before s units others same = ap (λ ns. cond (s == 0) [] ns) same
 

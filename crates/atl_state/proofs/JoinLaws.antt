@@ -1,4 +1,4 @@
--- Laws of joining: it keeps a campaign sound, rule by rule.
+-- Laws of joining: a sound campaign that a faction joins is sound, rule by rule.
 use Rattle.std.proofs.Common.{◌≡◌, ◌≢◌, ℕ, ◌+◌, ◌%◌, ◌≤◌, ◌<◌, ◌==◌, ◌||◌, true, false, cond, List, [], ◌∷◌, length, Some, None, is_some, take, drop, ◌*◌, refl, sym, ap, ◌∙◌, arith, nat_le, nat_lt, nat_eq, length-append, true≢false}
 use Rattle.std.proofs.lemmas.Bool.{false≢true}
 use Rattle.std.specs.Prelude.{unwrap_or, ℤ, pos, ◌+ℤ◌, IsTrue}
@@ -45,18 +45,18 @@ use Rattle.atl_state.proofs.TotalLaws.{total-with_unit}
 two : (x n : ℕ) (b p q : ℤ) → pos x ≡ b → pos n ≡ p +ℤ q → pos (x + n) ≡ (b +ℤ p) +ℤ q
 two x n b p q h g = omega (arith, ints)
 
--- the first unit's items add to a total what the joining books of them: 0
+-- the first unit has 0 of each item, which is what the joining books of the item
 none : (w : WorldValue) (word : ℕ) (c : CampaignValue) (i : ℕ) → (2 + i == 0) ≡ false → (2 + i == 1) ≡ false → pos (unit_amount (Item i) (first_unit w word c).holding) ≡ share_of (Item i) Money (pos w.rules.start_money) +ℤ share_of (Item i) People (pos 1)
 none w word c i a b =
     ap (λ o. pos (unwrap_or o 0)) (get-empty nat_cmp i) ∙ sym (ap (λ q. cond q (pos w.rules.start_money) (pos 0) +ℤ cond (2 + i == 1) (pos 1) (pos 0)) a ∙ ap (λ q. pos 0 +ℤ cond q (pos 1) (pos 0)) b)
 
--- what the first unit holds of a thing is what the joining books of it
+-- what the first unit holds of a thing is what the joining books of the thing
 held_booked : (w : WorldValue) (word : ℕ) (c : CampaignValue) (t : Thing) → pos (unit_amount t (first_unit w word c).holding) ≡ share_of t Money (pos w.rules.start_money) +ℤ share_of t People (pos 1)
 held_booked w word c Money = omega (arith, ints)
 held_booked w word c People = refl
 held_booked w word c (Item i) = none w word c i (grind (arith, nat_tests)) (grind (arith, nat_tests))
 
--- the campaign still balances once a faction joined
+-- the campaign still balances once a faction joined, if the next unit's number has no unit
 pub joined-balances : (w : WorldValue) (name pass : List ℕ) (word : ℕ) (c : CampaignValue) → get c.units c.next_unit ≡ None → Balances c → Balances (joined w name pass word c)
 unfolding joined total
 joined-balances w name pass word c free h t =
@@ -70,7 +70,7 @@ joined-balances w name pass word c free h t =
 amounts_small : (w : WorldValue) (c : CampaignValue) → AreInRange w c → amount_bound c ≤ 4000000000000000000
 amounts_small w c numbers = omega (arith, numbers.month, numbers.few_factions)
 
--- what is booked under Joining in a sound campaign has room for what a faction brings
+-- the money and the people booked under Joining in a sound campaign are small amounts (IsSmall)
 pub joining_small : (w : WorldValue) (c : CampaignValue) → IsSound w c → IsSmall (amount_in c.books Joining Money) × IsSmall (amount_in c.books Joining People)
 joining_small w c sound =
     let small = amounts_small w c sound.steady.numbers in
@@ -90,7 +90,7 @@ few f u n h = (grind (arith, nat_tests), grind (arith, nat_tests), grind (arith,
 pub room : (c : CampaignValue) → is_full c ≡ false → (len c.factions < last_faction) × (len c.units < most_units) × (c.next_unit ≤ last_unit)
 room c h = few (len c.factions) (len c.units) c.next_unit h
 
--- numbers that are free from n on still are once a value is put below n
+-- numbers from n on still have no value once a value is put below n
 still_free : {V : Type 0} (m : FinMap nat_cmp V) (n k : ℕ) (v : V) → ((q : ℕ) → n ≤ q → get m q ≡ None) → k < n → (q : ℕ) → n ≤ q → get (insert m k v) q ≡ None
 still_free m n k v free below q h = get-insert_other m k q v (λ same. omega arith) ∙ free q h
 
@@ -102,11 +102,11 @@ still_numbered m n v old = record {
   free = still_free m (n + 1) n v (λ q l. old.free q (omega arith)) (omega arith);
 }
 
--- a value that was there still is once one is put under a new number
+-- a value that was there is still there once one is put under a new number
 still_there : {V : Type 0} (m : FinMap nat_cmp V) (k q : ℕ) (v x : V) → get m k ≡ None → get m q ≡ Some x → get (insert m k v) q ≡ Some x
 still_there m k q v x free is = get-insert_other m k q v (λ same. none_some x (sym free ∙ ap (get m) (sym same) ∙ is)) ∙ is
 
--- a number with a value is not one without
+-- a number that has a value differs from one that has none
 other_key : {V : Type 0} (m : FinMap nat_cmp V) (k n : ℕ) (v : V) → get m k ≡ None → get m n ≡ Some v → (k == n) ≡ false
 other_key m k n v free is = let apart : k ≢ n = λ same. none_some v (sym free ∙ ap (get m) same ∙ is) in grind (arith, nat_tests)
 
@@ -129,7 +129,7 @@ module _ (w : WorldValue) (name pass : List ℕ) (word : ℕ) (c : CampaignValue
   abbrev member : Faction
   member = new_faction c.next_faction name pass
 
-  -- its first unit
+  -- the first unit of the new faction
   abbrev unit : Unit
   unit = first_unit w word c
 
@@ -181,7 +181,7 @@ module _ (w : WorldValue) (name pass : List ℕ) (word : ℕ) (c : CampaignValue
   home_there : IsWorld w → (p : RegionPlan) × (get w.regions (home_of w word) ≡ Some p) × (is_land w.terrains p ≡ true)
   home_there world = passes-listed (is_land w.terrains) w.regions (word % length (land_of w)) 0 (omega (arith, world.some_land))
 
-  -- what a campaign that a faction joined names by number exists
+  -- everything that a campaign names by number exists once a faction joined
   joined-known : IsWorld w → AreKnown w c → AreKnown w (joined w name pass word c)
   unfolding joined
   joined-known world old =
@@ -308,7 +308,7 @@ module _ (w : WorldValue) (name pass : List ℕ) (word : ℕ) (c : CampaignValue
       guarded = joined-guarded old.guarded;
     }
 
-    -- a sound campaign that a faction joins, where it is not refused, stays sound
+    -- a sound campaign that a faction joins, where the joining is not refused, stays sound
     pub joined-sound : IsSound w c → IsSound w (joined w name pass word c)
     joined-sound old = let next = old.steady.next in record {
       steady = joined-steady old.steady;

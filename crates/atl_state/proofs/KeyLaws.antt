@@ -14,7 +14,7 @@ use Rattle.std.proofs.lemmas.List.{get_or_default, take_more, take-append-drop}
 use Rattle.std.proofs.lemmas.List.Folds.{list_any-append}
 use Rattle.std.proofs.lemmas.Map.Keys.{IsDistinct-head, IsDistinct-tail, IsDistinct-push, sorted_from_all_adjacent}
 
--- what is so of each element of a list is so of one in its middle
+-- if P holds of each element of a list, it holds of one in the middle
 at_middle : {K : Type 0} (P : K → Type 0) (front rest : List K) (x : K) → AllByRecursion P (front ++ x ∷ rest) → P x
 at_middle P [] rest x h = h.0
 at_middle P (y ∷ front) rest x h = at_middle P front rest x h.1
@@ -92,16 +92,17 @@ module _ {K : Type 0} {R : K → K → Ordering} (o : IsTotalOrder R) where
   abbrev pub RisesTo : ℕ → List K → Type 0
   RisesTo i ks = (d : K) (k : ℕ) → k + 1 < i → R (get_or ks k d) (get_or ks (k + 1) d) ≡ Less
 
-  -- keys of which all rise are strictly sorted
+  -- keys are strictly sorted, if each is less than the one after it (RisesTo)
   pub rises : (ks : List K) (i : ℕ) → length ks ≤ i → RisesTo i ks → IsStrictlySortedBy R ks
   unfolding IsStrictlySortedBy
   rises [] i most steps = tt
   rises (x ∷ xs) i most steps = sorted_from_all_adjacent o (x ∷ xs) x (λ k l. steps x k (omega (arith, l, most)))
 
-  -- the first i + 1 keys rise, if the first i do and the next is above the last of them
+  -- RisesTo i gives RisesTo (i + 1), if key i - 1 is less than key i
   pub rises_more : (ks : List K) (i : ℕ) (x y : K) → 1 ≤ i → i < length ks → x ≡ get_or ks (i - 1) x → y ≡ get_or ks i y → R x y ≡ Less → RisesTo i ks → RisesTo (i + 1) ks
   rises_more ks i x y some within x_is y_is above steps d k l = by_order (cases_order (k + 1) i)
     where
+      -- the key before the last is less than the last
       last : k + 1 ≡ i → R (get_or ks k d) (get_or ks (k + 1) d) ≡ Less
       last e =
           let before : i - 1 ≡ k = omega (arith, e) in
@@ -109,6 +110,7 @@ module _ {K : Type 0} {R : K → K → Ordering} (o : IsTotalOrder R) where
           let second : get_or ks (k + 1) d ≡ y = ap (λ n. get_or ks n d) e ∙ get_or_default ks i d y within ∙ sym y_is in
           rw (first, second) above
 
+      -- the key at k is less than the one after it, by whether k + 1 is i
       by_order : (k + 1 ≡ i) ⊎ ((k + 1 < i) ⊎ (i < k + 1)) → R (get_or ks k d) (get_or ks (k + 1) d) ≡ Less
       by_order (inl e) = last e
       by_order (inr (inl below)) = steps d k below

@@ -1,4 +1,4 @@
--- Laws of a unit that leaves a campaign: it stays steady, totals lose what the unit held, and what changed is marked.
+-- Laws of removing a unit: the campaign stays steady, totals lose what the unit held, and what changed is marked.
 use Rattle.std.proofs.Common.{◌≡◌, ◌≢◌, ◌==◌, ℕ, ◌+◌, ◌≤◌, ◌<◌, Bool, true, false, length, not, List, Option, Some, None, refl, sym, ap, subst, ◌∙◌, arith, true≢false}
 use Rattle.std.specs.Prelude.{option_map, if◌then◌else◌}
 use Rattle.std.proofs.lemmas.Bool.{not-false}
@@ -56,7 +56,7 @@ module _ (w : WorldValue) (c : CampaignValue) (n : ℕ) (u : Unit) (is : get c.u
     abbrev after : CampaignValue
     after = reduced structures
 
-    -- what is so of every structure, whoever owns it, is so of the reowned ones
+    -- if P holds of every structure, whoever owns it, it holds of the reowned structures
     every_owned : (P : ℕ → Structure → Type 0) → ((k o : ℕ) (y : Structure) → P k y → P k (owned_by o y)) → Every P c.structures → Every P structures
     every_owned P free old k x there = let (y, o, was, same) = re.back k x there in subst (P k) same (free k o y (old k y was))
 
@@ -64,6 +64,7 @@ module _ (w : WorldValue) (c : CampaignValue) (n : ℕ) (u : Unit) (is : get c.u
     none_kept : (k : ℕ) → get c.structures k ≡ None → get structures k ≡ None
     none_kept k none = by_option (get structures k) refl
       where
+        -- a number without a structure has none in the reowned ones, by what these have under it
         by_option : (o : Option Structure) → get structures k ≡ o → o ≡ None
         by_option None e = refl
         by_option (Some x) e = let (y, p, was, same) = re.back k x e in none_some y (sym none ∙ was)
@@ -85,7 +86,7 @@ module _ (w : WorldValue) (c : CampaignValue) (n : ℕ) (u : Unit) (is : get c.u
       books = old.books;
     }
 
-    -- what the units left name still exists
+    -- everything that the remaining units name still exists
     placed_left : AreKnown w c → Every (λ k v. IsPlaced w after v) left
     placed_left old k v there =
         let p = old.units k v (still c.units n k v there).1 in
@@ -97,7 +98,7 @@ module _ (w : WorldValue) (c : CampaignValue) (n : ℕ) (u : Unit) (is : get c.u
           skills = p.skills;
         }
 
-    -- what the structures name still exists
+    -- everything that the structures name still exists
     built_left : AreKnown w c → Every (λ k s. IsBuilt w after s) structures
     built_left old k x there =
         let (y, o, was, same) = re.back k x there in
@@ -116,9 +117,11 @@ module _ (w : WorldValue) (c : CampaignValue) (n : ℕ) (u : Unit) (is : get c.u
       units = λ k l. none_left k (old.units k l);
     }
       where
+        -- a number without a unit has none among the units left
         none_left : (k : ℕ) → get c.units k ≡ None → get left k ≡ None
         none_left k none = by_option (get left k) refl
           where
+            -- a number without a unit has none among the units left, by what these have under it
             by_option : (o : Option Unit) → get left k ≡ o → o ≡ None
             by_option None e = refl
             by_option (Some x) e = none_some x (sym none ∙ (still c.units n k x e).1)
@@ -170,7 +173,7 @@ module _ (w : WorldValue) (c : CampaignValue) (n : ℕ) (u : Unit) (is : get c.u
         let one : Some v ≡ Some u = sym at ∙ ap (get c.units) own ∙ is in
         sym (ap (λ o. structure_in o u) one) ∙ inside
 
-    -- a structure that another owns is still owned well
+    -- a structure that another unit owns still satisfies IsOwned once unit n is removed
     still_owned : (k : ℕ) (x : Structure) (structures : FinMap nat_cmp Structure) → get c.structures k ≡ Some x → x.owner ≢ n → IsOwned (reduced structures) k x
     still_owned k x structures there apart =
         let o = old k x there in
@@ -179,7 +182,7 @@ module _ (w : WorldValue) (c : CampaignValue) (n : ℕ) (u : Unit) (is : get c.u
           ownerless = λ none. every-remove c.units n (λ m v. v.structure ≢ k) (o.ownerless none);
         }
 
-    -- where the unit owns no structure, the structures as they were are reowned
+    -- the unchanged structures satisfy AreReowned, if unit n does not own the structure that it is inside
     as_they_were : is_owned_by (get c.structures u.structure) n ≡ false → AreReowned c.structures
     as_they_were free = record {
       count = refl;
@@ -188,6 +191,7 @@ module _ (w : WorldValue) (c : CampaignValue) (n : ℕ) (u : Unit) (is : get c.u
       owned = λ k x there. still_owned k x c.structures there (λ own. not_owner k x there own);
     }
       where
+        -- a structure whose owner is n does not fail the test is_owned_by n
         owner_test : (o : Option Structure) (x : Structure) → o ≡ Some x → x.owner ≡ n → is_owned_by o n ≡ false → ⊥
         owner_test None x e own f = none_some x e
         owner_test (Some y) x e own f =
@@ -195,14 +199,16 @@ module _ (w : WorldValue) (c : CampaignValue) (n : ℕ) (u : Unit) (is : get c.u
             let t : (y.owner == n) ≡ true = (let eq : y.owner ≡ n = same ∙ own in grind (arith, nat_tests)) in
             absurd (true≢false (sym t ∙ f))
           where
+            -- the owner of the structure that was found, or of the other where none was
             owner_in : Option Structure → Structure → ℕ
             owner_in (Some z) d = z.owner
             owner_in None d = d.owner
 
+        -- no structure is owned by n
         not_owner : (k : ℕ) (x : Structure) → get c.structures k ≡ Some x → x.owner ≡ n → ⊥
         not_owner k x there own = owner_test (get c.structures u.structure) x (ap (get c.structures) (owns_own k x there own) ∙ there) own free
 
-    -- where it owns the structure that it is inside
+    -- for a unit that owns the structure that it is inside
     module _ (mine : Structure) (here : get c.structures u.structure ≡ Some mine) (some_place : u.structure ≢ 0) where
       -- the next owner of the structure: the first other unit inside, or 0
       abbrev next : ℕ
@@ -216,15 +222,16 @@ module _ (w : WorldValue) (c : CampaignValue) (n : ℕ) (u : Unit) (is : get c.u
       abbrev among : List ℕ
       among = numbers_inside u.structure c.units
 
-      -- a number that passes the test of being another is another
+      -- a number that passes the test of not being n is not n
       is_other : (k : ℕ) → not (k == n) ≡ true → k ≢ n
       is_other k t same = let e : (k == n) ≡ true = grind (arith, nat_tests) in other_not (k == n) t e
         where
+          -- a test and its negation are not both true
           other_not : (b : Bool) → not b ≡ true → b ≡ true → ⊥
           other_not true a b = cc
           other_not false a b = cc
 
-      -- a number that fails the test of being another is the same
+      -- a number that fails the test of not being n is n
       is_same : (k : ℕ) → not (k == n) ≡ false → k ≡ n
       is_same k t = let e : (k == n) ≡ true = not-false (k == n) t in grind (arith, nat_tests)
 
@@ -232,7 +239,7 @@ module _ (w : WorldValue) (c : CampaignValue) (n : ℕ) (u : Unit) (is : get c.u
       listed_low : (k : ℕ) → IsListed k among → 1 ≤ k
       listed_low k h = let (v, at, inside) = listed_is_inside u.structure c.units k h in low k v at
 
-      -- the structure is owned well by its next owner
+      -- the unit's structure with its next owner satisfies IsOwned
       heir_owns : IsOwned (reduced handed_on) u.structure (owned_by next mine)
       heir_owns =
           let first = first_of (λ k. not (k == n)) among listed_low in
@@ -246,7 +253,7 @@ module _ (w : WorldValue) (c : CampaignValue) (n : ℕ) (u : Unit) (is : get c.u
                 apart (is_same k (first.1 none k (inside_is_listed u.structure c.units some_place k v at within)));
           }
 
-      -- the structures, with the unit's structure handed on, are reowned
+      -- the structures, with the next owner of the unit's structure, satisfy AreReowned
       as_handed_on : AreReowned handed_on
       as_handed_on = record {
         count = same_len c.structures u.structure mine (owned_by next mine) here;
@@ -256,6 +263,7 @@ module _ (w : WorldValue) (c : CampaignValue) (n : ℕ) (u : Unit) (is : get c.u
             (λ k x apart there. still_owned k x handed_on there (λ own. apart (sym (owns_own k x there own))));
       }
         where
+          -- each structure of the campaign is among those handed on, with some owner
           new_owner : (k : ℕ) (y : Structure) → get c.structures k ≡ Some y → (o : ℕ) × (get handed_on k ≡ Some (owned_by o y))
           new_owner k y there =
               elim (nat_cmp k u.structure) as (λ o. nat_cmp k u.structure ≡ o → (p : ℕ) × (get handed_on k ≡ Some (owned_by p y))) [
@@ -282,9 +290,11 @@ module _ (w : WorldValue) (c : CampaignValue) (n : ℕ) (u : Unit) (is : get c.u
   steady_handed : IsSteady w c → IsSteady w (after_handover gone_from u.structure n (heir c u.structure n))
   steady_handed old = by_owner (get c.structures u.structure) refl
     where
+      -- all units have numbers from 1
       low : Every (λ k v. 1 ≤ k) c.units
       low k v there = (old.numbers.units k v there).0
 
+      -- the campaign stays steady, whether n owns the structure s that it is inside or not
       by_test : (s : Structure) → get c.structures u.structure ≡ Some s → (b : Bool) → is_owned_by (get c.structures u.structure) n ≡ b
           → IsSteady w (if b then with_owner gone_from u.structure (heir c u.structure n) else gone_from)
       by_test s here true t =
@@ -292,23 +302,26 @@ module _ (w : WorldValue) (c : CampaignValue) (n : ℕ) (u : Unit) (is : get c.u
           (steady_left (insert c.structures u.structure (owned_by (heir c u.structure n) s)) (as_handed_on old.owners low s here (is_no_zero c.structures c.next_structure old.next.structures u.structure s here)) old)
       by_test s here false t = steady_left c.structures (as_they_were old.owners low t) old
 
+      -- the campaign stays steady, whether the structure that n is inside is there or not
       by_owner : (o : Option Structure) → get c.structures u.structure ≡ o → IsSteady w (if is_owned_by o n then with_owner gone_from u.structure (heir c u.structure n) else gone_from)
       by_owner None here = steady_left c.structures (as_they_were old.owners low (ap (λ o. is_owned_by o n) here)) old
       by_owner (Some s) here = by_test s here (is_owned_by (Some s) n) (ap (λ o. is_owned_by o n) here)
 
-  -- a campaign stays steady without a unit
+  -- a steady campaign stays steady when a unit is removed
   pub steady-without : IsSteady w c → IsSteady w (without_unit c n)
   steady-without old = subst (IsSteady w) (sym without-known) (steady_handed old)
 
-  -- a total loses what the unit held
+  -- removing a unit lowers each total by what the unit held
   pub total-without : (t : Thing) → total (without_unit c n) t + unit_amount t u.holding ≡ total c t
   unfolding total
   total-without t =
       ap (λ (d : CampaignValue). total d t + unit_amount t u.holding) without-known ∙ by_test (is_owned_by (get c.structures u.structure) n)
     where
+      -- an equation of sums with one term more on each side
       regrouped : (a b s h : ℕ) → a + h ≡ b → (a + s) + h ≡ b + s
       regrouped a b s h e = omega arith
 
+      -- a total loses what the unit held, whether its structure gets another owner or not
       by_test : (b : Bool) → total (if b then with_owner gone_from u.structure (heir c u.structure n) else gone_from) t + unit_amount t u.holding ≡ total c t
       by_test true = regrouped _ _ _ _ (sum_over-remove c.units n (λ (x : Unit). unit_amount t x.holding) u is)
       by_test false = regrouped _ _ _ _ (sum_over-remove c.units n (λ (x : Unit). unit_amount t x.holding) u is)
@@ -326,6 +339,7 @@ module _ (w : WorldValue) (c : CampaignValue) (n : ℕ) (u : Unit) (is : get c.u
   pub only_reduced : IsOnlyReduced (without_unit c n)
   only_reduced = subst IsOnlyReduced (sym without-known) (by_test (is_owned_by (get c.structures u.structure) n))
     where
+      -- units and structures alone change, whether the structure gets another owner or not
       by_test : (b : Bool) → IsOnlyReduced (if b then with_owner gone_from u.structure (heir c u.structure n) else gone_from)
       by_test true = record { units = refl; factions = refl; regions = refl; books = refl; month = refl; reports = refl }
       by_test false = record { units = refl; factions = refl; regions = refl; books = refl; month = refl; reports = refl }
@@ -346,6 +360,7 @@ marks-structure f c n =
 pub marks-after_handover : (c : MarkedCampaign) (s from to : ℕ) → MarksChanges c (handed_marked c s from to)
 marks-after_handover c s from to = by_test (is_owned_by (get c.value.structures s) from)
   where
+    -- MarksChanges holds, whether the structure gets another owner or not
     by_test : (b : Bool) → MarksChanges c (if b then record { value = with_owner c.value s to; marks = mark_structure c s } else c)
     by_test true = marks-structure (owned_by to) c s
     by_test false = marks-refl c
@@ -354,6 +369,7 @@ marks-after_handover c s from to = by_test (is_owned_by (get c.value.structures 
 pub marks-taken : (c : MarkedCampaign) (n : ℕ) → MarksChanges c (taken_marked c n)
 marks-taken c n = by_unit (get c.value.units n) refl
   where
+    -- MarksChanges holds, whether unit n is there or not
     by_unit : (o : Option Unit) → get c.value.units n ≡ o → MarksChanges c (taken_marked c n)
     by_unit None is = subst (MarksChanges c) (taken_none c n is) (marks-refl c)
     by_unit (Some u) is =

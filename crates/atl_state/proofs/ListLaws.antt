@@ -29,7 +29,7 @@ itself k = elim (nat_cmp k k) as (λ o. nat_cmp k k ≡ o → is_eq o ≡ true) 
 gone : (units : FinMap nat_cmp Unit) (k : ℕ) → get (remove units k) k ≡ None
 gone units k = get-remove nat_cmp_total units k k ∙ ap (λ b. cond b None (get units k)) (itself k)
 
--- what is so of the new list under k, and of each other list, is so of each list
+-- if P holds of the new list under k, and of each list under another key, it holds of each list
 by_key : (lists : FinMap nat_cmp (List ℕ)) (k : ℕ) (xs : List ℕ) (P : ℕ → List ℕ → Type 0) → P k xs → ((r : ℕ) → k ≢ r → P r (list_of lists r)) → (r : ℕ) → P r (list_of (insert lists k xs) r)
 by_key lists k xs P here there r =
     rw (get-insert nat_cmp_total lists k xs r)
@@ -63,7 +63,7 @@ module _ (belongs_to : Unit → ℕ) where
       (ap (take_number k) (old own ∙ numbers_where-insert_new (λ v. belongs_to v == own) units k u fresh (same_number own)) ∙ taken_put k _)
       (λ r ne. old r ∙ numbers_where-insert_other (λ v. belongs_to v == r) units k u fresh (other_number own r ne))
 
-  -- the lists are right once a removed unit's number is taken from the list under its key
+  -- the lists are right once a removed unit's number is taken out of the list under its key
   pub AreLists-removed : (units : FinMap nat_cmp Unit) (lists : FinMap nat_cmp (List ℕ)) (k : ℕ) (u : Unit) → get units k ≡ Some u → AreLists belongs_to units lists
       → AreLists belongs_to (remove units k) (insert lists (belongs_to u) (take_number k (list_of lists (belongs_to u))))
   AreLists-removed units lists k u is old =
@@ -76,12 +76,12 @@ pub AreLists-same : (belongs_to : Unit → ℕ) (units : FinMap nat_cmp Unit) (o
 AreLists-same belongs_to units old new same is k = same k ∙ is k
 
 module _ (belongs_to : Unit → ℕ) (units : FinMap nat_cmp Unit) (old new : FinMap nat_cmp (List ℕ)) (n key : ℕ) where
-  -- the lists are right with a new unit, whose number is put under its key
+  -- the lists are right with a new unit, whose number is put into the list under its key
   pub AreLists-came : (u : Unit) → belongs_to u ≡ key → get units n ≡ None → new ≡ insert old key (put_number n (list_of old key)) → AreLists belongs_to units old → AreLists belongs_to (insert units n u) new
   AreLists-came u own fresh put is =
       subst (λ l. AreLists belongs_to (insert units n u) l) (sym (put ∙ ap (λ k. insert old k (put_number n (list_of old k))) (sym own))) (AreLists-added belongs_to units old n u fresh is)
 
-  -- the lists are right without a unit, whose number is taken from under its key
+  -- the lists are right without a unit, whose number is taken out of the list under its key
   pub AreLists-went : (u : Unit) → belongs_to u ≡ key → get units n ≡ Some u → SameLists new (insert old key (take_number n (list_of old key))) → AreLists belongs_to units old → AreLists belongs_to (remove units n) new
   AreLists-went u own there same is =
       AreLists-same belongs_to (remove units n) (insert old key (take_number n (list_of old key))) new same
@@ -95,7 +95,7 @@ listed_else lists k xs r = by_key lists k xs (λ q ys. k ≢ q → ys ≡ list_o
 pub listed_there : (lists : FinMap nat_cmp (List ℕ)) (k : ℕ) (xs : List ℕ) → list_of (insert lists k xs) k ≡ xs
 listed_there lists k xs = ap (λ o. unwrap_or o []) (get-insert nat_cmp_total lists k xs k ∙ ap (λ b. cond b (Some xs) (get lists k)) (itself k))
 
--- lists that are right stay right when a number is put under a key and taken again
+-- lists that are right are right again once a number is put into the list under a key and taken out again
 pub AreLists-undone_at : (belongs_to : Unit → ℕ) (units : FinMap nat_cmp Unit) (old mid new : FinMap nat_cmp (List ℕ)) (n key : ℕ) → mid ≡ insert old key (put_number n (list_of old key)) → SameLists new (insert mid key (take_number n (list_of mid key)))
     → AreLists belongs_to units old → AreLists belongs_to units new
 AreLists-undone_at belongs_to units old mid new n key put same is =
@@ -104,7 +104,7 @@ AreLists-undone_at belongs_to units old mid new n key put same is =
     (ap (take_number n) (ap (λ l. list_of l key) put ∙ listed_there old key (put_number n (list_of old key))) ∙ taken_put n (list_of old key) ∙ is key)
     (λ r ne. ap (λ l. list_of l r) put ∙ listed_else old key (put_number n (list_of old key)) r ne ∙ is r))
 
--- taking a number where there is no list changes no list
+-- taking a number out where there is no list changes no list
 pub none_taken : (lists : FinMap nat_cmp (List ℕ)) (key n : ℕ) → get lists key ≡ None → SameLists lists (insert lists key (take_number n (list_of lists key)))
 unfolding take_number
 none_taken lists key n none k =
@@ -113,11 +113,11 @@ none_taken lists key n none k =
 
 -- ---- the lists of structures, which are lists by a key but for that under 0
 
--- the first lists are the second ones, but with an empty list under 0
+-- the lists of `some` are those of `all`, but with an empty list under 0
 abbrev AreBare : (some all : FinMap nat_cmp (List ℕ)) → Type 0
 AreBare some all = (k : ℕ) → list_of some k ≡ cond (k == 0) [] (list_of all k)
 
--- the same change of the list under a key keeps AreBare, where the first lists skip key 0
+-- AreBare still holds once f changes the list under a key in both, or under key 0 in `all` alone
 bare_put : (f : List ℕ → List ℕ) (some all : FinMap nat_cmp (List ℕ)) (key : ℕ) → AreBare some all → AreBare (cond (key == 0) some (insert some key (f (list_of some key)))) (insert all key (f (list_of all key)))
 bare_put f some all key bare =
     elim (cases_eq key 0) [
@@ -152,7 +152,7 @@ bare_inside : (units : FinMap nat_cmp Unit) (some all : FinMap nat_cmp (List ℕ
 bare_inside units some all bare are k = bare k ∙ ap (cond (k == 0) []) (are k)
 
 module _ (units : FinMap nat_cmp Unit) (old new : FinMap nat_cmp (List ℕ)) (n key : ℕ) (u : Unit) (own : u.structure ≡ key) where
-  -- the lists by structure are right with a new unit, put under its structure if it has one
+  -- the lists by structure are right with a new unit, which is put into the list of its structure if it has one
   pub AreInsideLists-came : get units n ≡ None → new ≡ listed_apart old n key 0 → AreInsideLists units old → AreInsideLists (insert units n u) new
   AreInsideLists-came fresh put is =
       let all = whole units old is in
@@ -160,7 +160,7 @@ module _ (units : FinMap nat_cmp Unit) (old new : FinMap nat_cmp (List ℕ)) (n 
       (bare_inside (insert units n u) _ (insert all key (put_number n (list_of all key))) (bare_put (put_number n) old all key (whole_bare units old is))
       (AreLists-came (λ v. v.structure) units all _ n key u own fresh refl (whole_listed units old is)))
 
-  -- the lists by structure are right without a unit, taken from under its structure if it had one
+  -- the lists by structure are right without a unit, which is taken out of the list of its structure if it had one
   pub AreInsideLists-went : get units n ≡ Some u → SameLists new (unlisted_apart old n key 0) → AreInsideLists units old → AreInsideLists (remove units n) new
   AreInsideLists-went there same is k =
       let all = whole units old is in
@@ -185,7 +185,7 @@ nobody_bare k = elim (k == 0) as (λ b. list_of empty k ≡ cond b [] (list_of e
   | false ↦ refl
 ]
 
--- empty lists are right where there are no units
+-- the empty lists by region, faction and structure are right where there are no units
 pub AreUnitLists-nobody : AreUnitLists empty (record { by_region = empty; by_faction = empty; by_structure = empty })
 AreUnitLists-nobody = record {
   regions = nobody_listed (λ u. u.region);
@@ -203,11 +203,11 @@ AreUnitLists-kept units lists n u v is same old = record {
   structures = AreInsideLists-kept units lists.by_structure n u v is (ap (λ (l : ListKeys). l.structure) same) old.structures;
 }
 
--- a unit put under a number is found there
+-- a unit inserted under a number is found under that number
 put_there : (units : FinMap nat_cmp Unit) (n : ℕ) (u : Unit) → get (insert units n u) n ≡ Some u
 put_there units n u = get-insert nat_cmp_total units n u n ∙ ap (λ b. cond b (Some u) (get units n)) (itself n)
 
--- all lists are as before once a new unit is listed and taken from the lists again
+-- all lists are right once a new unit is put into them and taken out again
 pub AreUnitLists-back : (units : FinMap nat_cmp Unit) (n : ℕ) (u : Unit) (l : ListKeys) (old mid new : UnitLists) → get units n ≡ None → list_keys_of u ≡ l → ListsUnit n l old mid → UnlistsUnit n l mid new → AreUnitLists units old → AreUnitLists units new
 AreUnitLists-back units n u l old mid new fresh own puts takes is =
     subst (λ (m : FinMap nat_cmp Unit). AreUnitLists m new) (taken_back units n u fresh) (takes (insert units n u) u own (put_there units n u) (puts units u own fresh is))
@@ -238,7 +238,7 @@ module _ (belongs_to : Unit → ℕ) where
         | inr apart ↦ rw (other_number from to apart, other_number to from (λ e. apart (sym e)), listed_else lists to (put_number k (list_of lists to)) from (λ e. apart (sym e))) (AreLists-moved units lists k u v is apart old)
       ]
 
-  -- the lists are right once a unit with a new key is moved to it
+  -- the lists are right once a unit whose key changes is moved from the old key's list to the new key's
   pub AreLists-relisted : (units : FinMap nat_cmp Unit) (old mid new : FinMap nat_cmp (List ℕ)) (n from to : ℕ) (u v : Unit) → get units n ≡ Some u → belongs_to u ≡ from → belongs_to v ≡ to → mid ≡ listed_apart old n to from → SameLists new (unlisted_apart mid n from to)
       → AreLists belongs_to units old → AreLists belongs_to (insert units n v) new
   AreLists-relisted units old mid new n from to u v is own goes put same lists =
@@ -247,7 +247,7 @@ module _ (belongs_to : Unit → ℕ) where
       (subst (λ q. AreLists belongs_to (insert units n v) (unlisted_apart (listed_apart old n to q) n q to)) own
       (subst (λ q. AreLists belongs_to (insert units n v) (unlisted_apart (listed_apart old n q (belongs_to u)) n (belongs_to u) q)) goes (relisted units old n u v is lists))))
 
-  -- lists are as before once a number is put under a key, if it isn't the other one, and taken again
+  -- the lists are right once a number is put under a key and taken out again, or neither where the key is `other`
   pub AreLists-apart : (units : FinMap nat_cmp Unit) (old mid new : FinMap nat_cmp (List ℕ)) (n key other : ℕ) → mid ≡ listed_apart old n key other → SameLists new (unlisted_apart mid n key other) → AreLists belongs_to units old → AreLists belongs_to units new
   AreLists-apart units old mid new n key other put same is =
       elim (key == other) as (λ b. mid ≡ cond b old (insert old key (put_number n (list_of old key))) → SameLists new (cond b mid (insert mid key (take_number n (list_of mid key)))) → AreLists belongs_to units new) [
@@ -255,7 +255,7 @@ module _ (belongs_to : Unit → ℕ) where
         | false ↦ λ p s. AreLists-undone_at belongs_to units old mid new n key p s is
       ] put same
 
--- the lists by structure are right once a unit in another structure is moved to it
+-- the lists by structure are right once a unit is moved from its old structure's list to its new structure's
 pub AreInsideLists-relisted : (units : FinMap nat_cmp Unit) (old new : FinMap nat_cmp (List ℕ)) (n from to : ℕ) (u v : Unit) → get units n ≡ Some u → u.structure ≡ from → v.structure ≡ to → SameLists new (relisted_inside old n from to)
     → AreInsideLists units old → AreInsideLists (insert units n v) new
 AreInsideLists-relisted units old new n from to u v is own goes same lists =
@@ -276,11 +276,12 @@ AreInsideLists-relisted units old new n from to u v is own goes same lists =
 pub AreUnitLists-changed : (f : Unit → Unit) → ((u : Unit) → list_keys_of u ≡ list_keys_of (f u)) → (units : FinMap nat_cmp Unit) (lists : UnitLists) (n : ℕ) → AreUnitLists units lists → AreUnitLists (changed f units n) lists
 AreUnitLists-changed f stays units lists n is = by_unit (get units n) refl
   where
+    -- all lists stay right, whether unit n is there or not
     by_unit : (o : Option Unit) → get units n ≡ o → AreUnitLists (changed_at f units n o) lists
     by_unit None e = is
     by_unit (Some u) e = AreUnitLists-kept units lists n u (f u) e (stays u) is
 
--- all lists stay right when unit n changes, but not its region, faction or structure, with memory or without
+-- all lists stay right when unit n changes, but not its region, faction or structure, or memory runs out
 pub AreUnitLists-set : {A E : Type 0} (r : Result A E) (f : Unit → Unit) → ((u : Unit) → list_keys_of u ≡ list_keys_of (f u)) → (old new : FinMap nat_cmp Unit) (lists : UnitLists) (n : ℕ) → OnOk r (new ≡ changed f old n) → OnErr r (new ≡ old)
     → AreUnitLists old lists → AreUnitLists new lists
 AreUnitLists-set (Ok a) f stays old new lists n put same is = subst (λ (units : FinMap nat_cmp Unit). AreUnitLists units lists) (sym put) (AreUnitLists-changed f stays old lists n is)

@@ -1,4 +1,5 @@
--- Laws of the regions' dirty sets, of rows and of stocks: there is room for the marks of all regions, and a marked stock's region is marked.
+-- Laws of the regions' dirty sets, of rows and of stocks: there is room for the marks of all regions,
+-- and a marked stock's region is marked.
 use Rattle.std.proofs.Common.{◌≡◌, ℕ, Some, true, refl, sym, ap, subst, ◌∙◌}
 use Rattle.std.specs.Prelude.{is_some}
 use Rattle.std.specs.Ordering.{nat_cmp}
@@ -25,10 +26,11 @@ cleared marks = record marks { numbers = set.empty }
 abbrev marking : FinMap nat_cmp Region → RoomySet → ℕ → RoomySet
 marking regions marks n = record marks { numbers = marked_with marks.numbers n (get regions n) }
 
--- empty dirty sets are within each other
+-- the empty dirty sets of stocks satisfy AreStocksWithin
 within-none : AreStocksWithin set.empty set.empty empty
 within-none = record { stocks_within = λ q e. e; items_within = nothing }
   where
+    -- nothing is marked in an empty map of marks
     nothing : (q : ℕ) → is_some (get {X = FinMap nat_cmp (Prim.Unit {0})} {R = nat_cmp} empty q) ≡ true → set.contains {R = nat_cmp} set.empty q ≡ true
     nothing q e = absurd (false≢true (sym (ap is_some (get-empty nat_cmp q)) ∙ e))
 
@@ -41,7 +43,7 @@ pub AreRegions-of : (regions : FinMap nat_cmp Region) → AreRegions regions (no
 AreRegions-of regions = record { within = within-none; rows_fit = Room-of regions; markets_fit = Room-of regions; stocks_fit = Room-of regions }
 
 module _ (regions : FinMap nat_cmp Region) (rows markets stocks : RoomySet) (items : Things) (h : AreRegions regions rows markets stocks items) where
-  -- there is still room once both dirty sets are emptied
+  -- AreRegions still holds once all dirty sets are emptied
   pub AreRegions-without_marks : AreRegions regions (cleared rows) (cleared markets) (cleared stocks) empty
   AreRegions-without_marks = record {
     within = within-none;
@@ -50,12 +52,12 @@ module _ (regions : FinMap nat_cmp Region) (rows markets stocks : RoomySet) (ite
     stocks_fit = Room-unmarked regions stocks.numbers stocks.room h.stocks_fit;
   }
 
-  -- there is still room once a region's row is marked
+  -- AreRegions still holds once a region's row is marked
   pub AreRegions-row : (n : ℕ) → AreRegions regions (marking regions rows n) markets stocks items
   AreRegions-row n = record { within = h.within; rows_fit = Room-put regions rows.numbers rows.room n (get regions n) refl h.rows_fit; markets_fit = h.markets_fit; stocks_fit = h.stocks_fit }
 
   module _ (n : ℕ) (r : Region) (is : get regions n ≡ Some r) where
-    -- there is still room once one stock of a region is marked
+    -- AreRegions still holds once one stock of a region, and so the region, is marked
     pub AreRegions-item : (group : FinMap nat_cmp (Prim.Unit {0})) → AreRegions regions rows (marking regions markets n) stocks (insert items n group)
     AreRegions-item group = record {
       within = subst (λ o. AreStocksWithin (marked_with markets.numbers n o) stocks.numbers (insert items n group)) (sym is) (record {
@@ -67,7 +69,7 @@ module _ (regions : FinMap nat_cmp Region) (rows markets stocks : RoomySet) (ite
       stocks_fit = h.stocks_fit;
     }
 
-    -- there is still room once all stocks of a region are marked
+    -- AreRegions still holds once all stocks of a region, and so the region, are marked
     pub AreRegions-stocks : AreRegions regions rows (marking regions markets n) (marking regions stocks n) items
     AreRegions-stocks = record {
       within = subst (λ o. AreStocksWithin (marked_with markets.numbers n o) (marked_with stocks.numbers n o) items) (sym is) (record {
@@ -79,7 +81,7 @@ module _ (regions : FinMap nat_cmp Region) (rows markets stocks : RoomySet) (ite
       stocks_fit = Room-put regions stocks.numbers stocks.room n (get regions n) refl h.stocks_fit;
     }
 
-  -- there is still room once a region is replaced by another
+  -- AreRegions still holds once a region is replaced by another
   pub AreRegions-over : (n : ℕ) (r s : Region) → get regions n ≡ Some r → AreRegions (insert regions n s) rows markets stocks items
   AreRegions-over n r s is = record {
     within = h.within;

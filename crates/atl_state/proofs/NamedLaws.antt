@@ -66,7 +66,7 @@ module _ (m : FinMap nat_cmp Faction) where
   later_differs name (r ∷ rows) n f d all (inl e) is = ap (same_text name) (sym (its_name r n f all.0 e is)) ∙ d.0
   later_differs name (r ∷ rows) n f d all (inr there) is = later_differs name rows n f d.1 all.1 there is
 
-  -- equal texts compare equal
+  -- equal texts do not compare as different
   clash : (a b : List ℕ) → a ≡ b → same_text a b ≡ false → ⊥
   clash a b e d = false≢true (sym (ap (same_text a) e ∙ d) ∙ text_itself a)
 
@@ -112,7 +112,7 @@ module _ (f : Format) (w : WorldValue) (p : Parts) (k : RowsKeep f w p) where
   factions : FinMap nat_cmp Faction
   factions = by_number (λ r. as_u32 r.number) faction_of p.factions
 
-  -- the campaign assembled from rows has good names, if the rows do
+  -- the campaign assembled from rows has good names, if the rows keep the rule of names
   pub AreNamed-said : AreRowsNamed p → AreNamed (campaign_of w p)
   unfolding campaign_of
   AreNamed-said h =

@@ -34,6 +34,7 @@ first_of q (n ∷ ns) low =
       | false ↦ λ t. (λ some. let found = rest.0 some in (inr found.0, found.1), λ none k h. passed t (rest.1 none) k h)
     ] refl
   where
+    -- if n does not pass, and no number of ns does, no number of the list with n in front does
     passed : q n ≡ false → ((k : ℕ) → IsListed k ns → q k ≡ false) → (k : ℕ) → IsListed k (n ∷ ns) → q k ≡ false
     passed t others k (inl same) = ap q same ∙ t
     passed t others k (inr h) = others k h
@@ -43,17 +44,17 @@ module _ {V : Type 0} (p : V → Bool) where
   abbrev chosen : List (ℕ × V) → List ℕ
   chosen es = map (λ e. e.0) (filter (λ e. p e.1) es)
 
-  -- a number on a list is on it with one more in front, or without
+  -- a number on a list is still on it when n is put in front, or not
   further : (n : ℕ) (ns : List ℕ) (b : Bool) (k : ℕ) → IsListed k ns → IsListed k (cond b (n ∷ ns) ns)
   further n ns true k h = inr h
   further n ns false k h = h
 
-  -- a number put in front is on the list
+  -- n is on a list in front of which n is put
   foremost : (n : ℕ) (ns : List ℕ) (b : Bool) → b ≡ true → IsListed n (cond b (n ∷ ns) ns)
   foremost n ns true h = inl refl
   foremost n ns false h = cc
 
-  -- what is listed in one list is listed in a list that has all of it
+  -- if the numbers of passing entries are on a list, they are on each list that has all numbers of the first
   all_further : (ks ns : List ℕ) → ((k : ℕ) → IsListed k ks → IsListed k ns) → (es : List (ℕ × V)) → EachOf (λ n v. p v ≡ true → IsListed n ks) es → EachOf (λ n v. p v ≡ true → IsListed n ns) es
   all_further ks ns more [] h = tt
   all_further ks ns more (e ∷ es) h = (λ t. more e.0 (h.0 t), all_further ks ns more es h.1)

@@ -32,9 +32,11 @@ all_digits ds e =
 decimal_ends : (n : ℕ) → n < 2 ^ 64 → EndsInDigit (decimal n)
 decimal_ends n h = decimal_by_steps (λ _ ds. EndsInDigit ds) one more n h
   where
+    -- a number below 10 is one digit
     one : (n : ℕ) → n < 10 → EndsInDigit ((48 + n) ∷ [])
     one n h = record { front = []; last = 48 + n; is = refl; digits = refl; least = omega arith; most = omega arith }
 
+    -- bytes that end in a digit still do with one digit more
     more : (n : ℕ) (ds : List ℕ) → 10 ≤ n → EndsInDigit ds → EndsInDigit (ds ++ (48 + n % 10) ∷ [])
     more n ds h e = record { front = ds; last = 48 + n % 10; is = refl; digits = all_digits ds e; least = omega arith; most = omega arith }
 

@@ -29,13 +29,13 @@ abbrev pub HasNumber : {R : Type 0} → (R → ℕ) → List R → ℕ → Type 
 HasNumber number [] n = ⊥
 HasNumber number (r ∷ rows) n = (number r ≡ n) ⊎ HasNumber number rows n
 
--- two lists in front of a third, exchanged, are in another order
+-- exchanging two lists in front of a third gives the same elements in another order
 pub exchange : {A : Type 0} (a b c : List A) → IsPermutation (a ++ (b ++ c)) (b ++ (a ++ c))
 exchange a b c =
     subst (λ xs. IsPermutation xs (b ++ (a ++ c))) (append_assoc a b c) (subst (λ ys. IsPermutation ((a ++ b) ++ c) ys) (append_assoc b a c) (IsPermutation-append_left c (a ++ b) (b ++ a) (IsPermutation-append_comm a b)))
 
 module _ {V A : Type 0} (f : ℕ × V → List A) where
-  -- an entry put under a new number gives its elements besides those of before, in another order
+  -- once an entry is put under a new number, the list made of all has its elements and the old ones, in another order
   flat_put : (k : ℕ) (v : V) (es : List (ℕ × V)) → find nat_cmp k es ≡ None → IsPermutation (f (k, v) ++ flat_map f es) (flat_map f (put nat_cmp k v es))
   flat_put k v [] h = IsPermutation-refl (f (k, v) ++ [])
   flat_put k v (e ∷ es) h =
@@ -47,7 +47,7 @@ module _ {V A : Type 0} (f : ℕ × V → List A) where
             (IsPermutation-append_right (f e) (f (k, v) ++ flat_map f es) (flat_map f (put nat_cmp k v es)) (flat_put k v es g))
       ] h
 
-  -- a value inserted under a new number gives its elements besides those of before, in another order
+  -- once a value is inserted under a new number, the list made of the map is its elements and the old, reordered
   flat_insert : (m : FinMap nat_cmp V) (k : ℕ) (v : V) → get m k ≡ None → IsPermutation (f (k, v) ++ flat_map f (entries m)) (flat_map f (entries (insert m k v)))
   flat_insert m k v h = subst (λ es. IsPermutation (f (k, v) ++ flat_map f (entries m)) (flat_map f es)) (sym (entries-insert nat_cmp_total m k v)) (flat_put k v (entries m) (sym (get-entries m k) ∙ h))
 
@@ -67,7 +67,7 @@ module _ {R V : Type 0} (number : R → ℕ) (value : R → V) where
     abbrev pub flat_of : List R → List A
     flat_of rows = flat_map (λ r. f (number r, value r)) rows
 
-    -- rows with new numbers put into a map give their elements besides those of before, in another order
+    -- once rows with new numbers are put in, the list made of the map is the old elements and theirs, reordered
     put_order : (rows : List R) (m : FinMap nat_cmp V) → Apart number rows → AllByRecursion (λ s. get m (number s) ≡ None) rows → IsPermutation (flat_map f (entries m) ++ flat_of rows) (flat_map f (entries (put_rows number value rows m)))
     put_order [] m h n = subst (λ xs. IsPermutation xs (flat_map f (entries m))) (sym (append-nil (flat_map f (entries m)))) (IsPermutation-refl (flat_map f (entries m)))
     put_order (r ∷ rows) m h n =
@@ -101,7 +101,7 @@ module _ {R V : Type 0} (number : R → ℕ) (value : R → V) where
 
 -- ---- rows with keys
 
--- rows whose keys differ from one's have other numbers than it
+-- rows whose keys differ from r's have numbers other than r's
 each_apart : {R K : Type 0} (key : R → K) (number : R → ℕ) (same : K → K → Bool) (P : R → Type 0) (r : R) → ((s : R) → P s → same (key r) (key s) ≡ false → number s ≢ number r)
     → (rows : List R) → AllByRecursion P rows → AllByRecursion (λ y. same (key r) y ≡ false) (map key rows) → AllByRecursion (λ s. number s ≢ number r) rows
 each_apart key number same P r apart [] h d = tt
@@ -116,12 +116,12 @@ Apart-keys key number same P apart (r ∷ rows) h d = (each_apart key number sam
 
 -- ---- tests of each row
 
--- what is so of what passes a test is so of each row, if all pass
+-- if P holds of whatever passes a test, and all rows pass it, P holds of each row
 pub each_passes : {R : Type 0} (p : R → Bool) (P : R → Type 0) → ((r : R) → p r ≡ true → P r) → (rows : List R) → list_all p rows ≡ true → AllByRecursion P rows
 each_passes p P good [] h = tt
 each_passes p P good (r ∷ rows) h = let parts = and_parts (p r) (list_all p rows) h in (good r parts.0, each_passes p P good rows parts.1)
 
--- ---- rows and what stands under their numbers
+-- ---- rows and the values under their numbers
 
 module _ {R V : Type 0} (number : R → ℕ) (value : R → V) where
   -- rows with other numbers change nothing under k
@@ -138,12 +138,12 @@ module _ {R V : Type 0} (number : R → ℕ) (value : R → V) where
   pub rows_found : (rows : List R) → Apart number rows → AllByRecursion (λ r. get (by_number number value rows) (number r) ≡ Some (value r)) rows
   rows_found rows h = put_found rows empty h
 
-  -- what is so of every value is so of each row whose value is found
+  -- if P holds of every value of a map, it holds of each row whose value is found under its number
   every_row : (P : ℕ → V → Type 0) (m : FinMap nat_cmp V) (rows : List R) → Every P m → AllByRecursion (λ r. get m (number r) ≡ Some (value r)) rows → AllByRecursion (λ r. P (number r) (value r)) rows
   every_row P m [] every h = tt
   every_row P m (r ∷ rows) every h = (every (number r) (value r) h.0, every_row P m rows every h.1)
 
-  -- what is so of every value of the map made of rows with different numbers is so of each row
+  -- if P holds of every value of the map made of rows with different numbers, it holds of each row
   pub each_row : (P : ℕ → V → Type 0) (rows : List R) → Apart number rows → Every P (by_number number value rows) → AllByRecursion (λ r. P (number r) (value r)) rows
   each_row P rows h every = every_row P (by_number number value rows) rows every (rows_found rows h)
 
@@ -182,7 +182,7 @@ module _ {R V : Type 0} (number : R → ℕ) (value : R → V) where
   pub row_of : (rows : List R) (n : ℕ) → IsThere (by_number number value rows) n → HasNumber number rows n
   row_of rows n h = elim (came_from rows empty n h) [ inl row ↦ row | inr there ↦ nothing_there n there ]
 
-  -- there are as many pairs as rows
+  -- the list of pairs made of rows is as long as the list of rows
   count : (rows : List R) → length {A = ℕ × V} (flat_map (λ r. (number r, value r) ∷ []) rows) ≡ length rows
   count [] = refl
   count (r ∷ rows) = ap suc (count rows)
@@ -194,18 +194,19 @@ module _ {R V : Type 0} (number : R → ℕ) (value : R → V) where
       let order = flat_order number value (λ e. e ∷ []) rows h in
       len-entries (by_number number value rows) ∙ ap length (sym (flat_same es)) ∙ length_permutation (flat_map (λ r. (number r, value r) ∷ []) rows) (flat_map (λ e. e ∷ []) es) order ∙ count rows
     where
+      -- the list of the entries, one by one, is the list of entries
       flat_same : (es : List (ℕ × V)) → flat_map (λ e. e ∷ []) es ≡ es
       flat_same [] = refl
       flat_same (e ∷ es) = ap (λ xs. e ∷ xs) (flat_same es)
 
 -- ---- facts of each row
 
--- what follows from two facts that are so of each row is so of each
+-- if S follows from P and Q, and P and Q hold of each row, S holds of each row
 pub each_with : {R : Type 0} (P Q S : R → Type 0) → ((r : R) → P r → Q r → S r) → (rows : List R) → AllByRecursion P rows → AllByRecursion Q rows → AllByRecursion S rows
 each_with P Q S f [] p q = tt
 each_with P Q S f (r ∷ rows) p q = (f r p.0 q.0, each_with P Q S f rows p.1 q.1)
 
--- what follows from a fact that is so of each row is so of each
+-- if Q follows from P, and P holds of each row, Q holds of each row
 pub each_so : {R : Type 0} (P Q : R → Type 0) → ((r : R) → P r → Q r) → (rows : List R) → AllByRecursion P rows → AllByRecursion Q rows
 each_so P Q f [] p = tt
 each_so P Q f (r ∷ rows) p = (f r p.0, each_so P Q f rows p.1)

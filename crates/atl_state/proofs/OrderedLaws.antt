@@ -14,7 +14,7 @@ use Rattle.std.specs.List.{remove}
 use Rattle.atl_state.specs.Ordered.{first_above, put_number, take_number}
 use Rattle.atl_records.proofs.EveryLaws.{is_true, none_some}
 
--- ---- as recursions
+-- ---- put_number and take_number as recursions
 -- put_number of a list with a first element, by whether the number is at most it
 put_step : (t : Bool) (n x : ℕ) (xs : List ℕ) → take (cond (not t) (1 + first_above n xs) 0) (x ∷ xs) ++ n ∷ drop (cond (not t) (1 + first_above n xs) 0) (x ∷ xs) ≡ cond t (n ∷ x ∷ xs) (x ∷ put_number n xs)
 unfolding put_number
@@ -37,12 +37,12 @@ unfolding take_number
 take_step true n x xs = refl
 take_step false n x xs = let e : 1 + first_above n xs ≡ suc (first_above n xs) = omega arith in ap (remove (x ∷ xs)) e
 
--- take_number removes a first element that the number is at most, else it takes from the rest
+-- take_number removes a first element that n is at most, and else takes n out of the rest
 pub take_number-cons : (n x : ℕ) (xs : List ℕ) → take_number n (x ∷ xs) ≡ cond (nat_le n x) xs (x ∷ take_number n xs)
 unfolding take_number
 take_number-cons n x xs = take_step (nat_le n x) n x xs
 
--- taking from the empty list leaves it empty
+-- taking a number out of the empty list leaves it empty
 pub take_number-nil : (n : ℕ) → take_number n [] ≡ []
 unfolding take_number
 take_number-nil n = refl
@@ -51,11 +51,11 @@ take_number-nil n = refl
 itself : (n : ℕ) → nat_le n n ≡ true
 itself n = grind (arith, nat_tests)
 
--- a number that is first is taken
+-- taking n out of a list that begins with n leaves the rest
 taken_first : (n : ℕ) (xs : List ℕ) → take_number n (n ∷ xs) ≡ xs
 taken_first n xs = take_number-cons n n xs ∙ ap (λ b. cond b xs (n ∷ take_number n xs)) (itself n)
 
--- taking a number that was put gives the list
+-- putting a number in and taking it out again gives the list back
 pub taken_put : (n : ℕ) (xs : List ℕ) → take_number n (put_number n xs) ≡ xs
 taken_put n [] = ap (take_number n) (put_number-nil n) ∙ taken_first n []
 taken_put n (x ∷ xs) =
@@ -74,12 +74,12 @@ below k q h =
       | Greater ↦ λ e g. absurd (false≢true g)
     ] refl h
 
--- a number that comes first among some still does with higher ones in front of these
+-- if n put into ys comes first, it also does where x, which is greater, may be in front of ys
 first_holds : (n x : ℕ) (t : Bool) (xs ys : List ℕ) → n < x → put_number n ys ≡ n ∷ ys → put_number n (cond t (x ∷ ys) ys) ≡ n ∷ cond t (x ∷ ys) ys
 first_holds n x true xs ys l h = let e : nat_le n x ≡ true = grind (arith, nat_tests) in put_number-cons n x ys ∙ ap (λ b. cond b (n ∷ x ∷ ys) (x ∷ put_number n ys)) e
 first_holds n x false xs ys l h = h
 
--- a number is put after a lower one, whether that is listed or not
+-- n is put after a lower number x, whether x is listed or not
 later_step : (n x : ℕ) (t : Bool) (ys zs : List ℕ) → x < n → zs ≡ put_number n ys → cond t (x ∷ zs) zs ≡ put_number n (cond t (x ∷ ys) ys)
 later_step n x true ys zs l h = let e : nat_le n x ≡ false = grind (arith, nat_tests) in ap (λ q. x ∷ q) h ∙ sym (put_number-cons n x ys ∙ ap (λ b. cond b (n ∷ x ∷ ys) (x ∷ put_number n ys)) e)
 later_step n x false ys zs l h = h
@@ -123,7 +123,7 @@ module _ {X : Type 0} (p : X → Bool) where
   removed : (m : FinMap nat_cmp X) (k : ℕ) → get (keyed.remove m k) k ≡ None
   removed m k = get-remove nat_cmp_total m k k ∙ ap (λ b. cond b None (get m k)) (ties k)
 
-  -- a value that passed, replaced by one that doesn't, takes its number from the list
+  -- a value that passed, replaced by one that does not, takes its number out of the list
   pub numbers_where-lost : (m : FinMap nat_cmp X) (k : ℕ) (u v : X) → get m k ≡ Some u → p u ≡ true → p v ≡ false → numbers_where p (insert m k v) ≡ take_number k (numbers_where p m)
   numbers_where-lost m k u v is passed fails =
       let base = keyed.remove m k in

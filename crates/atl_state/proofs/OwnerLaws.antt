@@ -18,7 +18,7 @@ pub taken_none : (c : MarkedCampaign) (n : ℕ) → get c.value.units n ≡ None
 taken_none c n none = sym (ap (λ m. without c n m (get c.value.units n)) (remove_none c.value.units n none) ∙ ap (without c n c.value.units) none)
 
 -- ---- what becomes of the campaign, but for its marks
--- the value of a choice of campaigns is the choice of their values
+-- the value of a choice of marked campaigns is the choice of their values
 by_test : (b : Bool) (c d : MarkedCampaign) → (if b then d else c).value ≡ (if b then d.value else c.value)
 by_test true c d = refl
 by_test false c d = refl

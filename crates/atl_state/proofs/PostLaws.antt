@@ -26,14 +26,14 @@ marks-report c n text =
     (λ p. elim p as (Stays c.marks next.marks) [ Reports ↦ put_stays c.marks.reports n | _ ↦ λ k h. h ])
     (λ p. elim p as (Tells next.marks c.value next.value) [ Reports ↦ λ k free. get-insert_other c.value.reports n k text (apart_by c.marks.reports n k free) | _ ↦ λ k free. refl ])
 
--- ---- the mail that is taken away
+-- ---- the mail that is removed
 
 module _ (marks : FinSet nat_cmp) (mail : FinMap nat_cmp (List ℕ)) where
-  -- a number is marked after if it was marked, or had mail
+  -- after all mail is removed, a number is marked if it was marked or had mail
   either : (k : ℕ) → contains (union marks (from_list (keys mail))) k ≡ (contains marks k || contains_key mail k)
   either k = contains-union nat_cmp_total marks (from_list (keys mail)) k ∙ ap (λ b. contains marks k || b) (contains-from_list nat_cmp_total (keys mail) k ∙ sym (contains_key-keys mail k))
 
-  -- what was marked still is
+  -- numbers that were marked before all mail is removed are still marked
   all_stay : StaysMarked marks (union marks (from_list (keys mail)))
   all_stay k h = either k ∙ ap (λ b. b || contains_key mail k) h
 

@@ -50,7 +50,7 @@ module _ (w : WorldValue) (c : CampaignValue) (regions : FinMap nat_cmp Region) 
       books = booked;
     }
 
-    -- what is named by number exists, with the same region numbers and stocks of markets
+    -- all that is named by number exists, if the regions have the same numbers, and stocks of their markets only
     stocked-known : AreKnown w c → AreKnown w stocked
     stocked-known old = record {
       regions = λ n. (λ h. (old.regions n).0 ((there n).1 h), λ h. (there n).0 ((old.regions n).1 h));
@@ -81,7 +81,7 @@ module _ {V : Type 0} where
   pub same_len : (m : FinMap nat_cmp V) (n : ℕ) (u v : V) → get m n ≡ Some u → len (insert m n v) ≡ len m
   same_len m n u v is = len-insert nat_cmp_total m n v ∙ ap (λ o. cond (is_some o) (len m) (len m + 1)) is
 
-  -- a number that has a value once one is replaced had one
+  -- a number that has a value once another value is put under an old number had one before
   there_again : (m : FinMap nat_cmp V) (k n : ℕ) (u v : V) → get m k ≡ Some u → IsThere (insert m k v) n → IsThere m n
   there_again m k n u v is (x, put) =
       elim (nat_cmp n k) as (λ o. nat_cmp n k ≡ o → cond (is_eq o) (Some v) (get m n) ≡ Some x → IsThere m n) [
@@ -99,7 +99,7 @@ module _ {V : Type 0} where
         | Greater ↦ λ o. let l = ranked k k Greater (sym o) in absurd (omega arith)
       ] refl
 
-  -- changing a value that is there puts the changed one in its stead
+  -- changing a value that is there puts the changed value under its number
   pub changed-known : (f : V → V) (m : FinMap nat_cmp V) (n : ℕ) (v : V) → get m n ≡ Some v → changed f m n ≡ insert m n (f v)
   changed-known f m n v is = ap (changed_at f m n) is
 
@@ -112,7 +112,7 @@ pub IsRegion-money : {w : WorldValue} {n : ℕ} (r : Region) (money : ℕ) → m
 IsRegion-money r money few old = record { peasants = old.peasants; money = few; stocks = old.stocks }
 
 module _ (f : Region → Region) (c : CampaignValue) (n : ℕ) (r : Region) (is : get c.regions n ≡ Some r) where
-  -- the changed region is found
+  -- the changed region is found under its number
   pub region-changed : get (region_changed f c n).regions n ≡ Some (f r)
   region-changed = ap (λ m. get m n) (changed-known f c.regions n r is) ∙ get-insert_same c.regions n (f r)
 

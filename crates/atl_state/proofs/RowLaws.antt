@@ -28,7 +28,7 @@ sort_rows_one n sort = amount_rows_one (λ r. r.amount) (has_row n sort) (λ i a
 
 -- ---- rows of the books
 
--- the rows of two lists of accounts together are those of both
+-- the rows of two lists of accounts, one after the other, are the rows of both lists together
 pub rows_under-append : (books : BooksValue) (some others : List Account) → rows_under books (some ++ others) ≡ rows_under books some ++ rows_under books others
 rows_under-append books [] others = refl
 rows_under-append books (a ∷ some) others =
@@ -59,7 +59,7 @@ pub rows_under-none : (books : BooksValue) (entry : Entry) (n : ℕ) → amount_
 rows_under-none books entry n h =
     more_under books entry n ∙ ap (λ rows. rows_under books (accounts_under n entry) ++ rows) (rows_under_one books (entry, thing_at n) ∙ ap (λ z. cond (not (is_zero z)) (books_row entry (thing_at n) z ∷ []) []) h) ∙ append-nil (rows_under books (accounts_under n entry))
 
--- rows written so far and rows still to come are the same before and after those of one entry are written
+-- the rows written and those still to come are together the same before and after the rows of one entry are written
 pub entry_added : (books : BooksValue) (things : ℕ) (x : Entry) (now rest : List Entry) (before after all : List StoredBooks) → now ≡ x ∷ rest → after ≡ before ++ rows_under books (accounts_under things x)
     → before ++ rows_under books (flat_map (accounts_under things) now) ≡ all → after ++ rows_under books (flat_map (accounts_under things) rest) ≡ all
 entry_added books things x now rest before after all next is so_far =

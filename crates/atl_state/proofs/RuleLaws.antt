@@ -1,4 +1,4 @@
--- Laws of rules checked entry by entry: a test that all entries pass decides Every of the map.
+-- Laws of rules that are checked entry by entry: whether all entries of a map pass decides Every.
 use Rattle.std.proofs.Common.{◌≡◌, ℕ, zero, suc, ◌+◌, ◌<◌, ◌≤◌, inl, inr, arith, Bool, true, false, List, [], ◌∷◌, Option, Some, None, Bor, is_some, option_copied, Decides, length, get_or, refl, sym, ap, ◌∙◌}
 use Rattle.std.proofs.lemmas.Bool.{cases_lt, false≢true}
 use Rattle.std.proofs.lemmas.Bool.Decides.{Decides-like}
@@ -21,6 +21,7 @@ use Rattle.atl_records.proofs.EveryLaws.{none_some, every-from_each, each-from_e
 pub Decides-there : {V : Type 0} (m : FinMap nat_cmp V) (n : ℕ) (b : Bool) → b ≡ is_some (get m n) → Decides b (IsThere m n)
 Decides-there {V} m n b is = (λ e. found (get m n) (sym is ∙ e), λ there. is ∙ ap is_some there.1)
   where
+    -- an option that is Some has a value
     found : (o : Option V) → is_some o ≡ true → (v : V) × (o ≡ Some v)
     found None e = absurd (false≢true e)
     found (Some v) e = (v, refl)
@@ -33,13 +34,13 @@ copied_some (Some v) = refl
 -- ---- whether all entries are so, by `all` over them
 
 module _ {V : Type 0} (P : ℕ → V → Type 0) where
-  -- what is so of each entry is so of the one at an index
+  -- if P holds of each entry, it holds of the one at an index
   each_at : (es : List (ℕ × V)) (k : ℕ) (d : ℕ × V) → EachOf P es → k < length es → P (get_or es k d).0 (get_or es k d).1
   each_at [] k d each inside = absurd (omega (arith, inside))
   each_at (e ∷ es) zero d each inside = each.0
   each_at (e ∷ es) (suc k) d each inside = each_at es k d each.1 (omega (arith, inside))
 
-  -- what is so of the entry at each index is so of each entry
+  -- if P holds of the entry at each index, it holds of each entry
   at_each : (es : List (ℕ × V)) → AllWithin (λ e. P e.0 e.1) es 0 (length es) → EachOf P es
   at_each [] within = tt
   at_each (e ∷ es) within = (within 0 e (omega arith) (omega arith), at_each es (λ k d least inside. within (suc k) d (omega arith) (omega (arith, inside))))

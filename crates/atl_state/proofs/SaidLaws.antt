@@ -51,7 +51,7 @@ use Rattle.atl_state.proofs.OrderLaws.{Apart, HasNumber, Apart-keys, rows_order,
 
 -- ---- numbers that are read as they are
 
--- a minimum below the bound is the number
+-- if the minimum of n and m is below m, it is n
 min_less : (n m : ℕ) → min n m < m → min n m ≡ n
 min_less n m h = grind arith
 
@@ -72,7 +72,7 @@ flag_whole (pos (suc zero)) h = refl
 flag_whole (pos (suc (suc n))) h = let most = from_le (suc (suc n)) 1 (and_parts (nat_le 0 (suc (suc n))) (nat_le (suc (suc n)) 1) h).1 in absurd (omega arith)
 flag_whole (negsuc n) h = absurd (false≢true h)
 
--- rows whose keys, of one number, differ have different numbers
+-- if two keys of one number each differ, the numbers that are read are different
 pub one_apart : (x y : ℤ) → IsWhole x → IsWhole y → same (one_key x) (one_key y) ≡ false → as_u32 y ≢ as_u32 x
 one_apart x y a b d e =
     let one : x ≡ y = a ∙ ap pos (sym e) ∙ sym b in
@@ -115,7 +115,7 @@ small_format Second = omega arith
 abbrev head_as_read : Format → StoredCampaignRow → StoredCampaignRow
 head_as_read f h = record { id = pos 1; format = pos (format_number f); month = pos (as_u32 h.month); next_faction = pos (as_u32 h.next_faction); next_unit = pos (as_u32 h.next_unit); next_structure = pos (as_u32 h.next_structure); pass = h.pass }
 
--- one campaign row in range is the row made again of what is read of it
+-- the only campaign row, if in range, is the row made of its numbers and text as they are read
 one_head : (f : Format) (rows : List StoredCampaignRow) → is_one_campaign_row f rows ≡ true → campaign_row_in_range (slice_index_or rows 0 no_campaign_row) ≡ true → head_as_read f (slice_index_or rows 0 no_campaign_row) ∷ [] ≡ rows
 one_head f [] e r = absurd (false≢true e)
 one_head f (h ∷ []) e r =
@@ -132,7 +132,7 @@ one_head f (h ∷ other ∷ rows) e r = absurd (false≢true e)
 
 -- ---- lists of facts
 
--- what is so of each row for each number is, for each number, so of each row
+-- if P n holds of each row for every n, each row has P n for every n
 all_forall : {R : Type 0} (P : ℕ → R → Type 0) (rows : List R) → ((n : ℕ) → AllByRecursion (P n) rows) → AllByRecursion (λ r. (n : ℕ) → P n r) rows
 all_forall P [] h = tt
 all_forall P (r ∷ rows) h = (λ n. (h n).0, all_forall P rows (λ n. (h n).1))
@@ -142,7 +142,7 @@ some_there : {V : Type 0} (o : Option V) → is_some o ≡ true → (v : V) × (
 some_there None h = absurd (false≢true h)
 some_there (Some v) h = (v, refl)
 
--- where an or is true one of its parts is
+-- if an or is true, one of its parts is true
 or_cases : (b c : Bool) → (b || c) ≡ true → (b ≡ true) ⊎ (c ≡ true)
 or_cases true c h = inl refl
 or_cases false c h = inr h
@@ -184,6 +184,7 @@ limit_small (Some m) h = h m refl
 pub small_limit : (w : WorldValue) → IsWorld w → (n i : ℕ) → stock_limit w n i ≤ most_amount
 small_limit w world n i = limit_small (market_of w n i) (λ m is. of_market (market_there w.regions i n (get w.regions n) refl (ap is_some is)) m is)
   where
+    -- equal Some's have equal markets
     some_same : (a b : Market) → Some a ≡ Some b → a ≡ b
     some_same a b e = cc
 
@@ -193,7 +194,7 @@ small_limit w world n i = limit_small (market_of w n i) (λ m is. of_market (mar
         let one = some_same found.1 m (sym found.3 ∙ sym there ∙ is) in
         subst (λ (x : Market). x.limit ≤ most_amount) one ((world.regions n found.0 found.2).markets i found.1 found.3).limit
 
--- rows of which there are 0 are empty
+-- a list of 0 rows is empty
 no_rows : {R : Type 0} (rows : List R) → (length rows == 0) ≡ true → rows ≡ []
 no_rows [] h = refl
 no_rows (r ∷ rows) h = absurd (grind (arith, nat_tests))
@@ -284,7 +285,7 @@ module _ (f : Format) (w : WorldValue) (p : Parts) (k : RowsKeep f w p) where
   few_structures = by_number-every (λ r. as_u32 r.number) structure_of (λ n s. n ≤ most_structures) (structure_in_range w) (λ r h. (structure_number r h).1) p.structures ranges.structures
 
   -- ---- units
-  -- the row made again of a unit's row in range, whose names exist, is that row
+  -- the row made again of a unit's row in range, if all that it names exists, is that row
   same_unit : (r : StoredUnit) → unit_in_range r ≡ true → IsPlaced w (campaign_of w p) (unit_of p.has r) → unit_row (as_u32 r.number) (unit_of p.has r) ≡ r
   unfolding campaign_of
   same_unit r h placed =
@@ -300,7 +301,7 @@ module _ (f : Format) (w : WorldValue) (p : Parts) (k : RowsKeep f w p) where
       let guard = flag_whole r.guard parts.guard in
       λ i. record { number = sym (unit_number r h).0 i; faction = sym faction i; name = r.name; region = sym region i; structure = sym structure i; men = sym men i; money = sym money i; guard = guard i }
 
-  -- what each unit of the rows names exists
+  -- all that each row of a unit names exists
   units_placed : AllByRecursion (λ r. IsPlaced w (campaign_of w p) (unit_of p.has r)) p.units
   unfolding campaign_of
   units_placed = each_row (λ r. as_u32 r.number) (unit_of p.has) (λ n u. IsPlaced w (campaign_of w p) u) p.units units_apart k.known.units
@@ -312,7 +313,7 @@ module _ (f : Format) (w : WorldValue) (p : Parts) (k : RowsKeep f w p) where
       (each_with (λ r. unit_in_range r ≡ true) (λ r. IsPlaced w (campaign_of w p) (unit_of p.has r)) (λ r. unit_row (as_u32 r.number) (unit_of p.has r) ≡ r) same_unit p.units (each_passes unit_in_range (λ r. unit_in_range r ≡ true) (λ r h. h) p.units ranges.units) units_placed)
 
   -- ---- structures
-  -- the row made again of a structure's row in range, whose names exist, is that row
+  -- the row made again of a structure's row in range, if all that it names exists, is that row
   same_structure : (r : StoredStructure) → structure_in_range w r ≡ true → IsBuilt w (campaign_of w p) (structure_of r) → structure_row (as_u32 r.number) (structure_of r) ≡ r
   unfolding campaign_of
   same_structure r h built =
@@ -327,7 +328,7 @@ module _ (f : Format) (w : WorldValue) (p : Parts) (k : RowsKeep f w p) where
       let done = (from_range 1 (size_of w (as_u16 r.kind)) r.done (omega arith) (and_parts (is_from 1 most_structures r.number) (is_from 1 (size_of w (as_u16 r.kind)) r.done) h).1).0 in
       λ i. record { number = sym (structure_number r h).0 i; kind = sym kind i; name = r.name; region = sym region i; done = sym done i; owner = sym owner i }
 
-  -- what each structure of the rows names exists
+  -- all that each row of a structure names exists
   structures_built : AllByRecursion (λ r. IsBuilt w (campaign_of w p) (structure_of r)) p.structures
   unfolding campaign_of
   structures_built = each_row (λ r. as_u32 r.number) structure_of (λ n s. IsBuilt w (campaign_of w p) s) p.structures structures_apart k.known.structures
@@ -496,6 +497,7 @@ module _ (f : Format) (w : WorldValue) (p : Parts) (k : RowsKeep f w p) where
   of_units : (h : StoredHas) → Placed h → IsOfUnits p.units h
   of_units h (there, range) = (row_of (λ r. as_u32 r.number) (unit_of p.has) p.units (as_u32 h.unit) there, turned h (sort_of h range).1)
     where
+      -- a row of goods of kind 1 or 0 is of kind 0 or 1
       turned : (h : StoredHas) → SortOf h → (as_u32 h.sort ≡ 0) ⊎ (as_u32 h.sort ≡ 1)
       turned h (inl skill) = inr skill
       turned h (inr item) = inl item.0
@@ -565,7 +567,7 @@ module _ (f : Format) (w : WorldValue) (p : Parts) (k : RowsKeep f w p) where
       let most = few_entries f in
       (from_le 1 n parts.0, omega (arith, few, most))
 
-  -- a row of books that keeps the rules is of an account of the world's things, as IsBooked says
+  -- a row of books that keeps the rules satisfies IsBooked for the world's things
   its_account : (r : StoredBooks) → is_booked f w r ≡ true → books_in_range (books_bound p) r ≡ true → IsBooked (things_of w) r
   its_account r h range =
       let parts = and_parts (is_entry_in f (as_u32 r.entry)) (nat_lt (as_u32 r.thing) (things_of w)) h in
@@ -576,7 +578,7 @@ module _ (f : Format) (w : WorldValue) (p : Parts) (k : RowsKeep f w p) where
       let some = not_zero r.amount (not-true (is_zero r.amount) (and_parts (not (is_zero r.amount)) (is_within (books_bound p) r.amount) range).0) in
       booked_row (things_of w) r (whole_below r.entry (omega arith)) (whole_below r.thing (omega arith)) entry.0 entry.1 there some
 
-  -- each row of books is of an account of the world's things, as IsBooked says
+  -- each row of books satisfies IsBooked for the world's things
   pub all_booked : AllByRecursion (IsBooked (things_of w)) p.books
   all_booked =
       each_with (λ r. is_booked f w r ≡ true) (λ r. books_in_range (books_bound p) r ≡ true) (IsBooked (things_of w)) its_account p.books (each_passes (is_booked f w) (λ r. is_booked f w r ≡ true) (λ r h. h) p.books k.booked)

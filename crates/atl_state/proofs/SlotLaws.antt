@@ -23,7 +23,7 @@ use Rattle.atl_state.proofs.IndexLaws.{some_none}
 same_some : {X : Type 0} {x y : X} {o : Option X} → o ≡ Some x → o ≡ Some y → x ≡ y
 same_some e h = cc
 
--- what is so of equal numbers as true, and of different ones as false, is so of the test
+-- P holds of the test whether q is n, if q ≡ n gives P true and q ≢ n gives P false
 by_number : (q n : ℕ) (P : Bool → Type 0) → (q ≡ n → P true) → (q ≢ n → P false) → P (eq_by_cmp nat_cmp q n)
 by_number q n P same apart =
     elim (nat_cmp q n) as (λ r. nat_cmp q n ≡ r → P (is_eq r)) [
@@ -38,12 +38,12 @@ module _ {V : Type 0} where
   through s None = None
   through s (Some k) = slab.get s k
 
-  -- looking up in the entries with one slot more
+  -- looking up q in entries with an entry n in front gives its value where q is n, and else what the others give
   lodged_step : (n q : ℕ) (o : Option V) (rest : List (ℕ × V)) → is_some o ≡ true → find nat_cmp q (slot_entry_at n o rest) ≡ cond (eq_by_cmp nat_cmp q n) o (find nat_cmp q rest)
   lodged_step n q None rest h = absurd (false≢true h)
   lodged_step n q (Some v) rest h = refl
 
-  -- a choice of slots, followed, is the choice of their values
+  -- following a choice between two slots gives the choice between their values
   through_cond : (b : Bool) (s : slab.Slab V) (k : ℕ) (o : Option ℕ) → cond b (slab.get s k) (through s o) ≡ through s (cond b (Some k) o)
   through_cond true s k o = refl
   through_cond false s k o = refl
@@ -93,7 +93,7 @@ module _ {V : Type 0} where
   lodged_same [] s t same = refl
   lodged_same (e ∷ es) s t same = ap (λ o. slot_entry_at e.0 o (slot_entries es t)) (same e.1) ∙ ap (slot_entry_at e.0 (slab.get s e.1)) (lodged_same es s t same)
 
-  -- a slot that another number leads to keeps its value
+  -- a number that leads to a slot other than the updated one keeps its value
   kept : (s t : slab.Slab V) (k : ℕ) (x : Option V) (o : Option ℕ) → slab.Updates s t k x → ((j : ℕ) → o ≡ Some j → j ≢ k) → through t o ≡ through s o
   kept s t k x None u h = refl
   kept s t k x (Some j) u h = u.others j (h j refl)
@@ -220,25 +220,25 @@ module _ {V : Type 0} where
       let one : counts (is_some (slab.get s k)) ≡ counts true = ap counts h in
       omega (arith, change, one)
 
-  -- the arena stays one with a new number that leads to a vacant slot
+  -- IsArena still holds once a new number leads to a slot that was vacant
   pub IsArena-added : (i : FinMap nat_cmp ℕ) (s t : slab.Slab V) (n k : ℕ) (x : V) → slab.Updates s t k (Some x) → slab.get s k ≡ None → slab.slab_len t ≡ slab.slab_len s + 1 → get i n ≡ None → IsArena i s → IsArena (insert i n k) t
   IsArena-added i s t n k x u vacant more fresh held =
       let same = held.none_idle in
       let size : len (insert i n k) ≡ len i + 1 = len-insert nat_cmp_total i n k ∙ ap (λ o. cond (is_some o) (len i) (len i + 1)) fresh in
       record { slots_used = HaveOwnSlots-added i s t n k x u vacant held.slots_used; none_idle = omega (arith, same, size, more) }
 
-  -- the arena stays one without a number and its slot
+  -- IsArena still holds once a number and its slot are given up
   pub IsArena-removed : (i : FinMap nat_cmp ℕ) (s t : slab.Slab V) (n k : ℕ) → slab.Updates s t k None → slab.slab_len t + 1 ≡ slab.slab_len s → get i n ≡ Some k → IsArena i s → IsArena (remove i n) t
   IsArena-removed i s t n k u less is held =
       let same = held.none_idle in
       let size : len (remove i n) ≡ len i - 1 = len-remove nat_cmp_total i n ∙ ap (λ o. cond (is_some o) (len i - 1) (len i)) is in
       record { slots_used = HaveOwnSlots-removed i s t n k u is held.slots_used; none_idle = omega (arith, same, size, less) }
 
-  -- the arena stays one when the value in a slot changes
+  -- IsArena still holds when the value in a slot in use changes
   pub IsArena-changed : (i : FinMap nat_cmp ℕ) (s : slab.Slab V) (k : ℕ) (w : V) → is_some (slab.get s k) ≡ true → IsArena i s → IsArena i (slab.with_value s k w)
   IsArena-changed i s k w used held = record { slots_used = HaveOwnSlots-changed i s (slab.with_value s k w) k w (written s k w used) held.slots_used; none_idle = len_written s k w used ∙ held.none_idle }
 
-  -- the arena stays one with a slab of the same values
+  -- IsArena still holds for a slab with the same values and as many slots in use
   pub IsArena-same : (i : FinMap nat_cmp ℕ) (s t : slab.Slab V) → slab.SameValues s t → slab.slab_len t ≡ slab.slab_len s → IsArena i s → IsArena i t
   IsArena-same i s t same as_many held = record { slots_used = HaveOwnSlots-same i s t same held.slots_used; none_idle = as_many ∙ held.none_idle }
 
@@ -246,7 +246,7 @@ module _ {V : Type 0} where
   pub IsArena-empty : (s : slab.Slab V) → s.slots ≡ [] → IsArena empty s
   IsArena-empty s none = record { slots_used = HaveOwnSlots-empty s; none_idle = ap (count_by is_some) none ∙ sym (len-empty nat_cmp ℕ) }
 
--- what is so is so of an error too
+-- if P holds, it holds in the case of an error (OnErr)
 pub on_err : {A E P : Type 0} (r : Result A E) → P → OnErr r P
 on_err (Ok a) p = tt
 on_err (Err e) p = p
@@ -255,7 +255,7 @@ on_err (Err e) p = p
 pub lent_same : {N W D E : Type 0} (n : N) (F G : W → D) → ((w : W) → F w ≡ G w) → ◌≡◌ {A = (N × (W → D)) ⊎ E} (inl (n, F)) (inl (n, G))
 lent_same n F G h j = inl (n, λ w. h w j)
 
--- ---- in rising order
+-- ---- sorted by number
 -- a number below all entries is less than each of their numbers
 rise : {V : Type 0} (k : ℕ) (es : List (ℕ × V)) → below_all nat_cmp k es ≡ true → AllByRecursion (λ n. nat_cmp k n ≡ Less) (keys_of es)
 rise k [] h = tt
@@ -268,7 +268,7 @@ keys_rise [] h = tt
 keys_rise (e ∷ es) h = (rise e.0 es (and_parts _ _ h).0, keys_rise es (and_parts _ _ h).1)
 
 module _ {V : Type 0} (s : slab.Slab V) where
-  -- the numbers of the entries with one slot in use more
+  -- with a slot in use put in front, the entries' numbers have its number in front
   key_step : (n : ℕ) (o : Option V) (rest : List (ℕ × V)) → is_some o ≡ true → keys_of (slot_entry_at n o rest) ≡ n ∷ keys_of rest
   key_step n None rest h = absurd (false≢true h)
   key_step n (Some v) rest h = refl

@@ -30,18 +30,19 @@ lower a b n le h = grind (arith, nat_tests)
 pub parted : (n : ℕ) (xs : List ℕ) → IsSorted xs → IsPartitionedBy (λ y. nat_lt y n) xs
 parted n xs h i j d le l e = lower (get_or xs i d) (get_or xs j d) n (rises xs i j d h le l) e
 
--- ---- a number put
+-- ---- a number put in
 
--- a number that is at most each, and at most n, still is at most each once n is put in
+-- a number at most n and at most each of a list is at most each once n is put in
 put_least : (x n : ℕ) (xs : List ℕ) → x ≤ n → AllByRecursion (λ y. x ≤ y) xs → AllByRecursion (λ y. x ≤ y) (put_number n xs)
 put_least x n [] le h = subst (AllByRecursion (λ y. x ≤ y)) (sym (put_number-nil n)) (le, tt)
 put_least x n (y ∷ xs) le h = subst (AllByRecursion (λ y. x ≤ y)) (sym (put_number-cons n y xs)) (either (put_least x n xs le h.1) (nat_le n y))
   where
+    -- x is at most each of the list, whether n comes before or after y
     either : AllByRecursion (λ y. x ≤ y) (put_number n xs) → (b : Bool) → AllByRecursion (λ y. x ≤ y) (cond b (n ∷ y ∷ xs) (y ∷ put_number n xs))
     either rest true = (le, h)
     either rest false = (h.0, rest)
 
--- a number at most another that is at most each is at most each
+-- if n is at most x, and x is at most each of a list, n is at most each
 lower_all : (n x : ℕ) (xs : List ℕ) → n ≤ x → AllByRecursion (λ y. x ≤ y) xs → AllByRecursion (λ y. n ≤ y) xs
 lower_all n x xs le h = each_so (λ y. x ≤ y) (λ y. n ≤ y) (λ y l. omega arith) xs h
 
@@ -50,17 +51,19 @@ pub IsSorted-put : (n : ℕ) (xs : List ℕ) → IsSorted xs → IsSorted (put_n
 IsSorted-put n [] h = subst IsSorted (sym (put_number-nil n)) (tt, tt)
 IsSorted-put n (x ∷ xs) h = subst IsSorted (sym (put_number-cons n x xs)) (either (IsSorted-put n xs h.1) (nat_le n x) refl)
   where
+    -- the list is sorted, whether n comes before or after x
     either : IsSorted (put_number n xs) → (b : Bool) → nat_le n x ≡ b → IsSorted (cond b (n ∷ x ∷ xs) (x ∷ put_number n xs))
     either rest true e = let le : n ≤ x = grind (arith, nat_tests) in ((le, lower_all n x xs le h.0), h)
     either rest false e = let le : x ≤ n = grind (arith, nat_tests) in (put_least x n xs le h.0, rest)
 
--- ---- and one taken
+-- ---- a number taken out
 
 -- a number that is at most each of a list still is once a number is taken out
 take_least : (x n : ℕ) (xs : List ℕ) → AllByRecursion (λ y. x ≤ y) xs → AllByRecursion (λ y. x ≤ y) (take_number n xs)
 take_least x n [] h = subst (AllByRecursion (λ y. x ≤ y)) (sym (take_number-nil n)) tt
 take_least x n (y ∷ xs) h = subst (AllByRecursion (λ y. x ≤ y)) (sym (take_number-cons n y xs)) (either (take_least x n xs h.1) (nat_le n y))
   where
+    -- x is at most each of the list, whether y or a later number is taken out
     either : AllByRecursion (λ y. x ≤ y) (take_number n xs) → (b : Bool) → AllByRecursion (λ y. x ≤ y) (cond b xs (y ∷ take_number n xs))
     either rest true = h.1
     either rest false = (h.0, rest)
@@ -70,11 +73,12 @@ pub IsSorted-take : (n : ℕ) (xs : List ℕ) → IsSorted xs → IsSorted (take
 IsSorted-take n [] h = subst IsSorted (sym (take_number-nil n)) tt
 IsSorted-take n (x ∷ xs) h = subst IsSorted (sym (take_number-cons n x xs)) (either (IsSorted-take n xs h.1) (nat_le n x))
   where
+    -- the list is sorted, whether x or a later number is taken out
     either : IsSorted (take_number n xs) → (b : Bool) → IsSorted (cond b xs (x ∷ take_number n xs))
     either rest true = h.1
     either rest false = (take_least x n xs h.0, rest)
 
--- ---- a test and the other
+-- ---- nat_lt and nat_le of two numbers
 
 -- where x is below n, n is not at most x
 pub not_above : (n x : ℕ) → nat_lt x n ≡ true → nat_le n x ≡ false

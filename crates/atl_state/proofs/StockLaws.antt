@@ -19,7 +19,7 @@ abbrev pub restocked : Region → (item amount : ℕ) → Region
 restocked r item amount = record r { stocks = with_amount_of r.stocks item amount }
 
 module _ (w : WorldValue) (n : ℕ) (r : Region) (item amount : ℕ) where
-  -- the region stays in range with another stock, up to the limit
+  -- the region stays in range with another stock of an item, up to the limit of its market
   pub IsRegion-stock : amount ≤ stock_limit w n item → IsRegion w n r → IsRegion w n (restocked r item amount)
   IsRegion-stock few old = record {
     peasants = old.peasants;
@@ -37,7 +37,7 @@ module _ (c : CampaignValue) (n item amount : ℕ) (r : Region) (is : get c.regi
   steady-stock w there few old =
       steady-region (λ q. restocked q item amount) c n r is w (IsRegion-stock w n r item amount few (old.numbers.regions n r is)) (AreOfMarkets-stock w n r item amount there (old.known.markets n r is)) old
 
-  -- the total of the item changes by what the stock does
+  -- the total of the item changes as the stock does
   pub total-stock : total (with_stock c n item amount) (Item item) + amount_of r.stocks item ≡ total c (Item item) + amount
   total-stock = total-region (λ q. restocked q item amount) c n r is (Item item) ∙ ap (λ k. total c (Item item) + k) (set_same r.stocks item amount)
 
@@ -45,7 +45,7 @@ module _ (c : CampaignValue) (n item amount : ℕ) (r : Region) (is : get c.regi
   alone : (a b k : ℕ) → a + k ≡ b + k → a ≡ b
   alone a b k e = omega (arith, e)
 
-  -- no other total changes
+  -- setting a stock of an item changes no total of another thing
   pub total-stock_other : (t : Thing) → t ≢ Item item → total (with_stock c n item amount) t ≡ total c t
   total-stock_other Money apart = alone _ _ r.money (total-region (λ q. restocked q item amount) c n r is Money)
   total-stock_other People apart = alone _ _ r.peasants (total-region (λ q. restocked q item amount) c n r is People)

@@ -15,44 +15,45 @@ use Rattle.atl_state.specs.UnitRoom.{AreUnits}
 use Rattle.atl_state.specs.Roster.{Roster}
 
 -- ---- what is marked
--- an or holds still where its second part does
+-- if c implies d, b or c implies b or d
 either : (b c d : Bool) → (c ≡ true → d ≡ true) → (b || c) ≡ true → (b || d) ≡ true
 either true c d h e = refl
 either false c d h e = h e
 
--- an or with a found value holds still where its second part does
+-- if o being Some implies d, `cond b (Some v) o` being Some implies b or d
 either_there : {V : Type 0} (b : Bool) (v : V) (o : Option V) (d : Bool) → (is_some o ≡ true → d ≡ true) → is_some (cond b (Some v) o) ≡ true → (b || d) ≡ true
 either_there true v o d h e = refl
 either_there false v o d h e = h e
 
--- an or holds where its second part does
+-- an or is true if its second part is
 more : (b d : Bool) → d ≡ true → (b || d) ≡ true
 more true d e = refl
 more false d e = e
 
--- a set within another is still within it with one number more in both
+-- if a set is within another, it still is once n is added to both
 pub within_both : (g r : set.FinSet nat_cmp) (n : ℕ) → ((q : ℕ) → set.contains g q ≡ true → set.contains r q ≡ true) → (q : ℕ) → set.contains (set.insert g n) q ≡ true → set.contains (set.insert r n) q ≡ true
 within_both g r n h q e =
     set.contains-insert nat_cmp_total r n q ∙ either (eq_by_cmp nat_cmp q n) (set.contains g q) (set.contains r q) (h q) (sym (set.contains-insert nat_cmp_total g n q) ∙ e)
 
--- what is marked only within a set is so with one number more in the set
+-- if all that is marked is in a set, it is in the set with n added
 pub within_more : (marked : ℕ → Bool) (r : set.FinSet nat_cmp) (n : ℕ) → ((q : ℕ) → marked q ≡ true → set.contains r q ≡ true) → (q : ℕ) → marked q ≡ true → set.contains (set.insert r n) q ≡ true
 within_more marked r n h q e = set.contains-insert nat_cmp_total r n q ∙ more (eq_by_cmp nat_cmp q n) (set.contains r q) (h q e)
 
--- things with one unit more, whose number is in the set, are within the set
+-- if all units with things are in a set, they still are once one more unit is added to both
 pub within_things : {V : Type 0} (g : FinMap nat_cmp V) (r : set.FinSet nat_cmp) (n : ℕ) (v : V) → ((q : ℕ) → is_some (get g q) ≡ true → set.contains r q ≡ true) → (q : ℕ) → is_some (get (insert g n v) q) ≡ true → set.contains (set.insert r n) q ≡ true
 within_things g r n v h q e =
     set.contains-insert nat_cmp_total r n q ∙ either_there (eq_by_cmp nat_cmp q n) v (get g q) (set.contains r q) (h q) (sym (ap is_some (get-insert nat_cmp_total g n v q)) ∙ e)
 
--- empty dirty sets are within each other
+-- the empty dirty sets of units satisfy AreWithin
 within-none : AreWithin set.empty set.empty set.empty empty empty
 within-none = record { rows_within = λ q e. e; goods_within = λ q e. e; items_within = nothing; skills_within = nothing }
   where
+    -- nothing is marked in an empty map of marks
     nothing : (q : ℕ) → is_some (get {X = FinMap nat_cmp (Prim.Unit {0})} {R = nat_cmp} empty q) ≡ true → set.contains {R = nat_cmp} set.empty q ≡ true
     nothing q e = absurd (false≢true (sym (ap is_some (get-empty nat_cmp q)) ∙ e))
 
 module _ (marks rows goods : set.FinSet nat_cmp) (items skills : Things) (n : ℕ) (h : AreWithin marks rows goods items skills) where
-  -- the sets are still within each other once a unit is marked with row and goods
+  -- AreWithin still holds once a unit is marked with its row and its goods
   within-whole : AreWithin (set.insert marks n) (set.insert rows n) (set.insert goods n) items skills
   within-whole = record {
     rows_within = within_both rows marks n h.rows_within;
@@ -61,7 +62,7 @@ module _ (marks rows goods : set.FinSet nat_cmp) (items skills : Things) (n : �
     skills_within = within_more _ marks n h.skills_within;
   }
 
-  -- the sets are still within each other once a unit's row is marked
+  -- AreWithin still holds once a unit and its row are marked
   within-row : AreWithin (set.insert marks n) (set.insert rows n) goods items skills
   within-row = record {
     rows_within = within_both rows marks n h.rows_within;
@@ -70,7 +71,7 @@ module _ (marks rows goods : set.FinSet nat_cmp) (items skills : Things) (n : �
     skills_within = within_more _ marks n h.skills_within;
   }
 
-  -- the sets are still within each other once items of a unit are marked
+  -- AreWithin still holds once a unit and some items of it are marked
   within-item : (group : FinMap nat_cmp (Prim.Unit {0})) → AreWithin (set.insert marks n) rows goods (insert items n group) skills
   within-item group = record {
     rows_within = within_more _ marks n h.rows_within;
@@ -79,7 +80,7 @@ module _ (marks rows goods : set.FinSet nat_cmp) (items skills : Things) (n : �
     skills_within = within_more _ marks n h.skills_within;
   }
 
-  -- the sets are still within each other once skills of a unit are marked
+  -- AreWithin still holds once a unit and some skills of it are marked
   within-skill : (group : FinMap nat_cmp (Prim.Unit {0})) → AreWithin (set.insert marks n) rows goods items (insert skills n group)
   within-skill group = record {
     rows_within = within_more _ marks n h.rows_within;
@@ -115,7 +116,7 @@ module _ (units : FinMap nat_cmp Unit) (marks rows goods : RoomySet) (items skil
   abbrev Before : Type 0
   Before = AreUnits units marks rows goods items skills
 
-  -- there is still room once the dirty sets are emptied
+  -- AreUnits still holds once all dirty sets are emptied
   pub AreUnits-without_marks : Before → AreUnits units (cleared marks) (cleared rows) (cleared goods) empty empty
   AreUnits-without_marks h = record {
     within = within-none;
@@ -124,7 +125,7 @@ module _ (units : FinMap nat_cmp Unit) (marks rows goods : RoomySet) (items skil
     goods_fit = Room-unmarked units goods.numbers goods.room h.goods_fit;
   }
 
-  -- there is still room once a unit that was lent is marked with row and goods
+  -- AreUnits still holds once a unit that was lent is replaced, and marked with its row and its goods
   pub AreUnits-lent : (n : ℕ) (u w : Unit) → get units n ≡ Some u → Before → AreUnits (insert units n w) (marking marks n) (marking rows n) (marking goods n) items skills
   AreUnits-lent n u w is h = record {
     within = within-whole marks.numbers rows.numbers goods.numbers items skills n h.within;
@@ -133,7 +134,7 @@ module _ (units : FinMap nat_cmp Unit) (marks rows goods : RoomySet) (items skil
     goods_fit = Room-lent units goods.numbers goods.room n (Some u) w is refl h.goods_fit;
   }
 
-  -- there is still room once a unit's row is changed and marked
+  -- AreUnits still holds once a unit's row is changed and marked
   pub AreUnits-row : (n : ℕ) (u w : Unit) → get units n ≡ Some u → Before → AreUnits (insert units n w) (marking marks n) (marking rows n) goods items skills
   AreUnits-row n u w is h = record {
     within = within-row marks.numbers rows.numbers goods.numbers items skills n h.within;
@@ -142,7 +143,7 @@ module _ (units : FinMap nat_cmp Unit) (marks rows goods : RoomySet) (items skil
     goods_fit = Room-over units goods.numbers goods.room n w (ap is_some is) h.goods_fit;
   }
 
-  -- there is still room once an item of a unit is changed and marked
+  -- AreUnits still holds once an item of a unit is changed and marked
   pub AreUnits-item : (n : ℕ) (u w : Unit) (group : FinMap nat_cmp (Prim.Unit {0})) → get units n ≡ Some u → Before → AreUnits (insert units n w) (marking marks n) rows goods (insert items n group) skills
   AreUnits-item n u w group is h = record {
     within = within-item marks.numbers rows.numbers goods.numbers items skills n h.within group;
@@ -151,7 +152,7 @@ module _ (units : FinMap nat_cmp Unit) (marks rows goods : RoomySet) (items skil
     goods_fit = Room-over units goods.numbers goods.room n w (ap is_some is) h.goods_fit;
   }
 
-  -- there is still room once a skill of a unit is changed and marked
+  -- AreUnits still holds once a skill of a unit is changed and marked
   pub AreUnits-skill : (n : ℕ) (u w : Unit) (group : FinMap nat_cmp (Prim.Unit {0})) → get units n ≡ Some u → Before → AreUnits (insert units n w) (marking marks n) rows goods items (insert skills n group)
   AreUnits-skill n u w group is h = record {
     within = within-skill marks.numbers rows.numbers goods.numbers items skills n h.within group;
@@ -160,7 +161,7 @@ module _ (units : FinMap nat_cmp Unit) (marks rows goods : RoomySet) (items skil
     goods_fit = Room-over units goods.numbers goods.room n w (ap is_some is) h.goods_fit;
   }
 
-  -- there is still room once a unit is removed and marked, by its value
+  -- AreUnits still holds once a unit is removed and marked, by its value
   gone_at : (n : ℕ) (o : Option Unit) → get units n ≡ o → is_some o ≡ true → Before → AreUnits (remove units n) (marking marks n) (marking rows n) (marking goods n) items skills
   gone_at n None is there h = absurd (false≢true there)
   gone_at n (Some u) is there h = record {
@@ -170,7 +171,7 @@ module _ (units : FinMap nat_cmp Unit) (marks rows goods : RoomySet) (items skil
     goods_fit = Room-without units goods.numbers goods.room n (Some u) is h.goods_fit;
   }
 
-  -- there is still room once a unit is removed and marked
+  -- AreUnits still holds once a unit is removed and marked
   pub AreUnits-gone : (n : ℕ) → is_some (get units n) ≡ true → Before → AreUnits (remove units n) (marking marks n) (marking rows n) (marking goods n) items skills
   AreUnits-gone n there h = gone_at n (get units n) refl there h
 
@@ -193,7 +194,7 @@ fits-new units marks more n w h = fits-inserted units more.numbers more.room n w
 HasRoom-added : (units : FinMap nat_cmp Unit) (marks more : RoomySet) (n : ℕ) (w : Unit) → IsWider units marks more → HasRoomForMarks (insert units n w) (marking more n)
 HasRoom-added units marks more n w h = Room-inserted units more.numbers more.room n w (room_inserted units marks more n w h)
 
--- there is still room once a new unit is added and marked in wider dirty sets
+-- AreUnits still holds once a new unit is added and marked in wider dirty sets
 pub AreUnits-added : (units : FinMap nat_cmp Unit) (marks rows goods marks2 rows2 goods2 : RoomySet) (items skills : Things) (n : ℕ) (w : Unit) → IsWider units marks marks2 → IsWider units rows rows2 → IsWider units goods goods2
     → AreUnits units marks rows goods items skills → AreUnits (insert units n w) (marking marks2 n) (marking rows2 n) (marking goods2 n) items skills
 AreUnits-added units marks rows goods marks2 rows2 goods2 items skills n w wider wider2 wider3 h = record {
@@ -203,6 +204,6 @@ AreUnits-added units marks rows goods marks2 rows2 goods2 items skills n w wider
   goods_fit = HasRoom-added units goods goods2 n w wider3;
 }
 
--- units whose values are as they were are the same but for their marks
+-- replacing a roster's units by the same units changes nothing
 pub same_values : (r : Roster) (values : FinMap nat_cmp Unit) → values ≡ r.values → record r { values = values } ≡ r
 same_values r values e = ap (λ (v : FinMap nat_cmp Unit). record r { values = v }) e

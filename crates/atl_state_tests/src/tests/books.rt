@@ -30,6 +30,7 @@ fn has_some(rt: &impl Abort, books: &Books) -> Result<(), Fail> {
     Ok(())
 }
 
+/// Tests `Books` alone: amounts that are booked are read back, and the others are 0.
 #[test]
 fn books_of_four_things(rt: HostRuntime) -> Result<(), Fail> {
     let mut books = Books::new(rt.alloc(), THINGS)?;
@@ -37,7 +38,8 @@ fn books_of_four_things(rt: HostRuntime) -> Result<(), Fail> {
     has_some(&rt, &books)
 }
 
-/// Entries and the amounts of carts booked under them; Income comes twice and adds up.
+/// The amounts of carts that are booked, and their entries. Income comes twice, so its amounts are
+/// added up.
 static BOOKED: [(Entry, i64); 6] = [
     (Entry::Income, 5),
     (Entry::Income, 6),
@@ -83,6 +85,7 @@ fn has_all(rt: &impl Abort, campaign: &Campaign) -> Result<(), Fail> {
     Ok(())
 }
 
+/// Tests booking in a campaign: the amounts booked are read back, and exactly these are marked.
 #[test]
 fn booking_in_a_campaign(rt: HostRuntime) -> Result<(), Fail> {
     let mut campaign = founded_by(rt.alloc(), ISLE)?;

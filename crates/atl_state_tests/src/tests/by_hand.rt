@@ -21,7 +21,7 @@ pub(crate) struct Rows {
     /// Peasants and money of region 1.
     pub(crate) peasants: i64,
     pub(crate) region_money: i64,
-    /// Whether Bree is gone.
+    /// Whether faction Bree is gone.
     pub(crate) gone: i64,
     /// Faction, region and money of unit 2.
     pub(crate) faction: i64,
@@ -48,7 +48,7 @@ pub(crate) struct Rows {
     pub(crate) bought: i64,
 }
 
-/// Tables without a row.
+/// Tables without any row.
 fn no_rows(alloc: Global) -> Parts {
     Parts {
         campaign: Sequence::new(alloc),
@@ -200,7 +200,7 @@ fn add_reports(
     Ok(())
 }
 
-/// Adds the market's row `rows.times` times.
+/// Adds the market's row `rows.times` times, so that a test can have it twice or not at all.
 fn add_markets(markets: &mut Sequence<StoredMarket>, rows: &Rows) -> Result<(), Fail> {
     for _ in 0..rows.times {
         markets.push(StoredMarket {
@@ -212,7 +212,7 @@ fn add_markets(markets: &mut Sequence<StoredMarket>, rows: &Rows) -> Result<(), 
     Ok(())
 }
 
-/// Adds the rows of the books for the stock and for what was bought.
+/// Adds the rows of the books for the wood in stock and for the money paid to the market.
 fn add_trade(books: &mut Sequence<StoredBooks>, rows: &Rows) -> Result<(), Fail> {
     if rows.times != 0 {
         add_books(books, &[[rows.stocked, 2, 20]])?;

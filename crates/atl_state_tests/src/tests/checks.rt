@@ -35,7 +35,7 @@ const GOOD: Rows = Rows {
     bought: 0,
 };
 
-/// The campaign of `GOOD` with nothing in stock, in the first format.
+/// The rows of a good campaign in the first format: those of `GOOD`, without a stock.
 const OLD: Rows = Rows {
     asked: Format::First,
     format: 1,
@@ -43,7 +43,7 @@ const OLD: Rows = Rows {
     ..GOOD
 };
 
-/// Rows, and the number of the first rule that they break, or 0.
+/// Cases: rows, and the number of the first rule that they break, or 0 if they break none.
 static CASES: [(Rows, u64); 15] = [
     (GOOD, 0),
     (Rows { days: 450, ..GOOD }, 0),
@@ -86,8 +86,8 @@ static CASES: [(Rows, u64); 15] = [
     (Rows { reports: 1, ..GOOD }, 12),
 ];
 
-/// Rows with changes to the market and its books, and the number of the first rule that they break,
-/// or 0.
+/// Cases of rows of the market and its books: the rows, and the number of the first rule that they
+/// break, or 0.
 static MARKET_CASES: [(Rows, u64); 14] = [
     (GOOD, 0),
     (
@@ -148,7 +148,7 @@ fn assert_rules(
     Ok(())
 }
 
-/// The campaign of rows that keep all rules.
+/// Checks rows that keep all rules, and returns their campaign.
 pub(crate) fn checked(alloc: Global, world: &World, rows: Parts) -> Result<Campaign, Fail> {
     match check(alloc, world, rows) {
         Ok(campaign) => Ok(campaign),
@@ -189,13 +189,14 @@ fn is_checked(rt: &impl Abort, alloc: Global, world: &World) -> Result<(), Fail>
     comes_back(rt, alloc, world, &campaign)
 }
 
-/// Asserts all of this module on a world.
+/// Asserts the broken rule of each case, and that good rows give their campaign.
 fn rows_tell(rt: &impl Abort, alloc: Global, world: &World) -> Result<(), Fail> {
     assert_rules(rt, alloc, world, &CASES)?;
     assert_rules(rt, alloc, world, &MARKET_CASES)?;
     is_checked(rt, alloc, world)
 }
 
+/// Tests that `check` reports the first broken rule, and accepts the rows of a good campaign.
 #[test]
 fn the_first_broken_rule_is_told(rt: HostRuntime) -> Result<(), Fail> {
     let world = read_world(rt.alloc(), ISLE_WITH_MARKET)?;

@@ -10,7 +10,8 @@ use std::alloc::Global;
 use std::process::Abort;
 use std::test::Fail;
 
-/// Calls on a campaign that Avalon has just joined.
+/// Calls that add, lend and remove units and structures, and what each marks. Avalon has just
+/// joined.
 static CALLS: [Row; 14] = [
     // The faction, its unit, its money and its man in the books, and the campaign's row.
     (
@@ -81,7 +82,7 @@ static CALLS: [Row; 14] = [
     (Step::Unmark, Ask::Unit(1), "none", "0"),
 ];
 
-/// Asserts the numbers that Avalon gets on joining, and then every row of `CALLS`.
+/// Asserts the numbers that Avalon gets on joining, and what each call of `CALLS` marks.
 fn comes_and_goes(rt: &impl Abort, alloc: Global, world: &World) -> Result<(), Fail> {
     let mut campaign = founded_in(alloc, world)?;
     assert_count(rt, campaign.marks(), 0);
@@ -91,6 +92,7 @@ fn comes_and_goes(rt: &impl Abort, alloc: Global, world: &World) -> Result<(), F
     assert_steps(rt, alloc, &mut campaign, &CALLS)
 }
 
+/// Tests what is marked when a faction joins, and when units and structures come and go.
 #[test]
 fn coming_and_going_is_marked(rt: HostRuntime) -> Result<(), Fail> {
     let world = read_world(rt.alloc(), ISLE)?;

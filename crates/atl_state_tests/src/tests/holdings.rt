@@ -143,6 +143,7 @@ fn has_amounts(rt: &impl Abort, holding: &Holding) {
     assert_amount(rt, holding.days_of(1), 30);
 }
 
+/// Tests that each call on a holding sets its part and no other, and that amounts are read back.
 #[test]
 fn setting_parts_of_a_holding(rt: HostRuntime) -> Result<(), Fail> {
     let mut holding = one_man(rt.alloc())?;

@@ -34,6 +34,7 @@ static LEVELS: [(u32, u32, u32); 22] = [
     (4_294_967_295, 4_294_967_295, 0),
 ];
 
+/// Tests the level at the bounds of days and men.
 #[test]
 fn levels_at_their_bounds(rt: HostRuntime) {
     for (row, (days, men, wanted)) in LEVELS.iter().enumerate() {
@@ -51,7 +52,8 @@ struct Load {
     carry: u64,
 }
 
-/// On the island a man weighs 10 and carries 5, wood weighs 5, and a cart weighs 50 and carries 100.
+/// Cases of loads. On the island a man weighs 10 and carries 5, wood weighs 5, and a cart weighs 50
+/// and carries 100.
 static LOADS: [Load; 6] = [
     Load {
         men: 0,
@@ -137,6 +139,7 @@ fn weighs_all(rt: &impl Abort, alloc: Global, world: &World) -> Result<(), Fail>
     Ok(())
 }
 
+/// Tests what goods weigh, what units weigh, and what they can carry.
 #[test]
 fn goods_loads_and_carriage(rt: HostRuntime) -> Result<(), Fail> {
     let world = read_world(rt.alloc(), ISLE)?;

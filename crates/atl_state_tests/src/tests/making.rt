@@ -23,7 +23,7 @@ pub(crate) fn founded_in(alloc: Global, world: &World) -> Result<Campaign, Fail>
     Ok(founded(alloc, world, b"gm")?)
 }
 
-/// Avalon joins, with 1 as the word of the dice; the answer is its number and its unit's.
+/// Avalon joins, with 1 as the word of the dice; returns the numbers of its faction and its unit.
 pub(crate) fn avalon_joins(world: &World, campaign: &mut Campaign) -> Result<(u32, u32), Fail>
     requires { IsGood world.now campaign.old.value }
 {
@@ -55,7 +55,7 @@ pub(crate) fn one_man(alloc: Global) -> Result<Holding, Fail> {
     Ok(Holding::new(name, 1, 0, Numbered::new(alloc), Numbered::new(alloc)))
 }
 
-/// Adds a unit of one man of a faction to region Far, in no structure; the answer is its number.
+/// Adds a unit of one man of a faction to region Far, in no structure, and returns its number.
 pub(crate) fn man_comes(alloc: Global, campaign: &mut Campaign, faction: u32) -> Result<u32, Fail> {
     if campaign.next_unit() > LAST_UNIT || campaign.unit(campaign.next_unit()).is_some() {
         return Err(Fail::new("a free number"));
@@ -69,7 +69,7 @@ pub(crate) fn man_comes(alloc: Global, campaign: &mut Campaign, faction: u32) ->
     })?)
 }
 
-/// Adds a structure of a kind to region Far, of size 2 and without an owner; the answer is its
+/// Adds a structure of a kind to region Far, of size 2 and without an owner, and returns its
 /// number.
 pub(crate) fn structure_begins(
     alloc: Global,

@@ -8,9 +8,9 @@ use std::alloc::Global;
 use std::process::Abort;
 use std::test::Fail;
 
-/// A step, and who owns both structures and which units are where after it.
-/// It lists the units inside each, in region 3 and of faction 1, and how many parts the step
-/// marked.
+/// A step, and what is wanted after it: who owns both structures, and which units are where. These
+/// are the units inside each structure, in region 3 and of faction 1. The last number is how many
+/// parts the step marked.
 struct Case {
     step: Step,
     owners: (u32, u32),
@@ -20,8 +20,9 @@ struct Case {
     marks: usize,
 }
 
-/// Steps in turn. At first units 1 and 3 of faction 1, and unit 2 of faction 2, are in region 3.
-/// A boat 1 and a lodge 2 are there, without owners.
+/// Cases of owners, made in turn, as units enter and leave structures or are removed. At first
+/// units 1 and 3 of faction 1, and unit 2 of faction 2, are in region 3, with a boat 1 and a lodge
+/// 2 without owners.
 static CASES: [Case; 13] = [
     // Who enters an ownerless structure owns it.
     Case {
@@ -202,21 +203,22 @@ fn peopled(alloc: Global) -> Result<Campaign, Fail> {
     Ok(campaign)
 }
 
+/// Tests who owns structures, and where units are listed, when units are moved and removed.
 #[test]
 fn placing_and_removing(rt: HostRuntime) -> Result<(), Fail> {
     let mut campaign = peopled(rt.alloc())?;
     cases_hold(&rt, rt.alloc(), &mut campaign, &CASES)
 }
 
-/// All three units enter the boat, unit 2 first, which so owns it.
+/// Steps that move all three units into the boat. Unit 2 enters first, and so owns it.
 static ENTERING: [Step; 3] = [
     Step::Unit(2, OfUnit::Place(3, 1)),
     Step::Unit(1, OfUnit::Place(3, 1)),
     Step::Unit(3, OfUnit::Place(3, 1)),
 ];
 
-/// A structure, a unit that leaves it, and who owns it then. Unit 2 owns the boat, with units 1 and
-/// 3 inside.
+/// Cases of `owner_after`: a structure, a unit that leaves it, and who owns it then. Unit 2 owns
+/// the boat, and units 1 and 3 are inside.
 static AFTER: [(u32, u32, u32); 5] = [(1, 2, 1), (1, 1, 2), (1, 3, 2), (2, 1, 0), (9, 1, 0)];
 
 /// Asserts for each row of `AFTER` who would own the structure.
@@ -227,7 +229,7 @@ fn knows_owners(rt: &impl Abort, campaign: &Campaign) {
     }
 }
 
-/// The boat is moved to region 2 with the units inside, and its owner stays.
+/// Cases of a boat that is moved to region 2 with the units inside: its owner stays.
 static SAILING: [Case; 4] = [
     Case {
         step: Step::Structure(1, OfStructure::Region(2)),
@@ -272,6 +274,7 @@ fn sails(rt: &impl Abort, alloc: Global, campaign: &mut Campaign) -> Result<(), 
     Ok(())
 }
 
+/// Tests the next owner of a structure, and that a boat that is moved keeps its owner.
 #[test]
 fn going_inside_a_structure(rt: HostRuntime) -> Result<(), Fail> {
     let mut campaign = peopled(rt.alloc())?;

@@ -86,6 +86,7 @@ fn shows_others(rt: &impl Abort, alloc: Global, parts: &Parts) -> Result<(), Fai
     assert_rows(rt, alloc, parts.markets.as_slice(), "[]")
 }
 
+/// Tests that a campaign gives the wanted rows to each table.
 #[test]
 fn rows_of_a_campaign(rt: HostRuntime) -> Result<(), Fail> {
     let parts = rows(rt.alloc())?;

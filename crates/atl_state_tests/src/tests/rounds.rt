@@ -11,8 +11,8 @@ use std::alloc::Global;
 use std::process::Abort;
 use std::test::Fail;
 
-/// Avalon gets its report and three men, who leave the peasants; then ten times a unit goes and
-/// another comes.
+/// Steps that add and remove units in turn. Avalon gets its report and three men, who leave the
+/// peasants; then ten times a unit goes and another comes.
 static COMING: [Step; 25] = [
     Step::Faction(1, OfFaction::Report("A report.\n")),
     Step::Comes(1, 2),
@@ -41,8 +41,8 @@ static COMING: [Step; 25] = [
     Step::Comes(1, 14),
 ];
 
-/// Units that came and units that went are marked. After the marks are cleared, only those of the
-/// next change are.
+/// Steps that show the marks: units that came and units that went are marked. After the marks are
+/// cleared, only those of the next change are.
 static MARKS: [Row; 6] = [
     (
         Step::Nothing,
@@ -74,7 +74,7 @@ static MARKS: [Row; 6] = [
     (Step::Unmark, Ask::Units, "[1, 12, 14, 15]", "0"),
 ];
 
-/// The campaign made again from its rows has exactly the units of the first.
+/// The units of a campaign that is made again from its rows: exactly those of the first.
 static AGAIN: [Row; 1] = [(Step::Nothing, Ask::Units, "[1, 12, 14, 15]", "0")];
 
 /// Asserts `AGAIN` on the campaign made from the rows of `first`.
@@ -92,6 +92,7 @@ fn go_round(rt: &impl Abort, alloc: Global, world: &World) -> Result<(), Fail> {
     come_back(rt, alloc, world, &campaign)
 }
 
+/// Tests which units are there and marked when units go and come, and that rows give them again.
 #[test]
 fn units_go_and_come(rt: HostRuntime) -> Result<(), Fail> {
     let world = read_world(rt.alloc(), ISLE)?;

@@ -9,7 +9,7 @@ use std::alloc::Global;
 use std::process::Abort;
 use std::test::Fail;
 
-/// Calls on a campaign that Avalon has joined, and in which a lodge is begun.
+/// Calls that set one part each, and what each marks. Avalon has joined, and a lodge is begun.
 static CALLS: [Row; 18] = [
     (Step::Month(12), Ask::Month, "12", "1, the campaign"),
     (
@@ -107,7 +107,7 @@ static CALLS: [Row; 18] = [
     ),
 ];
 
-/// Calls with the number 9, which nothing has: they change nothing and mark nothing.
+/// Calls that change nothing and mark nothing, since nothing has their number 9.
 static NOBODY: [Row; 12] = [
     (
         Step::Faction(9, OfFaction::Name("Bree")),
@@ -180,6 +180,8 @@ fn sets_all(rt: &impl Abort, alloc: Global, campaign: &mut Campaign) -> Result<(
     assert_unmarked_steps(rt, alloc, campaign, &NOBODY)
 }
 
+/// Tests that each call sets its part and marks that part alone, and that a number that nothing has
+/// changes nothing.
 #[test]
 fn setting_entries(rt: HostRuntime) -> Result<(), Fail> {
     let mut campaign = joined_by(rt.alloc(), ISLE)?;

@@ -235,7 +235,7 @@ struct Singles {
     owner: &'static str,
 }
 
-/// The single amounts, in the order in which their marks are told.
+/// The single amounts whose marks are printed, in the order in which they are printed.
 static SINGLES: [Singles; 3] = [
     Singles {
         amount: "item",

@@ -5,7 +5,8 @@ use atl_tables::{Sequence, Text};
 use std::alloc::Global;
 use std::test::Fail;
 
-/// A call on a campaign. The number next to a change is that of the faction, region, unit or structure changed.
+/// A call on a campaign. The number next to a change is that of the faction, region, unit or
+/// structure changed.
 #[derive(Drop, Clone, Copy)]
 pub(crate) enum Step {
     Nothing,
@@ -19,8 +20,8 @@ pub(crate) enum Step {
     /// A unit of one man of a faction is added in region Far; the second number is the one it must
     /// get.
     Comes(u32, u32),
-    /// A structure of a kind is begun there, without an owner; the second number is the one it must
-    /// get.
+    /// A structure of a kind is begun in region Far, without an owner; the second number is the one
+    /// it must get.
     Begins(u16, u32),
 }
 
@@ -99,7 +100,7 @@ fn changes_region(campaign: &mut Campaign, region: u32, change: OfRegion) -> Res
     Ok(())
 }
 
-/// Makes a change through the holding that is lent, if the unit is there.
+/// Makes a change of a unit through its lent holding, if the unit is there.
 fn changes_lent(lent: Option<&mut Holding>, change: OfUnit) -> Result<(), Fail> {
     let Some(holding) = lent else {
         return Ok(());

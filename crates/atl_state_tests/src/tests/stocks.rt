@@ -12,8 +12,8 @@ const ALL_WOOD: Ask = Ask::Total(Thing::Item(0));
 /// The question how much wood region 1 has in stock.
 const STOCK: Ask = Ask::Stock(1, 0);
 
-/// Steps that set stocks. Each marks that stock alone. Setting the same amount marks nothing, an amount of 0 is not listed, and
-/// without a region nothing changes.
+/// Steps that set stocks, each of which marks its stock alone. Setting the same amount marks
+/// nothing, an amount of 0 is not listed, and without a region nothing changes.
 static WOOD: [Row; 11] = [
     (Step::Unmark, ALL_WOOD, "0", "0"),
     (
@@ -58,6 +58,7 @@ static WOOD: [Row; 11] = [
     (Step::Nothing, STOCK, "0 of 0", "0"),
 ];
 
+/// Tests that setting a stock changes the totals, and marks that stock alone.
 #[test]
 fn stocks_are_counted(rt: HostRuntime) -> Result<(), Fail> {
     let mut campaign = joined_by(rt.alloc(), MART)?;

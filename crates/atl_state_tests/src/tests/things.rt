@@ -8,8 +8,8 @@ use std::test::Fail;
 /// The question how much unit 1 has of item 7, and its days of skill 3.
 const GOODS: Ask = Ask::Goods(1, 7, 3);
 
-/// Steps with the count of parts marked. A unit counts once, however many of its items and skills
-/// are marked. An item or skill set to 0 is marked too.
+/// Steps that set items and skills, with the count of parts marked. A unit counts once, however
+/// many of its items and skills are marked. An item or skill set to 0 is marked too.
 static ONE_BY_ONE: [Row; 11] = [
     (Step::Unmark, GOODS, "0, 0 days", "0"),
     (
@@ -59,7 +59,7 @@ static ONE_BY_ONE: [Row; 11] = [
     ),
 ];
 
-/// The marks of a unit that was lent or removed after one item and one skill of it were marked.
+/// The wanted marks of a unit that was lent or removed after an item and a skill of it were marked.
 const WHOLE: &str = "1, units [1], rows [1], goods [1], item 7 of unit 1, skill 3 of unit 1";
 
 /// Steps that lend or remove the unit, which marks it as a whole besides what was marked of it.
@@ -99,6 +99,7 @@ static AS_A_WHOLE: [Row; 8] = [
     (Step::Unmark, GOODS, "none", "0"),
 ];
 
+/// Tests that an item or skill that is set is marked by itself, and a lent or removed unit whole.
 #[test]
 fn goods_are_marked(rt: HostRuntime) -> Result<(), Fail> {
     let mut campaign = joined_by(rt.alloc(), ISLE)?;
