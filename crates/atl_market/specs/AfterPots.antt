@@ -58,7 +58,7 @@ TaxesAtOnce = (w : WorldValue) (c : CampaignValue) (os : List Task) → PaysAtOn
 abbrev pub with_recruits : WorldValue → UnitChange
 with_recruits w u recruits = record u { holding = with_paid_recruits u.holding recruits (recruits * w.rules.recruit_price) }
 
--- a region with as many peasants less as joined its units
+-- a region with `joined` fewer peasants
 abbrev pub with_less_peasants : RegionChange
 with_less_peasants q joined = record q { peasants = q.peasants - joined }
 

@@ -1,4 +1,4 @@
--- BUILD: units begin structures, and go on with those that they are inside. See docs/RULES.md, "Building".
+-- BUILD: units begin structures, and continue those that they are inside. See docs/RULES.md, "Building".
 use Rattle.std.specs.Prelude.{◌++◌, ℕ, ◌+◌, ◌-◌, ◌*◌, ◌==◌, min, nat_le, nat_lt, not, Bool, true, false, List, [], ◌∷◌, codes, Option, Some, None, option_and_then, option_map, if◌then◌else◌}
 use Rattle.std.specs.Fmt.{decimal}
 use Rattle.std.specs.List.{slice_get}
@@ -107,14 +107,15 @@ with_kind w s = option_map (λ k. (s, k)) (slice_get w.kinds s.kind)
 abbrev pub structure_and_kind_at : WorldValue → CampaignValue → (structure : ℕ) → Option (Structure × Kind)
 structure_and_kind_at w c structure = option_and_then (with_kind w) (get c.structures structure)
 
--- what `BUILD` makes of a campaign and its outcome, by the structure and kind that unit `n` is inside, if it is inside one
+-- the campaign and the outcome after `BUILD` by unit `n`, which is inside the structure of the given kind, or inside
+-- none
 abbrev pub go_on_at : CampaignValue → (n : ℕ) → Unit → Option (Structure × Kind) → CampaignValue × Outcome
 go_on_at c n u None = unless c (outside_fault u) (c, Done 0)
 go_on_at c n u (Some (s, k)) =
     let size = size_added k u.holding s.done in
     unless c (inside_fault u s k) (after_building_on c n k.material size u.structure (s.done + size), Done size)
 
--- the effect of `BUILD` by unit `n`: it goes on with the structure that it is inside; with a fault nothing changes
+-- the effect of `BUILD` by unit `n`: it continues the structure that it is inside; with a fault nothing changes
 unfoldable pub go_on : WorldValue → (n : ℕ) → OrderEffect
 go_on w n c u = go_on_at c n u (structure_and_kind_at w c u.structure)
 
@@ -139,8 +140,8 @@ build_moves e t = 0
 
 -- ---- the phase
 
--- The specification of the phase BUILD: it carries out orders one by one, and books Used of items. A unit without such an order of
--- its own faction is no worse off.
+-- The specification of the phase BUILD: it carries out orders one by one, and books Used of items. A unit for which its
+-- own faction wrote no order of BUILD is no worse off.
 abbrev pub build_spec : PhaseSpec
 build_spec = record (goes_by_orders build_step is_building IsOwnOrder IsNoWorse) {
   moving = build_moves;

@@ -60,8 +60,8 @@ by_unit es = from_entries (reverse es)
 module _ (p : PotMeaning) (w : WorldValue) (c : CampaignValue) where
   -- ---- who takes part
 
-  -- The unit that carries an order out, or the order's fault: NotYours where the unit isn't there or isn't the faction's, else
-  -- what the phase finds.
+  -- The unit that carries an order out, or the order's fault: NotYours where the unit isn't there or isn't of the
+  -- order's faction, else the phase's own fault (`fault`).
   unfoldable pub unit_for : Task → Result Unit EventFault
   unit_for t =
       option_map_or (λ u. option_map_or Err (p.fault w u t) (Ok u)) (of_faction t.faction (get c.units t.unit)) (Err NotYours)

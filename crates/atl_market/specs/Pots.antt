@@ -17,7 +17,7 @@ AreWants wants = Every (λ number want. want ≤ most_amount) wants
 abbrev pub want_of : FinMap nat_cmp ℕ → ℕ → ℕ
 want_of wants number = unwrap_or (get wants number) 0
 
--- those of some units' numbers whose unit has a want
+-- the numbers of those of some units that have a want
 abbrev pub takers_among : FinMap nat_cmp ℕ → List ℕ → List ℕ
 takers_among wants numbers = filter (λ number. is_some (get wants number)) numbers
 

@@ -78,7 +78,7 @@ pot_by Buy limit stock = stock
 abbrev pub limit_of : WorldValue → (item region : ℕ) → ℕ
 limit_of w item region = option_map_or (λ m. m.limit) (market_of w region item) 0
 
--- the pot of an item in a region, for SELL or BUY
+-- how much of an item there is to share in a region: its market's limit less its stock for SELL, its stock for BUY
 abbrev pub trade_pot : Trade → WorldValue → CampaignValue → (item region : ℕ) → ℕ
 trade_pot trade w c item region = pot_by trade (limit_of w item region) (stock_of c region item)
 
@@ -142,7 +142,8 @@ trade_meaning trade = pots_by_orders (trade_pots trade) (is_trade trade)
 abbrev pub trade_moves : Trade → ℕ → BookBound
 trade_moves trade most = moves_only most (trade_entry trade) Money
 
--- trading takes nothing from a unit whose own faction wrote no order of it
+-- what SELL or BUY leaves alone: each unit for which its own faction wrote no order of the phase is there and no worse
+-- off
 abbrev pub trade_keeps : Trade → Frame
 trade_keeps trade = spares_unordered (is_trade trade)
 

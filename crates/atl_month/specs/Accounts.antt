@@ -57,7 +57,7 @@ account_after maintenance a input = record a {
   covered = a.covered + min (to_give a - a.covered) (short_of maintenance input);
 }
 
--- an account of which at most what is to be given was given and covered so far
+-- of an account, at most the amount to give (`to_give`) was given so far, and at most that amount covered
 pub record IsOpen (a : Account) : Type 0 where
   pub given : a.given ≤ to_give a
   pub covered : a.covered ≤ to_give a

@@ -44,11 +44,11 @@ new_month readings words = record { readings = readings; aliases = empty; words 
 abbrev pub early_phases : List PhaseSpec
 early_phases = form_spec ∷ name_spec ∷ place_spec ∷ give_spec ∷ transfer_spec ∷ sell_spec ∷ buy_spec ∷ tax_spec ∷ recruit_spec ∷ []
 
--- the phases from GUARD 1 to PRODUCE, in order; WORK is not among them, which units do without an order as well
+-- the phases from GUARD 1 to PRODUCE, in order; WORK is not among them, since units without an order work too
 abbrev pub later_phases : List PhaseSpec
 later_phases = guard_spec ∷ quit_spec ∷ walk_spec ∷ sail_spec ∷ build_spec ∷ learn_spec ∷ produce_spec ∷ []
 
--- the phases after those: WORK, upkeep, season, sweep
+-- the phases after PRODUCE, in order: WORK, upkeep, season, sweep
 abbrev pub last_phases : List PhaseSpec
 last_phases = work_spec ∷ upkeep_spec ∷ season_spec ∷ sweep_spec ∷ []
 

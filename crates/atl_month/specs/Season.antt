@@ -16,11 +16,11 @@ use Rattle.atl_instant.specs.PhaseSpecs.{PhaseSpec}
 use Rattle.atl_instant.specs.There.{at_region}
 use Rattle.atl_month.specs.Restock.{after_restock, markets_of, stocks_by}
 
--- How many peasants are born: of each hundred as many as the word says, from 0 to `growth`, at most what is missing to the limit.
+-- How many peasants are born: a percentage of them from 0 to `growth`, by the word of the dice, at most up to `limit`.
 abbrev pub births : (growth limit word peasants : ℕ) → ℕ
 births growth limit word peasants = min (peasants * (word % (growth + 1)) / per_hundred) (limit - peasants)
 
--- How much money peasants bring to their region: so much each, at most what is missing to the terrain's limit.
+-- How much money a region gets: `per_peasant` for each of its peasants, at most what is missing to `limit`.
 abbrev pub income : (per_peasant limit peasants money : ℕ) → ℕ
 income per_peasant limit peasants money = min (peasants * per_peasant) (limit - money)
 
@@ -58,7 +58,7 @@ grows_by most = both_move (moves_only most Income Money) (moves_only most Births
 abbrev pub season_moves : ℕ → BookBound
 season_moves most = both_move (grows_by most) (stocks_by most)
 
--- the season changes no unit
+-- what the season leaves alone: all units are as they were
 abbrev pub season_keeps : Frame
 season_keeps w m before after = after.units ≡ before.units
 
