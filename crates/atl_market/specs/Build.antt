@@ -107,8 +107,7 @@ with_kind w s = option_map (λ k. (s, k)) (slice_get w.kinds s.kind)
 abbrev pub structure_and_kind_at : WorldValue → CampaignValue → (structure : ℕ) → Option (Structure × Kind)
 structure_and_kind_at w c structure = option_and_then (with_kind w) (get c.structures structure)
 
--- the campaign and the outcome after `BUILD` by unit `n`, which is inside the structure of the given kind, or inside
--- none
+-- the campaign and outcome after `BUILD` by unit `n`, which is inside a structure of the given kind, or inside none
 abbrev pub go_on_at : CampaignValue → (n : ℕ) → Unit → Option (Structure × Kind) → CampaignValue × Outcome
 go_on_at c n u None = unless c (outside_fault u) (c, Done 0)
 go_on_at c n u (Some (s, k)) =
