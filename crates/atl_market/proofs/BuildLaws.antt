@@ -388,7 +388,8 @@ build_orderly = record {
 pub leaves_steady : (w : WorldValue) (c d : CampaignValue) → LeavesWell CanBuild build_moves w c d → LeavesWell IsSteady build_moves w c d
 leaves_steady w c d h = record { leaves_it = h.leaves_it.steady; same_month = h.same_month; balances = h.balances; near = h.near }
 
--- a unit can use material that it holds, if the campaign keeps what BUILD needs and the books have room for all of it
+-- a unit can use what it holds of an item, if BUILD has what it needs and the books have room for all that units may
+-- use
 pub can_use : (w : WorldValue) (c : CampaignValue) (n item amount : ℕ) (u : Unit) → get c.units n ≡ Some u → amount ≤ amount_of u.holding.items item → item < length w.items → CanBuild w c → HaveRoom (build_reserve c) c → CanUse w c n item amount
 can_use w c n item amount u is enough known can room = record {
   unit = u;

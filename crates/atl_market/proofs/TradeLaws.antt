@@ -182,7 +182,7 @@ module _ (w : WorldValue) (u : Unit) (m : Market) (stock share : ℕ) (there : m
   put_to : (a k : ℕ) → pos (a + k) ≡ pos a +ℤ pos k
   put_to a k = omega (arith, ints)
 
-  -- the difference of two amounts, as a whole number with sign, is the first less the second
+  -- an amount less a part of it, as a whole number with sign, is the amount minus the part
   taken_off : (a k : ℕ) → k ≤ a → pos (a - k) ≡ pos a +ℤ neg_ℤ (pos k)
   taken_off a k enough = omega (arith, ints, enough)
 
