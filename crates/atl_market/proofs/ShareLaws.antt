@@ -123,7 +123,7 @@ sum-split ahead parts behind =
     let four : sum (sum parts ∷ behind) ≡ sum parts + sum behind = sum_by-cons (λ x. x) (sum parts) behind in
     omega arith
 
--- splitting a want changes no share of the others, and its parts get together what it got, if the pot isn't enough
+-- splitting a want changes no other share by prefix sums (`shares_after`), and its parts get together what it got
 split_behind : (pot total : ℕ) → 0 < total → (ahead parts behind : List ℕ)
     → (shares_after pot total 0 (ahead ++ parts ++ behind) ≡ shares_after pot total 0 ahead ++ shares_after pot total (sum ahead) parts ++ shares_after pot total (sum ahead + sum parts) behind)
     × (shares_after pot total 0 (ahead ++ sum parts ∷ behind) ≡ shares_after pot total 0 ahead ++ sum (shares_after pot total (sum ahead) parts) ∷ shares_after pot total (sum ahead + sum parts) behind)

@@ -21,7 +21,7 @@ use Rattle.atl_market.proofs.DrawLaws.{all_pairs}
 use Rattle.atl_market.proofs.PotLaws.{put_in_turn}
 use Rattle.atl_market.proofs.WantLaws.{GivesToWants, any_then, carries_out}
 
--- if neither of two tests holds, the first doesn't and the second doesn't
+-- if the disjunction of two tests is false, both are false
 neither : (a b : Bool) → (a || b) ≡ false → (a ≡ false) × (b ≡ false)
 neither true b h = absurd (false≢true (sym h))
 neither false b h = (refl, h)
@@ -33,7 +33,7 @@ module _ (p : PotMeaning) (w : WorldValue) (c : CampaignValue) (n : ℕ) (u : Un
   abbrev own : Task → Bool
   own o = o.unit == n && o.faction == u.faction
 
-  -- an order for unit `n` of its own faction isn't one that `own` rejects
+  -- an order for unit `n` from the unit's faction is one of its own
   no_order : (o : Task) → o.unit ≡ n → (u.faction == o.faction) ≡ true → own o ≡ false → ⊥
   no_order o unit faction is = false≢true (sym (clash o.unit n o.faction u.faction unit faction is))
     where
