@@ -104,10 +104,12 @@ share_is_near pot wants i h =
     (λ b w. let n = share_near pot (sum wants) b w (omega arith) in record { above = n.0; below = n.1 })
     (record { above = omega arith; below = omega arith }) 0 wants i)
 
+-- there are as many shares by prefix sums as wants
 pub length-shares_after : (pot total before : ℕ) (wants : List ℕ) → length (shares_after pot total before wants) ≡ length wants
 length-shares_after pot total before [] = refl
 length-shares_after pot total before (w ∷ ws) = ap suc (length-shares_after pot total (before + w) ws)
 
+-- there are as many shares as wants
 pub length-shares : (pot : ℕ) (wants : List ℕ) → length (shares pot wants) ≡ length wants
 length-shares pot wants = elim (cases_lt pot (sum wants)) [
   | inl h ↦ ap length (shares-short pot wants h) ∙ length-shares_after pot (sum wants) 0 wants

@@ -34,6 +34,7 @@ use Rattle.atl_market.specs.Work.{idle_task, idle_work, is_idle, is_work, sorted
 use Rattle.atl_market.proofs.PotLaws.{some_new, still_some}
 use Rattle.atl_market.proofs.WantLaws.{appended_entries}
 
+-- a test that holds is true
 is_so : (b : Bool) → T b → b ≡ true
 is_so true h = refl
 is_so false h = absurd h
@@ -45,6 +46,7 @@ module _ {K X : Type 0} (R : K → K → Ordering) (exact : IsAntisymmetric R) (
   abbrev AreKeyed : List (K × X) → Type 0
   AreKeyed = AllByRecursion (λ e. e.0 ≡ key e.1)
 
+  -- entries under the keys of their values stay so when a value is put in under its key
   keyed-put : (x : X) (es : List (K × X)) → AreKeyed es → AreKeyed (put R (key x) x es)
   keyed-put x [] all = (refl, tt)
   keyed-put x (e ∷ es) all =
@@ -54,6 +56,7 @@ module _ {K X : Type 0} (R : K → K → Ordering) (exact : IsAntisymmetric R) (
         | Greater ↦ λ _. (all.0, keyed-put x es all.1)
       ] refl
 
+  -- the entries of a map from values by their keys are under the keys of their values
   keyed-listed : IsTotalOrder R → (xs : List X) → AreKeyed (entries (from_entries {R = R} (map (λ x. (key x, x)) xs)))
   keyed-listed o [] = subst AreKeyed (sym (no_entries R)) tt
   keyed-listed o (x ∷ xs) =

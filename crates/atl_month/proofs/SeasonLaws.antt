@@ -208,6 +208,7 @@ season_at_leaves_well w world c (n, word) steady = by_terrain (terrain_of w n) r
     by_terrain None is = same
     by_terrain (Some t) is = by_region t is (get c.regions n) refl
 
+-- pairs of two lists are at most as many as the elements of the first
 length-zip : {A B : Type 0} (xs : List A) (ys : List B) → length (zip xs ys) ≤ length xs
 length-zip [] ys = omega arith
 length-zip (x ∷ xs) [] = omega arith

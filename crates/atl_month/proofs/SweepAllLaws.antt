@@ -243,6 +243,7 @@ units_stay (n ∷ ns) c = units_stay ns (after_sweeping_faction c n) ∙ gone_at
 
 -- ---- the phase
 
+-- of some entries at most as many pass a test as there are
 length-numbers : {V : Type 0} (p : V → Bool) (es : List (ℕ × V)) → length (map (λ e. e.0) (filter (λ e. p e.1) es)) ≤ length es
 length-numbers p [] = omega arith
 length-numbers p (e ∷ es) = subst (λ ns. length ns ≤ length (e ∷ es)) (sym (chosen-cons p e es)) (one_more (p e.1) e.0 _ (length-numbers p es))

@@ -113,7 +113,7 @@ pub record IsFew (n : ℕ) (a : Account) : Type 0 where
   pub left : a.left ≤ holding_limit * n
   pub short : a.short ≤ most_per_head * men_limit * n
 
--- without any account, the sums of each are those of 0 units
+-- in the empty map the sums of each account are within those of 0 units
 pub none_few : (s g : ℕ) → IsFew 0 (account_at empty s g)
 none_few s g = rw (ap (account_in g) (get-empty nat_cmp s) ∙ ap account_or (get-empty nat_cmp g)) (record { left = omega arith; short = omega arith })
 
