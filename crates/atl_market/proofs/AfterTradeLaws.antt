@@ -95,8 +95,7 @@ module _ (trade : Trade) (items : FinMap nat_cmp ℕ) (w : WorldValue) (units : 
   abbrev drawn_here : (r i : ℕ) → ℕ
   drawn_here r i = cond (told_there units items (r, i) e.0) e.1 0
 
-  -- region `r`, which was `q`, is there after the trade, and each of its stocks has changed by what is traded
-  -- (`drawn_here`)
+  -- region `r`, which was `q`, is there after the trade, and each of its stocks changed by `drawn_here`
   abbrev IsTraded : ℕ → Region → Type 0
   IsTraded r q = HasNewStocks q (stock_after trade) (drawn_here r) (get (after_trade trade items w d e).regions r)
 

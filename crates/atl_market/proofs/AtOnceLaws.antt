@@ -81,8 +81,7 @@ module _ {needs : Bool} {step : CampaignValue → ℕ × ℕ → CampaignValue} 
         let now : get d.units e.0 ≡ Some u = ready.same.0 ∙ there in
         paid_once (step d e) es n (ready_still d e es u now here ready) above.1 ∙ pays.others d e u now here n (λ same. absurd (omega (arith, same, above.0)))
 
-    -- after payments in the order of unit numbers each unit that has a share has changed by it, and any other is as it
-    -- was
+    -- after payments in the order of unit numbers each unit has changed by its share, if it has one
     units_paid : (d : CampaignValue) (es : List (ℕ × ℕ)) → AreReady d es → (n : ℕ) (u : Unit) → get d.units n ≡ Some u → get (fold step d es).units n ≡ Some (paid_unit (gets n) u (find nat_cmp n es))
     units_paid d [] ready n u is = is
     units_paid d (e ∷ es) ready n u is =

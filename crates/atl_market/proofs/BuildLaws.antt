@@ -85,8 +85,7 @@ pub record CanBegin (w : WorldValue) (c : CampaignValue) (u : Unit) (k : Kind) :
   pub material : 1 ≤ amount_of u.holding.items k.material
   pub room : len c.structures < most_structures
 
--- a unit without a fault of `BUILD kind` has men, is on land, has the level and material, and a structure more may be
--- begun
+-- a unit without a fault of `BUILD kind` can begin: it has men, level and material, is on land, and there is room
 pub can_begin : (w : WorldValue) (c : CampaignValue) (u : Unit) (k : Kind) → begin_fault w c u k ≡ None → CanBegin w c u k
 can_begin w c u k is =
     let limit = (is_structure_limit c, StructureLimit) ∷ [] in
@@ -112,8 +111,7 @@ pub record CanGoOn (u : Unit) (s : Structure) (k : Kind) : Type 0 where
   pub skill : k.level ≤ level_in u.holding k.skill
   pub material : 1 ≤ amount_of u.holding.items k.material
 
--- a unit without a fault of `BUILD` inside a structure has men, the level and material, and the structure isn't
--- complete
+-- a unit without a fault of `BUILD` in a structure can continue it: it has men, level and material, and size is missing
 pub can_go_on : (u : Unit) (s : Structure) (k : Kind) → inside_fault u s k ≡ None → CanGoOn u s k
 can_go_on u s k is =
     let material = (amount_of u.holding.items k.material == 0, NoMaterial) ∷ [] in
@@ -388,8 +386,7 @@ build_orderly = record {
 pub leaves_steady : (w : WorldValue) (c d : CampaignValue) → LeavesWell CanBuild build_moves w c d → LeavesWell IsSteady build_moves w c d
 leaves_steady w c d h = record { leaves_it = h.leaves_it.steady; same_month = h.same_month; balances = h.balances; near = h.near }
 
--- a unit can use what it holds of an item, if BUILD has what it needs and the books have room for all that units may
--- use
+-- a unit can use what it holds of an item, if BUILD has what it needs and the books have room for what all hold
 pub can_use : (w : WorldValue) (c : CampaignValue) (n item amount : ℕ) (u : Unit) → get c.units n ≡ Some u → amount ≤ amount_of u.holding.items item → item < length w.items → CanBuild w c → HaveRoom (build_reserve c) c → CanUse w c n item amount
 can_use w c n item amount u is enough known can room = record {
   unit = u;

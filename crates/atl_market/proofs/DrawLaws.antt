@@ -101,8 +101,7 @@ module _ (draws : Drawers) where
     skipped : (drawing others first all : ℕ) → drawing ≤ others → all ≡ first + others → drawing ≤ all
     skipped drawing others first all h e = omega (arith, h, e)
 
-    -- the units of such entries draw at most the sum of their amounts, where the entries are sorted and their units
-    -- listed
+    -- the units of sorted entries, all of them listed, draw at most the sum of their amounts
     abbrev Bounded : List ℕ → Type 0
     Bounded ns = (es : List (ℕ × ℕ)) → IsRisen ns → Rise es → AllByRecursion (Listed ns) es → drawn es ≤ sum (map amount ns)
 

@@ -53,8 +53,7 @@ module _ (g : ℕ → Option ℕ) where
     | inr apart ↦ agreeing_comes (insert m e.0 e.1) es n s tells.1 is (ap is_some (sym (found_other e es n apart)) ∙ some)
   ]
 
-  -- putting in entries that agree with a function, and have all its numbers, gives each number its value by the
-  -- function
+  -- entries that agree with a function, and have all its numbers, give each number its value once they are put in
   pub agreeing_put : (es : Entries) → AgreeWith es → ((n s : ℕ) → g n ≡ Some s → is_some (find nat_cmp n es) ≡ true) → (n : ℕ) → get (with_each empty es) n ≡ g n
   agreeing_put es tells whole n = by_find (find nat_cmp n es) refl
     where

@@ -69,8 +69,7 @@ made_less i booked.Made (things.Item j) = on (amount_number booked.Made (things.
 made_less i booked.Used (things.Item j) = on (amount_number booked.Used (things.Item j) == amount_number booked.Made (things.Item i))
 made_less i e t = off (amount_number e t) (amount_number booked.Made (things.Item i)) (omega arith)
 
--- so many steps, each within PRODUCE's bound for `one`, are within PRODUCE's bound for `all`, if `steps * one` is at
--- most `all`
+-- many steps within PRODUCE's bound for `one` are within its bound for `all`, if `steps * one` is at most `all`
 scaled : (steps one all : ℕ) → steps * one ≤ all → (e : Entry) (t : Thing) → steps * produce_moves one e t ≤ produce_moves all e t
 scaled steps one all few booked.Made (things.Item i) = few
 scaled steps one all few booked.Used (things.Item i) = few

@@ -67,8 +67,7 @@ use Rattle.atl_market.proofs.WantLaws.{GivesToWants, few_given, given_is_named}
 
 -- ---- a trade keeps the goods of unit and region together, and books the money
 
--- the result of a trade is within all limits, unit and region keep their goods together, and the money that changes is
--- booked
+-- the result of a trade is within all limits, keeps the goods of unit and region together, and books the money
 pub record ResultFits (w : WorldValue) (u : Unit) (i before : ℕ) (d : TradeResult) : Type 0 where
   pub money : d.money ≤ holding_limit
   pub amount : d.amount ≤ holding_limit
@@ -258,8 +257,7 @@ module _ (trade : Trade) (items : FinMap nat_cmp ℕ) (w : WorldValue) (c : Camp
     market : IsMarketFor w can.at.unit (get items e.0) m
     market = market_is w can.world can.at.unit (get items e.0) m at
 
-    -- a unit that can trade and has this market trades with it: its holding, the stock and the books are set to the
-    -- result
+    -- a unit that can trade and has this market trades with it: unit, stock and books are set to the result
     made_is : after_trade trade items w c e ≡ dealt_to c e.0 can.at.unit m.item (trade_entry trade) deal
     made_is =
         traded_is can.at.unit can.at.there (Some m) at
@@ -273,15 +271,13 @@ module _ (trade : Trade) (items : FinMap nat_cmp ℕ) (w : WorldValue) (c : Camp
         let low = subst (λ k. amount_of can.at.region.stocks m.item ≤ k) limit (stock_low w c u.region can.at.region m.item can.early can.at.around) in
         deal_fits w u m (amount_of can.at.region.stocks m.item) e.1 market.there (can.early.steady.numbers.units e.0 u can.at.there).1 low trade (subst (CanAfford trade u.holding e.1) at can.deal) (can.pot m at)
 
-    -- the trade of a unit with this market keeps the campaign early and its books balanced, within the bound of one
-    -- trade
+    -- the trade of a unit with this market keeps the campaign early and its books balanced, within one trade's bound
     made_well : LeavesWell IsEarly (trade_moves trade holding_limit) w c (after_trade trade items w c e)
     made_well =
         subst (λ d. LeavesWell IsEarly (trade_moves trade holding_limit) w c d) (sym made_is)
         (deal_well w c e.0 can.at.unit can.at.region m.item (trade_entry trade) deal can.at.there can.at.around fits market.bounds.item (subst IsSome (sym market.there) refl) can.early)
 
-    -- the trade of a unit with this market takes the share out of the pot of the unit's region and item, and out of no
-    -- other
+    -- the trade of a unit with this market takes the share out of the pot of its region and item, and out of no other
     made_drains : (units : FinMap nat_cmp Unit) → get units e.0 ≡ Some can.at.unit → Drains (item_pots trade w units items) c e (after_trade trade items w c e)
     made_drains units there =
         region_drains (item_pots trade w units items) c e (after_trade trade items w c e) can.at.unit.region can.at.region can.at.around (λ r. restocked r m.item deal.stock) (ap (λ (d : CampaignValue). d.regions) made_is)

@@ -70,8 +70,7 @@ module _ (p : PotMeaning) (orders : CampaignValue → MonthValue → List Task) 
   abbrev pub shared : Meaning
   shared = pots_meaning p orders
 
-  -- a phase with pots leaves units of factions without a mailing what is theirs (`LeavesUnmailed`), if it keeps their
-  -- men and items
+  -- a phase with pots leaves units without a mailing what is theirs (`LeavesUnmailed`), if it keeps their men and items
   pub shared_leave : {keeps : Frame} → ((w : WorldValue) (c : CampaignValue) (m : MonthValue) → UnmailedAre HasItsMen m c (shared w c m).0) → ((w : WorldValue) (c d : CampaignValue) (m : MonthValue) → keeps w m c d → UnmailedAre HasItsItems m c d) → LeavesUnmailed shared keeps
   shared_leave {keeps} men items =
       whole_leaves {meaning = shared} {keeps = keeps} (λ w c m. refl) (λ w c m n. pots_report_none_starved p w c m.events (orders c m) n) (λ w c m h. men w c m) (λ w c m h. items w c (shared w c m).0 m h)

@@ -25,8 +25,7 @@ pub record CanTax (w : WorldValue) (c : CampaignValue) (e : ℕ × ℕ) : Type 0
   pub enough : e.1 ≤ at.region.money
   pub early : IsEarly w c
 
--- a unit, by its number, can get so many recruits: it has the money and the room, its region the peasants, and the
--- books room
+-- a unit, by its number, can get so many recruits: it has money and room, its region the peasants, and the books room
 pub record CanRecruit (w : WorldValue) (c : CampaignValue) (e : ℕ × ℕ) : Type 0 where
   pub at : IsSomewhere c e.0
   pub fits : at.unit.holding.men + e.1 ≤ men_limit

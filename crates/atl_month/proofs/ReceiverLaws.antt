@@ -58,8 +58,7 @@ module _ {V : Type 0} (p : V → Bool) where
   abbrev PassesIn : FinMap nat_cmp V → ℕ → Type 0
   PassesIn m k = (v : V) × (get m k ≡ Some v) × (p v ≡ true)
 
-  -- if each number that passes in `o` passes in `m`, and there is one, the first that passes in `m` is no greater than
-  -- in `o`
+  -- if what passes in `o` passes in `m`, and something does, the first in `m` is no greater than the first in `o`
   first_below : (m o : FinMap nat_cmp V) → Every (λ k v. 1 ≤ k) m → ((k : ℕ) → PassesIn o k → PassesIn m k) → first_or_zero (numbers_where p o) ≢ 0
       → (first_or_zero (numbers_where p m) ≢ 0) × (first_or_zero (numbers_where p m) ≤ first_or_zero (numbers_where p o))
   first_below m o low also some =

@@ -174,8 +174,7 @@ module _ (w : WorldValue) (c : CampaignValue) (n : ℕ) (u : Unit) (is : get c.u
   abbrev passed : CampaignValue
   passed = after_passing_all c to u
 
-  -- what unit `n` has is passed on (`PassesOn`): the campaign has that much more than the books say until the unit is
-  -- removed
+  -- what unit `n` has is passed on as `PassesOn` says: to the receiver, or booked as lost
   passing : PassesOn w n (owing_all u.holding) (moving_all u.holding) c passed
   passing =
       let apart = receiver_apart u.region u.faction in

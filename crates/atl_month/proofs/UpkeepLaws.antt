@@ -401,7 +401,7 @@ pays_nothing c s u is fed none =
 
 -- ---- where somebody starves
 
--- setting days that are at least 1, one by one, gives each skill of the list the listed days
+-- amounts of a map that are all at least 1 are so after some of them are set
 every_set : (f : ℕ → ℕ → ℕ) (es : List (ℕ × ℕ)) (had : FinMap nat_cmp ℕ) → Every (λ k d. 1 ≤ d) had
     → Every (λ k d. 1 ≤ d) (fold (λ (m : FinMap nat_cmp ℕ) (e : ℕ × ℕ). with_amount_of m e.0 (f e.0 e.1)) had es)
 every_set f [] had old = old

@@ -122,13 +122,11 @@ module _ (m : ℕ) (before : List UpkeepInput) (p : UpkeepInput) where
   abbrev more : List UpkeepInput
   more = before ++ p ∷ []
 
-  -- with one more unit counted, what units of a faction in a region have left grows by what it has left, if it is one
-  -- of them
+  -- with one more unit counted, what a faction's units in a region have left grows by what the unit has, if it is one
   left_more : (s g : ℕ) → left_among m s g more ≡ left_among m s g before + cond (is_input_of s g p) (left_of m p) 0
   left_more s g = among_more (left_of m) (is_input_of s g) before p
 
-  -- with one more unit counted, what units of a faction in a region are short of grows by what it is short of, if it is
-  -- one of them
+  -- with one more unit counted, what a faction's units in a region are short of grows by its lack, if it is one
   short_more : (s g : ℕ) → short_among m s g more ≡ short_among m s g before + cond (is_input_of s g p) (short_of m p) 0
   short_more s g = among_more (short_of m) (is_input_of s g) before p
 
@@ -247,8 +245,7 @@ module _ (m : ℕ) (all before : List UpkeepInput) (p : UpkeepInput) (accounts :
   abbrev amount : ℕ
   amount = given_among m peers
 
-  -- after a unit had its turn, the accounts are those of all units after the units before it and this one had their
-  -- turn
+  -- after a unit had its turn, the accounts are those of all units after one unit more had its turn
   pub settled_more : (a : Account) → a ≡ account_after m (account_at accounts p.region p.faction) p
       → (s g : ℕ) → account_at (with_account accounts p.region p.faction a) s g ≡ account_of m all (before ++ p ∷ []) s g
   settled_more a is =

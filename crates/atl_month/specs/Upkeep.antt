@@ -77,8 +77,7 @@ upkeep_meaning w c m = (upkeep c (upkeep_results w c), record m { events = m.eve
 abbrev pub takes_up_to : ℕ → BookBound
 takes_up_to most = both_move (moves_only most Upkeep Money) (moves_only most Starved People)
 
--- what upkeep leaves alone: each unit is there, and only its upkeep among its faction's units in its region changes its
--- holding
+-- what upkeep leaves alone: each unit is there, changed only by its upkeep among its faction's units in its region
 abbrev pub upkeep_keeps : Frame
 upkeep_keeps w m before after =
     Every (λ n u.
