@@ -1,4 +1,5 @@
--- Laws of BUILD: using material that a unit holds keeps what BUILD needs, within its bound on the books (`build_reserve`).
+-- Laws of BUILD: using material that a unit holds keeps what BUILD needs, within its bound on the books
+-- (`build_reserve`).
 use Rattle.std.proofs.Common.{◌≡◌, ◌≢◌, ◌==◌, ℕ, ◌+◌, ◌-◌, ◌*◌, ◌≤◌, ◌<◌, Bool, true, false, cond, length, Some, refl, sym, ap, subst, ◌∙◌, arith}
 use Rattle.std.specs.Prelude.{pos, neg_ℤ, if◌then◌else◌}
 use Rattle.std.proofs.lemmas.Bool.Decides.{nat_tests}

@@ -132,7 +132,8 @@ module _ (draws : Drawers) where
 
 -- ---- one unit draws after the other
 
--- pots by a key: the region of each (`pot_region`), which units draw from it (`draws`), and what is left of it in a region (`left`)
+-- Pots by a key: the region of each (`pot_region`), which units draw from it (`draws`), and what is left of it in a
+-- region (`left`).
 pub record DrawnPots (K : Type 0) : Type 0 where
   pub pot_region : K → ℕ
   pub draws : K → Drawers

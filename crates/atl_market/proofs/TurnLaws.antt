@@ -14,7 +14,8 @@ use Rattle.atl_instant.specs.Bounds.{HaveRoom, moved_times}
 use Rattle.atl_instant.proofs.MeaningLaws.{MovesLess, both_leave_well, room_behind, room_less, well_unchanged, well_within}
 use Rattle.atl_market.specs.Bounds.{CanInTurn}
 
--- as many steps as there may be units, each of which moves one amount by at most 999,999,999, move it by less than 10^14 together
+-- As many steps as there may be units, each of which moves one amount by at most 999,999,999, move it by less than
+-- 10^14 together.
 pub few_holdings : (k : ℕ) → k ≤ most_units → (a : Entry) (b : Thing) (e : Entry) (t : Thing) → moved_times k (moves_only holding_limit a b) e t ≤ moves_only most_moved a b e t
 few_holdings k few a b e t = by_test (amount_number e t == amount_number a b)
   where

@@ -72,7 +72,8 @@ rise_apart (e ∷ es) h = (others e.0 es h.0, rise_apart es h.1)
     others k (f ∷ es) h = (differs k f.0 h.0, others k es h.1)
 
 module _ (p : PotMeaning) (w : WorldValue) (c : CampaignValue) where
-  -- some order for unit `n` has no fault and wants so much, and the item that it names, if any, is the unit's in `items`
+  -- Some order for unit `n` has no fault and wants so much, and the item that it names, if any, is the unit's in
+  -- `items`.
   abbrev IsWanted : FinMap nat_cmp ℕ → ℕ → ℕ → Type 0
   IsWanted items n want =
       (u : Unit) × (t : Task) × (get c.units n ≡ Some u) × (t.unit ≡ n) × (want ≡ p.want w u t) × (p.fault w u t ≡ None) × ((i : ℕ) → item_in t.order_value.operands ≡ Some i → get items n ≡ Some i)

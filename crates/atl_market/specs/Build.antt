@@ -38,7 +38,8 @@ is_building verb = false
 
 -- ---- what a unit adds
 
--- how much a unit adds to a structure: the least of men times level, the material held, and what is missing to the kind's size
+-- How much a unit adds to a structure: the least of men times level, the material held, and what is missing to the
+-- kind's size.
 abbrev pub size_added : Kind → HoldingValue → (done : ℕ) → ℕ
 size_added k h done = min (min (h.men * level_in h k.skill) (amount_of h.items k.material)) (k.size - done)
 
@@ -70,11 +71,13 @@ new_structure number kind k region size = record { kind = kind; name = name_pref
 abbrev pub with_new_structure : CampaignValue → (kind : ℕ) → Kind → (region size : ℕ) → CampaignValue
 with_new_structure c kind k region size = with_structure_begun c (new_structure c.next_structure kind k region size)
 
--- a campaign after unit `n` used `size` of the material, began a structure with it, left its old one and entered the new one
+-- A campaign after unit `n` used `size` of the material, began a structure with it, left its old one and entered the
+-- new one.
 abbrev pub after_start : CampaignValue → (n kind : ℕ) → Kind → (region size : ℕ) → CampaignValue
 after_start c n kind k region size = with_place (with_new_structure (with_used c n k.material size) kind k region size) n region c.next_structure
 
--- the effect of `BUILD kind` by unit `n`: a structure is begun and the outcome is its size; with a fault nothing changes
+-- The effect of `BUILD kind` by unit `n`: a structure is begun and the outcome is its size; with a fault nothing
+-- changes.
 unfoldable pub begin : WorldValue → (n kind : ℕ) → Kind → OrderEffect
 begin w n kind k c u =
     let size = size_added k u.holding 0 in
@@ -120,7 +123,8 @@ go_on w n c u = go_on_at c n u (structure_and_kind_at w c u.structure)
 
 -- ---- the effect of an order
 
--- the effect of an order of unit `n` by its operands: with a kind of the world `begin`, with none `go_on`, else no effect
+-- The effect of an order of unit `n` by its operands: with a kind of the world `begin`, with none `go_on`, else no
+-- effect.
 abbrev pub build_effect : WorldValue → (n : ℕ) → OperandsValue → Option OrderEffect
 build_effect w n (operands.Kind (Some kind)) = option_map (begin w n kind) (slice_get w.kinds kind)
 build_effect w n (operands.Kind None) = Some (go_on w n)

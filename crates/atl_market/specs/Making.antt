@@ -47,8 +47,8 @@ pub record HasRoomAndRaw (w : WorldValue) (u : Unit) (made i : ℕ) (x : Item) :
   pub raw_known : (r : ℕ) → x.raw ≡ Some r → r < length w.items
   pub raw : (r : ℕ) → x.raw ≡ Some r → made * x.raw_count ≤ amount_of u.holding.items r
 
--- The unit of a share can make so much of its item: it is there, has room and raw items for it, and the books have room for
--- a holding's limit made and used.
+-- The unit of a share can make so much of its item: it is there, has room and raw items for it, and the books have room
+-- for a holding's limit made and used.
 pub record CanProduce (asked : FinMap nat_cmp ℕ) (w : WorldValue) (c : CampaignValue) (e : ℕ × ℕ) : Type 0 where
   pub unit : Unit
   pub there : get c.units e.0 ≡ Some unit

@@ -82,7 +82,8 @@ GivesEachPot =
     → IsThere c.regions region
     → sum (map (amount_given pot_of wants c) (takers_in wants c.units region)) ≡ min (pot_of region) (sum (wants_in wants c.units region))
 
--- the shares in a region follow from its pot, its units with a want and their wants alone: with these alike they are alike
+-- The shares in a region follow from its pot, its units with a want and their wants alone: with these alike they are
+-- alike.
 abbrev pub OtherRegionsDoNotCount : Type 0
 OtherRegionsDoNotCount =
     (pot_of other_pots : ℕ → ℕ) (wants other_wants : FinMap nat_cmp ℕ) (c other : CampaignValue) (region : ℕ)

@@ -1,4 +1,5 @@
--- PRODUCE: units make items out of raw items, or out of what the terrain of their region gives. See docs/RULES.md, "Producing".
+-- PRODUCE: units make items out of raw items, or out of what the terrain of their region gives.
+-- See docs/RULES.md, "Producing".
 use Rattle.std.specs.Prelude.{◌-◌, ◌*◌, ◌/◌, ◌==◌, ℕ, Bool, true, false, map, min, nat_lt, Option, Some, None, is_some, option_and_then, unwrap_or, if◌then◌else◌, [], ◌∷◌}
 use Rattle.std.specs.List.{slice_get}
 use Rattle.std.specs.Ordering.{nat_cmp}
@@ -65,8 +66,8 @@ output_share w asked c wants n = item_share (output_item w asked) (output_at w) 
 
 -- ---- who makes how much
 
--- how much a unit makes, by its number and its want: its share of what its region gives of the item, or, out of raw items,
--- all that it wants
+-- How much a unit makes, by its number and its want: its share of what its region gives of the item, or, out of raw
+-- items, all that it wants.
 abbrev pub made_by : WorldValue → FinMap nat_cmp ℕ → CampaignValue → FinMap nat_cmp ℕ → ℕ × ℕ → ℕ
 made_by w asked c wants (n, want) =
     if is_some (output_item w asked n) then unwrap_or (output_share w asked c wants n) 0 else want
@@ -109,7 +110,8 @@ make_fault h (Some x) =
 
 -- ---- the phase
 
--- PRODUCE as a phase with pots: faults, wants and shares by the item that each order names. The event says how many were made.
+-- PRODUCE as a phase with pots: faults, wants and shares by the item that each order names. The event says how many
+-- were made.
 abbrev pub produce_pots : PotMeaning
 produce_pots = record {
   fault = λ w u t. make_fault u.holding (item_of w (item_in t.order_value.operands));

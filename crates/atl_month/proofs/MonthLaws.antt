@@ -1,4 +1,5 @@
--- Laws of a whole month: with the month counted and the mail removed the campaign is good again, and mail order doesn't count.
+-- Laws of a whole month: with the month counted and the mail removed the campaign is good again, and mail order doesn't
+-- count.
 use Rattle.std.proofs.Common.{◌≡◌, ℕ, ◌+◌, ◌*◌, ◌≤◌, ◌<◌, List, ap, ◌∙◌, arith}
 use Rattle.std.specs.Prelude.{ℤ}
 use Rattle.std.specs.FinMap.{FinMap, empty, get, len}

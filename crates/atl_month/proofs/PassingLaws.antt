@@ -66,8 +66,8 @@ kept-with u money items more all = record {
 
 -- ---- what passing on does
 
--- Campaign `c`, and `d` after something of unit `n` was passed on: `d` has so much more of each thing than is booked, its books
--- moved by at most `moving`, unit `n` itself is unchanged, and nothing is taken from any unit.
+-- Campaign `c`, and `d` after something of unit `n` was passed on: `d` has so much more of each thing than is booked,
+-- its books moved by at most `moving`, unit `n` itself is unchanged, and nothing is taken from any unit.
 pub record PassesOn (w : WorldValue) (n : ℕ) (owing : Thing → ℕ) (moving : BookBound) (c d : CampaignValue) : Type 0 where
   pub steady : IsSteady w d
   pub owes : (s : Thing) (x : ℕ) → Owes c s x → Owes d s (x + owing s)

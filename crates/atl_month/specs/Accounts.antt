@@ -1,4 +1,5 @@
--- For proofs alone: the accounts in which the code adds up the upkeep of a faction's units in a region; all amounts are money.
+-- For proofs alone: the accounts in which the code adds up the upkeep of a faction's units in a region; all amounts are
+-- money.
 use Rattle.std.specs.Prelude.{List, min, unwrap_or, ℕ, ◌+◌, ◌-◌, ◌≤◌}
 use Rattle.std.specs.Ordering.{nat_cmp}
 use Rattle.std.specs.FinMap.{FinMap, get, insert}

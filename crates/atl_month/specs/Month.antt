@@ -1,4 +1,5 @@
--- A month: its phases in order, what they make of a campaign, and how far they move the books. See docs/RULES.md, "Closing a month".
+-- A month: its phases in order, what they make of a campaign, and how far they move the books.
+-- See docs/RULES.md, "Closing a month".
 use Rattle.std.specs.Prelude.{◌≡◌, ◌≤◌, ℕ, ◌+◌, ◌*◌, List, [], ◌∷◌, map}
 use Rattle.std.specs.Ordering.{nat_cmp}
 use Rattle.std.specs.List.Sorted.{IsPermutation}
@@ -34,7 +35,8 @@ use Rattle.atl_month.specs.Season.{season_spec}
 use Rattle.atl_month.specs.Sweep.{sweep_spec}
 use Rattle.atl_month.specs.Upkeep.{upkeep_spec}
 
--- what a month carries as its first phase begins: the mailings as they were read, the words of the dice, no alias and no event
+-- What a month carries as its first phase begins: the mailings as they were read, the words of the dice, no alias and
+-- no event.
 abbrev pub new_month : FinMap nat_cmp Reading → List ℕ → MonthValue
 new_month readings words = record { readings = readings; aliases = empty; words = words; events = [] }
 

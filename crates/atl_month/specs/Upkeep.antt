@@ -1,4 +1,5 @@
--- The phase of upkeep: a campaign after each unit paid, and its men who aren't paid for starved. See docs/RULES.md, "Upkeep".
+-- The phase of upkeep: a campaign after each unit paid, and its men who aren't paid for starved.
+-- See docs/RULES.md, "Upkeep".
 use Rattle.std.specs.Prelude.{◌≡◌, ℕ, pos, neg_ℤ, ◌-◌, ◌==◌, not, ◌++◌, Bool, List, map, filter, fold, Some, if◌then◌else◌}
 use Rattle.std.specs.FinMap.{entries, get, keys}
 use Rattle.atl_tables.specs.Worlds.{WorldValue}

@@ -1,4 +1,5 @@
--- How the units of one faction in one region share their upkeep: what each pays and how many starve. See docs/RULES.md, "Upkeep".
+-- How the units of one faction in one region share their upkeep: what each pays and how many starve.
+-- See docs/RULES.md, "Upkeep".
 use Rattle.std.specs.Prelude.{ℕ, nat_lt, ◌+◌, ◌-◌, ◌*◌, ◌/◌, ◌==◌, ◌&&◌, Bool, List, filter, map, min, ◌≤◌, ◌<◌}
 use Rattle.std.specs.List.{AllPairs, sum_by}
 use Rattle.atl_records.specs.Limits.{holding_limit, men_limit}
