@@ -219,7 +219,7 @@ module _ (units : FinMap nat_cmp Unit) (left : Region → ℕ) where
     pub one_draws : (es : List (ℕ × ℕ)) → HaveEnough region_pots d (e ∷ es) → e.1 ≤ left q
     one_draws es enough = first_draws region_pots d e es enough u.region q around (ap (stands_in u.region) there ∙ same_number u.region)
 
--- The pot of a region is enough: those who draw from it get shares of it, and these are together at most the pot.
+-- The pot of a region is enough for all who draw from it: they get shares of it, which are together at most the pot.
 module _ (pot_of : ℕ → ℕ) (wants : FinMap nat_cmp ℕ) (c : CampaignValue) (r : ℕ) (draws : Drawers) (given : FinMap nat_cmp ℕ) where
   -- the amount that a unit gets of its region's pot
   abbrev amount : ℕ → ℕ

@@ -36,11 +36,11 @@ module _ (w : WorldValue) (c : CampaignValue) (n : ℕ) (u : Unit) (q : Region) 
   abbrev supplied : CampaignValue
   supplied = record c { units = insert c.units n (record u { holding = more }) }
 
-  -- that campaign with the unit's region changed as well
+  -- the campaign in which unit `n` has the new holding and its region is changed; nothing is booked yet
   abbrev left : CampaignValue
   left = region_changed f supplied u.region
 
-  -- that campaign with the money booked as well
+  -- the campaign in which unit `n` has the new holding, its region is changed, and the money is booked
   abbrev exchanged : CampaignValue
   exchanged = with_amount left entry Money z
 

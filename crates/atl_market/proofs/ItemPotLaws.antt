@@ -258,7 +258,7 @@ module _ (item_of : ℕ → Option ℕ) (pot_of : (item region : ℕ) → ℕ) (
         ap keys (group_is item_of wants empty ns i ∙ ap (λ m. with_each m (pairs item_of wants i ns)) (no_group i))
         ∙ ap (map (λ e. e.0)) (entries_put (pairs item_of wants i ns) (subst IsRisen (sym of_pairs) (takers_risen (mine item_of wants i) c.units r))) ∙ of_pairs
 
-    -- the code's shares of item `i` are these
+    -- the shares that the code finds for item `i` in the region are `of_item i`
     item_is : (i : ℕ) → item_shares_in pot_of wants r (i, group_of groups i) ≡ of_item i
     item_is i =
         let takers = takers_in (mine item_of wants i) c.units r in
@@ -313,7 +313,7 @@ module _ (item_of : ℕ → Option ℕ) (pot_of : (item region : ℕ) → ℕ) (
   abbrev share_at : ℕ → Option ℕ → Option (ℕ × ℕ)
   share_at n o = option_map (λ s. (n, s)) o
 
-  -- the shares of those units that have one of these wants, as entries
+  -- the shares of those units of some wants that have a share, as entries
   abbrev of_wants : Entries → Entries
   of_wants es = filter_map (λ e. share_at e.0 (gets e.0)) es
 

@@ -171,7 +171,7 @@ abbrev or_else : {V : Type 0} → Option V → Option V → Option V
 or_else None old = old
 or_else (Some s) old = Some s
 
--- in a map after entries were put, a number has its last entry's value, or else what the map had
+-- after entries were put into a map, a number has the value of its last entry, or else what the map had
 last_put : {V : Type 0} (m : FinMap nat_cmp V) (es : List (ℕ × V)) (n : ℕ) → get (with_each m es) n ≡ or_else (find nat_cmp n (reverse es)) (get m n)
 last_put m [] n = refl
 last_put {V} m (e ∷ es) n = last_put (insert m e.0 e.1) es n ∙ by_find (find nat_cmp n (reverse es)) refl ∙ sym (ap (λ fs. or_else (find nat_cmp n fs) (get m n)) (reverse-append (e ∷ []) es))
@@ -250,7 +250,7 @@ module _ (f : ℕ → Entries) where
           | Some t ↦ λ e. stays (with_each m (f r)) n t (λ q u is. one q r u t is e) (put m (f r) n t (apart r) e) rs ∙ sym (found_first n (f r) (from_all rs) t e) ∙ h
         ] refl
 
-    -- the entries of some regions put in turn are the map of them, where each number has one value
+    -- putting the entries of some regions into the empty map gives the map of them, if each number has one value
     with_each-from_entries : ((n : ℕ) → GivesOne n) → (rs : List ℕ) → with_each empty (from_all rs) ≡ from_entries (from_all rs)
     with_each-from_entries one rs = same_map nat_cmp_total nat_cmp-IsAntisymmetric _ _ (λ n.
         elim (find nat_cmp n (from_all rs)) as (λ o. find nat_cmp n (from_all rs) ≡ o → get (with_each empty (from_all rs)) n ≡ o) [
@@ -333,7 +333,7 @@ module _ (r : ℕ) where
   abbrev listed : List (ℕ × Unit) → List ℕ
   listed es = numbers_among stands es
 
-  -- a unit, by its number, is among these and in region `r`
+  -- a unit, by its number, is among the listed units and in region `r`
   abbrev StandsIn : List (ℕ × Unit) → ℕ → Type 0
   StandsIn es n = (u : Unit) × (find nat_cmp n es ≡ Some u) × (u.region ≡ r)
 
@@ -438,7 +438,7 @@ module _ (pot_of : ℕ → ℕ) (wants : FinMap nat_cmp ℕ) (units : FinMap nat
       let share : Some s ≡ Some t = sym is ∙ ap (λ k. find nat_cmp n (given_in k)) region ∙ also in
       cc
 
-  -- the shares of some regions put in turn are the map of them
+  -- putting the shares of some regions into the empty map, in turn, gives the map of them
   put_all : (rs : List ℕ) → with_each empty (flat_map given_in rs) ≡ from_entries (flat_map given_in rs)
   put_all rs = with_each-from_entries given_in given_apart gives_one rs
 
@@ -483,7 +483,7 @@ some_more m k v n h = ap is_some (get-insert nat_cmp_total m k v n) ∙ elim (is
 pub some_new : (m : FinMap nat_cmp ℕ) (n v : ℕ) → is_some (get (insert m n v) n) ≡ true
 some_new m n v = ap is_some (get-insert_same m n v)
 
--- a number that is in a map is there after entries are put
+-- a number that is in a map is still in it after entries are put in
 pub still_some : (m : FinMap nat_cmp ℕ) (es : List (ℕ × ℕ)) (n : ℕ) → is_some (get m n) ≡ true → is_some (get (with_each m es) n) ≡ true
 still_some m [] n h = h
 still_some m (e ∷ es) n h = still_some (insert m e.0 e.1) es n (some_more m e.0 e.1 n h)

@@ -127,7 +127,7 @@ leaving_marks c d e region peasants z d_is d_marks e_is e_marks =
 pub held_is : (c d : CampaignValue) (n : ℕ) (u : Unit) (h : HoldingValue) → get c.units n ≡ Some u → d ≡ with_holding c n h → d ≡ record c { units = insert c.units n (record u { holding = h }) }
 held_is c d n u h is same = same ∙ ap (with_held c n h) is
 
--- setting a unit's men and then its money replaces its holding by one with these
+-- setting a unit's men and then its money replaces its holding by one with the new men and money
 pub joined_is : (a b c : CampaignValue) (n : ℕ) (u : Unit) (men money : ℕ) → get a.units n ≡ Some u → b ≡ state.with_men a n men → c ≡ with_money b n money → c ≡ with_holding a n (record u.holding { men = men; money = money })
 joined_is a b c n u men money is b_is c_is =
     let peopled = record u { holding = record u.holding { men = men } } in

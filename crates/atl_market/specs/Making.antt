@@ -34,7 +34,7 @@ pub record CanMake (w : WorldValue) (c : CampaignValue) (n i amount : ℕ) : Typ
   pub steady : IsSteady w c
   pub room : HasRoom amount (amount_in c.books Made (things.Item i))
 
--- unit `n` can use the raw items for `made` of item `i`, and make these then
+-- unit `n` can use the raw items for `made` of item `i`, and can make the `made` pieces after that
 pub record CanMakeOf (w : WorldValue) (c : CampaignValue) (n made i : ℕ) (x : Item) : Type 0 where
   pub use_raw : (r : ℕ) → x.raw ≡ Some r → CanUse w c n r (made * x.raw_count)
   pub few_raw : (r : ℕ) → x.raw ≡ Some r → made * x.raw_count ≤ holding_limit

@@ -137,7 +137,7 @@ pub record IsPhase (phase : PhaseSpec) : Type 0 where
   pub moves : MovesItsOwn phase
   pub leaves : PhaseLeavesUnmailed phase
 
--- a phase with both laws is one of a month as it should be (`IsPhase`)
+-- `IsPhase` of a phase follows from its law of the books and its law of units without a mailing
 is_phase : (phase : PhaseSpec) → MovesItsOwn phase → PhaseLeavesUnmailed phase → IsPhase phase
 is_phase phase moves leaves = record { moves = moves; leaves = leaves }
 

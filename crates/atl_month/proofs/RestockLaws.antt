@@ -46,7 +46,7 @@ use Rattle.atl_month.specs.Restock.{after_market_restock, after_restock, markets
 
 -- ---- how far new goods move the books
 
--- the bound on what these markets' new goods book: 999,999,999 for each market's item
+-- the bound on what new goods of some markets book: 999,999,999 for each market's item
 abbrev pub stocking : List (ℕ × Market) → BookBound
 stocking [] e t = 0
 stocking (x ∷ xs) e t = moves_only most_amount Stocked (Item x.0) e t + stocking xs e t

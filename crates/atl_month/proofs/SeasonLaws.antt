@@ -57,11 +57,11 @@ income_fits per_peasant limit peasants money l m = omega (arith, least (peasants
 -- ---- the books of a region's season
 
 module _ (w : WorldValue) (c : CampaignValue) (n : ℕ) (r : Region) (born earned : ℕ) (is : get c.regions n ≡ Some r) where
-  -- the campaign with the births, not booked yet
+  -- the campaign with the births and the income, neither booked yet
   abbrev peopled : CampaignValue
   peopled = with_peasants c n (r.peasants + born)
 
-  -- that campaign with the income as well, not booked yet
+  -- the campaign with births and income, and the births booked
   abbrev paid : CampaignValue
   paid = with_region_money peopled n (r.money + earned)
 

@@ -307,7 +307,7 @@ module _ (w : WorldValue) (some : 1 ≤ w.rules.maintenance) (all : List UpkeepI
   abbrev step_moves : BookBound
   step_moves = takes_up_to most_amount
 
-  -- what upkeep takes from each of these units, among all
+  -- what upkeep takes from each of some units, where `all` are the units of the campaign
   abbrev each_of : List (ℕ × Unit) → List UpkeepResult
   each_of es = settled_each w.rules.maintenance all es
 

@@ -63,7 +63,7 @@ pub record IsOpen (a : Account) : Type 0 where
   pub given : a.given ≤ to_give a
   pub covered : a.covered ≤ to_give a
 
--- the account of a faction in a region for all these units, after those `before` had their turn
+-- the account of a faction in a region, where `all` are the units of upkeep, and those `before` had their turn
 abbrev pub account_of : ℕ → (all before : List UpkeepInput) → (region faction : ℕ) → Account
 account_of maintenance all before region faction =
     let given = given_among maintenance (peers_of region faction all) in
