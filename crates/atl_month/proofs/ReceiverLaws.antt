@@ -1,5 +1,4 @@
--- Laws of the receivers of the sweep: which units the code's map has, and that sweeping a unit leaves the receivers the
--- same.
+-- Laws of the receivers of the sweep: the code's map has them, and sweeping a unit leaves them the same.
 use Rattle.std.proofs.Common.{◌≡◌, ◌≢◌, ◌==◌, ◌&&◌, ℕ, ◌≤◌, ◌<◌, Bool, true, false, cond, List, [], ◌∷◌, Option, Some, refl, sym, ap, subst, ◌∙◌, inl, inr, ◌⊎◌, arith}
 use Rattle.std.specs.Prelude.{nat_lt, unwrap_or, if◌then◌else◌}
 use Rattle.std.proofs.lemmas.Bool.Decides.{nat_tests}
@@ -144,7 +143,8 @@ module _ (m : ReceiverMap) (n : ℕ) (u : Unit) (es : List (ℕ × Unit)) (low :
   abbrev behind : (region faction : ℕ) → ℕ
   behind r f = first_or_zero (numbers_among (receives r f) es)
 
-  -- after unit `n` was noted, the receiver of a faction in a region, if the rest is noted too, is the same as before
+  -- noting unit `n` keeps the receiver of a faction in a region: the one in the map, else the first of the units to
+  -- come
   abbrev GoesOn : (region faction : ℕ) → Type 0
   GoesOn r f = or_if_zero (receiver_in (with_receiver_of m n u) r f) (behind r f) ≡ or_if_zero (receiver_in m r f) (first_or_zero (numbers_among (receives r f) ((n, u) ∷ es)))
 
