@@ -1,4 +1,4 @@
--- Laws that TAX, RECRUIT, WORK and PRODUCE change all units and regions at once, from what one payment changes.
+-- Laws that TAX, RECRUIT, WORK and PRODUCE change all units and regions at once: one payment changes its own alone.
 use Rattle.std.proofs.Common.{◌≡◌, ℕ, ◌+◌, ◌-◌, ◌*◌, true, false, Option, Some, None, refl, ap, ◌∙◌, arith}
 use Rattle.std.specs.List.{slice_get}
 use Rattle.std.specs.Option.{option_map_or}
@@ -29,6 +29,7 @@ use Rattle.atl_market.proofs.WantLaws.{given_is_wanted}
 use Rattle.atl_market.proofs.ThereLaws.{by_option, by_unit}
 use Rattle.atl_market.proofs.WorkLaws.{wages_leave_others, worked_is}
 
+-- an amount less 0 is the amount
 less_none : (a : ℕ) → a - 0 ≡ a
 less_none a = omega arith
 
@@ -54,6 +55,7 @@ module _ (w : WorldValue) where
     twice = λ q s t. ap (λ m. record q { money = m }) (less_both q.money s t);
   }
 
+-- TAX changes all units and regions at once
 pub taxes_at_once : TaxesAtOnce
 taxes_at_once w c os =
     all_at_once tax_pots w (λ n. with_more_money) with_less_money c os (tax_pays w)
@@ -78,6 +80,7 @@ module _ (w : WorldValue) where
     twice = λ q s t. ap (λ p. record q { peasants = p }) (less_both q.peasants s t);
   }
 
+-- RECRUIT changes all units and regions at once
 pub recruits_at_once : RecruitsAtOnce
 recruits_at_once w c os =
     all_at_once recruit_pots w (λ n. with_recruits w) with_less_peasants c os (recruit_pays w)
@@ -97,6 +100,7 @@ module _ (w : WorldValue) where
     twice = λ q s t. refl;
   }
 
+-- WORK changes all units and regions at once
 pub works_at_once : WorksAtOnce
 works_at_once w c os =
     all_at_once work_pots w (λ n u places. with_more_money u (wages_for w u.region places)) unchanged_region c os (work_pays w)
@@ -105,9 +109,11 @@ works_at_once w c os =
 -- ---- PRODUCE
 
 module _ (asked : FinMap nat_cmp ℕ) (w : WorldValue) where
+  -- using an item leaves all regions as they are
   used_regions : (d : CampaignValue) (n i amount : ℕ) → (with_used d n i amount).regions ≡ d.regions
   used_regions d n i amount = by_unit d n (λ (s : CampaignValue). s.regions ≡ d.regions) _ refl (λ u is. refl)
 
+  -- making an item leaves all regions as they are
   made_regions : (d : CampaignValue) (n i amount : ℕ) → (with_made d n i amount).regions ≡ d.regions
   made_regions d n i amount = by_unit d n (λ (s : CampaignValue). s.regions ≡ d.regions) _ refl (λ u is. refl)
 
@@ -115,7 +121,7 @@ module _ (asked : FinMap nat_cmp ℕ) (w : WorldValue) where
   abbrev HasItsRegions : CampaignValue → CampaignValue → Type 0
   HasItsRegions d s = s.regions ≡ d.regions
 
-  -- making leaves all regions as they are
+  -- the production of a unit leaves all regions as they are
   produced_regions : (d : CampaignValue) (e : ℕ × ℕ) → (after_production asked w d e).regions ≡ d.regions
   unfolding after_production
   produced_regions d e =
@@ -153,6 +159,7 @@ module _ (asked : FinMap nat_cmp ℕ) (w : WorldValue) where
     twice = λ q s t. refl;
   }
 
+-- PRODUCE changes all units and regions at once
 pub produces_at_once : ProducesAtOnce
 produces_at_once w c os =
     let items = items_by produce_pots w c os in

@@ -37,7 +37,7 @@ use Rattle.atl_market.proofs.PotLaws.{found_other}
 use Rattle.atl_market.proofs.TradeLaws.{market_is, stock_is, told_there, traded_is, traded_others, trades_give}
 use Rattle.atl_market.proofs.WantLaws.{given_is_named}
 
--- ---- what a trade leaves
+-- ---- what a trade leaves to unit and stock
 
 -- what a unit holds after a trade, whatever the stock is
 trade_is : (trade : Trade) (h : HoldingValue) (stock share : ℕ) (m : Market) → with_trade_result h m.item (trade_result_of trade h stock share m) ≡ with_trade trade h share m
@@ -75,7 +75,7 @@ module _ (trade : Trade) (items : FinMap nat_cmp ℕ) (w : WorldValue) where
   abbrev trader : ℕ → UnitChange
   trader n u share = trader_of trade u share (market_for w u (get items n))
 
-  -- the unit of a trade is after it what its share makes of it
+  -- the trade of a unit that is there changes the unit by its share alone
   unit_traded : (d : CampaignValue) (e : ℕ × ℕ) (u : Unit) → get d.units e.0 ≡ Some u → get (after_trade trade items w d e).units e.0 ≡ Some (trader e.0 u e.1)
   unit_traded d e u is = by_market (market_for w u (get items e.0)) refl
     where
@@ -88,22 +88,23 @@ module _ (trade : Trade) (items : FinMap nat_cmp ℕ) (w : WorldValue) where
           ∙ ap (λ k. get k e.0) (dealt_units d e.0 u m.item (trade_entry trade) deal is) ∙ get-insert_same d.units e.0 (record u { holding = with_trade_result u.holding m.item deal })
           ∙ ap (λ h. Some (record u { holding = h })) (trade_is trade u.holding stock e.1 m)
 
--- what the trade of a unit leaves of a region's stocks
+-- what the trade of a unit that is there changes of each region's stocks
 module _ (trade : Trade) (items : FinMap nat_cmp ℕ) (w : WorldValue) (units : FinMap nat_cmp Unit) (d : CampaignValue) (e : ℕ × ℕ) (u : Unit)
     (is : get d.units e.0 ≡ Some u) (there : get units e.0 ≡ Some u) where
   -- how many of item `i` the unit takes from, or adds to, the stock of region `r`
   abbrev drawn_here : (r i : ℕ) → ℕ
   drawn_here r i = cond (told_there units items (r, i) e.0) e.1 0
 
-  -- region `r`, which was `q`, is after the trade there with its stocks changed as they should be
+  -- region `r`, which was `q`, is there after the trade, and each of its stocks changed by `drawn_here`
   abbrev IsTraded : ℕ → Region → Type 0
   IsTraded r q = HasNewStocks q (stock_after trade) (drawn_here r) (get (after_trade trade items w d e).regions r)
 
+  -- of a share of 0 nothing is drawn
   none_drawn : (b : Bool) (share : ℕ) → share ≡ 0 → cond b share 0 ≡ 0
   none_drawn true share none = none
   none_drawn false share none = refl
 
-  -- without a market, and with a share of 0, each region's stocks are as they should be
+  -- without a market, and with a share of 0, the stocks of each region change as `IsTraded` says: not at all
   without_market : market_for w u (get items e.0) ≡ None → e.1 ≡ 0 → (r : ℕ) (q : Region) → get d.regions r ≡ Some q → IsTraded r q
   without_market at none r q around = record {
     stocks = q.stocks;
@@ -134,7 +135,7 @@ module _ (trade : Trade) (items : FinMap nat_cmp ℕ) (w : WorldValue) (units : 
     undrawn : (r i stock : ℕ) → told_there units items (r, i) e.0 ≡ false → stock ≡ stock_after trade stock (drawn_here r i)
     undrawn r i stock other = sym (ap (λ b. stock_after trade stock (cond b e.1 0)) other ∙ none_traded trade stock)
 
-    -- the trade leaves the stocks of the unit's own region as it should
+    -- the trade changes the stocks of the unit's own region by the share, as `IsTraded` says
     here : (r : ℕ) (q : Region) → r ≡ u.region → get d.regions r ≡ Some q → IsTraded r q
     here r q same around = record {
       stocks = with_amount_of q.stocks m.item deal.stock;
@@ -163,7 +164,7 @@ module _ (trade : Trade) (items : FinMap nat_cmp ℕ) (w : WorldValue) (units : 
               ∙ undrawn r i (amount_of q.stocks i) (mine i ∙ other_number m.item i (λ one. apart (sym one)))
         ]
 
-    -- the trade leaves the stocks of any other region as it should
+    -- the trade leaves the stocks of each other region as they were
     elsewhere : (r : ℕ) (q : Region) → r ≢ u.region → get d.regions r ≡ Some q → IsTraded r q
     elsewhere r q apart around = record {
       stocks = q.stocks;
@@ -171,7 +172,7 @@ module _ (trade : Trade) (items : FinMap nat_cmp ℕ) (w : WorldValue) (units : 
       amounts = λ i. undrawn r i (amount_of q.stocks i) (draws r i ∙ ap (λ b. b && m.item == i) (other_number u.region r (λ same. apart (sym same))));
     }
 
-  -- the trade of a unit leaves each region's stocks as it should
+  -- the trade of a unit changes the stocks of each region as `IsTraded` says, if the share is 0 without a market
   region_traded : IsWorld w → (market_for w u (get items e.0) ≡ None → e.1 ≡ 0) → (r : ℕ) (q : Region) → get d.regions r ≡ Some q → IsTraded r q
   region_traded world none r q around = by_market (market_for w u (get items e.0)) refl
     where
@@ -193,7 +194,7 @@ module _ (trade : Trade) (items : FinMap nat_cmp ℕ) (w : WorldValue) where
   traded_once d [] n above = refl
   traded_once d (e ∷ es) n above = traded_once (step d e) es n above.1 ∙ traded_others trade items w d e n (λ same. absurd (omega (arith, same, above.0)))
 
-  -- after all trades each unit has changed by its share, if it has one
+  -- after trades in the order of unit numbers each unit that has a share has changed by it, and any other is as it was
   units_traded : (d : CampaignValue) (es : List (ℕ × ℕ)) → Rise es → (n : ℕ) (u : Unit) → get d.units n ≡ Some u
       → get (fold (after_trade trade items w) d es).units n ≡ Some (paid_unit (trader trade items w n) u (find nat_cmp n es))
   units_traded d [] rise n u is = is
@@ -212,7 +213,7 @@ module _ (trade : Trade) (items : FinMap nat_cmp ℕ) (w : WorldValue) where
     abbrev Trades : ℕ × ℕ → Type 0
     Trades e = (u : Unit) × (get c.units e.0 ≡ Some u) × (market_for w u (get items e.0) ≡ None → e.1 ≡ 0)
 
-    -- after all trades each region's stocks have changed by what its units traded
+    -- after trades in the order of unit numbers the stocks of each region have changed by what its units traded
     regions_traded : IsWorld w → (d : CampaignValue) (es : List (ℕ × ℕ)) → Rise es → AreUntouched c d es → AllByRecursion Trades es → (r : ℕ) (q : Region) → get d.regions r ≡ Some q
         → HasNewStocks q (stock_after trade) (λ i. drawn (told_there c.units items (r, i)) es) (get (fold (after_trade trade items w) d es).regions r)
     regions_traded world d [] rise same all r q around = record { stocks = q.stocks; region = around; amounts = λ i. sym (none_traded trade (amount_of q.stocks i)) }
@@ -239,6 +240,7 @@ module _ (trade : Trade) (w : WorldValue) (c : CampaignValue) (os : List Task) w
   abbrev given : FinMap nat_cmp ℕ
   given = given_by (trade_pots trade) w c os
 
+  -- a share that is at most 0 is 0
   none_left : (share : ℕ) → share ≤ 0 → share ≡ 0
   none_left share low = omega (arith, low)
 
@@ -249,11 +251,13 @@ module _ (trade : Trade) (w : WorldValue) (c : CampaignValue) (os : List Task) w
   without_share n share u asked (Some i) low told at =
       none_left share (subst (λ k. share ≤ trade_want trade u.holding asked k) (ap (market_for w u) (sym (told i refl)) ∙ at) low)
 
+  -- each unit with a share is there, and its share is 0 if it has no market
   each_trades : Every (λ n share. Trades trade named w c (n, share)) given
   each_trades n share is =
       let (u, t, there, own, low, fine, told) = given_is_named (trade_pots trade) w c (trades_give trade w c) os n share is in
       (u, there, λ at. without_share n share u (count_in t.order_value.operands) (item_in t.order_value.operands) low told at)
 
+-- SELL and BUY change all units and stocks at once, in a world's campaign
 pub trades_at_once : TradesAtOnce
 unfolding after_sharing
 trades_at_once trade w c os world =

@@ -38,7 +38,7 @@ pub record Pays (needs : Bool) (step : CampaignValue → ℕ × ℕ → Campaign
   pub twice : (q : Region) (s t : ℕ) → gives (gives q s) t ≡ gives q (s + t)
 
 module _ {needs : Bool} {step : CampaignValue → ℕ × ℕ → CampaignValue} {gets : ℕ → UnitChange} {gives : RegionChange} (pays : Pays needs step gets gives) where
-  -- regions that are there stay there
+  -- a payment removes no region that the payment of any unit needs
   still_around : (d : CampaignValue) (e : ℕ × ℕ) (u v : Unit) → get d.units e.0 ≡ Some u → Around needs d u → Around needs d v → Around needs (step d e) v
   still_around d e u v is here there = by_need needs (λ k apart. pays.regions d e u is here k apart) (λ q at. pays.region d e u q is at) there
     where
@@ -60,12 +60,12 @@ module _ {needs : Bool} {step : CampaignValue → ℕ × ℕ → CampaignValue} 
       same : AreUntouched c d es
       payable : AllByRecursion (CanBePaid d) es
 
-    -- after a payment the units still to come can be paid
+    -- after a payment each unit that could be paid can still be paid
     payable_still : (d : CampaignValue) (e : ℕ × ℕ) (u : Unit) (es : List (ℕ × ℕ)) → get d.units e.0 ≡ Some u → Around needs d u → AllByRecursion (CanBePaid d) es → AllByRecursion (CanBePaid (step d e)) es
     payable_still d e u [] is here all = tt
     payable_still d e u (f ∷ es) is here ((v, there, around), all) = ((v, there, still_around d e u v is here around), payable_still d e u es is here all)
 
-    -- after the first payment the others can be made
+    -- after the first payment the shares still to come can be paid
     ready_still : (d : CampaignValue) (e : ℕ × ℕ) (es : List (ℕ × ℕ)) (u : Unit) → get d.units e.0 ≡ Some u → Around needs d u → AreReady d (e ∷ es) → AreReady (step d e) es
     ready_still d e es u is here ready = record {
       rise = ready.rise.1;
@@ -73,7 +73,7 @@ module _ {needs : Bool} {step : CampaignValue → ℕ × ℕ → CampaignValue} 
       payable = payable_still d e u es is here ready.payable.1;
     }
 
-    -- a unit whose number is below those still to come stays as it is
+    -- a unit with a lower number than all those still to be paid stays as it is
     paid_once : (d : CampaignValue) (es : List (ℕ × ℕ)) (n : ℕ) → AreReady d es → AllByRecursion (λ e. n < e.0) es → get (fold step d es).units n ≡ get d.units n
     paid_once d [] n ready above = refl
     paid_once d (e ∷ es) n ready above =
@@ -81,7 +81,7 @@ module _ {needs : Bool} {step : CampaignValue → ℕ × ℕ → CampaignValue} 
         let now : get d.units e.0 ≡ Some u = ready.same.0 ∙ there in
         paid_once (step d e) es n (ready_still d e es u now here ready) above.1 ∙ pays.others d e u now here n (λ same. absurd (omega (arith, same, above.0)))
 
-    -- after all payments each unit has changed by its share, if it has one
+    -- after payments in the order of unit numbers each unit has changed by its share, if it has one
     units_paid : (d : CampaignValue) (es : List (ℕ × ℕ)) → AreReady d es → (n : ℕ) (u : Unit) → get d.units n ≡ Some u → get (fold step d es).units n ≡ Some (paid_unit (gets n) u (find nat_cmp n es))
     units_paid d [] ready n u is = is
     units_paid d (e ∷ es) ready n u is =
@@ -98,7 +98,7 @@ module _ {needs : Bool} {step : CampaignValue → ℕ × ℕ → CampaignValue} 
               units_paid (step d e) es rest n u (pays.others d e v now here n apart ∙ is) ∙ ap (λ o. Some (paid_unit (gets n) u o)) (sym (found_other e es n apart))
         ]
 
-    -- after all payments each region has changed by what its units got
+    -- after payments in the order of unit numbers each region has changed by what its units got together
     regions_drained : (d : CampaignValue) (es : List (ℕ × ℕ)) → AreReady d es → (r : ℕ) (q : Region) → get d.regions r ≡ Some q → get (fold step d es).regions r ≡ Some (gives q (drawn (who_stand c.units r) es))
     regions_drained d [] ready r q is = is ∙ ap Some (sym (pays.nothing q))
     regions_drained d (e ∷ es) ready r q is =

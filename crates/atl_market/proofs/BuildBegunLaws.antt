@@ -24,7 +24,7 @@ use Rattle.atl_instant.proofs.OrderEffectLaws.{not_drawn}
 
 -- ---- where units hold what they held, and nothing is booked
 
--- a change that keeps the books, all totals and what BUILD may book keeps what BUILD needs
+-- a change that keeps the books, all totals and what BUILD may still book keeps what BUILD needs
 pub still_well : (w : WorldValue) (c d : CampaignValue) → CanBuild w d → IsSameMonth c d → d.books ≡ c.books → ((t : Thing) → total d t ≡ total c t) → ((e : Entry) (t : Thing) → build_reserve d e t ≡ build_reserve c e t) → StepsWell CanBuild build_reserve w c d
 still_well w c d can same books totals reserves = record {
   holds_still = can;
@@ -51,7 +51,7 @@ raised_well w c s fresh room can =
 
 -- ---- more of a structure is done
 
--- doing more of a structure, up to its kind's size, keeps what BUILD needs
+-- doing more of a structure, at most up to its kind's size, keeps what BUILD needs
 pub built_well : (w : WorldValue) (c : CampaignValue) (k : ℕ) (s : Structure) (done : ℕ) (is : get c.structures k ≡ Some s) (more : s.done ≤ done) (most : done ≤ size_of w s.kind) (can : CanBuild w c) → StepsWell CanBuild build_reserve w c (built w c k s done is)
 built_well w c k s done is more most can =
     still_well w c (built w c k s done is) (record { steady = steady_built w c k s done is more most can.steady; kinds = can.kinds })

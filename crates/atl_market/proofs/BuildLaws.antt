@@ -1,4 +1,5 @@
--- Laws of BUILD: it leaves a campaign well, leaves units without an order as they are, and the code does what is defined.
+-- Laws of BUILD: it keeps what BUILD needs of a campaign and leaves other units as they are; the code does what is
+-- defined.
 use Rattle.std.proofs.Common.{◌≡◌, ◌≢◌, ◌==◌, ℕ, ◌+◌, ◌-◌, ◌*◌, ◌≤◌, ◌<◌, Bool, true, false, not, [], ◌∷◌, length, Option, Some, None, refl, sym, ap, subst, ◌∙◌, arith}
 use Rattle.std.proofs.lemmas.Bool.{not-false, true≢false}
 use Rattle.std.specs.Prelude.{IfSome, min, nat_le, nat_lt, option_and_then, option_map, if◌then◌else◌}
@@ -57,6 +58,7 @@ use Rattle.atl_market.proofs.GoodsLaws.{used_is}
 some : (n : ℕ) → (n == 0) ≡ false → 1 ≤ n
 some n is = grind (arith, nat_tests)
 
+-- if a number isn't at most another, the other is less
 more_than : (a b : ℕ) → nat_le a b ≡ false → b < a
 more_than a b is = grind (arith, nat_tests)
 
@@ -73,7 +75,7 @@ limit_by_next c numbered = rw numbered.count (by_count most_structures (len c.st
     by_count : (most count : ℕ) → nat_lt most (count + 1) ≡ nat_le most count
     by_count most count = grind (arith, nat_tests)
 
--- ---- where no fault fits
+-- ---- orders without a fault
 
 -- a unit has all that it needs to begin a structure of a kind
 pub record CanBegin (w : WorldValue) (c : CampaignValue) (u : Unit) (k : Kind) : Type 0 where
@@ -83,7 +85,7 @@ pub record CanBegin (w : WorldValue) (c : CampaignValue) (u : Unit) (k : Kind) :
   pub material : 1 ≤ amount_of u.holding.items k.material
   pub room : len c.structures < most_structures
 
--- a unit without a fault has it
+-- a unit without a fault of `BUILD kind` can begin: it has men, level and material, is on land, and there is room
 pub can_begin : (w : WorldValue) (c : CampaignValue) (u : Unit) (k : Kind) → begin_fault w c u k ≡ None → CanBegin w c u k
 can_begin w c u k is =
     let limit = (is_structure_limit c, StructureLimit) ∷ [] in
@@ -102,14 +104,14 @@ can_begin w c u k is =
       room = more_than most_structures (len c.structures) five.0;
     }
 
--- a unit has all that it needs to go on with a structure
+-- a unit has all that it needs to continue a structure: men, the level and material, and the structure isn't complete
 pub record CanGoOn (u : Unit) (s : Structure) (k : Kind) : Type 0 where
   pub men : 1 ≤ u.holding.men
   pub missing : s.done < k.size
   pub skill : k.level ≤ level_in u.holding k.skill
   pub material : 1 ≤ amount_of u.holding.items k.material
 
--- a unit without a fault has it
+-- a unit without a fault of `BUILD` in a structure can continue it: it has men, level and material, and size is missing
 pub can_go_on : (u : Unit) (s : Structure) (k : Kind) → inside_fault u s k ≡ None → CanGoOn u s k
 can_go_on u s k is =
     let material = (amount_of u.holding.items k.material == 0, NoMaterial) ∷ [] in
@@ -131,12 +133,15 @@ can_go_on u s k is =
 least_of : (x y z : ℕ) → 1 ≤ x → 1 ≤ y → 1 ≤ z → 1 ≤ min (min x y) z
 least_of x y z a b c = omega (arith, a, b, c)
 
+-- the least of three numbers is at most the second
 within_of : (x y z : ℕ) → min (min x y) z ≤ y
 within_of x y z = omega arith
 
+-- the least of three numbers is at most the third
 missing_of : (x y z : ℕ) → min (min x y) z ≤ z
 missing_of x y z = omega arith
 
+-- the product of two numbers from 1 on is at least 1
 product : (a b : ℕ) → 1 ≤ a → 1 ≤ b → 1 ≤ a * b
 product a b l m = let h : a * 1 ≤ a * b = mul-le-mul_left a m in omega (arith, l, h)
 
@@ -169,11 +174,11 @@ module _ (w : WorldValue) (c : CampaignValue) (n kind : ℕ) (u : Unit) (k : Kin
   abbrev one : CampaignValue
   one = used w c n k.material size u is
 
-  -- from the campaign after the material was used: the structure is begun and entered
+  -- a campaign with, in addition, the structure begun and the unit moved into it
   abbrev from_used : CampaignValue → CampaignValue
   from_used d = with_place (with_new_structure d kind k u.region size) n u.region c.next_structure
 
-  -- beginning a structure is using the material and then this
+  -- beginning a structure is using the material, and then adding the structure and moving the unit into it
   begun_is : after_start c n kind k u.region size ≡ from_used one
   begun_is = ap from_used (used_is w c n k.material size u is)
 
@@ -238,15 +243,15 @@ module _ (w : WorldValue) (c : CampaignValue) (n : ℕ) (u : Unit) (s : Structur
   abbrev paid : CampaignValue
   paid = used w c n k.material added u is
 
-  -- from that campaign: so much of the structure is done
+  -- a campaign with, in addition, as much more of the structure done as the unit adds
   abbrev further : CampaignValue → CampaignValue
   further d = with_done d u.structure (s.done + added)
 
-  -- going on is using the material and then this
+  -- continuing a structure is using the material, and then setting how much of the structure is done
   on_is : after_building_on c n k.material added u.structure (s.done + added) ≡ further paid
   on_is = ap further (used_is w c n k.material added u is)
 
-  -- going on with a structure leaves the other units as they are
+  -- continuing a structure leaves the other units as they are
   on_stays : (j : ℕ) → j ≢ n → get (after_building_on c n k.material added u.structure (s.done + added)).units j ≡ get c.units j
   on_stays j apart = ap (λ (d : CampaignValue). get d.units j) on_is ∙ others_stay w c n k.material added u is j apart
 
@@ -261,7 +266,7 @@ module _ (w : WorldValue) (c : CampaignValue) (n : ℕ) (u : Unit) (s : Structur
         up : (a d m : ℕ) → a ≤ m - d → d < m → d + a ≤ m
         up a d m l h = omega (arith, l, h)
 
-    -- going on keeps what BUILD needs
+    -- continuing a structure keeps what BUILD needs, if the unit has what it needs for it (`CanGoOn`)
     on_well : StepsWell CanBuild build_reserve w c (after_building_on c n k.material added u.structure (s.done + added))
     on_well =
         let done_is = built_is w paid u.structure s (s.done + added) there in
@@ -270,7 +275,7 @@ module _ (w : WorldValue) (c : CampaignValue) (n : ℕ) (u : Unit) (s : Structur
 
 -- ---- an order
 
--- what holds of the campaign as it is, and as the structure is begun, holds of it after `BUILD kind`
+-- what holds of a campaign, and of it after a unit that can begin a structure began it, holds after `BUILD kind`
 begin_cases : (P : CampaignValue → Type 0) (w : WorldValue) (c : CampaignValue) (n kind : ℕ) (k : Kind) (u : Unit) → P c
     → (CanBegin w c u k → P (after_start c n kind k u.region (size_added k u.holding 0))) → P (begin w n kind k c u).0
 unfolding begin
@@ -280,7 +285,7 @@ begin_cases P w c n kind k u same go = by_fault (begin_fault w c u k) refl
     by_fault (Some fault) e = same
     by_fault None e = go (can_begin w c u k e)
 
--- what holds of the campaign as it is, and as more is done of the structure, holds of it after `BUILD`
+-- what holds of a campaign, and of it after a unit that can continue its structure did so, holds after `BUILD`
 go_on_cases : (P : CampaignValue → Type 0) (w : WorldValue) (c : CampaignValue) (n : ℕ) (u : Unit) → P c
     → ((s : Structure) (k : Kind) → get c.structures u.structure ≡ Some s → slice_get w.kinds s.kind ≡ Some k → CanGoOn u s k
     → P (after_building_on c n k.material (size_added k u.holding s.done) u.structure (s.done + size_added k u.holding s.done))) → P (go_on w n c u).0
@@ -313,13 +318,15 @@ module _ (w : WorldValue) (c : CampaignValue) (n : ℕ) (u : Unit) (is : get c.u
   go_on_well : CanBuild w c → StepsWell CanBuild build_reserve w c (go_on w n c u).0
   go_on_well can = go_on_cases (λ d. StepsWell CanBuild build_reserve w c d) w c n u (well_same w c can) (λ s k there kind_is fit. on_well w c n u s k is there kind_is can fit)
 
+  -- `BUILD kind` leaves the other units as they are
   begin_stays : (kind : ℕ) (k : Kind) (j : ℕ) → j ≢ n → get (begin w n kind k c u).0.units j ≡ get c.units j
   begin_stays kind k j apart = begin_cases (λ d. get d.units j ≡ get c.units j) w c n kind k u refl (λ fit. begun_stays w c n kind u k is j apart)
 
+  -- `BUILD` leaves the other units as they are
   go_on_stays : (j : ℕ) → j ≢ n → get (go_on w n c u).0.units j ≡ get c.units j
   go_on_stays j apart = go_on_cases (λ d. get d.units j ≡ get c.units j) w c n u refl (λ s k there kind_is fit. on_stays w c n u s k is j apart)
 
--- ---- what all units hold of an item
+-- ---- what BUILD may still book
 
 -- what BUILD may still book is within the bound of the phase
 reserve_within : (w : WorldValue) (c : CampaignValue) → CanBuild w c → (e : Entry) (t : Thing) → build_reserve c e t ≤ build_moves e t
@@ -348,7 +355,7 @@ reserve_within w c can e t = by_thing t
 
 -- ---- the phase
 
--- BUILD carries out its orders as a phase of orders must: within its bounds, and others are no worse off
+-- BUILD as a phase of orders keeps what it needs, within its bound; a unit without its faction's order is no worse off
 pub build_orderly : IsOrderly build_step CanBuild build_reserve build_moves IsOwnOrder IsNoWorse
 build_orderly = record {
   well = λ w a c t x can fit own. well w c t.unit x own.there can t.order_value.operands;
@@ -375,11 +382,11 @@ build_orderly = record {
     stays w c n x is j apart (operands.Kind None) = go_on_stays w c n x is j apart
     stays w c n x is j apart other = tt
 
--- a phase that leaves a campaign in which units can build leaves a steady one
+-- a phase that keeps what BUILD needs keeps a campaign steady, with the same bound on the books
 pub leaves_steady : (w : WorldValue) (c d : CampaignValue) → LeavesWell CanBuild build_moves w c d → LeavesWell IsSteady build_moves w c d
 leaves_steady w c d h = record { leaves_it = h.leaves_it.steady; same_month = h.same_month; balances = h.balances; near = h.near }
 
--- a unit can use what it holds
+-- a unit can use what it holds of an item, if BUILD has what it needs and the books have room for what all hold
 pub can_use : (w : WorldValue) (c : CampaignValue) (n item amount : ℕ) (u : Unit) → get c.units n ≡ Some u → amount ≤ amount_of u.holding.items item → item < length w.items → CanBuild w c → HaveRoom (build_reserve c) c → CanUse w c n item amount
 can_use w c n item amount u is enough known can room = record {
   unit = u;
@@ -404,7 +411,7 @@ begun_outcome c n kind k region size = (after_start c n kind k region size, Done
 abbrev on_outcome : CampaignValue → (n material size structure done : ℕ) → CampaignValue × Outcome
 on_outcome c n material size structure done = (after_building_on c n material size structure done, Done size)
 
--- where no fault fits, what the code does and returns for `BUILD kind` is what is defined
+-- without a fault, what the code does and returns for `BUILD kind` is what is defined
 pub begin_done : (w : WorldValue) (c d : CampaignValue) (f n kind : ℕ) (u : Unit) (k : Kind) (size told : ℕ) → of_faction f (get c.units n) ≡ Some u → begin_fault w c u k ≡ None
     → d ≡ after_start c n kind k u.region size → told ≡ size → size ≡ size_added k u.holding 0 → (d, Done told) ≡ faction_effect (begin w n kind k) c f n
 unfolding begin
@@ -413,7 +420,7 @@ begin_done w c d f n kind u k size told is none first told_is size_is =
     let chain : faction_effect (begin w n kind k) c f n ≡ whole = ap (effect_on (begin w n kind k) c) is ∙ ap (λ o. unless c o whole) none in
     rw (first, told_is, size_is) (sym chain)
 
--- where no fault fits, what the code does and returns for `BUILD` is what is defined
+-- without a fault, what the code does and returns for `BUILD` is what is defined
 pub go_on_done : (w : WorldValue) (c d : CampaignValue) (f n : ℕ) (u : Unit) (s : Structure) (k : Kind) (size told : ℕ) → of_faction f (get c.units n) ≡ Some u → get c.structures u.structure ≡ Some s → slice_get w.kinds s.kind ≡ Some k
     → inside_fault u s k ≡ None → d ≡ after_building_on c n k.material size u.structure (s.done + size) → told ≡ size → size ≡ size_added k u.holding s.done → (d, Done told) ≡ faction_effect (go_on w n) c f n
 unfolding go_on
@@ -423,7 +430,7 @@ go_on_done w c d f n u s k size told is there kind_is none first told_is size_is
     let chain : faction_effect (go_on w n) c f n ≡ whole = ap (effect_on (go_on w n) c) is ∙ ap (go_on_at c n u) (built_is_both w c u.structure s k there kind_is) ∙ ap (λ o. unless c o whole) none in
     rw (first, told_is, size_is) (sym chain)
 
--- where no fault fits, what is done of a structure then is at most the greatest size of a kind
+-- after an order of `BUILD` without a fault, what is done of the structure is at most the greatest size of a kind
 pub done_small : (u : Unit) (s : Structure) (k : Kind) → inside_fault u s k ≡ None → k.size ≤ most_size → s.done + size_added k u.holding s.done ≤ most_size
 done_small u s k none small = up (size_added k u.holding s.done) s.done k.size (size_missing k u.holding s.done) (can_go_on u s k none).missing small
   where

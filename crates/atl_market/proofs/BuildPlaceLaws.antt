@@ -17,6 +17,7 @@ use Rattle.atl_instant.proofs.PlacingLaws.{behind, place_is, placed_steady, plac
 use Rattle.atl_market.specs.Bounds.{CanBuild, build_reserve, usable}
 use Rattle.atl_market.proofs.BuildBegunLaws.{still_well}
 
+-- if a sum stays the same while one of its terms does, the other term stays the same
 cancelled : (a b h g : ℕ) → a + h ≡ b + g → g ≡ h → a ≡ b
 cancelled a b h g e f = omega (arith, e, f)
 

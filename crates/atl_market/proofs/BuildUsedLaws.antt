@@ -1,4 +1,5 @@
--- Laws of BUILD: using material that a unit holds keeps what BUILD needs, within its bound on the books (`build_reserve`).
+-- Laws of BUILD: using material that a unit holds keeps what BUILD needs, within its bound on the books
+-- (`build_reserve`).
 use Rattle.std.proofs.Common.{◌≡◌, ◌≢◌, ◌==◌, ℕ, ◌+◌, ◌-◌, ◌*◌, ◌≤◌, ◌<◌, Bool, true, false, cond, length, Some, refl, sym, ap, subst, ◌∙◌, arith}
 use Rattle.std.specs.Prelude.{pos, neg_ℤ, if◌then◌else◌}
 use Rattle.std.proofs.lemmas.Bool.Decides.{nat_tests}
@@ -38,7 +39,7 @@ use Rattle.atl_market.proofs.ThereLaws.{by_unit}
 abbrev with_less : HoldingValue → (item amount : ℕ) → HoldingValue
 with_less h item amount = record h { items = with_amount_of h.items item (amount_of h.items item - amount) }
 
--- the holding has so much less of that item, and as much as before of any other
+-- a holding with less of an item has that much less of the item, and as much as before of any other
 item_less : (h : HoldingValue) (item amount j : ℕ) → amount ≤ amount_of h.items item → amount_of h.items j ≡ amount_of (with_less h item amount).items j + cond (eq_by_cmp nat_cmp j item) amount 0
 item_less h item amount j enough =
     by_test (eq_by_cmp nat_cmp j item) refl ∙ ap (λ x. x + cond (eq_by_cmp nat_cmp j item) amount 0) (sym (set_amount h.items item (amount_of h.items item - amount) j))
@@ -55,7 +56,7 @@ abbrev used_of : (item amount : ℕ) → Entry → Thing → ℕ
 used_of item amount e (Item j) = if entry_index e == entry_index Used then cond (eq_by_cmp nat_cmp j item) amount 0 else 0
 used_of item amount e t = 0
 
--- what a holding may still have booked is less by what was used
+-- after a unit used an amount of an item, what its holding may still have booked is less by that amount under Used
 usable_less : (h : HoldingValue) (item amount : ℕ) → amount ≤ amount_of h.items item → (e : Entry) (t : Thing) → usable e t h ≡ usable e t (with_less h item amount) + used_of item amount e t
 usable_less h item amount enough e Money = refl
 usable_less h item amount enough e People = refl
@@ -65,6 +66,7 @@ usable_less h item amount enough e (Item j) = by_entry (entry_index e == entry_i
     by_entry true = item_less h item amount j enough
     by_entry false = refl
 
+-- using an amount of an item moves the books by at most that amount, under Used and for that item alone
 only_used : (item amount : ℕ) (e : Entry) (t : Thing) → moves_only amount Used (Item item) e t ≤ used_of item amount e t
 only_used item amount e t = by_number (amount_number e t == amount_number Used (Item item)) refl
   where
@@ -114,7 +116,7 @@ module _ (w : WorldValue) (c : CampaignValue) (n item amount : ℕ) (u : Unit) (
   others_stay k apart = get-insert_other c.units n k user apart
 
   module _ (enough : amount ≤ amount_of u.holding.items item) (known : item < length w.items) (can : CanBuild w c) where
-    -- using the item leaves the campaign well
+    -- using the item keeps the campaign steady and its books balanced, and books only the amount used
     well : LeavesWell IsSteady (moves_only amount Used (Item item)) w c used
     well = subst (LeavesWell IsSteady (moves_only amount Used (Item item)) w c) (used_is w c n item amount u is) (used_up_to w c n item amount amount (omega arith) u is known enough can.steady)
 
@@ -126,7 +128,7 @@ module _ (w : WorldValue) (c : CampaignValue) (n item amount : ℕ) (u : Unit) (
         (shrunk (build_reserve used e t) (build_reserve c e t) (f u) (f user) (used_of item amount e t) (sum_over-insert_known f c.units n u user is) (usable_less u.holding item amount enough e t))
         (near_more (moves_only amount Used (Item item) e t) (used_of item amount e t) (amount_in c.books e t) (amount_in used.books e t) (only_used item amount e t) (well.near e t))
 
-    -- using the item keeps what BUILD needs, and leaves the books within its bound
+    -- using the item keeps what BUILD needs, and the books within what BUILD may still book
     pub used_for_well : StepsWell CanBuild build_reserve w c used
     used_for_well = record {
       holds_still = record { steady = well.leaves_it; kinds = can.kinds };

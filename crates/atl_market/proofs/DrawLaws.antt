@@ -32,7 +32,7 @@ in_by_index [] n i low at = absurd (omega arith)
 in_by_index (k ∷ ns) n zero low at = inl (sym at)
 in_by_index (k ∷ ns) n (suc i) low at = inr (in_by_index ns n i (omega arith) at)
 
--- a number of a sorted list is above the number that comes ahead of the list
+-- each number of a sorted list is above a number that is less than all of the list
 risen_above : (n : ℕ) (ns : List ℕ) → AllByRecursion (λ k. nat_cmp n k ≡ Less) ns → (k : ℕ) → IsIn k ns → n < k
 risen_above n [] h k is = absurd is
 risen_above n (m ∷ ns) h k is = elim is [
@@ -83,7 +83,7 @@ module _ (draws : Drawers) where
     none_first : (rest : ℕ) → rest ≡ 0 → 0 + rest ≡ 0
     none_first rest h = omega (arith, h)
 
-    -- where no unit draws, nothing is drawn
+    -- if no unit is listed, nothing is drawn
     nothing_drawn : (es : List (ℕ × ℕ)) → AllByRecursion (Listed []) es → drawn es ≡ 0
     nothing_drawn [] all = refl
     nothing_drawn (e ∷ es) all =
@@ -101,11 +101,11 @@ module _ (draws : Drawers) where
     skipped : (drawing others first all : ℕ) → drawing ≤ others → all ≡ first + others → drawing ≤ all
     skipped drawing others first all h e = omega (arith, h, e)
 
-    -- what the units of a list draw is at most the sum of their amounts
+    -- the units of sorted entries, all of them listed, draw at most the sum of their amounts
     abbrev Bounded : List ℕ → Type 0
     Bounded ns = (es : List (ℕ × ℕ)) → IsRisen ns → Rise es → AllByRecursion (Listed ns) es → drawn es ≤ sum (map amount ns)
 
-    -- what the units of a list with one more draw is at most the sum of their amounts
+    -- what the units of a list with one more unit draw is at most the sum of their amounts, if that is so of the list
     with_first : (n : ℕ) (ns : List ℕ) → Bounded ns → (es : List (ℕ × ℕ)) → IsRisen (n ∷ ns) → Rise es → AllByRecursion (Listed (n ∷ ns)) es → drawn es ≤ sum (map amount (n ∷ ns))
     with_first n ns rest [] up rise all = omega arith
     with_first n ns rest (e ∷ es) up rise all =
@@ -125,14 +125,15 @@ module _ (draws : Drawers) where
           | false ↦ λ _. none_of (drawn es) (sum (map amount (n ∷ ns))) (with_first n ns rest es up rise.1 all.1)
         ] refl
 
-    -- what the units of a list draw is at most the sum of their amounts
+    -- what the units of a sorted list draw is at most the sum of their amounts
     pub drawn_among : (ns : List ℕ) → Bounded ns
     drawn_among [] es up rise all = let none = nothing_drawn es all in omega (arith, none)
     drawn_among (n ∷ ns) es up rise all = with_first n ns (drawn_among ns) es up rise all
 
 -- ---- one unit draws after the other
 
--- pots by a key: the region of each (`pot_region`), which units draw from it (`draws`), and what is left of it in a region (`left`)
+-- Pots by a key: the region of each (`pot_region`), which units draw from it (`draws`), and what is left of it in a
+-- region (`left`).
 pub record DrawnPots (K : Type 0) : Type 0 where
   pub pot_region : K → ℕ
   pub draws : K → Drawers
@@ -143,21 +144,21 @@ module _ {K : Type 0} (pots : DrawnPots K) where
   abbrev pub HaveEnough : CampaignValue → List (ℕ × ℕ) → Type 0
   HaveEnough d es = (k : K) (q : Region) → get d.regions (pots.pot_region k) ≡ Some q → drawn (pots.draws k) es ≤ pots.left k q
 
-  -- after a unit's turn each pot has less by its share if the unit draws from it, else what it had
+  -- in a unit's turn, the pots from which it draws lose its share, and all others keep what they have
   abbrev pub Drains : CampaignValue → ℕ × ℕ → CampaignValue → Type 0
   Drains d e after =
       (k : K) (x : Region) → get after.regions (pots.pot_region k) ≡ Some x
       → (q : Region) × (get d.regions (pots.pot_region k) ≡ Some q) × (pots.left k x + cond (pots.draws k e.0) e.1 0 ≡ pots.left k q)
 
   module _ (d : CampaignValue) (e : ℕ × ℕ) (es : List (ℕ × ℕ)) (enough : HaveEnough d (e ∷ es)) where
-    -- where pots have enough for all shares, each has enough for the share of the first unit that draws from it
+    -- if the pots have enough for all shares, each pot from which the first unit draws has enough for its share
     pub first_draws : (k : K) (q : Region) → get d.regions (pots.pot_region k) ≡ Some q → pots.draws k e.0 ≡ true → e.1 ≤ pots.left k q
     first_draws k q around mine = at_least (pots.left k q) (subst (λ b. cond b e.1 0 + drawn (pots.draws k) es ≤ pots.left k q) mine (enough k q around))
       where
         at_least : (all : ℕ) → e.1 + drawn (pots.draws k) es ≤ all → e.1 ≤ all
         at_least all h = omega (arith, h)
 
-    -- after the first unit's turn the pots have enough for the others
+    -- if the pots have enough for all shares, and the first unit has had its turn, they have enough for the others
     pub others_draw : (after : CampaignValue) → Drains d e after → HaveEnough after es
     others_draw after drains k x is =
         let (q, around, less) = drains k x is in
@@ -170,7 +171,8 @@ module _ {K : Type 0} (pots : DrawnPots K) where
     no_less : (a : ℕ) → a + 0 ≡ a
     no_less a = omega arith
 
-    -- pots are drained as they should be where one region changes, and its pots have less by the share if the unit draws from them
+    -- the pots lose what they should (`Drains`) if one region changes, its pots lose the share of a unit that draws
+    -- from them, and the unit draws from no pot of another region
     pub region_drains : (r : ℕ) (q : Region) → get d.regions r ≡ Some q → (f : Region → Region) → after.regions ≡ (region_changed f d r).regions
         → ((k : K) → pots.pot_region k ≡ r → pots.left k (f q) + cond (pots.draws k e.0) e.1 0 ≡ pots.left k q)
         → ((k : K) → pots.pot_region k ≢ r → pots.draws k e.0 ≡ false) → Drains d e after
@@ -186,7 +188,7 @@ module _ {K : Type 0} (pots : DrawnPots K) where
         put : get (insert d.regions r (f q)) (pots.pot_region k) ≡ Some x
         put = sym (ap (λ m. get m (pots.pot_region k)) (changed ∙ changed-known f d.regions r q around)) ∙ found
 
-    -- pots are drained as they should be where a share is 0 and no region changes
+    -- the pots lose what they should (`Drains`), namely nothing, if the share is 0 and no region changes
     pub nothing_drains : after.regions ≡ d.regions → e.1 ≡ 0 → Drains d e after
     nothing_drains same none k x found = (x, sym (ap (λ m. get m (pots.pot_region k)) same) ∙ found, ap (λ s. pots.left k x + cond (pots.draws k e.0) s 0) none ∙ neither (pots.draws k e.0) (pots.left k x))
       where
@@ -201,23 +203,23 @@ abbrev pub who_stand : FinMap nat_cmp Unit → ℕ → Drawers
 who_stand units r n = stands_in r (get units n)
 
 module _ (units : FinMap nat_cmp Unit) (left : Region → ℕ) where
-  -- the pots of regions, by region: each has what `left` says of the region
+  -- the pots of regions, by region: `left` gives what is left in each
   abbrev pub region_pots : DrawnPots ℕ
   region_pots = record { pot_region = λ r. r; draws = who_stand units; left = λ r q. left q }
 
   module _ (d : CampaignValue) (e : ℕ × ℕ) (u : Unit) (q : Region) (there : get units e.0 ≡ Some u) (around : get d.regions u.region ≡ Some q) where
-    -- the pots of regions are drained as they should be where the unit's region changes and has less by its share
+    -- the pots of regions lose what they should (`Drains`) if the unit's own region changes, and has its share less
     pub one_drains : (after : CampaignValue) (f : Region → Region) → after.regions ≡ (region_changed f d u.region).regions → left (f q) + e.1 ≡ left q → Drains region_pots d e after
     one_drains after f changed less =
         region_drains region_pots d e after u.region q around f changed
         (λ k same. subst (λ b. left (f q) + cond b e.1 0 ≡ left q) (sym (ap (stands_in k) there ∙ ap (λ r. u.region == r) same ∙ same_number u.region)) less)
         (λ k apart. ap (stands_in k) there ∙ other_number u.region k (λ is. apart (sym is)))
 
-    -- a unit's region has enough for the unit's share, where the pots have enough for all
+    -- a unit's region has enough for the unit's share, if the pots have enough for all shares
     pub one_draws : (es : List (ℕ × ℕ)) → HaveEnough region_pots d (e ∷ es) → e.1 ≤ left q
     one_draws es enough = first_draws region_pots d e es enough u.region q around (ap (stands_in u.region) there ∙ same_number u.region)
 
--- each has enough: what the units of a region get together is its pot at most, where those who draw get shares of it
+-- The pot of a region is enough for all who draw from it: they get shares of it, which are together at most the pot.
 module _ (pot_of : ℕ → ℕ) (wants : FinMap nat_cmp ℕ) (c : CampaignValue) (r : ℕ) (draws : Drawers) (given : FinMap nat_cmp ℕ) where
   -- the amount that a unit gets of its region's pot
   abbrev amount : ℕ → ℕ
@@ -231,6 +233,7 @@ module _ (pot_of : ℕ → ℕ) (wants : FinMap nat_cmp ℕ) (c : CampaignValue)
   abbrev pub DrawShares : Type 0
   DrawShares = (n share : ℕ) → get given n ≡ Some share → draws n ≡ true → (get (pot_shares pot_of wants c) n ≡ Some share) × (stands_in r (get c.units n) ≡ true)
 
+  -- each unit with a share that draws from the pot is one of the region's units with a want, and gets its amount
   listed : DrawShares → (n share : ℕ) → get given n ≡ Some share → Listed draws amount takers (n, share)
   listed shared n share found drawing =
       let (is, stands) = shared n share found drawing in
@@ -240,10 +243,11 @@ module _ (pot_of : ℕ → ℕ) (wants : FinMap nat_cmp ℕ) (c : CampaignValue)
       let among : IsIn n (takers_in wants c.units u.region) = in_by_index (takers_in wants c.units u.region) n i less found in
       (subst (λ k. IsIn n (takers_in wants c.units k)) here among, ap (λ o. unwrap_or o 0) is)
 
+  -- what is at most the lesser of a pot and a sum is at most the pot
   least : (drawing pot all : ℕ) → drawing ≤ min pot all → drawing ≤ pot
   least drawing pot all h = omega (arith, h)
 
-  -- the pot of region `r` is enough for the shares of all that draw from it
+  -- the pot of region `r`, if it is there, is enough for all that draw from it, if their shares are shares of that pot
   pub shares_are_enough : DrawShares → IsThere c.regions r → drawn draws (entries given) ≤ pot_of r
   shares_are_enough shared there =
       let drawing = drawn draws (entries given) in
@@ -251,30 +255,31 @@ module _ (pot_of : ℕ → ℕ) (wants : FinMap nat_cmp ℕ) (c : CampaignValue)
       let few = drawn_among draws amount takers (entries given) (takers_risen wants c.units r) (entries_rise given) each in
       least drawing (pot_of r) (sum (wants_in wants c.units r)) (subst (λ s. drawing ≤ s) (gives_each_pot pot_of wants c r there) few)
 
--- a region's pot is enough for the shares of all units in the region
+-- the pot of a region of the campaign is enough for the shares of all units in the region
 pub pot_is_enough : (pot_of : ℕ → ℕ) (wants : FinMap nat_cmp ℕ) (c : CampaignValue) (r : ℕ) → IsThere c.regions r → drawn (who_stand c.units r) (entries (pot_shares pot_of wants c)) ≤ pot_of r
 pot_is_enough pot_of wants c r there = shares_are_enough pot_of wants c r (who_stand c.units r) (pot_shares pot_of wants c) (λ n share is stands. (is, stands)) there
 
--- ---- units whose turn is still to come are as they were
+-- ---- units that have not been paid yet are as they were
 
 module _ (c : CampaignValue) where
   -- the units of some shares are in campaign `d` as they are in `c`
   abbrev pub AreUntouched : CampaignValue → List (ℕ × ℕ) → Type 0
   AreUntouched d es = AllByRecursion (λ e. get d.units e.0 ≡ get c.units e.0) es
 
-  -- they stay untouched while a unit with a lower number changes
+  -- units that have not been paid yet stay untouched while a unit with a lower number changes
   pub still : (d after : CampaignValue) (n : ℕ) (es : List (ℕ × ℕ)) → ((k : ℕ) → k ≢ n → get after.units k ≡ get d.units k) → AllByRecursion (λ f. n < f.0) es → AreUntouched d es → AreUntouched after es
   still d after n [] same above all = tt
   still d after n (f ∷ es) same above all = (same f.0 (λ e. absurd (omega (arith, e, above.0))) ∙ all.0, still d after n es same above.1 all.1)
 
+  -- in the campaign itself all units are untouched
   pub untouched : (es : List (ℕ × ℕ)) → AreUntouched c es
   untouched [] = tt
   untouched (e ∷ es) = (refl, untouched es)
 
 -- ---- shares of pots, one after the other
 
--- In campaign `d` the shares still to come can be paid: their units are as in `c`, as the phase began, each share fits its unit,
--- and each pot has enough for them.
+-- In campaign `d` the shares still to come can be paid: it is early, the units are as in `c`, which is the campaign as
+-- the phase began, each share is one that its unit can have (`Fits`), and each pot has enough.
 pub record AreReady {K : Type 0} (pots : DrawnPots K) (Fits : ℕ × ℕ → Type 0) (w : WorldValue) (c d : CampaignValue) (es : List (ℕ × ℕ)) : Type 0 where
   pub early : IsEarly w d
   pub rise : Rise es
@@ -282,7 +287,7 @@ pub record AreReady {K : Type 0} (pots : DrawnPots K) (Fits : ℕ × ℕ → Typ
   pub fits : AllByRecursion Fits es
   pub enough : HaveEnough pots d es
 
--- after the first unit was paid, and drained its pots, the other shares can be paid
+-- after the first unit was paid, and its share left the pots, the other shares can be paid
 pub ready_behind : {K : Type 0} (pots : DrawnPots K) {Fits : ℕ × ℕ → Type 0} (w : WorldValue) (c d : CampaignValue) (e : ℕ × ℕ) (es : List (ℕ × ℕ)) (after : CampaignValue)
     → AreReady pots Fits w c d (e ∷ es) → IsEarly w after → ((k : ℕ) → k ≢ e.0 → get after.units k ≡ get d.units k)
     → Drains pots d e after → AreReady pots Fits w c after es

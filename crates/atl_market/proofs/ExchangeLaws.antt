@@ -1,4 +1,4 @@
--- The law that an exchange between a unit and its region leaves a campaign well, where money that comes or goes is booked.
+-- The law that an exchange between a unit and its region keeps a campaign early and its books balanced.
 use Rattle.std.proofs.Common.{◌≡◌, ◌==◌, ℕ, ◌+◌, true, false, cond, Some, refl, sym, ap, ◌∙◌, arith}
 use Rattle.std.specs.Prelude.{ℤ, pos, ◌+ℤ◌}
 use Rattle.std.specs.FinMap.{get, insert}
@@ -36,11 +36,11 @@ module _ (w : WorldValue) (c : CampaignValue) (n : ℕ) (u : Unit) (q : Region) 
   abbrev supplied : CampaignValue
   supplied = record c { units = insert c.units n (record u { holding = more }) }
 
-  -- that campaign with the unit's region changed as well
+  -- the campaign in which unit `n` has the new holding and its region is changed; nothing is booked yet
   abbrev left : CampaignValue
   left = region_changed f supplied u.region
 
-  -- that campaign with the money booked as well
+  -- the campaign in which unit `n` has the new holding, its region is changed, and the money is booked
   abbrev exchanged : CampaignValue
   exchanged = with_amount left entry Money z
 
@@ -67,7 +67,7 @@ module _ (w : WorldValue) (c : CampaignValue) (n : ℕ) (u : Unit) (q : Region) 
           ap pos (same (total exchanged (Item i)) (total left (Item i)) (total supplied (Item i)) (total c (Item i)) (amount_of q.stocks i) (amount_of (f q).stocks i) (amount_of u.holding.items i) (amount_of more.items i) s a b (keeps.items i))
           ∙ sym (none_booked (total c (Item i)) i)
 
-  -- an exchange that keeps goods and people together, and books the money, leaves the campaign well
+  -- an exchange that keeps goods together and books the money keeps an early campaign early and its books balanced
   pub exchange_well : (limit : ℕ) → MayHave w more → (more.guard ≡ true → u.holding.guard ≡ true) → (IsSteady w supplied → IsSteady w left) → KeepsTogether u q f more z → IsWithin limit z → IsEarly w c → LeavesWell IsEarly (moves_only limit entry Money) w c exchanged
   exchange_well limit may flag region keeps small early =
       let before = early-having w c n u more is may flag early in

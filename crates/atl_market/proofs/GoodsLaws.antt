@@ -1,4 +1,5 @@
--- Laws of using and of making an item: what changes of a campaign, and that it is left well.
+-- Laws of using and of making an item: what changes of a campaign, that it stays steady, and that its books stay
+-- balanced.
 use Rattle.std.proofs.Common.{◌≡◌, ◌≢◌, ◌==◌, ℕ, ◌+◌, ◌-◌, ◌≤◌, ◌<◌, Bool, true, false, cond, Some, length, refl, sym, ap, subst, ◌∙◌, arith}
 use Rattle.std.specs.Prelude.{ℤ, pos, neg_ℤ, ◌+ℤ◌}
 use Rattle.std.specs.Ordering.{nat_cmp, eq_by_cmp}
@@ -33,9 +34,11 @@ use Rattle.atl_market.specs.Goods.{with_made, with_used}
 use Rattle.atl_market.specs.Making.{CanMake, CanUse}
 use Rattle.atl_market.proofs.ThereLaws.{by_unit, unit_there}
 
+-- if one amount takes the place of another in a total, and they differ by `z`, the total changes by `z`
 moved : (x y t k a l : ℕ) (z : ℤ) → x ≡ y → y + k ≡ t + a → k ≡ l → pos a ≡ pos l +ℤ z → pos x ≡ pos t +ℤ z
 moved x y t k a l z e f g h = omega (arith, ints, e, f, g, h)
 
+-- if an amount takes the place of an equal one in a total, the total stays the same
 unmoved : (x y t k : ℕ) → x ≡ y → y + k ≡ t + k → pos x ≡ pos t +ℤ pos 0
 unmoved x y t k e f = omega (arith, ints, e, f)
 
@@ -43,7 +46,7 @@ unmoved x y t k e f = omega (arith, ints, e, f)
 abbrev pub item_held : CampaignValue → ℕ → Unit → (item amount : ℕ) → CampaignValue
 item_held c n u i amount = with_held c n (record u.holding { items = with_amount_of u.holding.items i amount }) (Some u)
 
--- setting the item of a unit that is there gives this campaign
+-- setting the item of a unit that is there gives the campaign `item_held`
 item_is : (c : CampaignValue) (n : ℕ) (u : Unit) (i amount : ℕ) → get c.units n ≡ Some u → with_item c n i amount ≡ item_held c n u i amount
 item_is c n u i amount is = changed_held (λ h. record h { items = with_amount_of h.items i amount }) c (with_item c n i amount) n refl u is
 
@@ -58,6 +61,7 @@ module _ (w : WorldValue) (c : CampaignValue) (n : ℕ) (u : Unit) (i amount : �
   abbrev with_set : CampaignValue
   with_set = item_held c n u i amount
 
+  -- the holding with the new amount keeps all rules of holdings, if the item is one of the world and within the limit
   may : i < length w.items → amount ≤ holding_limit → MayHave w u.holding → MayHave w more
   may known most old = record {
     limits = record { men = old.limits.men; money = old.limits.money; items = every_amount (λ j a. (1 ≤ a) × (a ≤ holding_limit)) u.holding.items i amount (λ some. (some, most)) old.limits.items };
@@ -68,7 +72,7 @@ module _ (w : WorldValue) (c : CampaignValue) (n : ℕ) (u : Unit) (i amount : �
   }
 
   module _ (e : Entry) (z : ℤ) where
-    -- that campaign with the change booked
+    -- the campaign in which the unit holds the new amount, and the change is booked
     abbrev after : CampaignValue
     after = with_amount with_set e (Item i) z
 
@@ -95,7 +99,7 @@ module _ (w : WorldValue) (c : CampaignValue) (n : ℕ) (u : Unit) (i amount : �
           by_test j (eq_by_cmp nat_cmp j i) refl (total after (Item j)) (total with_set (Item j)) (total c (Item j)) a
           (b ∙ ap (λ k. total c (Item j) + k) (set_amount u.holding.items i amount j))
 
-      -- a unit's amount of an item changes by what is booked: this leaves the campaign well
+      -- setting a unit's amount of an item, and booking the difference, keeps a campaign steady and its books balanced
       pub set_well : (limit : ℕ) → i < length w.items → amount ≤ holding_limit → IsWithin limit z → IsSteady w c → LeavesWell IsSteady (moves_only limit e (Item i)) w c after
       set_well limit known most small steady =
           let has = may known most (may_have w c n u is steady) in
@@ -112,9 +116,11 @@ module _ (w : WorldValue) (c : CampaignValue) (n : ℕ) (u : Unit) (i amount : �
 
 -- ---- what is used
 
+-- an amount less a part of it, as a whole number with sign, is the amount minus the part
 taken_off : (a k : ℕ) → k ≤ a → pos (a - k) ≡ pos a +ℤ neg_ℤ (pos k)
 taken_off a k l = omega (arith, ints, l)
 
+-- the sum of two amounts, as a whole number with sign, is the sum of both
 put_to : (a k : ℕ) → pos (a + k) ≡ pos a +ℤ pos k
 put_to a k = omega (arith, ints)
 
@@ -127,10 +133,11 @@ module _ (w : WorldValue) (c : CampaignValue) (n i k : ℕ) where
   pub made_is : (u : Unit) → get c.units n ≡ Some u → with_made c n i k ≡ with_amount (item_held c n u i (amount_of u.holding.items i + k)) entries.Made (Item i) (pos k)
   made_is u is = unit_there c n _ u is ∙ ap (λ d. with_amount d entries.Made (Item i) (pos k)) (item_is c n u i (amount_of u.holding.items i + k) is)
 
+  -- a unit of a steady campaign holds at most a holding's limit of an item
   held_within : (u : Unit) → get c.units n ≡ Some u → IsSteady w c → amount_of u.holding.items i ≤ holding_limit
   held_within u is steady = amount_within u.holding i (steady.numbers.units n u is).1
 
-  -- using at most `limit` of an item that a unit holds leaves the campaign well, and moves the books by at most that
+  -- using at most `limit` of an item that a unit holds keeps the campaign steady and its books balanced, within `limit`
   pub used_up_to : (limit : ℕ) → k ≤ limit → (u : Unit) → get c.units n ≡ Some u → i < length w.items → k ≤ amount_of u.holding.items i → IsSteady w c → LeavesWell IsSteady (moves_only limit entries.Used (Item i)) w c (with_used c n i k)
   used_up_to limit most u there known enough steady =
       let a = amount_of u.holding.items i in
@@ -138,13 +145,13 @@ module _ (w : WorldValue) (c : CampaignValue) (n i k : ℕ) where
       subst (λ d. LeavesWell IsSteady (moves_only limit entries.Used (Item i)) w c d) (sym (used_is u there))
       (set_well w c n u i (a - k) there entries.Used (neg_ℤ (pos k)) (taken_off a k enough) limit known (omega (arith, within)) (within-neg k limit most) steady)
 
-  -- using an item leaves the campaign well
+  -- using an item that a unit can use keeps the campaign steady and its books balanced, and books only that
   pub used_well : CanUse w c n i k → LeavesWell IsSteady (moves_only holding_limit entries.Used (Item i)) w c (with_used c n i k)
   used_well can =
       let within = held_within can.unit can.there can.steady in
       used_up_to holding_limit (omega (arith, within, can.enough)) can.unit can.there can.known can.enough can.steady
 
-  -- making an item leaves the campaign well
+  -- making an item that a unit can make keeps the campaign steady and its books balanced, and books only that
   pub made_well : CanMake w c n i k → LeavesWell IsSteady (moves_only holding_limit entries.Made (Item i)) w c (with_made c n i k)
   made_well can =
       let u = can.unit in
@@ -164,9 +171,11 @@ module _ (w : WorldValue) (c : CampaignValue) (n i k : ℕ) where
   item_others : (amount m : ℕ) → m ≢ n → get (with_item c n i amount).units m ≡ get c.units m
   item_others amount m apart = others_held (λ u. record u { holding = record u.holding { items = with_amount_of u.holding.items i amount } }) c n m apart
 
+  -- using an item leaves the other units as they are
   pub used_others : (m : ℕ) → m ≢ n → get (with_used c n i k).units m ≡ get c.units m
   used_others m apart = by_unit c n (λ (d : CampaignValue). get d.units m ≡ get c.units m) _ refl (λ u is. item_others (amount_of u.holding.items i - k) m apart)
 
+  -- making an item leaves the other units as they are
   pub made_others : (m : ℕ) → m ≢ n → get (with_made c n i k).units m ≡ get c.units m
   made_others m apart = by_unit c n (λ (d : CampaignValue). get d.units m ≡ get c.units m) _ refl (λ u is. item_others (amount_of u.holding.items i + k) m apart)
 

@@ -1,4 +1,5 @@
--- Laws of pots of items: the code's shares, put region by region and item by item, are those of the definition.
+-- Laws of pots of items: the shares that the code puts in region by region and item by item are those of the
+-- definition.
 use Rattle.std.proofs.Common.{◌≡◌, ℕ, ◌≤◌, ◌==◌, ◌||◌, ◌&&◌, Bool, true, false, cond, List, [], ◌∷◌, ◌++◌, map, filter, Option, Some, None, is_some, T, refl, sym, ap, subst, ◌∙◌, inl, inr}
 use Rattle.std.specs.Prelude.{fold, option_and_then, option_map, unwrap_or}
 use Rattle.std.specs.List.{AllByRecursion, cons_option, filter_map, flat_map, list_any, zip}
@@ -24,16 +25,18 @@ use Rattle.atl_market.specs.Puts.{with_each}
 use Rattle.atl_market.specs.Share.{shares}
 use Rattle.atl_market.proofs.PotLaws.{Entries, IsApart, IsRisen, as_pairs, found_first, found_head, found_is, found_later, found_other, found_put, found_tail, given_apart, given_is, given_takes, left, pots_give, somewhere, takers_risen}
 
--- ---- entries that agree with a function, put in turn
+-- ---- entries that agree with a function, put into a map in turn
 
 module _ (g : ℕ → Option ℕ) where
   -- each entry's value is what the function has for its number
   abbrev AgreeWith : Entries → Type 0
   AgreeWith es = AllByRecursion (λ e. g e.0 ≡ Some e.1) es
 
+  -- an entry that agrees with the function gives its number the function's value, once it is put in
   put_here : (m : FinMap nat_cmp ℕ) (e : ℕ × ℕ) (n s : ℕ) → n ≡ e.0 → g e.0 ≡ Some e.1 → g n ≡ Some s → get (insert m e.0 e.1) n ≡ Some s
   put_here m e n s same tells is = ap (get (insert m e.0 e.1)) same ∙ get-insert_same m e.0 e.1 ∙ sym tells ∙ ap g (sym same) ∙ is
 
+  -- a value that the function has, once in the map, stays when entries that agree with the function are put in
   agreeing_stays : (m : FinMap nat_cmp ℕ) (es : Entries) (n s : ℕ) → AgreeWith es → g n ≡ Some s → get m n ≡ Some s → get (with_each m es) n ≡ Some s
   agreeing_stays m [] n s tells is at = at
   agreeing_stays m (e ∷ es) n s tells is at =
@@ -42,6 +45,7 @@ module _ (g : ℕ → Option ℕ) where
         | inr apart ↦ get-insert_other m e.0 n e.1 apart ∙ at
       ])
 
+  -- a number of entries that agree with the function has its value by the function, once they are put in
   agreeing_comes : (m : FinMap nat_cmp ℕ) (es : Entries) (n s : ℕ) → AgreeWith es → g n ≡ Some s → is_some (find nat_cmp n es) ≡ true → get (with_each m es) n ≡ Some s
   agreeing_comes m [] n s tells is some = absurd (false≢true some)
   agreeing_comes m (e ∷ es) n s tells is some = elim (cases_eq n e.0) [
@@ -49,7 +53,7 @@ module _ (g : ℕ → Option ℕ) where
     | inr apart ↦ agreeing_comes (insert m e.0 e.1) es n s tells.1 is (ap is_some (sym (found_other e es n apart)) ∙ some)
   ]
 
-  -- agreeing entries that have all numbers of the function make, put in turn, the map of the function
+  -- entries that agree with a function, and have all its numbers, give each number its value once they are put in
   pub agreeing_put : (es : Entries) → AgreeWith es → ((n s : ℕ) → g n ≡ Some s → is_some (find nat_cmp n es) ≡ true) → (n : ℕ) → get (with_each empty es) n ≡ g n
   agreeing_put es tells whole n = by_find (find nat_cmp n es) refl
     where
@@ -63,6 +67,7 @@ module _ (g : ℕ → Option ℕ) where
           let at : g n ≡ Some s = found_of (λ k t. g k ≡ Some t) es n s (as_pairs (λ k t. g k ≡ Some t) es tells) is in
           agreeing_comes empty es n s tells at (ap is_some is) ∙ sym at
 
+-- a choice between two equal options is that option
 either : (b : Bool) (o : Option ℕ) → cond b o o ≡ o
 either true o = refl
 either false o = refl
@@ -93,26 +98,29 @@ tied a b h = by_order (nat_cmp a b) refl h
     by_order Equal is h = nat_cmp-IsAntisymmetric a b is
     by_order Greater is h = absurd (false≢true h)
 
--- ---- entries whose numbers rise, put in turn
+-- ---- entries whose numbers rise, put into a map in turn
 
 -- a number below those of all entries isn't found
 none_above : (k : ℕ) (es : Entries) → AllByRecursion (λ n. nat_cmp k n ≡ Less) (map (λ e. e.0) es) → find nat_cmp k es ≡ None
 none_above k [] h = refl
 none_above k (e ∷ es) h = ap (λ o. cond (is_eq o) (Some e.1) (find nat_cmp k es)) h.0 ∙ none_above k es h.1
 
+-- no two of the entries have the same number, if their numbers are sorted
 risen_apart : (es : Entries) → IsRisen (map (λ e. e.0) es) → IsApart es
 risen_apart [] up = tt
 risen_apart (e ∷ es) up = (none_above e.0 es up.0, risen_apart es up.1)
 
+-- a number below those of all entries, by comparing lists, is below all of their keys
 all_below : (k : ℕ) (es : Entries) → AllByRecursion (λ n. nat_cmp k n ≡ Less) (map (λ e. e.0) es) → below_all nat_cmp k es ≡ true
 all_below k [] h = refl
 all_below k (e ∷ es) h = ap (λ o. is_lt o && below_all nat_cmp k es) h.0 ∙ all_below k es h.1
 
+-- entries with sorted numbers are sorted as entries of a map
 risen_sorted : (es : Entries) → IsRisen (map (λ e. e.0) es) → is_sorted nat_cmp es ≡ true
 risen_sorted [] up = refl
 risen_sorted (e ∷ es) up = ap (λ b. b && is_sorted nat_cmp es) (all_below e.0 es up.0) ∙ risen_sorted es up.1
 
--- sorted entries put in turn are the entries of the map
+-- sorted entries, put into the empty map in turn, are the entries of that map
 entries_put : (es : Entries) → IsRisen (map (λ e. e.0) es) → entries (with_each empty es) ≡ es
 entries_put es up =
     let sorted : T (is_sorted nat_cmp es) = subst T (sym (risen_sorted es up)) tt in
@@ -126,6 +134,7 @@ abbrev want_entry : ℕ → Option ℕ → Entries
 want_entry n None = []
 want_entry n (Some want) = (n, want) ∷ []
 
+-- without any wants the group of an item is empty
 no_group : (i : ℕ) → group_of {V = ℕ} empty i ≡ empty
 no_group i = ap (λ o. unwrap_or o empty) (get-empty nat_cmp i)
 
@@ -158,7 +167,7 @@ module _ (item_of : ℕ → Option ℕ) (wants : FinMap nat_cmp ℕ) where
       by_test true h = h
       by_test false h = none_some want h
 
-  -- the want of a unit that asks for item `i` is the same among the wants for that item
+  -- a unit with a want for item `i` has the same want among all wants as among the wants for that item
   wants_the_same : (i n : ℕ) → is_some (get (mine i) n) ≡ true → want_of wants n ≡ want_of (mine i) n
   wants_the_same i n some = by_test (is_for i (item_of n)) refl
     where
@@ -170,7 +179,7 @@ module _ (item_of : ℕ → Option ℕ) (wants : FinMap nat_cmp ℕ) where
   abbrev pairs : ℕ → List ℕ → Entries
   pairs i ns = flat_map (λ n. want_entry n (get (mine i) n)) ns
 
-  -- the group of an item after one unit's want was put
+  -- putting in one unit's want, ahead of other entries, changes the group of its item alone, by that want
   one_put : (groups : Groups) (n : ℕ) (rest : Entries) (i : ℕ) → with_each (group_of (with_want item_of wants groups n) i) rest ≡ with_each (group_of groups i) (want_entry n (get (mine i) n) ++ rest)
   one_put groups n rest i = by_item (item_of n) (get wants n) ∙ sym (ap (λ o. with_each (group_of groups i) (want_entry n o ++ rest)) (mine_at i n))
     where
@@ -189,11 +198,12 @@ module _ (item_of : ℕ → Option ℕ) (wants : FinMap nat_cmp ℕ) where
                 ∙ sym (ap (λ b. with_each (group_of groups i) (want_entry n (cond b (Some v) None) ++ rest)) (other_number j i apart))
           ]
 
-  -- the group of an item after some units' wants were put has the wants for it
+  -- after some units' wants are put into the groups, the group of an item has the wants for it that these units have
   group_is : (groups : Groups) (ns : List ℕ) (i : ℕ) → group_of (fold (with_want item_of wants) groups ns) i ≡ with_each (group_of groups i) (pairs i ns)
   group_is groups [] i = refl
   group_is groups (n ∷ ns) i = group_is (with_want item_of wants groups n) ns i ∙ one_put groups n (pairs i ns) i
 
+  -- the entries of some units' wants for item `i` have the numbers of those with a want for it
   pair_keys : (i : ℕ) (ns : List ℕ) → map (λ e. e.0) (pairs i ns) ≡ filter (λ n. is_some (get (mine i) n)) ns
   pair_keys i [] = refl
   pair_keys i (n ∷ ns) = elim (get (mine i) n) as (λ o. map (λ e. e.0) (want_entry n o ++ pairs i ns) ≡ cond (is_some o) (n ∷ filter (λ k. is_some (get (mine i) k)) ns) (filter (λ k. is_some (get (mine i) k)) ns)) [
@@ -248,7 +258,7 @@ module _ (item_of : ℕ → Option ℕ) (pot_of : (item region : ℕ) → ℕ) (
         ap keys (group_is item_of wants empty ns i ∙ ap (λ m. with_each m (pairs item_of wants i ns)) (no_group i))
         ∙ ap (map (λ e. e.0)) (entries_put (pairs item_of wants i ns) (subst IsRisen (sym of_pairs) (takers_risen (mine item_of wants i) c.units r))) ∙ of_pairs
 
-    -- the code's shares of item `i` are these
+    -- the shares that the code finds for item `i` in the region are `of_item i`
     item_is : (i : ℕ) → item_shares_in pot_of wants r (i, group_of groups i) ≡ of_item i
     item_is i =
         let takers = takers_in (mine item_of wants i) c.units r in
@@ -303,10 +313,11 @@ module _ (item_of : ℕ → Option ℕ) (pot_of : (item region : ℕ) → ℕ) (
   abbrev share_at : ℕ → Option ℕ → Option (ℕ × ℕ)
   share_at n o = option_map (λ s. (n, s)) o
 
-  -- the shares of those units that have one of these wants, as entries
+  -- the shares of those units of some wants that have a share, as entries
   abbrev of_wants : Entries → Entries
   of_wants es = filter_map (λ e. share_at e.0 (gets e.0)) es
 
+  -- among the shares of listed units a unit is found with its share exactly if it is listed
   found_listed : (es : Entries) (n : ℕ) → find nat_cmp n (of_wants es) ≡ cond (is_some (find nat_cmp n es)) (gets n) None
   found_listed [] n = refl
   found_listed (e ∷ es) n = elim (cases_eq n e.0) [
@@ -338,11 +349,11 @@ module _ (item_of : ℕ → Option ℕ) (pot_of : (item region : ℕ) → ℕ) (
   pub shares_are : (given : FinMap nat_cmp ℕ) → ((n : ℕ) → get given n ≡ gets n) → given ≡ item_shares item_of pot_of wants c
   shares_are given at = same_map nat_cmp_total nat_cmp-IsAntisymmetric given (item_shares item_of pot_of wants c) (λ n. at n ∙ sym (shares_at n))
 
-  -- the shares of all regions, as the code puts them
+  -- the shares of all regions, in the order in which the code puts them in
   abbrev all_shares : Entries
   all_shares = flat_map (region_shares item_of pot_of wants c) (keys c.regions)
 
-  -- each share that is put is the unit's share by the definition
+  -- each share that the code puts in is the unit's share by the definition
   all_shares_agree : AgreeWith gets all_shares
   all_shares_agree = each_flat (λ e. gets e.0 ≡ Some e.1) (region_shares item_of pot_of wants c) (keys c.regions) (by_region (entries c.regions) (each-from_every (λ r q. get c.regions r ≡ Some q) c.regions (λ r q is. is)))
     where
@@ -350,7 +361,7 @@ module _ (item_of : ℕ → Option ℕ) (pot_of : (item region : ℕ) → ℕ) (
       by_region [] h = tt
       by_region (e ∷ es) h = (region_agrees e.0 (e.1, h.0), by_region es h.1)
 
-  -- each unit's share by the definition is put
+  -- each unit that has a share by the definition is among the shares that the code puts in
   none_missing : (n s : ℕ) → gets n ≡ Some s → is_some (find nat_cmp n all_shares) ≡ true
   none_missing n s is = by_item (item_of n) is
     where
@@ -363,14 +374,14 @@ module _ (item_of : ℕ → Option ℕ) (pot_of : (item region : ℕ) → ℕ) (
           of_item_in : ℕ → ℕ → Entries
           of_item_in i r = shares_in (pot_of i) (mine item_of wants i) c.units r
 
-  -- once no region is left to come, the map with the shares that were put has under each unit its share
+  -- once no region is left to come, the map into which all shares were put has under each unit its share
   pub all_items_put : (given : FinMap nat_cmp ℕ) (coming : List (ℕ × Region)) → coming ≡ []
       → with_each given (flat_map (region_shares item_of pot_of wants c) (map (λ e. e.0) coming)) ≡ with_each empty all_shares
       → (n : ℕ) → get given n ≡ item_share item_of pot_of wants c n
   all_items_put given [] none so_far n = ap (λ (m : FinMap nat_cmp ℕ). get m n) so_far ∙ agreeing_put gets all_shares all_shares_agree none_missing n
   all_items_put given (e ∷ coming) none so_far n = cc
 
-  -- in a region without a unit that has a want no share is put
+  -- in a region without a unit that has a want the code puts in no share
   pub nothing_put : (r : ℕ) → takers_in wants c.units r ≡ [] → region_shares item_of pot_of wants c r ≡ []
   nothing_put r nobody = ap (λ (gs : Groups). flat_map (item_shares_in pot_of wants r) (entries gs)) (unwanted empty (numbers_in r c.units) nobody) ∙ ap (flat_map (item_shares_in pot_of wants r)) (no_entries nat_cmp)
     where

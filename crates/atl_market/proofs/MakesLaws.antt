@@ -1,4 +1,4 @@
--- Laws of what units make in PRODUCE: the code's map is the one that is defined, and nobody makes more than it wants.
+-- Laws of what units make in PRODUCE: the code's map is the one that is defined, and no unit makes more than it wants.
 use Rattle.std.proofs.Common.{◌≡◌, ℕ, ◌<◌, ◌≤◌, Bool, true, false, cond, List, [], ◌∷◌, map, Option, Some, None, is_some, refl, sym, ap, subst, ◌∙◌, inl, inr, arith}
 use Rattle.std.specs.Prelude.{unwrap_or}
 use Rattle.std.specs.List.{AllByRecursion}
@@ -23,10 +23,12 @@ module _ (f : ℕ × ℕ → ℕ) where
   abbrev instead : List (ℕ × ℕ) → List (ℕ × ℕ)
   instead es = map (λ e. (e.0, f e)) es
 
+  -- other amounts under the same numbers leave the numbers above `k`
   above_instead : (k : ℕ) (es : List (ℕ × ℕ)) → AllByRecursion (λ e. k < e.0) es → AllByRecursion (λ e. k < e.0) (instead es)
   above_instead k [] above = tt
   above_instead k (e ∷ es) above = (above.0, above_instead k es above.1)
 
+  -- other amounts under the same numbers leave the numbers rising
   rise_instead : (es : List (ℕ × ℕ)) → Rise es → Rise (instead es)
   rise_instead [] rise = tt
   rise_instead (e ∷ es) rise = (above_instead e.0 es rise.0, rise_instead es rise.1)
@@ -47,7 +49,7 @@ module _ (f : ℕ × ℕ → ℕ) where
 -- ---- what is made
 
 module _ (asked : FinMap nat_cmp ℕ) (w : WorldValue) (c : CampaignValue) (wants : FinMap nat_cmp ℕ) where
-  -- the amounts made, put unit by unit, are the map of the definition
+  -- putting in the amounts made, unit by unit, gives the map of the definition
   pub makes_are : with_each empty (map (λ e. (e.0, made_by w asked c wants e)) (entries wants)) ≡ made_amounts asked w c wants
   makes_are = risen_put (instead (made_by w asked c wants) (entries wants)) (rise_instead (made_by w asked c wants) (entries wants) (entries_rise wants))
 

@@ -24,7 +24,7 @@ module _ (c : CampaignValue) (n : ℕ) (u : Unit) (money : ℕ) where
   richer = record c { units = insert c.units n paid_unit }
 
   module _ (is : get c.units n ≡ Some u) where
-    -- setting the money of a unit that is there gives this campaign
+    -- setting the money of a unit that is there gives the campaign `richer`
     pub richer_is : with_money c n (u.holding.money + money) ≡ richer
     richer_is = ap (λ m. record c { units = m }) (changed-known (λ (v : Unit). record v { holding = record v.holding { money = u.holding.money + money } }) c.units n u is)
 
@@ -35,7 +35,7 @@ module _ (c : CampaignValue) (n : ℕ) (u : Unit) (money : ℕ) where
     paid_no_worse : IsNoWorse u paid_unit
     paid_no_worse = record { faction = refl; region = refl; structure = refl; name = refl; guard = refl; men = omega arith; money = omega arith; items = λ i. omega arith; days = λ s. omega arith }
 
-    -- and nobody is worse off
+    -- more money for one unit leaves no unit worse off
     pub richer_no_worse : AreNoWorse c richer
     richer_no_worse k v there = elim (cases_eq k n) [
       | inl same ↦

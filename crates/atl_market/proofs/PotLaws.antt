@@ -37,17 +37,21 @@ refuted : {X : Type 0} (o : Option X) → ((x : X) → o ≡ Some x → ⊥) →
 refuted None h = refl
 refuted (Some x) h = absurd (h x refl)
 
+-- no number is less than itself
 not_itself : (n : ℕ) {P : Type 0} → nat_cmp n n ≡ Less → P
 not_itself n e = let l = ranked n n Less (sym e) in absurd (omega arith)
 
+-- if the first of two tests holds, one of them holds
 or_first : (a b : Bool) → a ≡ true → (a || b) ≡ true
 or_first true b h = refl
 or_first false b h = absurd (false≢true h)
 
+-- if the second of two tests holds, one of them holds
 or_later : (a b : Bool) → b ≡ true → (a || b) ≡ true
 or_later true b h = refl
 or_later false b h = h
 
+-- if one of two tests holds, and the first isn't that the order is Equal, the second holds
 not_first : (o : Ordering) (b : Bool) → (o ≡ Equal → ⊥) → (is_eq o || b) ≡ true → b ≡ true
 not_first Less b n h = h
 not_first Equal b n h = absurd (n refl)
@@ -118,7 +122,7 @@ found_tail e es n s apart is =
       | Greater ↦ λ _. is
     ] refl
 
--- ---- entries put in turn
+-- ---- entries put into a map in turn
 
 -- a number that none of the entries has keeps its value in the map
 pub left : (m : FinMap nat_cmp ℕ) (es : Entries) (n : ℕ) → find nat_cmp n es ≡ None → get (with_each m es) n ≡ get m n
@@ -140,7 +144,7 @@ put m (e ∷ es) n s apart h =
       | Greater ↦ λ _ _ is. put more es n s apart.1 is
     ] refl (get-insert nat_cmp_total m e.0 e.1 n) h
 
--- the map of such entries has under each number what is found among them
+-- a map into which entries with different numbers were put has under each number what is found among the entries
 pub found_put : (es : Entries) → IsApart es → (n : ℕ) → get (with_each empty es) n ≡ find nat_cmp n es
 found_put es apart n = by_find (find nat_cmp n es) refl
   where
@@ -153,11 +157,12 @@ none_under : (k : ℕ) (es : Entries) → AllByRecursion (λ e. k < e.0) es → 
 none_under k [] above = refl
 none_under k (e ∷ es) above = found_other e es k (λ same. absurd (omega (arith, same, above.0))) ∙ none_under k es above.1
 
+-- no two of the entries have the same number, if their numbers rise
 rise_apart : (es : Entries) → Rise es → IsApart es
 rise_apart [] rise = tt
 rise_apart (e ∷ es) rise = (none_under e.0 es rise.0, rise_apart es rise.1)
 
--- entries whose numbers rise, put in turn, are a map of these entries
+-- putting entries whose numbers rise into the empty map, in turn, gives the map of these entries
 pub risen_put : (es : Entries) → Rise es → with_each empty es ≡ from_entries es
 risen_put es rise = same_map nat_cmp_total nat_cmp-IsAntisymmetric _ _ (λ n. found_put es (rise_apart es rise) n ∙ sym (get-from_entries nat_cmp_total es n))
 
@@ -166,7 +171,7 @@ abbrev or_else : {V : Type 0} → Option V → Option V → Option V
 or_else None old = old
 or_else (Some s) old = Some s
 
--- in a map after entries were put, a number has its last entry's value, or else what the map had
+-- after entries were put into a map, a number has the value of its last entry, or else what the map had
 last_put : {V : Type 0} (m : FinMap nat_cmp V) (es : List (ℕ × V)) (n : ℕ) → get (with_each m es) n ≡ or_else (find nat_cmp n (reverse es)) (get m n)
 last_put m [] n = refl
 last_put {V} m (e ∷ es) n = last_put (insert m e.0 e.1) es n ∙ by_find (find nat_cmp n (reverse es)) refl ∙ sym (ap (λ fs. or_else (find nat_cmp n fs) (get m n)) (reverse-append (e ∷ []) es))
@@ -180,7 +185,7 @@ last_put {V} m (e ∷ es) n = last_put (insert m e.0 e.1) es n ∙ by_find (find
         by_test true = refl
         by_test false = refl
 
--- entries put in turn are the map of them in reverse, so of two with one number the later counts
+-- putting entries into the empty map in turn gives the map of them in reverse: of two with one number the later counts
 pub put_in_turn : {V : Type 0} (es : List (ℕ × V)) → with_each empty es ≡ from_entries (reverse es)
 put_in_turn {V} es = same_map nat_cmp_total nat_cmp-IsAntisymmetric _ _ (λ n.
     last_put empty es n ∙ ap (or_else (find nat_cmp n (reverse es))) (get-empty nat_cmp n) ∙ or_none (find nat_cmp n (reverse es)) ∙ sym (get-from_entries nat_cmp_total (reverse es) n))
@@ -200,6 +205,7 @@ module _ (f : ℕ → Entries) where
   abbrev GivesOne : ℕ → Type 0
   GivesOne n = (q r s t : ℕ) → find nat_cmp n (f q) ≡ Some s → find nat_cmp n (f r) ≡ Some t → s ≡ t
 
+  -- a number that no region's entries have isn't found among those of some regions
   nowhere : (n : ℕ) → ((r : ℕ) → find nat_cmp n (f r) ≡ None) → (rs : List ℕ) → find nat_cmp n (from_all rs) ≡ None
   nowhere n none [] = refl
   nowhere n none (r ∷ rs) = found_later n (f r) (from_all rs) (none r) ∙ nowhere n none rs
@@ -244,7 +250,7 @@ module _ (f : ℕ → Entries) where
           | Some t ↦ λ e. stays (with_each m (f r)) n t (λ q u is. one q r u t is e) (put m (f r) n t (apart r) e) rs ∙ sym (found_first n (f r) (from_all rs) t e) ∙ h
         ] refl
 
-    -- the entries of some regions put in turn are the map of them, where each number has one value
+    -- putting the entries of some regions into the empty map gives the map of them, if each number has one value
     with_each-from_entries : ((n : ℕ) → GivesOne n) → (rs : List ℕ) → with_each empty (from_all rs) ≡ from_entries (from_all rs)
     with_each-from_entries one rs = same_map nat_cmp_total nat_cmp-IsAntisymmetric _ _ (λ n.
         elim (find nat_cmp n (from_all rs)) as (λ o. find nat_cmp n (from_all rs) ≡ o → get (with_each empty (from_all rs)) n ≡ o) [
@@ -253,7 +259,7 @@ module _ (f : ℕ → Entries) where
         ] refl
         ∙ sym (get-from_entries nat_cmp_total (from_all rs) n))
 
--- ---- numbers beside amounts
+-- ---- pairs of numbers and amounts
 
 -- a number found among pairs of numbers and amounts is one of the numbers
 zip_found : (P : ℕ → Type 0) (ns ss : List ℕ) (n s : ℕ) → AllByRecursion P ns → find nat_cmp n (zip ns ss) ≡ Some s → P n
@@ -287,9 +293,10 @@ zip_all g (n ∷ ns) (s ∷ ss) l apart h =
     let rest : map g ns ≡ map Some ss = zip_all g ns ss (omega arith) apart.1 (λ k t is. h k t (found_tail (n, s) (zip ns ss) k t apart is)) in
     λ i. first i ∷ rest i
 
--- ---- units that stand in a region
+-- ---- units that are in a region
 
 module _ (p : ℕ → Bool) where
+  -- what holds of each number of a list holds of each that passes a test, and each of these passes it
   kept_each : (P : ℕ → Type 0) (ns : List ℕ) → AllByRecursion P ns → AllByRecursion (λ n. P n × (p n ≡ true)) (filter p ns)
   kept_each P [] h = tt
   kept_each P (n ∷ ns) h = either (kept_each P ns h.1) (p n) refl
@@ -298,6 +305,7 @@ module _ (p : ℕ → Bool) where
       either rest true e = ((h.0, e), rest)
       either rest false e = rest
 
+  -- the numbers of a sorted list that pass a test are sorted
   kept_risen : (ns : List ℕ) → IsRisen ns → IsRisen (filter p ns)
   kept_risen [] h = tt
   kept_risen (n ∷ ns) h = either (kept_risen ns h.1) (p n)
@@ -306,6 +314,7 @@ module _ (p : ℕ → Bool) where
       either rest true = (each_so _ _ (λ k both. both.0) (filter p ns) (kept_each (λ k. nat_cmp n k ≡ Less) ns h.0), rest)
       either rest false = rest
 
+  -- a number of a list that passes a test has an index among those that pass it
   kept_index : (ns : List ℕ) (n i : ℕ) → i < length ns → get_or ns i 0 ≡ n → p n ≡ true → (j : ℕ) × (j < length (filter p ns)) × (get_or (filter p ns) j 0 ≡ n)
   kept_index [] n i l at h = absurd (omega arith)
   kept_index (k ∷ ns) n zero l at h = subst (λ b. (j : ℕ) × (j < length (cond b (k ∷ filter p ns) (filter p ns))) × (get_or (cond b (k ∷ filter p ns) (filter p ns)) j 0 ≡ n)) (sym (ap p at ∙ h)) (0, omega arith, at)
@@ -324,10 +333,11 @@ module _ (r : ℕ) where
   abbrev listed : List (ℕ × Unit) → List ℕ
   listed es = numbers_among stands es
 
-  -- a unit, by its number, is among these and in region `r`
+  -- a unit, by its number, is among the listed units and in region `r`
   abbrev StandsIn : List (ℕ × Unit) → ℕ → Type 0
   StandsIn es n = (u : Unit) × (find nat_cmp n es ≡ Some u) × (u.region ≡ r)
 
+  -- each unit listed for region `r` is among the units and in that region
   listed_each : (es : List (ℕ × Unit)) → is_sorted nat_cmp es ≡ true → AllByRecursion (StandsIn es) (listed es)
   listed_each [] s = tt
   listed_each (e ∷ es) s =
@@ -337,6 +347,7 @@ module _ (r : ℕ) where
         | false ↦ λ _. behind
       ] refl)
 
+  -- a number below those of all units is below those of all units listed for region `r`
   listed_above : (k : ℕ) (es : List (ℕ × Unit)) → below_all nat_cmp k es ≡ true → AllByRecursion (λ n. nat_cmp k n ≡ Less) (listed es)
   listed_above k [] h = tt
   listed_above k (e ∷ es) h =
@@ -356,6 +367,7 @@ module _ (r : ℕ) where
         | false ↦ rest
       ])
 
+  -- each unit that is in region `r` has an index in the list of the region's units
   listed_index : (es : List (ℕ × Unit)) (n : ℕ) (u : Unit) → find nat_cmp n es ≡ Some u → stands u ≡ true → (i : ℕ) × (i < length (listed es)) × (get_or (listed es) i 0 ≡ n)
   listed_index [] n u is h = none_some u is
   listed_index (e ∷ es) n u is h =
@@ -374,13 +386,14 @@ module _ (r : ℕ) where
       here at true t = (0, omega arith, at)
       here at false t = absurd (false≢true t)
 
--- ---- takers
+-- ---- units with a want
 
 module _ (wants : FinMap nat_cmp ℕ) (units : FinMap nat_cmp Unit) where
   -- a unit, by its number, is in region `r` and has a want
   abbrev pub IsTaker : ℕ → ℕ → Type 0
   IsTaker r n = ((u : Unit) × (get units n ≡ Some u) × (u.region ≡ r)) × IsThere wants n
 
+  -- the units of a campaign are sorted by their numbers
   sorted_units : is_sorted nat_cmp (entries units) ≡ true
   sorted_units = sorted units
 
@@ -425,17 +438,17 @@ module _ (pot_of : ℕ → ℕ) (wants : FinMap nat_cmp ℕ) (units : FinMap nat
       let share : Some s ≡ Some t = sym is ∙ ap (λ k. find nat_cmp n (given_in k)) region ∙ also in
       cc
 
-  -- the shares of some regions put in turn are the map of them
+  -- putting the shares of some regions into the empty map, in turn, gives the map of them
   put_all : (rs : List ℕ) → with_each empty (flat_map given_in rs) ≡ from_entries (flat_map given_in rs)
   put_all rs = with_each-from_entries given_in given_apart gives_one rs
 
 module _ (pot_of : ℕ → ℕ) (wants : FinMap nat_cmp ℕ) (c : CampaignValue) where
-  -- the shares of all regions, put in turn, are the map of the definition
+  -- putting the shares of all regions into the empty map, in turn, gives the map `pot_shares` of the definition
   put_is : with_each empty (flat_map (shares_in pot_of wants c.units) (keys c.regions)) ≡ pot_shares pot_of wants c
   unfolding pot_shares
   put_is = put_all pot_of wants c.units (keys c.regions)
 
-  -- once no region is left to come, the map with the shares that were put in turn is the one of the definition
+  -- once no region is left to come, the map into which all shares were put is `pot_shares` of the definition
   pub all_put : (given : FinMap nat_cmp ℕ) (coming : List (ℕ × Region)) → coming ≡ []
       → with_each given (flat_map (shares_in pot_of wants c.units) (map (λ e. e.0) coming)) ≡ with_each empty (flat_map (shares_in pot_of wants c.units) (keys c.regions))
       → given ≡ pot_shares pot_of wants c
@@ -451,7 +464,7 @@ module _ (pot_of : ℕ → ℕ) (wants : FinMap nat_cmp ℕ) (c : CampaignValue)
   among : (r : ℕ) → IsThere c.regions r → list_any (eq_by_cmp nat_cmp r) (keys c.regions) ≡ true
   among r (v, is) = sym (contains_key-keys c.regions r) ∙ ap is_some is
 
-  -- the share of a unit is the one found among those of any region
+  -- a share found among those of a region of the campaign is the unit's share
   pub given_is : (r n s : ℕ) → IsThere c.regions r → find nat_cmp n (shares_in pot_of wants c.units r) ≡ Some s → share_of pot_of wants c n ≡ Some s
   given_is r n s region is = found_is n ∙ there (shares_in pot_of wants c.units) n r s (gives_one pot_of wants c.units n) is (keys c.regions) (among r region)
 
@@ -462,6 +475,7 @@ pub as_pairs : (P : ℕ → ℕ → Type 0) (es : Entries) → AllByRecursion (�
 as_pairs P [] h = tt
 as_pairs P (e ∷ es) h = (h.0, as_pairs P es h.1)
 
+-- a number that is in a map is still in it after another entry is put in
 some_more : (m : FinMap nat_cmp ℕ) (k v n : ℕ) → is_some (get m n) ≡ true → is_some (get (insert m k v) n) ≡ true
 some_more m k v n h = ap is_some (get-insert nat_cmp_total m k v n) ∙ elim (is_eq (nat_cmp n k)) as (λ b. is_some (cond b (Some v) (get m n)) ≡ true) [ true ↦ refl | false ↦ h ]
 
@@ -469,7 +483,7 @@ some_more m k v n h = ap is_some (get-insert nat_cmp_total m k v n) ∙ elim (is
 pub some_new : (m : FinMap nat_cmp ℕ) (n v : ℕ) → is_some (get (insert m n v) n) ≡ true
 some_new m n v = ap is_some (get-insert_same m n v)
 
--- a number that is in a map is there after entries are put
+-- a number that is in a map is still in it after entries are put in
 pub still_some : (m : FinMap nat_cmp ℕ) (es : List (ℕ × ℕ)) (n : ℕ) → is_some (get m n) ≡ true → is_some (get (with_each m es) n) ≡ true
 still_some m [] n h = h
 still_some m (e ∷ es) n h = still_some (insert m e.0 e.1) es n (some_more m e.0 e.1 n h)
@@ -479,6 +493,7 @@ module _ (wants : FinMap nat_cmp ℕ) (c : CampaignValue) where
   abbrev asked_at : ℕ × ℕ → Entries
   asked_at e = region_at e.0 (get c.units e.0)
 
+  -- the region of each unit with an entry is in the map into which the regions of these units were put
   asked_each : (m : FinMap nat_cmp ℕ) (es : Entries) → AllByRecursion (λ e. (u : Unit) → get c.units e.0 ≡ Some u → is_some (get (with_each m (flat_map asked_at es)) u.region) ≡ true) es
   asked_each m [] = tt
   asked_each m (e ∷ es) =
@@ -503,8 +518,9 @@ module _ (wants : FinMap nat_cmp ℕ) (c : CampaignValue) where
           let ((u, at, here), want) = all.0 in
           absurd (false≢true (sym free ∙ ap (λ k. is_some (get (regions_with_wants wants c) k)) (sym here) ∙ taker_asks n u want at))
 
--- ---- the laws
+-- ---- the laws of `pot_shares`
 
+-- the units of a region that have a want get the shares of its pot by their wants, in unit order
 pub shares_each_pot : SharesEachPot
 shares_each_pot pot_of wants c r region =
     let takers = takers_in wants c.units r in
@@ -512,6 +528,7 @@ shares_each_pot pot_of wants c r region =
     let long : length given ≡ length takers = length-shares (pot_of r) (wants_in wants c.units r) ∙ length-map takers (want_of wants) in
     zip_all (share_of pot_of wants c) takers given long (given_apart pot_of wants c.units r) (λ n s is. given_is pot_of wants c r n s region is)
 
+-- each unit that has a want and is in a region of the campaign has a share, at most its want
 pub each_taker_gets : EachTakerGets
 each_taker_gets pot_of wants c n want u wanted is region =
     let r = u.region in
@@ -525,6 +542,7 @@ each_taker_gets pot_of wants c n want u wanted is region =
     let amount : get_or (wants_in wants c.units r) i 0 ≡ want = get_or-map (want_of wants) takers i 0 0 low ∙ ap (want_of wants) at ∙ ap (λ o. unwrap_or o 0) wanted in
     (get_or given i 0, share, subst (λ w. get_or given i 0 ≤ w) amount (share_at_most (pot_of r) (wants_in wants c.units r) i))
 
+-- each unit that has a share wants at least that much, and is in a region of the campaign
 pub only_takers_get : OnlyTakersGet
 only_takers_get pot_of wants c n s is =
     let (r, region, given) = somewhere (shares_in pot_of wants c.units) n s (keys c.regions) (sym (found_is pot_of wants c n) ∙ is) in
@@ -550,11 +568,13 @@ amounts g ns ss h = mapped ns ∙ ap (map (λ o. unwrap_or o 0)) h ∙ back ss
     back [] = refl
     back (s ∷ ss) = ap (λ l. s ∷ l) (back ss)
 
+-- the units of a region that have a want get its whole pot together, or all that they want if that is less
 pub gives_each_pot : GivesEachPot
 gives_each_pot pot_of wants c r region =
     ap sum (amounts (share_of pot_of wants c) (takers_in wants c.units r) (shares (pot_of r) (wants_in wants c.units r)) (shares_each_pot pot_of wants c r region))
     ∙ all_is_given (pot_of r) (wants_in wants c.units r)
 
+-- the shares in a region follow from its pot, its units with a want and their wants alone
 pub other_regions_do_not_count : OtherRegionsDoNotCount
 other_regions_do_not_count pot_of other_pots wants other_wants c other r here there pots takers wanted =
     shares_each_pot pot_of wants c r here

@@ -1,4 +1,5 @@
--- Laws of PRODUCE: it leaves a campaign well, takes nothing from units without an order, and its items can be made in turn.
+-- Laws of PRODUCE: it keeps a campaign steady, its books balanced and units without an order as they are; all shares
+-- can be made.
 use Rattle.std.proofs.Common.{◌≡◌, ◌≢◌, ◌==◌, ℕ, ◌+◌, ◌-◌, ◌*◌, ◌/◌, ◌≤◌, ◌<◌, Bool, true, false, List, [], ◌∷◌, length, Option, Some, None, refl, sym, subst, ◌∙◌, arith}
 use Rattle.std.specs.Prelude.{ℤ, IfSome, fold, min, if◌then◌else◌}
 use Rattle.std.specs.List.{AllByRecursion, slice_get}
@@ -47,10 +48,12 @@ use Rattle.atl_market.proofs.WantLaws.{few_given, given_is_named}
 
 -- ---- what is moved
 
+-- a bound that is a holding's limit or 0 is at most a holding's limit
 on : (b : Bool) → (if b then holding_limit else 0) ≤ holding_limit
 on true = omega arith
 on false = omega arith
 
+-- a bound for one amount of the books is 0 for another amount
 off : (a b : ℕ) → a ≢ b → (if a == b then holding_limit else 0) ≤ 0
 off a b apart = let other : (a == b) ≡ false = grind (arith, nat_tests) in rw other (omega arith)
 
@@ -66,15 +69,17 @@ made_less i booked.Made (things.Item j) = on (amount_number booked.Made (things.
 made_less i booked.Used (things.Item j) = on (amount_number booked.Used (things.Item j) == amount_number booked.Made (things.Item i))
 made_less i e t = off (amount_number e t) (amount_number booked.Made (things.Item i)) (omega arith)
 
--- many steps within one bound of PRODUCE are within a greater one
+-- many steps within PRODUCE's bound for `one` are within its bound for `all`, if `steps * one` is at most `all`
 scaled : (steps one all : ℕ) → steps * one ≤ all → (e : Entry) (t : Thing) → steps * produce_moves one e t ≤ produce_moves all e t
 scaled steps one all few booked.Made (things.Item i) = few
 scaled steps one all few booked.Used (things.Item i) = few
 scaled steps one all few e t = omega arith
 
+-- the bound on using an item is 0 under Made
 used_none : (r j : ℕ) → (if amount_number booked.Made (things.Item j) == amount_number booked.Used (things.Item r) then holding_limit else 0) ≤ 0
 used_none r j = off (amount_number booked.Made (things.Item j)) (amount_number booked.Used (things.Item r)) (omega arith)
 
+-- the bound on making an item is 0 under Used
 made_none : (i j : ℕ) → (if amount_number booked.Used (things.Item j) == amount_number booked.Made (things.Item i) then holding_limit else 0) ≤ 0
 made_none i j = off (amount_number booked.Used (things.Item j)) (amount_number booked.Made (things.Item i)) (omega arith)
 
@@ -84,7 +89,7 @@ both_less r i booked.Made (things.Item j) = omega (arith, used_none r j, made_le
 both_less r i booked.Used (things.Item j) = omega (arith, used_less r booked.Used (things.Item j), made_none i j)
 both_less r i e t = omega (arith, used_less r e t, made_less i e t)
 
--- books with room for moving one amount by a holding have it for that amount
+-- books with room under the bound that moves one amount alone, by a holding's limit, have that room for that amount
 pub only_room : (e : Entry) (t : Thing) (z : ℤ) → HasRoom (moves_only holding_limit e t e t) z → HasRoom holding_limit z
 only_room e t z room = subst (λ b. HasRoom (if b then holding_limit else 0) z) (same_number (amount_number e t)) room
 
@@ -108,7 +113,7 @@ module _ (asked : FinMap nat_cmp ℕ) (w : WorldValue) (c : CampaignValue) (e : 
           room = less_room (e.1 * x.raw_count) holding_limit (amount_in c.books booked.Used (things.Item r)) (omega (arith, fits.raw r raw, held r)) (can.room booked.Used (things.Item r));
         }
 
-    -- an item without raw items can be made
+    -- the unit can make the item at once, before raw items are used
     can_at_once : CanMake w c e.0 i e.1
     can_at_once =
         let fits = can.fits i x told there in
@@ -121,7 +126,7 @@ module _ (asked : FinMap nat_cmp ℕ) (w : WorldValue) (c : CampaignValue) (e : 
           room = less_room e.1 holding_limit (amount_in c.books booked.Made (things.Item i)) (omega (arith, fits.fits)) (can.room booked.Made (things.Item i));
         }
 
-    -- an item can be made after its raw items were used
+    -- the unit can still make the item after it used the raw items
     can_behind : (r : ℕ) → x.raw ≡ Some r → CanMake w (with_used c e.0 r (e.1 * x.raw_count)) e.0 i e.1
     can_behind r raw =
         let fits = can.fits i x told there in
@@ -143,7 +148,7 @@ module _ (asked : FinMap nat_cmp ℕ) (w : WorldValue) (c : CampaignValue) (e : 
         below : (a b : ℕ) → a ≤ b → b + e.1 ≤ holding_limit → a + e.1 ≤ holding_limit
         below a b l m = omega (arith, l, m)
 
-    -- the unit can make the item after it used the raw items
+    -- the unit can make the item after it used the raw items, if any go into it
     can_make_then : CanMake w (with_raw_used c e.0 (e.1 * x.raw_count) x.raw) e.0 i e.1
     can_make_then = by_raw x.raw refl
       where
@@ -159,7 +164,7 @@ module _ (asked : FinMap nat_cmp ℕ) (w : WorldValue) (c : CampaignValue) (e : 
       make = can_make_then;
     }
 
-    -- using the raw items and making the item leaves the campaign well
+    -- using the raw items and making the item keeps the campaign steady and its books balanced, within PRODUCE's bound
     item_well : LeavesWell IsSteady (produce_moves holding_limit) w c (with_made (with_raw_used c e.0 (e.1 * x.raw_count) x.raw) e.0 i e.1)
     item_well = by_raw x.raw refl
       where
@@ -172,7 +177,7 @@ module _ (asked : FinMap nat_cmp ℕ) (w : WorldValue) (c : CampaignValue) (e : 
             well_within (both_move one two) (produce_moves holding_limit) w c (with_made d e.0 i e.1) (both_less r i)
             (both_leave_well one two w c d (with_made d e.0 i e.1) (used_well w c e.0 r (e.1 * x.raw_count) (can_use r is)) (made_well w d e.0 i e.1 (can_behind r is)))
 
-  -- making by a unit leaves the campaign well
+  -- the production of a unit keeps the campaign steady and its books balanced, if the unit can produce so much
   pub produced_well : CanProduce asked w c e → LeavesWell IsSteady (produce_moves holding_limit) w c (after_production asked w c e)
   unfolding after_production
   produced_well can =
@@ -180,10 +185,11 @@ module _ (asked : FinMap nat_cmp ℕ) (w : WorldValue) (c : CampaignValue) (e : 
       by_option (λ d. LeavesWell IsSteady (produce_moves holding_limit) w c d) _ (get asked e.0) c unchanged (λ i told.
       by_option (λ d. LeavesWell IsSteady (produce_moves holding_limit) w c d) _ (slice_get w.items i) c unchanged (λ x is. item_well can i x told is))
 
-  -- unit `k` is in this campaign as it was
+  -- unit `k` is in campaign `d` as it was in `c`
   abbrev IsStill : ℕ → CampaignValue → Type 0
   IsStill k d = get d.units k ≡ get c.units k
 
+  -- the production of a unit leaves the other units as they are
   pub produced_others : (k : ℕ) → k ≢ e.0 → get (after_production asked w c e).units k ≡ get c.units k
   unfolding after_production
   produced_others k apart =
@@ -193,6 +199,7 @@ module _ (asked : FinMap nat_cmp ℕ) (w : WorldValue) (c : CampaignValue) (e : 
       made_others w (with_raw_used c e.0 amount x.raw) e.0 i e.1 k apart
       ∙ by_option (IsStill k) (λ r. with_used c e.0 r amount) x.raw c refl (λ r raw. used_others w c e.0 r amount k apart)))
 
+-- PRODUCE leaves each unit for which its own faction wrote no order of PRODUCE no worse off
 pub produce_keeps_others : (w : WorldValue) (c : CampaignValue) (os : List Task) → OthersAreNoWorse os c (after_sharing produce_pots w c os)
 produce_keeps_others w c os = others_no_worse produce_pots w (λ items. produced_others items w) c (makes_give w c) os
 
@@ -225,25 +232,30 @@ module _ (w : WorldValue) (c : CampaignValue) (os : List Task) where
       by_item u None low fine named = absurd (needs_item w u.holding fine)
       by_item u (Some i) low fine named = subst (λ o. made ≤ most_makeable w u.holding o) (sym (named i refl)) low
 
+-- what the raw items allow, up to `most`, is at most `most`
 up_to_most : (h : HoldingValue) (count : ℕ) (raw : Option ℕ) (most : ℕ) → up_to_raw h count raw most ≤ most
 up_to_most h count None most = omega arith
 up_to_most h count (Some r) most = omega arith
 
+-- what the raw items allow is at most the raw items held, divided by `count` and rounded down
 up_to_held : (h : HoldingValue) (count : ℕ) (raw : Option ℕ) (most r : ℕ) → raw ≡ Some r → up_to_raw h count raw most ≤ amount_of h.items r / count
 up_to_held h count raw most r is = subst (λ o. up_to_raw h count o most ≤ amount_of h.items r / count) (sym is) (omega arith)
 
+-- what is at most the room left in a holding can be added within its limit
 has_room : (made skilled limit held most : ℕ) → held ≤ limit → made ≤ most → most ≤ min skilled (limit - held) → held + made ≤ limit
 has_room made skilled limit held most fits low least = omega (arith, fits, low, least)
 
+-- for at most `held / count` pieces, at `count` each, what is held is enough
 has_raw : (made count held : ℕ) → made ≤ held / count → made * count ≤ held
 has_raw made count held low = omega (arith, mul-le-mul_right count low, mul-div-le held count, mul_comm (held / count) count)
 
+-- the raw item of an item of the world is an item of the world
 raw_in : (items r : ℕ) (o : Option ℕ) → o ≡ Some r → IfSome o (λ k. k < items) → r < items
 raw_in items r None is known = none_some r is
 raw_in items r (Some k) is known = let same : k ≡ r = cc in subst (λ m. m < items) same known
 
 module _ (asked : FinMap nat_cmp ℕ) (w : WorldValue) (c : CampaignValue) (world : IsWorld w) (steady : IsSteady w c) where
-  -- a unit has room and raw items for as much as it can make
+  -- a unit has room and raw items for at most as much as it can make, in a steady campaign of a world
   fits_by : (n made : ℕ) (u : Unit) → get c.units n ≡ Some u → made ≤ most_makeable w u.holding (get asked n) → (i : ℕ) (x : Item) → get asked n ≡ Some i → slice_get w.items i ≡ Some x → HasRoomAndRaw w u made i x
   fits_by n made u there low i x told is =
       let all : made ≤ most_makeable_of u.holding i x = subst (λ o. made ≤ option_map_or (most_makeable_of u.holding i) o 0) is (subst (λ o. made ≤ most_makeable w u.holding o) told low) in
@@ -256,22 +268,23 @@ module _ (asked : FinMap nat_cmp ℕ) (w : WorldValue) (c : CampaignValue) (worl
         raw = λ r raw. has_raw made x.raw_count (amount_of u.holding.items r) (omega (arith, all, up_to_held u.holding x.raw_count x.raw most r raw));
       }
 
--- ---- all steps can be taken
+-- ---- all shares can be made in turn
 
 -- the unit of a share is there, and has room and raw items for so much of its item
 abbrev HasRoomFor : (FinMap nat_cmp ℕ) → WorldValue → CampaignValue → ℕ × ℕ → Type 0
 HasRoomFor asked w c e = (u : Unit) × (get c.units e.0 ≡ Some u) × ((i : ℕ) (x : Item) → get asked e.0 ≡ Some i → slice_get w.items i ≡ Some x → HasRoomAndRaw w u e.1 i x)
 
 module _ (asked : FinMap nat_cmp ℕ) (w : WorldValue) where
+  -- the bound on what the production of one unit books
   abbrev step_moves : BookBound
   step_moves = produce_moves holding_limit
 
-  -- the units still to come have room after another unit changed
+  -- the units that have not made theirs yet have room after a unit with a lower number changed
   still : (c d : CampaignValue) (n : ℕ) (es : List (ℕ × ℕ)) → ((k : ℕ) → k ≢ n → get d.units k ≡ get c.units k) → AllByRecursion (λ f. n < f.0) es → AllByRecursion (HasRoomFor asked w c) es → AllByRecursion (HasRoomFor asked w d) es
   still c d n [] same above all = tt
   still c d n (f ∷ es) same above ((u, there, fits), all) = ((u, same f.0 (λ e. absurd (omega (arith, e, above.0))) ∙ there, fits), still c d n es same above.1 all)
 
-  -- shares for which the units and the books have room can be made in turn
+  -- shares can be made in turn, if each unit has room and raw items for its own and the books have room for all
   pub produce_in_turn : (c : CampaignValue) (es : List (ℕ × ℕ)) → Rise es → IsSteady w c → HaveRoom (moved_times (length es) step_moves) c → AllByRecursion (HasRoomFor asked w c) es → CanInTurn (CanProduce asked w) (after_production asked w) c es
   produce_in_turn c [] rise steady room all = tt
   produce_in_turn c (e ∷ es) rise steady room ((u, there, fits), all) =
@@ -283,17 +296,21 @@ module _ (asked : FinMap nat_cmp ℕ) (w : WorldValue) where
       )
 
 module _ (w : WorldValue) (c : CampaignValue) (world : IsWorld w) (steady : IsSteady w c) (os : List Task) where
+  -- the amounts that units make, with their numbers, sorted by unit
   abbrev shares : List (ℕ × ℕ)
   shares = entries (given_by produce_pots w c os)
 
+  -- the item that each unit's order names
   abbrev named : FinMap nat_cmp ℕ
   named = items_by produce_pots w c os
 
+  -- each unit that makes something is there and has room and raw items for it
   each_fits : Every (λ n made. HasRoomFor named w c (n, made)) (given_by produce_pots w c os)
   each_fits n made is =
       let (u, there, low) = given_can w c os n made is in
       (u, there, fits_by named w c world steady n made u there low)
 
+  -- at most as many units make something as there may be units
   few : length shares ≤ most_units
   few = omega (arith, few_given produce_pots w c (makes_give w c) os, steady.numbers.few_units)
 
@@ -301,12 +318,14 @@ module _ (w : WorldValue) (c : CampaignValue) (world : IsWorld w) (steady : IsSt
   little : MovesLess (moved_times (length shares) (produce_moves holding_limit)) (produce_moves most_moved)
   little e t = scaled (length shares) holding_limit most_moved (omega (arith, few)) e t
 
-  -- all shares of PRODUCE can be made in turn
+  -- all shares of PRODUCE can be made in turn, in a steady campaign whose books have room for the phase
   pub can_share_out : HaveRoom (produce_moves most_moved) c → CanInTurn (CanProduce named w) (after_production named w) c shares
   can_share_out room =
       produce_in_turn named w c shares (entries_rise (given_by produce_pots w c os)) steady (room_less (moved_times (length shares) (produce_moves holding_limit)) (produce_moves most_moved) c little room)
       (all_pairs (HasRoomFor named w c) shares (each-from_every (λ n made. HasRoomFor named w c (n, made)) (given_by produce_pots w c os) each_fits))
 
+  -- PRODUCE keeps a steady campaign steady and its books balanced, within the phase's bound, if the books have room for
+  -- it
   pub produce_leaves_well : HaveRoom (produce_moves most_moved) c → LeavesWell IsSteady (produce_moves most_moved) w c (after_sharing produce_pots w c os)
   unfolding after_sharing
   produce_leaves_well room =

@@ -1,4 +1,5 @@
--- Laws of RECRUIT: it leaves a campaign well, takes nothing from units without an order, and its payments can be made in turn.
+-- Laws of RECRUIT: it keeps a campaign early, its books balanced and units without an order as they are; all shares can
+-- be given.
 use Rattle.std.proofs.Common.{◌≡◌, ◌≢◌, ℕ, ◌+◌, ◌-◌, ◌*◌, ◌/◌, ◌≤◌, Some, List, [], ◌∷◌, length, refl, sym, ap, subst, ◌∙◌, arith}
 use Rattle.std.specs.Prelude.{ℤ, fold, pos, neg_ℤ, min}
 use Rattle.std.specs.Option.{option_map_or}
@@ -49,6 +50,7 @@ use Rattle.atl_market.proofs.PotLaws.{pots_give}
 use Rattle.atl_market.proofs.WantLaws.{few_given, given_is_wanted}
 use Rattle.atl_market.specs.Payable.{CanRecruit}
 
+-- the peasants of a region, from which its pot is drawn
 abbrev peasants_of : Region → ℕ
 peasants_of q = q.peasants
 
@@ -75,18 +77,20 @@ module _ (w : WorldValue) (c : CampaignValue) (n : ℕ) (u : Unit) (q : Region) 
   abbrev more : HoldingValue
   more = with_paid_recruits u.holding recruits cost
 
+  -- the campaign in which the unit has the recruits; the peasants are still there and nothing is booked yet
   abbrev peopled : CampaignValue
   peopled = joined c n u recruits cost
 
+  -- the campaign in which the recruits have joined the unit and left the region; nothing is booked yet
   abbrev left : CampaignValue
   left = region_changed (leave q recruits) peopled u.region
 
-  -- the steps of recruiting give this campaign
+  -- setting the unit, the peasants and the books, as recruiting does, gives the campaign `after`
   recruits_are : with_amount (with_peasants (with_holding c n more) u.region (q.peasants - recruits)) Recruiting Money (neg_ℤ (pos cost)) ≡ after
   recruits_are = ap (λ o. with_amount (with_peasants (with_held c n more o) u.region (q.peasants - recruits)) Recruiting Money (neg_ℤ (pos cost))) is
 
   module _ (fits : u.holding.men + recruits ≤ men_limit) (payable : cost ≤ u.holding.money) (enough : recruits ≤ q.peasants) (early : IsEarly w c) where
-    -- the unit may hold that
+    -- the unit's holding with its recruits keeps all rules of holdings
     may : MayHave w more
     may =
         let old = may_have w c n u is early.steady in
@@ -99,7 +103,7 @@ module _ (w : WorldValue) (c : CampaignValue) (n : ℕ) (u : Unit) (q : Region) 
           days = λ s days there. let (some, most) = old.days s days there in (some, omega (arith, most));
         }
 
-    -- unit and region keep their people together, and the money that is paid is booked
+    -- unit and region together have the people that they had, and the money that the unit pays is booked
     together : KeepsTogether u q (leave q recruits) more (neg_ℤ (pos cost))
     together = record { money = omega (arith, ints, payable); people = omega (arith, enough); items = λ i. refl }
 
@@ -110,9 +114,9 @@ module _ (w : WorldValue) (c : CampaignValue) (n : ℕ) (u : Unit) (q : Region) 
         (steady-region (leave q recruits) peopled u.region q around w (IsRegion-peasants q (q.peasants - recruits) (omega (arith, within.peasants)) within) (early.steady.known.markets u.region q around))
         together (within-neg cost holding_limit (omega (arith, payable, (may_have w c n u is early.steady).limits.money))) early
 
--- ---- what is marked
+-- ---- marks
 
--- setting a region's peasants and booking their cost sets the dirty flags of all that changes
+-- setting a region's peasants and booking the cost of its recruits marks all that changes
 pub leaving_marks : (c d e : MarkedCampaign) (region peasants : ℕ) (z : ℤ) → d.value ≡ with_peasants c.value region peasants → d.marks ≡ mark_region c region
     → e.value ≡ with_amount d.value Recruiting Money z → e.marks ≡ mark_amount d Recruiting Money → MarksChanges c e
 leaving_marks c d e region peasants z d_is d_marks e_is e_marks =
@@ -123,7 +127,7 @@ leaving_marks c d e region peasants z d_is d_marks e_is e_marks =
 pub held_is : (c d : CampaignValue) (n : ℕ) (u : Unit) (h : HoldingValue) → get c.units n ≡ Some u → d ≡ with_holding c n h → d ≡ record c { units = insert c.units n (record u { holding = h }) }
 held_is c d n u h is same = same ∙ ap (with_held c n h) is
 
--- setting a unit's men and then its money replaces its holding by one with these
+-- setting a unit's men and then its money replaces its holding by one with the new men and money
 pub joined_is : (a b c : CampaignValue) (n : ℕ) (u : Unit) (men money : ℕ) → get a.units n ≡ Some u → b ≡ state.with_men a n men → c ≡ with_money b n money → c ≡ with_holding a n (record u.holding { men = men; money = money })
 joined_is a b c n u men money is b_is c_is =
     let peopled = record u { holding = record u.holding { men = men } } in
@@ -134,7 +138,7 @@ joined_is a b c n u men money is b_is c_is =
     let second : changed (λ u. record u { holding = record u.holding { money = money } }) b.units n ≡ insert a.units n paid = ap (changed_at _ b.units n) there ∙ ap (λ m. insert m n paid) units ∙ insert_over a.units n peopled paid in
     c_is ∙ ap (λ m. record b { units = m }) second ∙ ap (λ (s : CampaignValue). record s { units = insert a.units n paid }) b_is ∙ sym (ap (with_held a n (record u.holding { men = men; money = money })) is)
 
--- setting a unit's men and money sets the dirty flags of all that changes
+-- setting a unit's men and then its money marks all that changes
 pub joined_marks : (a b c : MarkedCampaign) (n men money : ℕ) → b.value ≡ state.with_men a.value n men → b.marks ≡ mark_unit_row a n → c.value ≡ with_money b.value n money → c.marks ≡ mark_unit_row b n → MarksChanges a c
 joined_marks a b c n men money b_is b_marks c_is c_marks =
     marks-trans a b c (marks_by a b _ b_is b_marks (marks-unit_row (λ u. record u { holding = record u.holding { men = men } }) (λ u. refl) a n))
@@ -147,20 +151,22 @@ module _ (w : WorldValue) (c : CampaignValue) (e : ℕ × ℕ) where
   abbrev price : ℕ
   price = e.1 * w.rules.recruit_price
 
-  -- recruiting by a unit that is there, in a region that is there, gives the campaign above
+  -- recruiting by a unit that is there, in a region that is there, gives the campaign `recruited_to` of its share
   pub recruited_is : (u : Unit) (q : Region) → get c.units e.0 ≡ Some u → get c.regions u.region ≡ Some q → after_recruiting w c e ≡ recruited_to c e.0 u q e.1 price
   unfolding after_recruiting
   recruited_is u q is around = unit_there c e.0 _ u is ∙ region_there c u.region _ q around ∙ recruits_are w c e.0 u q e.1 price is around
 
+  -- recruiting by a unit that can recruit gives the campaign `recruited_to` of its share
   made_is : (can : CanRecruit w c e) → after_recruiting w c e ≡ recruited_to c e.0 can.at.unit can.at.region e.1 price
   made_is can = recruited_is can.at.unit can.at.region can.at.there can.at.around
 
-  -- recruiting by a unit leaves the campaign well
+  -- recruiting by a unit that can recruit keeps the campaign early and its books balanced, and books only what it pays
   pub recruited_well : CanRecruit w c e → LeavesWell IsEarly (recruit_moves holding_limit) w c (after_recruiting w c e)
   recruited_well can =
       subst (λ d. LeavesWell IsEarly (recruit_moves holding_limit) w c d) (sym (made_is can))
       (recruits_leave_well w c e.0 can.at.unit can.at.region e.1 price can.at.there can.at.around can.fits can.payable can.enough can.early)
 
+  -- recruiting by a unit that can recruit takes its recruits out of its region's peasants, and out of no other region's
   recruited_drains : (can : CanRecruit w c e) (units : FinMap nat_cmp Unit) → get units e.0 ≡ Some can.at.unit → Drains (region_pots units peasants_of) c e (after_recruiting w c e)
   recruited_drains can units there =
       one_drains units peasants_of c e can.at.unit can.at.region there can.at.around (after_recruiting w c e) (leave can.at.region e.1) (ap (λ (d : CampaignValue). d.regions) (made_is can)) (less can.at.region.peasants can.enough)
@@ -177,16 +183,18 @@ module _ (w : WorldValue) (c : CampaignValue) (e : ℕ × ℕ) where
       ap (λ o. get (with_held c e.0 (with_paid_recruits u.holding e.1 price) o).units k) is
       ∙ get-insert_other c.units e.0 k (record u { holding = with_paid_recruits u.holding e.1 price }) apart))
 
+-- RECRUIT leaves each unit for which its own faction wrote no order of RECRUIT no worse off
 pub recruit_keeps_others : (w : WorldValue) (c : CampaignValue) (os : List Task) → OthersAreNoWorse os c (after_sharing recruit_pots w c os)
 recruit_keeps_others w c os = others_no_worse recruit_pots w (λ items. recruited_others w) c (λ items. pots_give (recruits_at w c) c) os
 
--- ---- all steps can be taken
+-- ---- all shares can be given in turn
 
+-- the bound on what recruiting by one unit books
 abbrev step_moves : BookBound
 step_moves = recruit_moves holding_limit
 
 module _ (w : WorldValue) (c : CampaignValue) where
-  -- the pots of RECRUIT, by region: their peasants
+  -- the pots of RECRUIT, by region: the peasants of each region
   abbrev pots : DrawnPots ℕ
   pots = region_pots c.units peasants_of
 
@@ -202,7 +210,7 @@ module _ (w : WorldValue) (c : CampaignValue) where
   abbrev CanBook : CampaignValue → List (ℕ × ℕ) → Type 0
   CanBook d es = HaveRoom (moved_times (length es) step_moves) d
 
-  -- the first of the shares still to come can be given
+  -- the first of the shares still to come can be given, if the books have room for all of them
   first_can : (d : CampaignValue) (e : ℕ × ℕ) (es : List (ℕ × ℕ)) → AreToJoin d (e ∷ es) → CanBook d (e ∷ es) → CanRecruit w d e
   first_can d e es ready room =
       let (u, there, fits, payable) = ready.fits.0 in
@@ -211,7 +219,7 @@ module _ (w : WorldValue) (c : CampaignValue) where
       let draws = one_draws c.units peasants_of d e u q there around es ready.enough in
       record { at = record { unit = u; there = now; region = q; around = around }; fits = fits; payable = payable; enough = draws; early = ready.early; room = first_room step_moves d e es room }
 
-  -- the shares still to come can be given in turn
+  -- the shares still to come can be given in turn, if the books have room for all of them
   all_can : (d : CampaignValue) (es : List (ℕ × ℕ)) → AreToJoin d es → CanBook d es → CanInTurn (CanRecruit w) (after_recruiting w) d es
   all_can d [] ready room = tt
   all_can d (e ∷ es) ready room =
@@ -257,7 +265,7 @@ module _ (w : WorldValue) (c : CampaignValue) where
     little : (e : Entry) (t : Thing) → moved_times (length shares) step_moves e t ≤ recruit_moves most_moved e t
     little e t = few_holdings (length shares) few Recruiting Money e t
 
-    -- all shares of RECRUIT can be given in turn
+    -- all shares of RECRUIT can be given in turn, in an early campaign whose books have room for the phase
     pub can_share_out : CanInTurn (CanRecruit w) (after_recruiting w) c shares
     can_share_out = all_can c shares (record {
       early = early;

@@ -1,4 +1,5 @@
--- Laws of the shares of a pot: none is above its want, all is given, each is near its part; and of the code's running remainder.
+-- Laws of the shares of a pot: no share is above its want, all is given, each is within one of its part; and of the
+-- remainder.
 use Rattle.std.proofs.Common.{◌≡◌, ℕ, ◌+◌, ◌-◌, ◌*◌, ◌/◌, ◌%◌, ◌<◌, ◌≤◌, List, [], ◌∷◌, ◌++◌, length, get_or, min, inl, inr, zero, suc, sum, refl, ap, sym, ◌∙◌, add-zero, zero-add, arith}
 use Rattle.std.proofs.Math.Nat.{mul-div-le, mul-add, add-mul-div_left, div-add-mod, mod-lt, mul-div_left, mul-zero, zero-div, div-lt_iff_lt-mul, lt-mul-div-succ, div-le_of_le-mul, mul-le-mul_left, le-div_iff_mul-le, mul_comm}
 use Rattle.std.proofs.lemmas.List.Sums.{sum_by-cons, sum_by-append}
@@ -10,7 +11,7 @@ use Rattle.atl_market.specs.Share.{IsNearPart, SplittingKeepsOthers, share_upto,
 quotient : (pot total x : ℕ) → 0 < total → (total * share_upto pot total x ≤ pot * x) × (pot * x < total * share_upto pot total x + total)
 quotient pot total x p = (mul-div-le (pot * x) total, omega (arith, lt-mul-div-succ (pot * x) p))
 
--- what more of the first wants together get is no less
+-- the more of the first wants, the more they get together, or the same
 pub upto_mono : (pot total x y : ℕ) → 0 < total → x ≤ y → share_upto pot total x ≤ share_upto pot total y
 upto_mono pot total x y p h =
     (le-div_iff_mul-le p).1 (omega (arith, mul_comm (share_upto pot total x) total, (quotient pot total x p).0, mul-le-mul_left pot h))
@@ -25,7 +26,8 @@ part_le pot total before want p h =
     let few : share_upto pot total (before + want) < share_upto pot total before + want + 1 = (div-lt_iff_lt-mul p).1 room in
     omega arith
 
--- the shares of wants that follow on `before`, and what those ahead got, add up to what all of these together get
+-- The shares of wants that come after others, and what those others got, add up to what all of these get together. The
+-- sum of the others is `before`.
 pub sum-shares_after : (pot total before : ℕ) → 0 < total → (wants : List ℕ) → sum (shares_after pot total before wants) + share_upto pot total before ≡ share_upto pot total (before + sum wants)
 sum-shares_after pot total before p [] = zero-add (share_upto pot total before) ∙ ap (share_upto pot total) (sym (add-zero before))
 sum-shares_after pot total before p (w ∷ ws) =
@@ -68,12 +70,13 @@ shares-enough pot wants h = grind (arith, nat_tests)
 pub shares-short : (pot : ℕ) (wants : List ℕ) → pot < sum wants → shares pot wants ≡ shares_after pot (sum wants) 0 wants
 shares-short pot wants h = grind (arith, nat_tests)
 
--- what holds of any want and its share holds of the want and the share at each index `i`
+-- what holds of any want and its share, and of 0 and 0, holds of the want and the share at each index `i`
 each_behind : (P : ℕ → ℕ → Type 0) (pot total : ℕ) → ((before want : ℕ) → P want (share_upto pot total (before + want) - share_upto pot total before)) → P 0 0 → (before : ℕ) (wants : List ℕ) (i : ℕ) → P (get_or wants i 0) (get_or (shares_after pot total before wants) i 0)
 each_behind P pot total here none before [] i = none
 each_behind P pot total here none before (w ∷ ws) zero = here before w
 each_behind P pot total here none before (w ∷ ws) (suc i) = each_behind P pot total here none (before + w) ws i
 
+-- no share is above its want
 pub share_at_most : (pot : ℕ) (wants : List ℕ) (i : ℕ) → get_or (shares pot wants) i 0 ≤ get_or wants i 0
 share_at_most pot wants i =
     elim (cases_lt pot (sum wants)) [
@@ -81,6 +84,7 @@ share_at_most pot wants i =
       | inr h ↦ rw (shares-enough pot wants h) (omega arith)
     ]
 
+-- all shares together are the lesser of the pot and all wants
 pub all_is_given : (pot : ℕ) (wants : List ℕ) → sum (shares pot wants) ≡ min pot (sum wants)
 all_is_given pot wants =
     elim (cases_lt pot (sum wants)) [
@@ -93,16 +97,19 @@ all_is_given pot wants =
       | inr h ↦ ap sum (shares-enough pot wants h) ∙ omega arith
     ]
 
+-- if the pot isn't enough, each share differs from `pot * want / total` by less than one
 pub share_is_near : (pot : ℕ) (wants : List ℕ) (i : ℕ) → pot < sum wants → IsNearPart pot (sum wants) (get_or wants i 0) (get_or (shares pot wants) i 0)
 share_is_near pot wants i h =
     rw (shares-short pot wants h) (each_behind (IsNearPart pot (sum wants)) pot (sum wants)
     (λ b w. let n = share_near pot (sum wants) b w (omega arith) in record { above = n.0; below = n.1 })
     (record { above = omega arith; below = omega arith }) 0 wants i)
 
+-- there are as many shares by prefix sums as wants
 pub length-shares_after : (pot total before : ℕ) (wants : List ℕ) → length (shares_after pot total before wants) ≡ length wants
 length-shares_after pot total before [] = refl
 length-shares_after pot total before (w ∷ ws) = ap suc (length-shares_after pot total (before + w) ws)
 
+-- there are as many shares as wants
 pub length-shares : (pot : ℕ) (wants : List ℕ) → length (shares pot wants) ≡ length wants
 length-shares pot wants = elim (cases_lt pot (sum wants)) [
   | inl h ↦ ap length (shares-short pot wants h) ∙ length-shares_after pot (sum wants) 0 wants
@@ -118,7 +125,7 @@ sum-split ahead parts behind =
     let four : sum (sum parts ∷ behind) ≡ sum parts + sum behind = sum_by-cons (λ x. x) (sum parts) behind in
     omega arith
 
--- the shares of a list in which one want is split, and of the list with the one want, taken apart at that want
+-- splitting a want changes no other share by prefix sums (`shares_after`), and its parts get together what it got
 split_behind : (pot total : ℕ) → 0 < total → (ahead parts behind : List ℕ)
     → (shares_after pot total 0 (ahead ++ parts ++ behind) ≡ shares_after pot total 0 ahead ++ shares_after pot total (sum ahead) parts ++ shares_after pot total (sum ahead + sum parts) behind)
     × (shares_after pot total 0 (ahead ++ sum parts ∷ behind) ≡ shares_after pot total 0 ahead ++ sum (shares_after pot total (sum ahead) parts) ∷ shares_after pot total (sum ahead + sum parts) behind)
@@ -136,6 +143,7 @@ split_behind pot total p ahead parts behind =
           ∙ ap (λ n. front ++ n ∷ shares_after pot total (sum ahead + sum parts) behind) one,
     )
 
+-- splitting a want into several that follow one another changes no other share, and they get together what the one got
 pub splitting_keeps_others : SplittingKeepsOthers
 splitting_keeps_others pot ahead parts behind =
     let same = sum-split ahead parts behind in
@@ -178,7 +186,7 @@ next_share pot total before left want p h =
     let split : share_upto pot total (before + want) ≡ due / total + low = ap (λ n. n / total) all ∙ add-mul-div_left due low p in
     omega arith
 
--- the remainder of that division is the next running remainder
+-- the remainder of the division that gives the next share is the next running remainder
 pub next_left : (pot total before left want : ℕ) → 0 < total → IsRemainder pot total before left →
     IsRemainder pot total (before + want) ((pot * want + left) % total)
 next_left pot total before left want p h =

@@ -1,4 +1,5 @@
--- Laws of TAX: it leaves a campaign well, takes nothing from a unit, and its payments can be made in turn.
+-- Laws of TAX: it keeps a campaign early, its books balanced and all units no worse off; all shares can be paid in
+-- turn.
 use Rattle.std.proofs.Common.{◌≡◌, ◌≢◌, ℕ, ◌+◌, ◌-◌, ◌≤◌, Some, List, [], ◌∷◌, length, refl, sym, ap, subst, ◌∙◌, arith}
 use Rattle.std.specs.Prelude.{fold, pos, min}
 use Rattle.std.specs.Option.{option_map_or}
@@ -43,6 +44,7 @@ use Rattle.atl_market.proofs.PotLaws.{pots_give}
 use Rattle.atl_market.proofs.WantLaws.{given_is_wanted}
 use Rattle.atl_market.specs.Payable.{CanTax}
 
+-- the money of a region, which is its pot
 abbrev money_of : Region → ℕ
 money_of q = q.money
 
@@ -61,7 +63,7 @@ module _ (w : WorldValue) (c : CampaignValue) (n : ℕ) (u : Unit) (q : Region) 
   abbrev after : CampaignValue
   after = drained c n u q share
 
-  -- setting the unit's money and its region's gives this campaign
+  -- setting the unit's money and that of its region gives the campaign `after`
   pub tax_is : with_region_money (with_money c n (u.holding.money + share)) u.region (q.money - share) ≡ after
   tax_is = ap (λ d. with_region_money d u.region (q.money - share)) (richer_is c n u share is)
 
@@ -91,9 +93,9 @@ module _ (w : WorldValue) (c : CampaignValue) (n : ℕ) (u : Unit) (q : Region) 
           near = λ e t. near_same 0 (amount_in c.books e t);
         }
 
--- ---- what is marked
+-- ---- marks
 
--- setting the money of a unit and of a region sets the dirty flags of all that changes
+-- setting the money of a unit and of its region marks all that changes
 pub tax_marks : (c d e : MarkedCampaign) (n money region left : ℕ) → d.value ≡ with_money c.value n money → d.marks ≡ mark_unit_row c n
     → e.value ≡ with_region_money d.value region left → e.marks ≡ mark_region d region → MarksChanges c e
 tax_marks c d e n money region left d_is d_marks e_is e_marks =
@@ -108,15 +110,17 @@ module _ (w : WorldValue) (c : CampaignValue) (e : ℕ × ℕ) where
   unfolding after_tax
   taxed_is u q is around = unit_there c e.0 _ u is ∙ region_there c u.region _ q around ∙ tax_is w c e.0 u q e.1 is around
 
-  -- tax of a unit leaves the campaign well
+  -- the tax of a unit that can take it keeps the campaign early and its books balanced, and books nothing
   pub taxed_well : CanTax w c e → LeavesWell IsEarly moves_nothing w c (after_tax c e)
   taxed_well can =
       subst (λ d. LeavesWell IsEarly moves_nothing w c d) (sym (taxed_is can.at.unit can.at.region can.at.there can.at.around))
       (tax_leaves_well w c e.0 can.at.unit can.at.region e.1 can.at.there can.at.around can.enough can.fits can.early)
 
+  -- the tax of a unit that can take it leaves the other units as they are
   taxed_others : CanTax w c e → (k : ℕ) → k ≢ e.0 → get (after_tax c e).units k ≡ get c.units k
   taxed_others can k apart = ap (λ (d : CampaignValue). get d.units k) (taxed_is can.at.unit can.at.region can.at.there can.at.around) ∙ others_stay c e.0 can.at.unit e.1 can.at.there k apart
 
+  -- the tax of a unit that can take it takes its share out of its region's money, and out of no other region's
   taxed_drains : (can : CanTax w c e) (units : FinMap nat_cmp Unit) → get units e.0 ≡ Some can.at.unit → Drains (region_pots units money_of) c e (after_tax c e)
   taxed_drains can units there =
       one_drains units money_of c e can.at.unit can.at.region there can.at.around (after_tax c e) (drain can.at.region e.1)
@@ -125,6 +129,7 @@ module _ (w : WorldValue) (c : CampaignValue) (e : ℕ × ℕ) where
       less : (all : ℕ) → e.1 ≤ all → all - e.1 + e.1 ≡ all
       less all enough = omega (arith, enough)
 
+  -- the tax of one unit leaves no unit worse off
   taxed_no_worse : AreNoWorse c (after_tax c e)
   unfolding after_tax
   taxed_no_worse =
@@ -133,18 +138,20 @@ module _ (w : WorldValue) (c : CampaignValue) (e : ℕ × ℕ) where
       subst (λ (d : CampaignValue). AreNoWorse c (with_region_money d u.region (q.money - e.1))) (sym (richer_is c e.0 u e.1 is))
       (λ k v there. richer_no_worse c e.0 u e.1 is k v there)))
 
+-- the tax of several units in turn leaves no unit worse off
 each_no_worse : (w : WorldValue) (c : CampaignValue) (es : List (ℕ × ℕ)) → AreNoWorse c (fold after_tax c es)
 each_no_worse w c [] = are_no_worse c
 each_no_worse w c (e ∷ es) = are_no_worse_twice c (after_tax c e) (fold after_tax (after_tax c e) es) (taxed_no_worse w c e) (each_no_worse w (after_tax c e) es)
 
+-- TAX leaves no unit worse off
 pub tax_keeps_units : (w : WorldValue) (c : CampaignValue) (os : List Task) → AreNoWorse c (after_sharing tax_pots w c os)
 unfolding after_sharing
 tax_keeps_units w c os = each_no_worse w c (entries (given_by tax_pots w c os))
 
--- ---- all steps can be taken
+-- ---- all shares can be paid in turn
 
 module _ (w : WorldValue) (c : CampaignValue) where
-  -- the pots of TAX, by region: their money
+  -- the pots of TAX, by region: the money of each region
   abbrev pots : DrawnPots ℕ
   pots = region_pots c.units money_of
 
@@ -192,7 +199,7 @@ module _ (w : WorldValue) (c : CampaignValue) where
     all_enough : HaveEnough pots c shares
     all_enough r q around = subst (λ pot. drawn (who_stand c.units r) shares ≤ pot) (ap (λ o. option_map_or money_of o 0) around) (pot_is_enough _ _ c r (q, around))
 
-    -- all shares of TAX can be paid in turn
+    -- all shares of TAX can be paid in turn, in an early campaign
     pub can_share_out : CanInTurn (CanTax w) after_tax c shares
     can_share_out = all_can c shares (record {
       early = early;

@@ -1,4 +1,5 @@
--- Laws of SELL and BUY: invariants stay, units without an order lose nothing, and the trades can be made in turn.
+-- Laws of SELL and BUY: the campaign's rules and the balance of its books are kept, and all shares can be traded in
+-- turn.
 use Rattle.std.proofs.Common.{◌≡◌, ◌≢◌, ◌==◌, ◌&&◌, ℕ, ◌+◌, ◌-◌, ◌*◌, ◌/◌, ◌≤◌, ◌<◌, Bool, true, false, cond, Option, Some, None, List, [], ◌∷◌, length, refl, sym, ap, subst, ◌∙◌, arith}
 use Rattle.std.specs.Prelude.{IsSome, fold, pos, neg_ℤ, ◌+ℤ◌, min, option_and_then, unwrap_or}
 use Rattle.std.specs.Option.{option_map_or}
@@ -66,7 +67,7 @@ use Rattle.atl_market.proofs.WantLaws.{GivesToWants, few_given, given_is_named}
 
 -- ---- a trade keeps the goods of unit and region together, and books the money
 
--- the result of a trade is within all limits, keeps the goods together, and books the change of the unit's money
+-- the result of a trade is within all limits, keeps the goods of unit and region together, and books the money
 pub record ResultFits (w : WorldValue) (u : Unit) (i before : ℕ) (d : TradeResult) : Type 0 where
   pub money : d.money ≤ holding_limit
   pub amount : d.amount ≤ holding_limit
@@ -79,7 +80,7 @@ pub record ResultFits (w : WorldValue) (u : Unit) (i before : ℕ) (d : TradeRes
 abbrev pub supplied : CampaignValue → ℕ → Unit → ℕ → TradeResult → CampaignValue
 supplied c n u i d = record c { units = insert c.units n (record u { holding = with_trade_result u.holding i d }) }
 
--- a campaign after a trade: unit, stock and books as its result says
+-- a campaign after a trade: the unit, the stock of its region and the books are as the result `d` says
 abbrev pub dealt_to : CampaignValue → ℕ → Unit → ℕ → Entry → TradeResult → CampaignValue
 dealt_to c n u i entry d = with_amount (region_changed (λ r. restocked r i d.stock) (supplied c n u i d) u.region) entry Money d.booked
 
@@ -92,18 +93,20 @@ module _ (w : WorldValue) (c : CampaignValue) (n : ℕ) (u : Unit) (q : Region) 
   abbrev more : HoldingValue
   more = with_trade_result u.holding i d
 
+  -- the campaign in which the unit has what the trade leaves it; the stock isn't changed and nothing is booked yet
   abbrev paid : CampaignValue
   paid = supplied c n u i d
 
+  -- the campaign in which the unit and its region's stock are as the trade leaves them; nothing is booked yet
   abbrev left : CampaignValue
   left = region_changed (λ r. restocked r i d.stock) paid u.region
 
-  -- the steps of a trade give this campaign
+  -- setting the result of a trade, by a unit that is there, gives the campaign `after`
   pub deal_is : with_result c n u i entry d ≡ after
   deal_is = ap (λ o. with_amount (with_stock (with_held c n more o) u.region i d.stock) entry Money d.booked) is
 
   module _ (fits : ResultFits w u i (amount_of q.stocks i) d) (known : i < length w.items) (market : IsSome (market_of w u.region i)) (early : IsEarly w c) where
-    -- the unit may hold that
+    -- the new holding of the unit keeps all rules of holdings
     may : MayHave w more
     may =
         let old = may_have w c n u is early.steady in
@@ -115,7 +118,7 @@ module _ (w : WorldValue) (c : CampaignValue) (n : ℕ) (u : Unit) (q : Region) 
           days = old.days;
         }
 
-    -- unit and region keep their goods together, and the money is booked
+    -- unit and region together have the goods that they had, and the money that the unit gains or pays is booked
     together : KeepsTogether u q (λ r. restocked r i d.stock) more d.booked
     together = record { money = omega (arith, ints, fits.paid); people = refl; items = items }
       where
@@ -129,7 +132,7 @@ module _ (w : WorldValue) (c : CampaignValue) (n : ℕ) (u : Unit) (q : Region) 
             ap (λ k. k + amount_of (restocked q i d.stock).stocks j) (set_amount u.holding.items i d.amount j)
             ∙ ap (λ k. cond (eq_by_cmp nat_cmp j i) d.amount (amount_of u.holding.items j) + k) (set_amount q.stocks i d.stock j) ∙ by_test j (eq_by_cmp nat_cmp j i) refl
 
-    -- a trade whose result fits leaves the campaign well
+    -- a trade whose result is within all limits keeps the campaign early and its books balanced, and books only money
     pub deal_well : LeavesWell IsEarly (moves_only holding_limit entry Money) w c after
     deal_well =
         exchange_well w c n u q (λ r. restocked r i d.stock) more entry d.booked is around holding_limit may (λ g. g)
@@ -143,7 +146,7 @@ pub record IsMarketFor (w : WorldValue) (u : Unit) (item : Option ℕ) (m : Mark
   pub there : market_of w u.region m.item ≡ Some m
   pub bounds : IsMarket (length w.items) m.item m
 
--- the market that is found for a unit's order is such a one
+-- the market found for a unit's order is of the unit's region and of the order's item, and keeps the rules of markets
 pub market_is : (w : WorldValue) → IsWorld w → (u : Unit) (item : Option ℕ) (m : Market) → market_for w u item ≡ Some m → IsMarketFor w u item m
 market_is w world u None m is = none_some m is
 market_is w world u (Some i) m is = by_plan (get w.regions u.region) refl is
@@ -155,34 +158,42 @@ market_is w world u (Some i) m is = by_plan (get w.regions u.region) refl is
         let same : i ≡ m.item = sym of.number_is in
         record { told = ap Some same; there = ap (market_of w u.region) (sym same) ∙ is; bounds = subst (λ k. IsMarket (length w.items) k m) same of }
 
--- ---- what a trade leaves fits
+-- ---- the result of a trade is within all limits
 
 module _ (w : WorldValue) (u : Unit) (m : Market) (stock share : ℕ) (there : market_of w u.region m.item ≡ Some m) (holds : IsHolding u.holding) (low : stock ≤ m.limit) where
+  -- the limit of the stock of the unit's region for the market's item is the market's limit
   limit_is : stock_limit w u.region m.item ≡ m.limit
   limit_is = ap (λ o. option_map_or (λ (x : Market). x.limit) o most_amount) there
 
+  -- less than an amount within a limit is within the limit
   less : (a k limit : ℕ) → a ≤ limit → a - k ≤ limit
   less a k limit most = omega (arith, most)
 
+  -- what leaves the unit comes to the stock: their sum stays the same
   gone : (a s k : ℕ) → k ≤ a → a - k + (s + k) ≡ a + s
   gone a s k enough = omega (arith, enough)
 
+  -- what leaves the stock comes to the unit: their sum stays the same
   come : (a s k : ℕ) → k ≤ s → a + k + (s - k) ≡ a + s
   come a s k enough = omega (arith, enough)
 
+  -- the sum of two amounts, as a whole number with sign, is the sum of both
   put_to : (a k : ℕ) → pos (a + k) ≡ pos a +ℤ pos k
   put_to a k = omega (arith, ints)
 
+  -- an amount less a part of it, as a whole number with sign, is the amount minus the part
   taken_off : (a k : ℕ) → k ≤ a → pos (a - k) ≡ pos a +ℤ neg_ℤ (pos k)
   taken_off a k enough = omega (arith, ints, enough)
 
+  -- a part of an amount within a limit is within the limit
   part : (a k limit : ℕ) → a + k ≤ limit → k ≤ limit
   part a k limit fits = omega (arith, fits)
 
+  -- an amount below one within a limit is within the limit
   up_to : (a k limit : ℕ) → k ≤ a → a ≤ limit → k ≤ limit
   up_to a k limit few most = omega (arith, few, most)
 
-  -- where the unit can afford the trade and the market has the pot, the result fits
+  -- if the unit can afford the trade and the market's pot is large enough, the result of the trade is within all limits
   pub deal_fits : (trade : Trade) → CanAfford trade u.holding share (Some m) → HasPot trade stock share (Some m) → ResultFits w u m.item stock (trade_result_of trade u.holding stock share m)
   deal_fits Sell (enough, room) pot = record {
     money = room;
@@ -203,6 +214,7 @@ module _ (w : WorldValue) (u : Unit) (m : Market) (stock share : ℕ) (there : m
 
 -- ---- one step
 
+-- the stock of an item in a region that is there is the one that the region has
 pub stock_is : (c : CampaignValue) (r : ℕ) (q : Region) (i : ℕ) → get c.regions r ≡ Some q → stock_of c r i ≡ amount_of q.stocks i
 stock_is c r q i around = ap (λ o. option_map_or (λ (x : Region). amount_of x.stocks i) o 0) around
 
@@ -222,7 +234,7 @@ told_there units items k n = stands_in k.0 (get units n) && is_for k.1 (get item
 abbrev pub item_pots : Trade → WorldValue → FinMap nat_cmp Unit → FinMap nat_cmp ℕ → DrawnPots (ℕ × ℕ)
 item_pots trade w units items = record { pot_region = λ k. k.0; draws = told_there units items; left = λ k q. pot_by trade (limit_of w k.1 k.0) (amount_of q.stocks k.1) }
 
--- after a trade of `share` pieces the market's pot has that many less
+-- after a trade of `share` pieces that the market's pot allows, the pot has `share` less
 pot_less : (trade : Trade) (h : HoldingValue) (limit stock share : ℕ) (m : Market) → limit ≡ m.limit → HasPot trade stock share (Some m)
     → pot_by trade limit (trade_result_of trade h stock share m).stock + share ≡ pot_by trade limit stock
 pot_less Sell h limit stock share m same pot = omega (arith, same, pot)
@@ -233,7 +245,7 @@ abbrev pub traded_at : Trade → CampaignValue → ℕ × ℕ → Unit → Optio
 traded_at trade c e u o = option_map_or (λ m. with_result c e.0 u m.item (trade_entry trade) (trade_result_of trade u.holding (stock_of c u.region m.item) e.1 m)) o c
 
 module _ (trade : Trade) (items : FinMap nat_cmp ℕ) (w : WorldValue) (c : CampaignValue) (e : ℕ × ℕ) where
-  -- the trade of a unit that is there is the one with the market of its order
+  -- what a unit that is there trades, it trades with the market of its region for its order's item, if there is one
   pub traded_is : (u : Unit) → get c.units e.0 ≡ Some u → (o : Option Market) → market_for w u (get items e.0) ≡ o → after_trade trade items w c e ≡ traded_at trade c e u o
   unfolding after_trade
   traded_is u is o at = unit_there c e.0 _ u is ∙ ap (traded_at trade c e u) at
@@ -245,7 +257,7 @@ module _ (trade : Trade) (items : FinMap nat_cmp ℕ) (w : WorldValue) (c : Camp
     market : IsMarketFor w can.at.unit (get items e.0) m
     market = market_is w can.world can.at.unit (get items e.0) m at
 
-    -- the trade of the unit is the one with this market
+    -- a unit that can trade and has this market trades with it: unit, stock and books are set to the result
     made_is : after_trade trade items w c e ≡ dealt_to c e.0 can.at.unit m.item (trade_entry trade) deal
     made_is =
         traded_is can.at.unit can.at.there (Some m) at
@@ -259,13 +271,13 @@ module _ (trade : Trade) (items : FinMap nat_cmp ℕ) (w : WorldValue) (c : Camp
         let low = subst (λ k. amount_of can.at.region.stocks m.item ≤ k) limit (stock_low w c u.region can.at.region m.item can.early can.at.around) in
         deal_fits w u m (amount_of can.at.region.stocks m.item) e.1 market.there (can.early.steady.numbers.units e.0 u can.at.there).1 low trade (subst (CanAfford trade u.holding e.1) at can.deal) (can.pot m at)
 
-    -- the trade with this market leaves the campaign well
+    -- the trade of a unit with this market keeps the campaign early and its books balanced, within one trade's bound
     made_well : LeavesWell IsEarly (trade_moves trade holding_limit) w c (after_trade trade items w c e)
     made_well =
         subst (λ d. LeavesWell IsEarly (trade_moves trade holding_limit) w c d) (sym made_is)
         (deal_well w c e.0 can.at.unit can.at.region m.item (trade_entry trade) deal can.at.there can.at.around fits market.bounds.item (subst IsSome (sym market.there) refl) can.early)
 
-    -- the trade with this market drains the pots as it should
+    -- the trade of a unit with this market takes the share out of the pot of its region and item, and out of no other
     made_drains : (units : FinMap nat_cmp Unit) → get units e.0 ≡ Some can.at.unit → Drains (item_pots trade w units items) c e (after_trade trade items w c e)
     made_drains units there =
         region_drains (item_pots trade w units items) c e (after_trade trade items w c e) can.at.unit.region can.at.region can.at.around (λ r. restocked r m.item deal.stock) (ap (λ (d : CampaignValue). d.regions) made_is)
@@ -296,7 +308,7 @@ module _ (trade : Trade) (items : FinMap nat_cmp ℕ) (w : WorldValue) (c : Camp
             ∙ no_less (pot_by trade (limit_of w k.1 k.0) (amount_of (with_amount_of can.at.region.stocks m.item deal.stock) k.1))
             ∙ ap (pot_by trade (limit_of w k.1 k.0)) (set_amount can.at.region.stocks m.item deal.stock k.1 ∙ ap (λ b. cond b deal.stock (amount_of can.at.region.stocks k.1)) is)
 
-  -- the trade of a unit leaves the campaign well
+  -- the trade of a unit that can trade keeps the campaign early and its books balanced, within the bound of one trade
   pub traded_well : CanTrade trade items w c e → LeavesWell IsEarly (trade_moves trade holding_limit) w c (after_trade trade items w c e)
   traded_well can = by_market (market_for w can.at.unit (get items e.0)) refl
     where
@@ -306,6 +318,7 @@ module _ (trade : Trade) (items : FinMap nat_cmp ℕ) (w : WorldValue) (c : Camp
           (well_unchanged (trade_moves trade holding_limit) w c can.early)
       by_market (Some m) at = made_well can m at
 
+  -- the trade of a unit that can trade takes the share out of the pot of its region and item, and out of no other
   traded_drains : (can : CanTrade trade items w c e) (units : FinMap nat_cmp Unit) → get units e.0 ≡ Some can.at.unit → Drains (item_pots trade w units items) c e (after_trade trade items w c e)
   traded_drains can units there = by_market (market_for w can.at.unit (get items e.0)) refl
     where
@@ -329,21 +342,25 @@ module _ (trade : Trade) (items : FinMap nat_cmp ℕ) (w : WorldValue) (c : Camp
 pub trades_give : (trade : Trade) (w : WorldValue) (c : CampaignValue) → GivesToWants (trade_pots trade) w c
 trades_give trade w c items wants n share is = items_give (get items) (trade_pot trade w c) wants c n share (sym (shares_at (get items) (trade_pot trade w c) wants c n) ∙ is)
 
+-- SELL and BUY leave each unit for which its own faction wrote no order of the phase no worse off
 pub trade_keeps_others : (trade : Trade) (w : WorldValue) (c : CampaignValue) (os : List Task) → OthersAreNoWorse os c (after_sharing (trade_pots trade) w c os)
 trade_keeps_others trade w c os = others_no_worse (trade_pots trade) w (λ items. traded_others trade items w) c (trades_give trade w c) os
 
--- what a unit wants it can trade
+-- what a unit wants to trade it can afford, if its holding is within the limits
 module _ (h : HoldingValue) (m : Market) (told share : ℕ) (holds : IsHolding h) where
+  -- a share of at most the least of three numbers is at most the second and the third
   few_of : (told a b : ℕ) → share ≤ min told (min a b) → (share ≤ a) × (share ≤ b)
   few_of told a b low = (omega (arith, low), omega (arith, low))
 
+  -- a share of at most the quotient of money and price costs at most that money
   times : (money price : ℕ) → share ≤ money / price → share * price ≤ money
   times money price few = omega (arith, mul-le-mul_right price few, mul-div-le money price, mul_comm (money / price) price)
 
+  -- what is at most the room left under a limit can be added within the limit
   room_for : (a k limit : ℕ) → a ≤ limit → k ≤ limit - a → a + k ≤ limit
   room_for a k limit fits few = omega (arith, fits, few)
 
-  -- a unit can afford at most what it wants
+  -- a unit whose holding is within the limits can afford a share of at most its want
   pub wanted_fits : (trade : Trade) → share ≤ trade_want trade h told (Some m) → CanAfford trade h share (Some m)
   wanted_fits Sell low =
       let (few, payable) = few_of told (amount_of h.items m.item) ((holding_limit - h.money) / m.pays) low in
@@ -352,12 +369,14 @@ module _ (h : HoldingValue) (m : Market) (told share : ℕ) (holds : IsHolding h
       let (payable, few) = few_of told (h.money / m.price) (holding_limit - amount_of h.items m.item) low in
       (times h.money m.price payable, room_for (amount_of h.items m.item) share holding_limit (amount_within h m.item holds) few)
 
--- ---- all steps can be taken
+-- ---- all shares can be traded in turn
 
 module _ (trade : Trade) (items : FinMap nat_cmp ℕ) (w : WorldValue) (world : IsWorld w) (c : CampaignValue) where
+  -- the bound on what the trade of one unit books
   abbrev step_moves : BookBound
   step_moves = trade_moves trade holding_limit
 
+  -- the pots of the phase, by region and item
   abbrev pots : DrawnPots (ℕ × ℕ)
   pots = item_pots trade w c.units items
 
@@ -373,7 +392,7 @@ module _ (trade : Trade) (items : FinMap nat_cmp ℕ) (w : WorldValue) (world : 
   abbrev CanBook : CampaignValue → List (ℕ × ℕ) → Type 0
   CanBook d es = HaveRoom (moved_times (length es) step_moves) d
 
-  -- where a share is at most the market's pot, the market has it
+  -- a share that is at most the market's pot can be traded: the market has room for it (SELL) or has it in stock (BUY)
   has_pot : (limit stock share : ℕ) (m : Market) → limit ≡ m.limit → stock ≤ m.limit → share ≤ pot_by trade limit stock → HasPot trade stock share (Some m)
   has_pot limit stock share m same low few = by_trade trade few
     where
@@ -381,7 +400,7 @@ module _ (trade : Trade) (items : FinMap nat_cmp ℕ) (w : WorldValue) (world : 
       by_trade Sell few = omega (arith, same, low, few)
       by_trade Buy few = few
 
-  -- the first of the shares still to come can be traded
+  -- the first of the shares still to come can be traded, if the books have room for all of them
   first_can : (d : CampaignValue) (e : ℕ × ℕ) (es : List (ℕ × ℕ)) → AreToTrade d (e ∷ es) → CanBook d (e ∷ es) → CanTrade trade items w d e
   first_can d e es ready room =
       let (u, there, deal) = ready.fits.0 in
@@ -404,7 +423,7 @@ module _ (trade : Trade) (items : FinMap nat_cmp ℕ) (w : WorldValue) (world : 
         room = first_room step_moves d e es room;
       }
 
-  -- the shares still to come can be traded in turn
+  -- the shares still to come can be traded in turn, if the books have room for all of them
   all_can : (d : CampaignValue) (es : List (ℕ × ℕ)) → AreToTrade d es → CanBook d es → CanInTurn (CanTrade trade items w) (after_trade trade items w) d es
   all_can d [] ready room = tt
   all_can d (e ∷ es) ready room =
@@ -417,21 +436,27 @@ module _ (trade : Trade) (items : FinMap nat_cmp ℕ) (w : WorldValue) (world : 
       )
 
 module _ (trade : Trade) (w : WorldValue) (world : IsWorld w) (c : CampaignValue) (early : IsEarly w c) (os : List Task) (room : HaveRoom (trade_moves trade most_moved) c) where
+  -- the item that each unit's order names
   abbrev named : FinMap nat_cmp ℕ
   named = items_by (trade_pots trade) w c os
 
+  -- the share of each unit, by unit
   abbrev given : FinMap nat_cmp ℕ
   given = given_by (trade_pots trade) w c os
 
+  -- the shares with the numbers of their units, sorted by unit
   abbrev shares : List (ℕ × ℕ)
   shares = entries given
 
+  -- the bound on what the trade of one unit books
   abbrev moves : BookBound
   moves = trade_moves trade holding_limit
 
+  -- the pots of the phase, by region and item
   abbrev drawn_pots : DrawnPots (ℕ × ℕ)
   drawn_pots = item_pots trade w c.units named
 
+  -- a unit, by its number, is there and can afford its share
   abbrev MayTrade : ℕ × ℕ → Type 0
   MayTrade = CanHave trade named w world c
 
@@ -463,6 +488,7 @@ module _ (trade : Trade) (w : WorldValue) (world : IsWorld w) (c : CampaignValue
       for_item i None never = cc
       for_item i (Some j) same = ap Some (eqb-true j i same)
 
+  -- at most as many units get a share as there may be units
   few : length shares ≤ most_units
   few = omega (arith, few_given (trade_pots trade) w c (trades_give trade w c) os, early.steady.numbers.few_units)
 
@@ -470,7 +496,7 @@ module _ (trade : Trade) (w : WorldValue) (world : IsWorld w) (c : CampaignValue
   little : (e : Entry) (t : Thing) → moved_times (length shares) moves e t ≤ trade_moves trade most_moved e t
   little e t = few_holdings (length shares) few (trade_entry trade) Money e t
 
-  -- all shares of SELL or BUY can be traded in turn
+  -- all shares of SELL or BUY can be traded in turn, in an early campaign whose books have room for the phase
   pub can_share_out : CanInTurn (CanTrade trade named w) (after_trade trade named w) c shares
   can_share_out = all_can trade named w world c c shares (record {
     early = early;
@@ -480,15 +506,17 @@ module _ (trade : Trade) (w : WorldValue) (world : IsWorld w) (c : CampaignValue
     enough = all_enough;
   }) (room_less (moved_times (length shares) moves) (trade_moves trade most_moved) c little room)
 
+  -- SELL or BUY keeps an early campaign early and its books balanced, within the phase's bound, if the books have room
+  -- for it
   pub all_trades_leave_well : LeavesWell IsEarly (trade_moves trade most_moved) w c (after_sharing (trade_pots trade) w c os)
   unfolding after_sharing
   all_trades_leave_well =
       well_within (moved_times (length shares) moves) (trade_moves trade most_moved) w c (fold (after_trade trade named w) c shares) little
       (turns_leave_well moves w (CanTrade trade named w) (after_trade trade named w) (traded_well trade named w) c shares early can_share_out)
 
--- ---- what the code does
+-- ---- what the code sets, books and marks
 
--- the result of a trade can be booked
+-- a trade that a unit can make has a result that can be booked
 pub can_book_result : (trade : Trade) (items : FinMap nat_cmp ℕ) (w : WorldValue) (c : CampaignValue) (n share : ℕ) → CanTrade trade items w c (n, share)
     → (u : Unit) (m : Market) (stock : ℕ) (entry : Entry) (d : TradeResult) → get c.units n ≡ Some u → market_for w u (get items n) ≡ Some m → stock ≡ stock_of c u.region m.item
     → entry ≡ trade_entry trade → d ≡ trade_result_of trade u.holding stock share m → CanBookTrade c n entry d
@@ -535,7 +563,7 @@ module _ (c d e : MarkedCampaign) (n region item stock : ℕ) (f : HoldingValue 
   pub settled_books : e.value.books ≡ c.value.books
   settled_books = ap (λ (s : CampaignValue). s.books) put ∙ ap (λ (s : CampaignValue). s.books) set.value
 
-  -- setting a unit's goods and then a stock sets the dirty flags of all that changes
+  -- setting a unit's goods and then a stock marks all that changes
   pub settled_marks : MarksStock d region item stock e.marks → MarksChanges c e
   settled_marks how = marks-trans c d e set.marks (marks_by d e _ put refl (marks-stock d region item stock e.marks how))
 

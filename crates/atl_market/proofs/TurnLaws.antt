@@ -1,4 +1,5 @@
--- Laws of steps in turn: where each leaves a campaign well, all do; and of the room that they need in the books.
+-- Laws of steps carried out in turn: they keep the campaign's rules and its books balanced, if each does; and need room
+-- in the books.
 use Rattle.std.proofs.Common.{◌≡◌, ◌==◌, ◌≤◌, ◌+◌, ◌*◌, ℕ, Bool, true, false, List, [], ◌∷◌, length, arith}
 use Rattle.std.specs.Prelude.{fold, if◌then◌else◌}
 use Rattle.std.proofs.Math.Nat.{suc-mul}
@@ -13,7 +14,8 @@ use Rattle.atl_instant.specs.Bounds.{HaveRoom, moved_times}
 use Rattle.atl_instant.proofs.MeaningLaws.{MovesLess, both_leave_well, room_behind, room_less, well_unchanged, well_within}
 use Rattle.atl_market.specs.Bounds.{CanInTurn}
 
--- as many steps as there may be units, each of which moves one amount by at most 999,999,999, move it by less than 10^14 together
+-- As many steps as there may be units, each of which moves one amount by at most 999,999,999, move it by less than
+-- 10^14 together.
 pub few_holdings : (k : ℕ) → k ≤ most_units → (a : Entry) (b : Thing) (e : Entry) (t : Thing) → moved_times k (moves_only holding_limit a b) e t ≤ moves_only most_moved a b e t
 few_holdings k few a b e t = by_test (amount_number e t == amount_number a b)
   where
@@ -25,11 +27,11 @@ few_holdings k few a b e t = by_test (amount_number e t == amount_number a b)
 pub one_more : {B : Type 0} (moving : BookBound) (x : B) (xs : List B) → MovesLess (both_move moving (moved_times (length xs) moving)) (moved_times (length (x ∷ xs)) moving)
 one_more moving x xs e t = let one : length (x ∷ xs) * moving e t ≡ length xs * moving e t + moving e t = suc-mul (length xs) (moving e t) in omega arith
 
--- books with room for all steps have room for the first
+-- books with room for all steps together have room for the first
 pub first_room : {B : Type 0} (moving : BookBound) (c : CampaignValue) (x : B) (xs : List B) → HaveRoom (moved_times (length (x ∷ xs)) moving) c → HaveRoom moving c
 first_room moving c x xs room = room_less moving (moved_times (length (x ∷ xs)) moving) c (λ e t. omega (arith, one_more moving x xs e t)) room
 
--- after the first step they have room for the others
+-- after the first step, which moved the books within its bound, the books have room for the others
 pub later_room : {B : Type 0} {leaves : Condition} (moving : BookBound) (w : WorldValue) (c d : CampaignValue) (x : B) (xs : List B)
     → LeavesWell leaves moving w c d → HaveRoom (moved_times (length (x ∷ xs)) moving) c → HaveRoom (moved_times (length xs) moving) d
 later_room moving w c d x xs well room =
@@ -37,7 +39,7 @@ later_room moving w c d x xs well room =
     (room_less (both_move moving (moved_times (length xs) moving)) (moved_times (length (x ∷ xs)) moving) c (one_more moving x xs) room)
 
 module _ {A : Type 0} {leaves : Condition} (moving : BookBound) (w : WorldValue) (can : CampaignValue → A → Type 0) (step : CampaignValue → A → CampaignValue) (each : (c : CampaignValue) (x : A) → can c x → LeavesWell leaves moving w c (step c x)) where
-  -- steps that can be taken in turn, each of which leaves a campaign well, leave it well together
+  -- steps in turn keep the campaign's rules and its books balanced, within all bounds together, if each step does
   pub turns_leave_well : (c : CampaignValue) (xs : List A) → leaves w c → CanInTurn can step c xs → LeavesWell leaves (moved_times (length xs) moving) w c (fold step c xs)
   turns_leave_well c [] h turns = well_unchanged (moved_times 0 moving) w c h
   turns_leave_well c (x ∷ xs) h turns =

@@ -32,6 +32,7 @@ use Rattle.atl_market.proofs.UnmailedPotLaws.{ordered_for, others_items, paid_me
 abbrev item_set : (item amount : ℕ) → Unit → Unit
 item_set i amount u = record u { holding = record u.holding { items = with_amount_of u.holding.items i amount } }
 
+-- using an item leaves all units their men
 used_men : (c : CampaignValue) (n i amount : ℕ) → HaveTheirMen c (with_used c n i amount)
 used_men c n i amount =
     by_unit c n (HaveTheirMen c) _ (men_stay c) (λ u is.
@@ -40,6 +41,7 @@ used_men c n i amount =
 
 -- ---- BUILD
 
+-- beginning a structure leaves all units their men
 begun_men : (c : CampaignValue) (n kind : ℕ) (k : Kind) (region size : ℕ) → HaveTheirMen c (after_start c n kind k region size)
 begun_men c n kind k region size =
     let used = with_used c n k.material size in
@@ -47,13 +49,16 @@ begun_men c n kind k region size =
     men_twice c used (with_place new n region c.next_structure) (used_men c n k.material size)
     (men_twice used new (with_place new n region c.next_structure) (men_same used new refl) (place_men new n region c.next_structure))
 
+-- `BUILD kind` leaves all units their men
 begin_men : (w : WorldValue) (c : CampaignValue) (n kind : ℕ) (k : Kind) (u : Unit) → HaveTheirMen c (begin w n kind k c u).0
 unfolding begin
 begin_men w c n kind k u = let size = size_added k u.holding 0 in men_unless c (after_start c n kind k u.region size) (Done size) (begin_fault w c u k) (begun_men c n kind k u.region size)
 
+-- continuing a structure leaves all units their men
 gone_on_men : (c : CampaignValue) (n material size structure done : ℕ) → HaveTheirMen c (after_building_on c n material size structure done)
 gone_on_men c n material size structure done = let used = with_used c n material size in men_twice c used (after_building_on c n material size structure done) (used_men c n material size) (men_same used (after_building_on c n material size structure done) refl)
 
+-- `BUILD` leaves all units their men
 go_on_men : (w : WorldValue) (c : CampaignValue) (n : ℕ) (u : Unit) → HaveTheirMen c (go_on w n c u).0
 unfolding go_on
 go_on_men w c n u = by_structure (get c.structures u.structure)
@@ -66,6 +71,7 @@ go_on_men w c n u = by_structure (get c.structures u.structure)
     by_structure None = men_unless c c (Done 0) (outside_fault u) (men_stay c)
     by_structure (Some s) = by_kind s (slice_get w.kinds s.kind)
 
+-- an order of BUILD leaves units of other factions than the order's their men
 built_men : (w : WorldValue) (c : CampaignValue) (f n : ℕ) (x : Unit) (s : OperandsValue) → IfSome (build_effect w n s) (λ deed. OthersHaveMen f c (deed c x).0)
 built_men w c f n x (operands.Kind (Some kind)) = by_kind (slice_get w.kinds kind)
   where
@@ -75,20 +81,24 @@ built_men w c f n x (operands.Kind (Some kind)) = by_kind (slice_get w.kinds kin
 built_men w c f n x (operands.Kind None) = others_men f c (go_on w n c x).0 (go_on_men w c n x)
 built_men w c f n x other = tt
 
+-- each step of BUILD leaves units of other factions than the order's their men
 build_spares : SparesMen build_step
 build_spares w a c t x own = built_men w c t.faction t.unit x t.order_value.operands
 
+-- the phase BUILD leaves units of factions without a mailing what is theirs (`LeavesUnmailed`)
 pub build_leaves : PhaseLeavesUnmailed build_spec
 build_leaves = carried_leaves build_step is_building build_spares (unmailed_spared is_building own_faction items_of_no_worse)
 
 -- ---- PRODUCE
 
+-- making an item leaves all units their men
 made_men : (c : CampaignValue) (n i amount : ℕ) → HaveTheirMen c (with_made c n i amount)
 made_men c n i amount =
     by_unit c n (HaveTheirMen c) _ (men_stay c) (λ u is.
     let more = amount_of u.holding.items i + amount in
     men_put c (with_amount (with_item c n i more) Made (Item i) (pos amount)) n u (item_set i more u) is (record { faction = refl; men = refl }) (changed-known (item_set i more) c.units n u is))
 
+-- the production of one unit leaves all units their men
 produced_men : (asked : FinMap nat_cmp ℕ) (w : WorldValue) (c : CampaignValue) (e : ℕ × ℕ) → HaveTheirMen c (produce.after_production asked w c e)
 unfolding produce.after_production
 produced_men asked w c e =
@@ -99,6 +109,7 @@ produced_men asked w c e =
     (by_option (HaveTheirMen c) (λ r. with_used c e.0 r (e.1 * x.raw_count)) x.raw c (men_stay c) (λ r raw. used_men c e.0 r (e.1 * x.raw_count)))
     (made_men used e.0 i e.1)))
 
+-- the phase PRODUCE leaves units of factions without a mailing what is theirs (`LeavesUnmailed`)
 pub produce_leaves : PhaseLeavesUnmailed produce.produce_spec
 produce_leaves =
     shared_leave produce.produce_pots (ordered_for produce.is_produce)

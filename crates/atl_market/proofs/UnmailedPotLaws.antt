@@ -38,11 +38,12 @@ use Rattle.atl_market.proofs.TradeLaws.{traded_others, trades_give}
 
 -- ---- all phases with pots
 
--- the orders of a phase by its keywords, without regard to the campaign
+-- the orders of a month with these keywords, whatever the campaign is
 abbrev pub ordered_for : (Verb → Bool) → CampaignValue → MonthValue → List Task
 ordered_for is_of c = orders_by_unit is_of
 
 module _ (p : PotMeaning) (w : WorldValue) (c : CampaignValue) where
+  -- by the events of a phase with pots no men of unit `n` starved
   none_starve : (given : FinMap nat_cmp ℕ) (os : List Task) (n : ℕ) → starved_in (map (event_of p w c given) os) n ≡ 0
   none_starve given [] n = refl
   none_starve given (o ∷ os) n =
@@ -69,12 +70,12 @@ module _ (p : PotMeaning) (orders : CampaignValue → MonthValue → List Task) 
   abbrev pub shared : Meaning
   shared = pots_meaning p orders
 
-  -- such a phase leaves what it should to units of a faction without a mailing, if it keeps their men and their items
+  -- a phase with pots leaves units without a mailing what is theirs (`LeavesUnmailed`), if it keeps their men and items
   pub shared_leave : {keeps : Frame} → ((w : WorldValue) (c : CampaignValue) (m : MonthValue) → UnmailedAre HasItsMen m c (shared w c m).0) → ((w : WorldValue) (c d : CampaignValue) (m : MonthValue) → keeps w m c d → UnmailedAre HasItsItems m c d) → LeavesUnmailed shared keeps
   shared_leave {keeps} men items =
       whole_leaves {meaning = shared} {keeps = keeps} (λ w c m. refl) (λ w c m n. pots_report_none_starved p w c m.events (orders c m) n) (λ w c m h. men w c m) (λ w c m h. items w c (shared w c m).0 m h)
 
-  -- where each payment keeps the men of all units, the phase keeps those of units of a faction without a mailing
+  -- if each payment keeps the men of all units, the phase keeps the men of units of factions without a mailing
   pub paid_men : ((w : WorldValue) (items : FinMap nat_cmp ℕ) (d : CampaignValue) (e : ℕ × ℕ) → HaveTheirMen d (p.paid items w d e)) → (w : WorldValue) (c : CampaignValue) (m : MonthValue) → UnmailedAre HasItsMen m c (shared w c m).0
   unfolding after_sharing
   paid_men paid w c m n u there none = let items = items_by p w c (orders c m) in men_in_turn (p.paid items w) (paid w items) c (entries (given_by p w c (orders c m))) n u there
@@ -85,6 +86,7 @@ none_worse w c d m h n u there none = let (v, behind, better) = h n u there in r
 
 -- ---- TAX
 
+-- one payment of TAX leaves all units their men
 tax_men : (w : WorldValue) (c : CampaignValue) (e : ℕ × ℕ) → HaveTheirMen c (after_tax c e)
 unfolding after_tax
 tax_men w c e =
@@ -93,11 +95,13 @@ tax_men w c e =
     men_changed (λ v. record v { holding = record v.holding { money = u.holding.money + e.1 } }) (λ v. record { faction = refl; men = refl })
     c (with_region_money (with_money c e.0 (u.holding.money + e.1)) u.region (q.money - e.1)) e.0 refl))
 
+-- the phase TAX leaves units of factions without a mailing what is theirs (`LeavesUnmailed`)
 pub tax_leaves : PhaseLeavesUnmailed tax_spec
 tax_leaves = shared_leave tax_pots (ordered_for is_tax) (paid_men tax_pots (ordered_for is_tax) (λ w items. tax_men w)) none_worse
 
 -- ---- WORK
 
+-- one payment of WORK leaves all units their men
 work_men : (w : WorldValue) (c : CampaignValue) (e : ℕ × ℕ) → HaveTheirMen c (after_work w c e)
 unfolding after_work
 work_men w c e =
@@ -106,11 +110,13 @@ work_men w c e =
     men_changed (λ v. record v { holding = record v.holding { money = u.holding.money + wages } }) (λ v. record { faction = refl; men = refl })
     c (with_amount (with_money c e.0 (u.holding.money + wages)) Wages Money (pos wages)) e.0 refl)
 
+-- the phase WORK leaves units of factions without a mailing what is theirs (`LeavesUnmailed`)
 pub work_leaves : PhaseLeavesUnmailed work_spec
 work_leaves = shared_leave work_pots work_orders (paid_men work_pots work_orders (λ w items. work_men w)) none_worse
 
 -- ---- RECRUIT
 
+-- among orders of which none is of faction `f`, none is for a unit and of that faction
 none_listed : (n f : ℕ) (ts : List Task) → AllByRecursion (λ t. t.faction ≢ f) ts → list_any (λ o. o.unit == n && o.faction == f) ts ≡ false
 none_listed n f [] h = refl
 none_listed n f (t ∷ ts) h = neither (t.unit == n) (t.faction == f) _ (other_number t.faction f h.0) (none_listed n f ts h.1)
@@ -120,16 +126,17 @@ none_listed n f (t ∷ ts) h = neither (t.unit == n) (t.faction == f) _ (other_n
     neither false b d e g = g
 
 module _ (is_of : Verb → Bool) (m : MonthValue) where
-  -- a unit of a faction that sent no mailing has no order
+  -- a unit of a faction that sent no mailing has no order of its own faction
   pub unordered : (n : ℕ) (u : Unit) → get m.readings u.faction ≡ None → is_ordered (orders_by_unit is_of m) n u ≡ false
   unordered n u none =
       let ts = orders_by_unit is_of m in
       none_listed n u.faction ts (recursion_from_All (λ t. t.faction ≢ u.faction) ts (none_ordered is_of ByUnit m u.faction none))
 
-  -- a phase that takes nothing from units without an order keeps the items of units of a faction without a mailing
+  -- if a phase leaves units without an order of their own no worse off, it keeps the items of those without a mailing
   pub others_items : (c d : CampaignValue) → OthersAreNoWorse (orders_by_unit is_of m) c d → UnmailedAre HasItsItems m c d
   others_items c d h n u there none = let (v, behind, better) = h n u there (unordered n u none) in record { unit = v; there = behind; spared = items_of_no_worse u v better }
 
+-- the phase RECRUIT leaves units of factions without a mailing what is theirs (`LeavesUnmailed`)
 pub recruit_leaves : PhaseLeavesUnmailed recruit_spec
 recruit_leaves =
     shared_leave recruit_pots (ordered_for is_recruit)
@@ -144,6 +151,7 @@ recruit_leaves =
 -- ---- SELL and BUY
 
 module _ (trade : Trade) where
+  -- SELL or BUY leaves units of factions without a mailing what is theirs (`LeavesUnmailed`)
   trade_leaves : LeavesUnmailed (trade_meaning trade) (trade_keeps trade)
   trade_leaves =
       shared_leave (trade_pots trade) (ordered_for (is_trade trade))
@@ -155,8 +163,10 @@ module _ (trade : Trade) where
       })
       (λ w c d m. others_items (is_trade trade) m c d)
 
+-- the phase SELL leaves units of factions without a mailing what is theirs (`LeavesUnmailed`)
 pub sell_leaves : PhaseLeavesUnmailed sell_spec
 sell_leaves = trade_leaves Sell
 
+-- the phase BUY leaves units of factions without a mailing what is theirs (`LeavesUnmailed`)
 pub buy_leaves : PhaseLeavesUnmailed buy_spec
 buy_leaves = trade_leaves Buy

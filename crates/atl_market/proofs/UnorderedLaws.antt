@@ -1,4 +1,4 @@
--- Laws that a unit without an order of its own faction gets nothing of a pot, and stays as it is.
+-- Laws that in a phase with pots a unit for which its own faction wrote no order gets nothing, and stays as it is.
 use Rattle.std.proofs.Common.{◌≡◌, ◌≢◌, ◌==◌, ◌&&◌, ◌||◌, ℕ, Bool, true, false, List, [], ◌∷◌, Some, refl, sym, ap, subst, ◌∙◌, arith}
 use Rattle.std.specs.Prelude.{Result, Ok, Err, fold, option_map}
 use Rattle.std.specs.List.{AllByRecursion, filter_map}
@@ -21,24 +21,26 @@ use Rattle.atl_market.proofs.DrawLaws.{all_pairs}
 use Rattle.atl_market.proofs.PotLaws.{put_in_turn}
 use Rattle.atl_market.proofs.WantLaws.{GivesToWants, any_then, carries_out}
 
+-- if the disjunction of two tests is false, both are false
 neither : (a b : Bool) → (a || b) ≡ false → (a ≡ false) × (b ≡ false)
 neither true b h = absurd (false≢true (sym h))
 neither false b h = (refl, h)
 
--- ---- who wants nothing
+-- ---- units without an order want nothing
 
 module _ (p : PotMeaning) (w : WorldValue) (c : CampaignValue) (n : ℕ) (u : Unit) (there : get c.units n ≡ Some u) where
   -- whether an order is for unit `n` and of its own faction
   abbrev own : Task → Bool
   own o = o.unit == n && o.faction == u.faction
 
+  -- an order for unit `n` from the unit's faction is one of its own
   no_order : (o : Task) → o.unit ≡ n → (u.faction == o.faction) ≡ true → own o ≡ false → ⊥
   no_order o unit faction is = false≢true (sym (clash o.unit n o.faction u.faction unit faction is))
     where
       clash : (a b f g : ℕ) → a ≡ b → (g == f) ≡ true → (a == b && f == g) ≡ false → true ≡ false
       clash a b f g same one none = grind (arith, nat_tests)
 
-  -- an order that isn't of the unit's own faction gives it no want
+  -- an order that isn't for unit `n` of its own faction gives it no want
   unwanted_by : (m : FinMap nat_cmp ℕ) (o : Task) (r : Result Unit EventFault) → unit_for p w c o ≡ r → own o ≡ false → get (with_any m (option_map (λ v. (o.unit, p.want w v o)) (result_ok r))) n ≡ get m n
   unwanted_by m o (Err f) is none = refl
   unwanted_by m o (Ok v) is none =
@@ -57,13 +59,13 @@ module _ (p : PotMeaning) (w : WorldValue) (c : CampaignValue) (n : ℕ) (u : Un
       ∙ unwanted (with_any m (want_by p w c o)) os rest
       ∙ unwanted_by m o (unit_for p w c o) refl first
 
-  -- and gets nothing
+  -- a unit without an order of its own faction gets nothing, if the phase gives only to units with a want
   not_given : GivesToWants p w c → (os : List Task) → is_ordered os n u ≡ false → (share : ℕ) → get (given_by p w c os) n ≡ Some share → ⊥
   not_given gives os none share is =
       let (want, wanted, low) = gives (items_by p w c os) (wants_by p w c os) n share is in
       none_some want (sym (get-empty nat_cmp n) ∙ sym (unwanted empty os none) ∙ ap (λ (m : FinMap nat_cmp ℕ). get m n) (put_in_turn (filter_map (want_by p w c) os)) ∙ wanted)
 
--- ---- and nothing happens to it
+-- ---- units without an order stay as they are
 
 module _ (step : CampaignValue → ℕ × ℕ → CampaignValue) (others : (c : CampaignValue) (e : ℕ × ℕ) (k : ℕ) → k ≢ e.0 → get (step c e).units k ≡ get c.units k) where
   -- a unit that gets nothing stays as it is
@@ -71,7 +73,7 @@ module _ (step : CampaignValue → ℕ × ℕ → CampaignValue) (others : (c : 
   passed_over c [] n apart = refl
   passed_over c (e ∷ es) n apart = passed_over (step c e) es n apart.1 ∙ others c e n apart.0
 
--- a unit without an order of its own faction is after a phase with pots as it was
+-- a phase with pots leaves a unit without an order of its own faction as it was, if a payment changes only its own unit
 pub unordered_stays : (p : PotMeaning) (w : WorldValue) → ((items : FinMap nat_cmp ℕ) (c : CampaignValue) (e : ℕ × ℕ) (k : ℕ) → k ≢ e.0 → get (p.paid items w c e).units k ≡ get c.units k)
     → (c : CampaignValue) → GivesToWants p w c → (os : List Task) (n : ℕ) (u : Unit) → get c.units n ≡ Some u → is_ordered os n u ≡ false → get (after_sharing p w c os).units n ≡ get c.units n
 unfolding after_sharing
@@ -80,7 +82,7 @@ unordered_stays p w others c gives os n u there none =
     let apart = each-from_every (λ k share. n ≢ k) given (λ k share is same. not_given p w c n u there gives os none share (ap (get given) same ∙ is)) in
     passed_over (p.paid (items_by p w c os) w) (others (items_by p w c os)) c (entries given) n (all_pairs (λ e. n ≢ e.0) (entries given) apart)
 
--- so a phase with pots leaves all units without such an order no worse off
+-- a phase with pots leaves units without an order of their own no worse off, if a payment changes only its own unit
 pub others_no_worse : (p : PotMeaning) (w : WorldValue) → ((items : FinMap nat_cmp ℕ) (c : CampaignValue) (e : ℕ × ℕ) (k : ℕ) → k ≢ e.0 → get (p.paid items w c e).units k ≡ get c.units k)
     → (c : CampaignValue) → GivesToWants p w c → (os : List Task) → OthersAreNoWorse os c (after_sharing p w c os)
 others_no_worse p w others c gives os n u there none = (u, unordered_stays p w others c gives os n u there none ∙ there, no_worse u)

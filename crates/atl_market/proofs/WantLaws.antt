@@ -1,4 +1,5 @@
--- Laws that each unit that gets something of a pot in a phase has an order without fault, and gets at most what it wants by it.
+-- Laws that each unit which gets something of a pot has an order without a fault, and gets at most what it wants by the
+-- order.
 use Rattle.std.proofs.Common.{◌≡◌, ◌≢◌, ℕ, ◌==◌, ◌<◌, ◌≤◌, Bool, true, false, cond, List, [], ◌∷◌, ◌++◌, length, Option, Some, None, is_some, refl, sym, ap, subst, ◌∙◌, inl, inr, arith}
 use Rattle.std.specs.Prelude.{Result, Ok, Err, is_ok, option_map}
 use Rattle.std.specs.List.{AllByRecursion, IsDistinct, cons_option, filter_map}
@@ -38,16 +39,16 @@ GivesToWants p w c =
     (items wants : FinMap nat_cmp ℕ) (n share : ℕ) → get (p.grants items w c wants) n ≡ Some share
     → (want : ℕ) × (get wants n ≡ Some want) × (share ≤ want)
 
--- two lists of entries put one after the other are put as the first and then the second
+-- putting two lists of entries into a map, one after the other, is putting in the first list and then the second
 pub appended_entries : {V : Type 0} (m : FinMap nat_cmp V) (es fs : List (ℕ × V)) → with_each m (es ++ fs) ≡ with_each (with_each m es) fs
 appended_entries m es fs = fold-append (λ so_far entry. insert so_far entry.0 entry.1) m es fs
 
--- an entry, if there is one, put ahead of others, is put first
+-- putting in an optional entry ahead of others is putting in the entry, if there is one, and then the others
 pub any_then : {V : Type 0} (m : FinMap nat_cmp V) (o : Option (ℕ × V)) (es : List (ℕ × V)) → with_each m (cons_option o es) ≡ with_each (with_any m o) es
 any_then m None es = refl
 any_then m (Some e) es = refl
 
--- what holds of all entries of a map and of a list holds of all of the map in which the list is put
+-- what holds of all entries of a map and of a list holds of all entries of the map into which the list is put
 pub every-with_each : (P : ℕ → ℕ → Type 0) (m : FinMap nat_cmp ℕ) (es : List (ℕ × ℕ)) → AllByRecursion (λ e. P e.0 e.1) es → Every P m → Every P (with_each m es)
 every-with_each P m [] each old = old
 every-with_each P m (e ∷ es) each old = every-with_each P (insert m e.0 e.1) es each.1 (every-insert P m e.0 e.1 each.0 old)
@@ -56,6 +57,7 @@ every-with_each P m (e ∷ es) each old = every-with_each P (insert m e.0 e.1) e
 pub one_want : (m : FinMap nat_cmp ℕ) (n want : ℕ) → want ≤ most_amount → AreWants m → AreWants (insert m n want)
 one_want m n want low old = every-insert (λ number want. want ≤ most_amount) m n want low old
 
+-- a number isn't equal to one above it
 differs : (k n : ℕ) → k < n → eq_by_cmp nat_cmp k n ≡ false
 differs k n l = sym (unsigned_ties k n) ∙ (let t : (k == n) ≡ false = grind (arith, nat_tests) in t)
 
@@ -70,7 +72,8 @@ rise_apart (e ∷ es) h = (others e.0 es h.0, rise_apart es h.1)
     others k (f ∷ es) h = (differs k f.0 h.0, others k es h.1)
 
 module _ (p : PotMeaning) (w : WorldValue) (c : CampaignValue) where
-  -- some order for unit `n` has no fault and wants so much, and the item that it names, if any, is the unit's in `items`
+  -- Some order for unit `n` has no fault and wants so much, and the item that it names, if any, is the unit's in
+  -- `items`.
   abbrev IsWanted : FinMap nat_cmp ℕ → ℕ → ℕ → Type 0
   IsWanted items n want =
       (u : Unit) × (t : Task) × (get c.units n ≡ Some u) × (t.unit ≡ n) × (want ≡ p.want w u t) × (p.fault w u t ≡ None) × ((i : ℕ) → item_in t.order_value.operands ≡ Some i → get items n ≡ Some i)
@@ -118,7 +121,7 @@ module _ (p : PotMeaning) (w : WorldValue) (c : CampaignValue) where
     item_elsewhere None n apart = refl
     item_elsewhere (Some i) n apart = get-insert_other items t.unit n i apart
 
-    -- one order: what its unit wants is wanted by that order
+    -- after one order each unit in the wants is wanted by some order without a fault, if that was so before
     wanted_by : (r : Result Unit EventFault) → unit_for p w c t ≡ r → Every (IsWanted items) m → Every (IsWanted (with_any items (cond (is_ok r) (named (item_in t.order_value.operands)) None))) (with_any m (wanting r))
     wanted_by (Err f) is old = old
     wanted_by (Ok u) is old = λ n want there. elim (cases_eq n t.unit) [
@@ -138,7 +141,7 @@ module _ (p : PotMeaning) (w : WorldValue) (c : CampaignValue) where
           (v, o, here, own, wanted, fine, λ i is_i. item_elsewhere (item_in t.order_value.operands) n apart ∙ names i is_i)
     ]
 
-  -- all orders: what the units want is wanted by them
+  -- after several orders each unit in the wants is wanted by some order without a fault, if that was so before
   all_wanted : (m items : FinMap nat_cmp ℕ) (ts : List Task) → Every (IsWanted items) m → Every (IsWanted (with_each items (filter_map (item_by p w c) ts))) (with_each m (filter_map (want_by p w c) ts))
   all_wanted m items [] old = old
   all_wanted m items (t ∷ ts) old =
@@ -146,13 +149,14 @@ module _ (p : PotMeaning) (w : WorldValue) (c : CampaignValue) where
       (subst (Every (IsWanted (with_each (with_any items (item_by p w c t)) (filter_map (item_by p w c) ts)))) (sym (any_then m (want_by p w c t) (filter_map (want_by p w c) ts)))
       (all_wanted (with_any m (want_by p w c t)) (with_any items (item_by p w c t)) ts (wanted_by m items t (unit_for p w c t) refl old)))
 
+  -- each want of a phase is wanted by some order without a fault
   wants_are_wanted : (ts : List Task) → Every (IsWanted (items_by p w c ts)) (wants_by p w c ts)
   wants_are_wanted ts =
       subst (Every (IsWanted (items_by p w c ts))) (put_in_turn (filter_map (want_by p w c) ts))
       (subst (λ k. Every (IsWanted k) (with_each empty (filter_map (want_by p w c) ts))) (put_in_turn (filter_map (item_by p w c) ts)) (all_wanted empty empty ts (every-empty (IsWanted empty))))
 
   module _ (gives : GivesToWants p w c) where
-    -- each unit gets at most what it wants by some order without fault, and the item that this names is the unit's
+    -- each unit gets at most what it wants by some order without a fault, and its item is the one that the order names
     pub given_is_named : (ts : List Task) →
         Every (λ n share. (u : Unit) × (t : Task) × (get c.units n ≡ Some u) × (t.unit ≡ n) × (share ≤ p.want w u t) × (p.fault w u t ≡ None) × ((i : ℕ) → item_in t.order_value.operands ≡ Some i → get (items_by p w c ts) n ≡ Some i)) (given_by p w c ts)
     given_is_named ts n share is =

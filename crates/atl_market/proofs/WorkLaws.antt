@@ -1,4 +1,5 @@
--- Laws of WORK: it leaves a campaign well, takes nothing from a unit, and its wages can be paid in turn.
+-- Laws of WORK: it keeps a campaign steady, its books balanced and all units no worse off; all wages can be paid in
+-- turn.
 use Rattle.std.proofs.Common.{◌≡◌, ◌≢◌, ◌==◌, ℕ, ◌+◌, ◌-◌, ◌*◌, ◌/◌, ◌%◌, ◌≤◌, ◌<◌, false, cond, Option, Some, None, List, [], ◌∷◌, length, refl, sym, ap, subst, ◌∙◌, arith}
 use Rattle.std.specs.Prelude.{pos, ◌+ℤ◌, fold}
 use Rattle.std.specs.List.{AllByRecursion}
@@ -64,7 +65,7 @@ module _ (w : WorldValue) (c : CampaignValue) (n : ℕ) (u : Unit) (money : ℕ)
   abbrev pub wages_paid : CampaignValue
   wages_paid = with_amount given Wages Money (pos money)
 
-  -- raising the unit's money by its wages and booking them gives that campaign
+  -- setting the unit's money to what it has with its wages, and booking these, gives the campaign `wages_paid`
   wages_are : with_amount (with_money c n (u.holding.money + money)) Wages Money (pos money) ≡ wages_paid
   wages_are = ap (λ d. with_amount d Wages Money (pos money)) (richer_is c n u money is)
 
@@ -86,7 +87,7 @@ module _ (w : WorldValue) (c : CampaignValue) (n : ℕ) (u : Unit) (money : ℕ)
           zero_more : (x : ℕ) → pos x +ℤ pos 0 ≡ pos x
           zero_more x = omega (arith, ints)
 
-  -- wages that the unit has room for leave a steady campaign well: it stays steady, and its books balance
+  -- wages that the unit has room for keep the campaign steady and its books balanced, and book only wages
   pub wages_leave_well : u.holding.money + money ≤ holding_limit → IsSteady w c → LeavesWell IsSteady (work_moves holding_limit) w c wages_paid
   wages_leave_well fits steady = record {
     leaves_it = steady-amount w given Wages Money (pos money) (omega arith) (steady-unit_amount w c n u more is (may_hold_money w c n (u.holding.money + money) u is fits steady) steady);
@@ -105,9 +106,9 @@ module _ (w : WorldValue) (c : CampaignValue) (n : ℕ) (u : Unit) (money : ℕ)
   pub wages_no_worse : AreNoWorse c wages_paid
   wages_no_worse k v there = richer_no_worse c n u money is k v there
 
--- ---- what is marked
+-- ---- marks
 
--- setting a unit's money and booking wages sets the dirty flags of all that changes
+-- setting a unit's money and booking its wages marks all that changes
 pub wages_marks : (c d e : MarkedCampaign) (n money unit_amount : ℕ) → d.value ≡ with_money c.value n unit_amount → d.marks ≡ mark_unit_row c n
     → e.value ≡ with_amount d.value Wages Money (pos money) → e.marks ≡ mark_amount d Wages Money → MarksChanges c e
 wages_marks c d e n money unit_amount d_is d_marks e_is e_marks =
@@ -122,47 +123,52 @@ module _ (w : WorldValue) (c : CampaignValue) (e : ℕ × ℕ) where
   unfolding after_work
   worked_is u is = unit_there c e.0 _ u is ∙ wages_are w c e.0 u (wages_for w u.region e.1) is
 
-  -- the work of a unit leaves the campaign well
+  -- the work of a unit that can be paid keeps the campaign steady and its books balanced, and books only wages
   pub worked_well : CanWork w c e → LeavesWell IsSteady (work_moves holding_limit) w c (after_work w c e)
   worked_well can =
       subst (λ d. LeavesWell IsSteady (work_moves holding_limit) w c d) (sym (worked_is can.unit can.there))
       (wages_leave_well w c e.0 can.unit (wages_for w can.unit.region e.1) can.there can.fits can.steady)
 
+  -- the work of a unit that can be paid leaves the other units as they are
   pub worked_others : CanWork w c e → (k : ℕ) → k ≢ e.0 → get (after_work w c e).units k ≡ get c.units k
   worked_others can k apart =
       ap (λ (d : CampaignValue). get d.units k) (worked_is can.unit can.there)
       ∙ wages_leave_others w c e.0 can.unit (wages_for w can.unit.region e.1) can.there k apart
 
+  -- the work of one unit leaves no unit worse off
   pub worked_no_worse : AreNoWorse c (after_work w c e)
   unfolding after_work
   worked_no_worse =
       by_unit c e.0 (AreNoWorse c) _ (are_no_worse c) (λ u is.
       subst (λ d. AreNoWorse c d) (sym (wages_are w c e.0 u (wages_for w u.region e.1) is)) (wages_no_worse w c e.0 u (wages_for w u.region e.1) is))
 
+-- the work of several units in turn leaves no unit worse off
 each_no_worse : (w : WorldValue) (c : CampaignValue) (es : List (ℕ × ℕ)) → AreNoWorse c (fold (after_work w) c es)
 each_no_worse w c [] = are_no_worse c
 each_no_worse w c (e ∷ es) = are_no_worse_twice c (after_work w c e) (fold (after_work w) (after_work w c e) es) (worked_no_worse w c e) (each_no_worse w (after_work w c e) es)
 
+-- WORK leaves no unit worse off
 pub work_keeps_units : (w : WorldValue) (c : CampaignValue) (os : List Task) → AreNoWorse c (after_sharing work_pots w c os)
 unfolding after_sharing
 work_keeps_units w c os = each_no_worse w c (entries (given_by work_pots w c os))
 
--- ---- all steps can be taken
+-- ---- all shares can be paid in turn
 
 -- the unit of a share is there and has room for the wages of so many work places
 abbrev pub HasRoomFor : WorldValue → CampaignValue → ℕ × ℕ → Type 0
 HasRoomFor w c e = (u : Unit) × (get c.units e.0 ≡ Some u) × (u.holding.money + wages_for w u.region e.1 ≤ holding_limit)
 
 module _ (w : WorldValue) where
+  -- the bound on what the work of one unit books
   abbrev step_moves : BookBound
   step_moves = work_moves holding_limit
 
-  -- the units still to come have room after another unit changed
+  -- the units that have not been paid yet have room for their wages after a unit with a lower number changed
   still : (c d : CampaignValue) (n : ℕ) (es : List (ℕ × ℕ)) → ((k : ℕ) → k ≢ n → get d.units k ≡ get c.units k) → AllByRecursion (λ f. n < f.0) es → AllByRecursion (HasRoomFor w c) es → AllByRecursion (HasRoomFor w d) es
   still c d n [] same above all = tt
   still c d n (f ∷ es) same above ((u, there, fits), all) = ((u, same f.0 (λ e. absurd (omega (arith, e, above.0))) ∙ there, fits), still c d n es same above.1 all)
 
-  -- shares for whose wages the units and the books have room can be paid in turn
+  -- shares can be paid in turn, if each unit has room for its wages and the books have room for all of them
   pub work_in_turn : (c : CampaignValue) (es : List (ℕ × ℕ)) → Rise es → IsSteady w c → HaveRoom (moved_times (length es) step_moves) c → AllByRecursion (HasRoomFor w c) es → CanInTurn (CanWork w) (after_work w) c es
   work_in_turn c [] rise steady room all = tt
   work_in_turn c (e ∷ es) rise steady room ((u, there, fits), all) =
@@ -197,7 +203,7 @@ module _ (w : WorldValue) where
     little : (e : Entry) (t : Thing) → moved_times (length shares) step_moves e t ≤ work_moves most_moved e t
     little e t = few_holdings (length shares) few Wages Money e t
 
-    -- all shares of WORK can be paid in turn
+    -- all shares of WORK can be paid in turn, in a steady campaign whose books have room for the phase
     pub can_share_out : HaveRoom (work_moves most_moved) c → CanInTurn (CanWork w) (after_work w) c shares
     can_share_out room = work_in_turn c shares (entries_rise (given_by work_pots w c os)) steady (room_less (moved_times (length shares) step_moves) (work_moves most_moved) c little room) (all_pairs (HasRoomFor w c) shares (each-from_every (λ n places. HasRoomFor w c (n, places)) (given_by work_pots w c os) each_fits))
 

@@ -34,6 +34,7 @@ use Rattle.atl_market.specs.Work.{idle_task, idle_work, is_idle, is_work, sorted
 use Rattle.atl_market.proofs.PotLaws.{some_new, still_some}
 use Rattle.atl_market.proofs.WantLaws.{appended_entries}
 
+-- a test that holds is true
 is_so : (b : Bool) → T b → b ≡ true
 is_so true h = refl
 is_so false h = absurd h
@@ -45,6 +46,7 @@ module _ {K X : Type 0} (R : K → K → Ordering) (exact : IsAntisymmetric R) (
   abbrev AreKeyed : List (K × X) → Type 0
   AreKeyed = AllByRecursion (λ e. e.0 ≡ key e.1)
 
+  -- entries under the keys of their values stay so when a value is put in under its key
   keyed-put : (x : X) (es : List (K × X)) → AreKeyed es → AreKeyed (put R (key x) x es)
   keyed-put x [] all = (refl, tt)
   keyed-put x (e ∷ es) all =
@@ -54,22 +56,26 @@ module _ {K X : Type 0} (R : K → K → Ordering) (exact : IsAntisymmetric R) (
         | Greater ↦ λ _. (all.0, keyed-put x es all.1)
       ] refl
 
+  -- the entries of a map from values by their keys are under the keys of their values
   keyed-listed : IsTotalOrder R → (xs : List X) → AreKeyed (entries (from_entries {R = R} (map (λ x. (key x, x)) xs)))
   keyed-listed o [] = subst AreKeyed (sym (no_entries R)) tt
   keyed-listed o (x ∷ xs) =
       subst AreKeyed (sym (entries-insert o (from_entries (map (λ x. (key x, x)) xs)) (key x) x)) (keyed-put x (entries (from_entries (map (λ x. (key x, x)) xs))) (keyed-listed o xs))
 
+  -- what is Less is not Equal
   apart_of : (o : Ordering) → is_lt o ≡ true → is_eq o ≡ false
   apart_of Less h = refl
   apart_of Equal h = absurd (false≢true h)
   apart_of Greater h = refl
 
+  -- the values of entries with keys above that of `x` have another key than `x`
   others : (x : X) (k : K) (es : List (K × X)) → k ≡ key x → below_all R k es ≡ true → AreKeyed es → AllByRecursion (λ y. eq_by_cmp R (key x) (key y) ≡ false) (map (λ e. e.1) es)
   others x k [] is low all = tt
   others x k (e ∷ es) is low all =
       let parts = and_parts _ _ low in
       (ap is_eq (λ i. R (sym is i) (sym all.0 i)) ∙ apart_of (R k e.0) parts.0, others x k es is parts.1 all.1)
 
+  -- the values of sorted entries, each under its own key, differ in their keys
   listed_apart : (es : List (K × X)) → is_sorted R es ≡ true → AreKeyed es → IsDistinct (λ x y. eq_by_cmp R (key x) (key y)) (map (λ e. e.1) es)
   unfolding IsDistinct
   listed_apart [] up all = tt
@@ -89,7 +95,7 @@ work_key = key_of ByUnit
 abbrev same_work : Task → Task → Bool
 same_work a b = eq_by_cmp (slice_cmp nat_cmp) (work_key a) (work_key b)
 
--- orders that `same_work` finds alike have the same key
+-- orders with the same key by `same_work` have the same key
 keys_tie : (a b : Task) → same_work a b ≡ true → work_key a ≡ work_key b
 keys_tie a b h = slice_cmp-IsAntisymmetric nat_cmp-IsAntisymmetric (work_key a) (work_key b) ((Equal-is (slice_cmp nat_cmp (work_key a) (work_key b))).0 h)
 
@@ -108,6 +114,7 @@ module _ (c : CampaignValue) where
   abbrev IsListed : FinMap nat_cmp ℕ → Task → Type 0
   IsListed writers o = is_of_faction o.faction (get c.units o.unit) ≡ true → is_some (get writers o.unit) ≡ true
 
+  -- after some orders are listed, the unit of each order of its own faction is in the map of writers
   own_is_listed : (m : FinMap nat_cmp ℕ) (os : List Task) → AllByRecursion (IsListed (with_each m (flat_map (own_unit c) os))) os
   own_is_listed m [] = tt
   own_is_listed m (o ∷ os) =
@@ -139,7 +146,7 @@ module _ (c : CampaignValue) where
     idle_each [] h = tt
     idle_each ((n, u) ∷ es) h = append_each IsIdle (idle_by writers (n, u)) (flat_map (idle_by writers) es) (idle_if n u _ refl h.0) (idle_each es h.1)
 
-    -- each order that is added for a unit without an order is one
+    -- each order that the code adds for a unit without an order is of the unit's faction, and the unit isn't a writer
     each_idle : AllByRecursion IsIdle (all_idle c os)
     each_idle = idle_each (entries c.units) (each-from_every (λ n u. get c.units n ≡ Some u) c.units (λ n u is. is))
 
@@ -157,7 +164,7 @@ module _ (c : CampaignValue) where
         flat_apart same_work (idle_by writers) (λ (e f : ℕ × Unit). e.0 < f.0) (λ e o. o.unit ≡ e.0)
         (λ e f a b low mine other. apart_by a b (λ same _. absurd (omega (arith, low, mine, other, same)))) of_unit just_one (entries c.units) (entries_rise c.units)
 
-    -- ---- and the written ones
+    -- ---- written orders, and the added ones
 
     same_faction : (a b : ℕ) → a ≡ b → (a == b) ≡ true
     same_faction a b e = grind (arith, nat_tests)
@@ -227,9 +234,11 @@ module _ (c : CampaignValue) (ts : List Task) where
   abbrev of_idle : List (ℕ × Unit) → List Task
   of_idle es = map (λ e. idle_task e.0 e.1.faction) (filter (is_idle ts) es)
 
+  -- the work that the code adds for a unit is the one that is defined
   one_idle : (n : ℕ) (u : Unit) → get c.units n ≡ Some u → idle_by (own_writers c ts) (n, u) ≡ cond (is_idle ts (n, u)) (idle_task n u.faction ∷ []) []
   one_idle n u is = ap (λ b. cond (nat_lt 0 u.holding.men && not b) (idle_task n u.faction ∷ []) []) (is_writer c ts n u is)
 
+  -- the work that the code adds for some units is the one that is defined
   idle_are : (es : List (ℕ × Unit)) → EachOf (λ n u. get c.units n ≡ Some u) es → flat_map (idle_by (own_writers c ts)) es ≡ of_idle es
   idle_are [] h = refl
   idle_are ((n, u) ∷ es) h =

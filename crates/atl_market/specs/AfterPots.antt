@@ -1,4 +1,5 @@
--- The laws that SELL, BUY, TAX, RECRUIT, PRODUCE and WORK change all units and regions at once. See docs/RULES.md, "Pots".
+-- The laws that SELL, BUY, TAX, RECRUIT, PRODUCE and WORK change all units and regions at once.
+-- See docs/RULES.md, "Pots".
 use Rattle.std.specs.Prelude.{◌+◌, ◌-◌, ◌*◌, ℕ, List, Option}
 use Rattle.std.specs.List.{slice_get}
 use Rattle.std.specs.Option.{option_map_or}
@@ -20,7 +21,8 @@ use Rattle.atl_market.specs.Work.{wages_for, work_pots}
 use Rattle.atl_market.specs.declared.trade.Trade.{Trade}
 use Rattle.atl_market.specs.declared.trade.Trade.TheVariants.{Sell, Buy}
 
--- A holding after a trade of `share` pieces with a market. SELL: goods for money, at `pays` each. BUY: money for goods, at `price`.
+-- A holding after a trade of `share` pieces with a market. SELL: goods for money, at `pays` each. BUY: money for goods,
+-- at `price`.
 abbrev pub with_trade : Trade → HoldingValue → (share : ℕ) → Market → HoldingValue
 with_trade Sell h share m = record h { money = h.money + share * m.pays; items = with_amount_of h.items m.item (amount_of h.items m.item - share) }
 with_trade Buy h share m = record h { money = h.money - share * m.price; items = with_amount_of h.items m.item (amount_of h.items m.item + share) }
@@ -34,8 +36,8 @@ abbrev pub stock_after : Trade → (stock traded : ℕ) → ℕ
 stock_after Sell stock traded = stock + traded
 stock_after Buy stock traded = stock - traded
 
--- The law of SELL and BUY: in a world's campaign all units trade at once. Each has its share less or more and the money for it
--- more or less; a region has of each item all that its units sold of it more, or bought of it less.
+-- The law of SELL and BUY: in a world's campaign all units trade at once. Each has its share less or more and the money
+-- for it more or less; a region has of each item all that its units sold of it more, or bought of it less.
 abbrev pub TradesAtOnce : Type 0
 TradesAtOnce =
     (trade : Trade) (w : WorldValue) (c : CampaignValue) (os : List Task) → IsWorld w
@@ -50,7 +52,8 @@ with_more_money u money = record u { holding = record u.holding { money = u.hold
 abbrev pub with_less_money : RegionChange
 with_less_money q taken = record q { money = q.money - taken }
 
--- The law of TAX: all units take their money at once. Each has its share more, and a region all that its units took less.
+-- The law of TAX: all units take their money at once. Each has its share more, and a region all that its units took
+-- less.
 abbrev pub TaxesAtOnce : Type 0
 TaxesAtOnce = (w : WorldValue) (c : CampaignValue) (os : List Task) → PaysAtOnce tax_pots w (λ n. with_more_money) with_less_money c os
 
@@ -58,11 +61,12 @@ TaxesAtOnce = (w : WorldValue) (c : CampaignValue) (os : List Task) → PaysAtOn
 abbrev pub with_recruits : WorldValue → UnitChange
 with_recruits w u recruits = record u { holding = with_paid_recruits u.holding recruits (recruits * w.rules.recruit_price) }
 
--- a region with as many peasants less as joined its units
+-- a region with `joined` fewer peasants
 abbrev pub with_less_peasants : RegionChange
 with_less_peasants q joined = record q { peasants = q.peasants - joined }
 
--- The law of RECRUIT: all recruits join at once. A unit has its recruits more and their price less; a region has all of them less.
+-- The law of RECRUIT: all recruits join at once. A unit has its recruits more and their price less; a region has all of
+-- them less.
 abbrev pub RecruitsAtOnce : Type 0
 RecruitsAtOnce =
     (w : WorldValue) (c : CampaignValue) (os : List Task)
@@ -86,7 +90,8 @@ maker_of u made item x =
 abbrev pub maker_by : WorldValue → Unit → (made : ℕ) → Option ℕ → Unit
 maker_by w u made asked = option_map_or (λ i. option_map_or (maker_of u made i) (slice_get w.items i) u) asked u
 
--- The law of PRODUCE: all units make at once. Each has what it made more and the raw items for it less; no region changes.
+-- The law of PRODUCE: all units make at once. Each has what it made more and the raw items for it less; no region
+-- changes.
 abbrev pub ProducesAtOnce : Type 0
 ProducesAtOnce =
     (w : WorldValue) (c : CampaignValue) (os : List Task)

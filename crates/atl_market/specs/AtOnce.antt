@@ -1,4 +1,5 @@
--- What it means that a phase changes all units and regions at once, each by what it was and the shares. See docs/RULES.md, "Pots".
+-- What it means that a phase changes all units and regions at once, each by what it was and the shares.
+-- See docs/RULES.md, "Pots".
 use Rattle.std.specs.Prelude.{◌≡◌, ◌==◌, ◌&&◌, ℕ, Bool, false, List, map, filter, sum, Option, Some}
 use Rattle.std.specs.Option.{option_map_or}
 use Rattle.std.specs.Ordering.{nat_cmp}
@@ -32,8 +33,8 @@ RegionChange = Region → (given : ℕ) → Region
 abbrev pub paid_unit : UnitChange → Unit → Option ℕ → Unit
 paid_unit gets u share = option_map_or (gets u) share u
 
--- A phase pays all units at once: after it each unit is `gets` of what it was and its share, and each region `gives` of what it
--- was and all that its units got.
+-- A phase pays all units at once: after it each unit is `gets` of what it was and its share, and each region `gives` of
+-- what it was and all that its units got.
 pub record PaysAtOnce (p : PotMeaning) (w : WorldValue) (gets : ℕ → UnitChange) (gives : RegionChange) (c : CampaignValue) (os : List Task) : Type 0 where
   pub units :
       (n : ℕ) (u : Unit) → get c.units n ≡ Some u
@@ -53,14 +54,15 @@ abbrev pub given_of : (item_of : ℕ → Option ℕ) → FinMap nat_cmp ℕ → 
 given_of item_of given units region item =
     sum (map (λ e. e.1) (filter (λ e. stands_in region (get units e.0) && is_for item (item_of e.0)) (entries given)))
 
--- A region is there with only its stocks changed: each item's is `becomes` of what it was and of what was given of the item.
+-- A region is there with only its stocks changed: each item's is `becomes` of what it was and of what was given of the
+-- item.
 pub record HasNewStocks (q : Region) (becomes : (stock given : ℕ) → ℕ) (given : (item : ℕ) → ℕ) (after : Option Region) : Type 0 where
   pub stocks : FinMap nat_cmp ℕ
   pub region : after ≡ Some (record q { stocks = stocks })
   pub amounts : (item : ℕ) → amount_of stocks item ≡ becomes (amount_of q.stocks item) (given item)
 
--- A phase with pots of items pays all units at once: after it each unit is `gets` of what it was and its share, and each stock of
--- a region `becomes` of what it was and all that those of its units got that ask for the item.
+-- A phase with pots of items pays all units at once: after it each unit is `gets` of what it was and its share, and
+-- each stock of a region `becomes` of what it was and all that those of its units got that ask for the item.
 pub record PaysItemsAtOnce (p : PotMeaning) (w : WorldValue) (item_of : ℕ → Option ℕ) (gets : ℕ → UnitChange)
     (becomes : (stock given : ℕ) → ℕ) (c : CampaignValue) (os : List Task) : Type 0 where
   pub units :

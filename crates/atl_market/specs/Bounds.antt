@@ -1,5 +1,5 @@
--- What BUILD needs of a campaign and its world (`CanBuild`). The rest is for proofs alone: that steps can be taken in turn
--- (`CanInTurn`), and how far BUILD may still move the books (`build_reserve`).
+-- What BUILD needs of a campaign and its world (`CanBuild`). The rest is for proofs alone: steps that can be carried
+-- out in turn (`CanInTurn`), and how far BUILD may still move the books (`build_reserve`).
 use Rattle.std.specs.Prelude.{⊤, ℕ, ◌≡◌, ◌==◌, length, List, [], ◌∷◌, Some, if◌then◌else◌}
 use Rattle.std.specs.List.{slice_get}
 use Rattle.atl_tables.specs.Worlds.{IsKind, WorldValue}
@@ -15,7 +15,7 @@ use Rattle.atl_state.specs.Good.{IsSteady}
 use Rattle.atl_state.specs.Campaign.{CampaignValue}
 use Rattle.atl_instant.specs.Bounds.{RemainingBound}
 
--- each step of a list can be taken (`can`) in the campaign that the steps ahead of it leave
+-- each step of a list can be carried out (`can`) in the campaign that the steps ahead of it leave
 abbrev pub CanInTurn : {X : Type 0} → (CampaignValue → X → Type 0) → (CampaignValue → X → CampaignValue) → CampaignValue → List X → Type 0
 CanInTurn can step c [] = ⊤
 CanInTurn can step c (x ∷ xs) = can c x × CanInTurn can step (step c x) xs
@@ -25,7 +25,7 @@ pub record CanBuild (w : WorldValue) (c : CampaignValue) : Type 0 where
   pub steady : IsSteady w c
   pub kinds : (i : ℕ) (k : Kind) → slice_get w.kinds i ≡ Some k → IsKind (length w.items) (length w.skills) k
 
--- what a holding may still have booked under an entry, of a thing: under Used all that it has of an item, else 0
+-- how much of a thing BUILD may still book for a holding under an entry: under Used all that it has of an item, else 0
 abbrev pub usable : Entry → Thing → HoldingValue → ℕ
 usable e (Item i) h = if entry_index e == entry_index Used then amount_of h.items i else 0
 usable e t h = 0

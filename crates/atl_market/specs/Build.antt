@@ -1,4 +1,4 @@
--- BUILD: units begin structures, and go on with those that they are inside. See docs/RULES.md, "Building".
+-- BUILD: units begin structures, and continue those that they are inside. See docs/RULES.md, "Building".
 use Rattle.std.specs.Prelude.{◌++◌, ℕ, ◌+◌, ◌-◌, ◌*◌, ◌==◌, min, nat_le, nat_lt, not, Bool, true, false, List, [], ◌∷◌, codes, Option, Some, None, option_and_then, option_map, if◌then◌else◌}
 use Rattle.std.specs.Fmt.{decimal}
 use Rattle.std.specs.List.{slice_get}
@@ -38,7 +38,8 @@ is_building verb = false
 
 -- ---- what a unit adds
 
--- how much a unit adds to a structure: the least of men times level, the material held, and what is missing to the kind's size
+-- How much a unit adds to a structure: the least of men times level, the material held, and what is missing to the
+-- kind's size.
 abbrev pub size_added : Kind → HoldingValue → (done : ℕ) → ℕ
 size_added k h done = min (min (h.men * level_in h k.skill) (amount_of h.items k.material)) (k.size - done)
 
@@ -70,11 +71,13 @@ new_structure number kind k region size = record { kind = kind; name = name_pref
 abbrev pub with_new_structure : CampaignValue → (kind : ℕ) → Kind → (region size : ℕ) → CampaignValue
 with_new_structure c kind k region size = with_structure_begun c (new_structure c.next_structure kind k region size)
 
--- a campaign after unit `n` used `size` of the material, began a structure with it, left its old one and entered the new one
+-- A campaign after unit `n` used `size` of the material, began a structure with it, left its old one and entered the
+-- new one.
 abbrev pub after_start : CampaignValue → (n kind : ℕ) → Kind → (region size : ℕ) → CampaignValue
 after_start c n kind k region size = with_place (with_new_structure (with_used c n k.material size) kind k region size) n region c.next_structure
 
--- the effect of `BUILD kind` by unit `n`: a structure is begun and the outcome is its size; with a fault nothing changes
+-- The effect of `BUILD kind` by unit `n`: a structure is begun and the outcome is its size; with a fault nothing
+-- changes.
 unfoldable pub begin : WorldValue → (n kind : ℕ) → Kind → OrderEffect
 begin w n kind k c u =
     let size = size_added k u.holding 0 in
@@ -107,20 +110,21 @@ with_kind w s = option_map (λ k. (s, k)) (slice_get w.kinds s.kind)
 abbrev pub structure_and_kind_at : WorldValue → CampaignValue → (structure : ℕ) → Option (Structure × Kind)
 structure_and_kind_at w c structure = option_and_then (with_kind w) (get c.structures structure)
 
--- what `BUILD` makes of a campaign and its outcome, by the structure and kind that unit `n` is inside, if it is inside one
+-- the campaign and outcome after `BUILD` by unit `n`, which is inside a structure of the given kind, or inside none
 abbrev pub go_on_at : CampaignValue → (n : ℕ) → Unit → Option (Structure × Kind) → CampaignValue × Outcome
 go_on_at c n u None = unless c (outside_fault u) (c, Done 0)
 go_on_at c n u (Some (s, k)) =
     let size = size_added k u.holding s.done in
     unless c (inside_fault u s k) (after_building_on c n k.material size u.structure (s.done + size), Done size)
 
--- the effect of `BUILD` by unit `n`: it goes on with the structure that it is inside; with a fault nothing changes
+-- the effect of `BUILD` by unit `n`: it continues the structure that it is inside; with a fault nothing changes
 unfoldable pub go_on : WorldValue → (n : ℕ) → OrderEffect
 go_on w n c u = go_on_at c n u (structure_and_kind_at w c u.structure)
 
 -- ---- the effect of an order
 
--- the effect of an order of unit `n` by its operands: with a kind of the world `begin`, with none `go_on`, else no effect
+-- The effect of an order of unit `n` by its operands: with a kind of the world `begin`, with none `go_on`, else no
+-- effect.
 abbrev pub build_effect : WorldValue → (n : ℕ) → OperandsValue → Option OrderEffect
 build_effect w n (operands.Kind (Some kind)) = option_map (begin w n kind) (slice_get w.kinds kind)
 build_effect w n (operands.Kind None) = Some (go_on w n)
@@ -139,8 +143,8 @@ build_moves e t = 0
 
 -- ---- the phase
 
--- The specification of the phase BUILD: it carries out orders one by one, and books Used of items. A unit without such an order of
--- its own faction is no worse off.
+-- The specification of the phase BUILD: it carries out orders one by one, and books Used of items. A unit for which its
+-- own faction wrote no order of BUILD is no worse off.
 abbrev pub build_spec : PhaseSpec
 build_spec = record (goes_by_orders build_step is_building IsOwnOrder IsNoWorse) {
   moving = build_moves;

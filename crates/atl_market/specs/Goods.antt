@@ -1,4 +1,4 @@
--- A campaign after a unit used or made so much of an item, which is booked: the steps of BUILD and PRODUCE.
+-- A campaign after a unit used or made an amount of an item, which is booked: the steps of BUILD and PRODUCE.
 use Rattle.std.specs.Prelude.{◌+◌, ◌-◌, ℕ, pos, neg_ℤ}
 use Rattle.atl_records.specs.declared.books.Entry.TheVariants.{Made, Used}
 use Rattle.atl_records.specs.declared.books.Thing.TheVariants.{Item}

@@ -1,4 +1,5 @@
--- For proofs alone: the orders of WORK and the work of units without an order, in the order in which the code lists them.
+-- For proofs alone: the orders of WORK and the work of units without an order, in the order in which the code lists
+-- them.
 use Rattle.std.specs.Prelude.{◌&&◌, ◌++◌, ℕ, List, [], ◌∷◌, is_some, nat_lt, not, if◌then◌else◌}
 use Rattle.std.specs.List.{flat_map}
 use Rattle.std.specs.Ordering.{nat_cmp}

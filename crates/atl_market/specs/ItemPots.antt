@@ -1,4 +1,5 @@
--- Pots of items: the units of a region that ask for the same item share what the region has of it. See docs/RULES.md, "Pots".
+-- Pots of items: the units of a region that ask for the same item share what the region has of it.
+-- See docs/RULES.md, "Pots".
 use Rattle.std.specs.Prelude.{◌==◌, ℕ, Bool, false, Option, option_and_then, option_map}
 use Rattle.std.specs.List.{filter_map}
 use Rattle.std.specs.Option.{option_map_or}
@@ -17,7 +18,8 @@ module _ (item_of : ℕ → Option ℕ) where
   wants_for wants item = retain_keys wants (λ number. is_for item (item_of number))
 
   module _ (pot_of : (item region : ℕ) → ℕ) (wants : FinMap nat_cmp ℕ) (c : CampaignValue) where
-    -- The share that a unit, by its number, gets of what its region has of the item that it asks for, if it asks for one.
+    -- The share that a unit, by its number, gets of what its region has of the item that it asks for, if it asks for
+    -- one.
     abbrev pub item_share : ℕ → Option ℕ
     item_share number =
         option_and_then (λ item. share_of (pot_of item) (wants_for wants item) c number) (item_of number)

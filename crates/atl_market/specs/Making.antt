@@ -34,7 +34,7 @@ pub record CanMake (w : WorldValue) (c : CampaignValue) (n i amount : ℕ) : Typ
   pub steady : IsSteady w c
   pub room : HasRoom amount (amount_in c.books Made (things.Item i))
 
--- unit `n` can use the raw items for `made` of item `i`, and make these then
+-- unit `n` can use the raw items for `made` of item `i`, and can make the `made` pieces after that
 pub record CanMakeOf (w : WorldValue) (c : CampaignValue) (n made i : ℕ) (x : Item) : Type 0 where
   pub use_raw : (r : ℕ) → x.raw ≡ Some r → CanUse w c n r (made * x.raw_count)
   pub few_raw : (r : ℕ) → x.raw ≡ Some r → made * x.raw_count ≤ holding_limit
@@ -47,8 +47,8 @@ pub record HasRoomAndRaw (w : WorldValue) (u : Unit) (made i : ℕ) (x : Item) :
   pub raw_known : (r : ℕ) → x.raw ≡ Some r → r < length w.items
   pub raw : (r : ℕ) → x.raw ≡ Some r → made * x.raw_count ≤ amount_of u.holding.items r
 
--- The unit of a share can make so much of its item: it is there, has room and raw items for it, and the books have room for
--- a holding's limit made and used.
+-- The unit of a share can make so much of its item: it is there, has room and raw items for it, and the books have room
+-- for a holding's limit made and used.
 pub record CanProduce (asked : FinMap nat_cmp ℕ) (w : WorldValue) (c : CampaignValue) (e : ℕ × ℕ) : Type 0 where
   pub unit : Unit
   pub there : get c.units e.0 ≡ Some unit

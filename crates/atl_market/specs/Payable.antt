@@ -25,7 +25,7 @@ pub record CanTax (w : WorldValue) (c : CampaignValue) (e : ℕ × ℕ) : Type 0
   pub enough : e.1 ≤ at.region.money
   pub early : IsEarly w c
 
--- a unit, by its number, can get so many recruits: it can pay for them and has room for them, and its region and the books have
+-- a unit, by its number, can get so many recruits: it has money and room, its region the peasants, and the books room
 pub record CanRecruit (w : WorldValue) (c : CampaignValue) (e : ℕ × ℕ) : Type 0 where
   pub at : IsSomewhere c e.0
   pub fits : at.unit.holding.men + e.1 ≤ men_limit
@@ -34,7 +34,7 @@ pub record CanRecruit (w : WorldValue) (c : CampaignValue) (e : ℕ × ℕ) : Ty
   pub early : IsEarly w c
   pub room : HaveRoom (recruit_moves holding_limit) c
 
--- a unit, by its number, can be paid for so many work places: it is there and has room for the wages, and so have the books
+-- a unit, by its number, can be paid for so many work places: it is there, and it and the books have room for the wages
 pub record CanWork (w : WorldValue) (c : CampaignValue) (e : ℕ × ℕ) : Type 0 where
   pub unit : Unit
   pub there : get c.units e.0 ≡ Some unit

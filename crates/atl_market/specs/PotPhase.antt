@@ -1,5 +1,5 @@
--- A phase in which the units of each region share a pot: who takes part, what each gets, and what is reported. All of it is read
--- from the campaign as the phase began. See docs/RULES.md, "Pots".
+-- A phase in which the units of each region share a pot: who takes part, what each gets, and what is reported. All of
+-- it is read from the campaign as the phase began. See docs/RULES.md, "Pots".
 use Rattle.std.specs.Prelude.{ℕ, Bool, List, map, reverse, Option, Some, None, option_map, unwrap_or, Result, Ok, Err, if◌then◌else◌}
 use Rattle.std.specs.List.{filter_map, fold}
 use Rattle.std.specs.Option.{option_map_or}
@@ -52,16 +52,16 @@ pub record PotMeaning : Type 0 where
   -- the campaign after a unit, by its number, got so much of the pot of its region, or of that of its item there
   pub paid : (items : FinMap nat_cmp ℕ) → WorldValue → CampaignValue → ℕ × ℕ → CampaignValue
 
--- A map from entries by unit. If a unit had several, the last would count. It has one at most: of the orders of a phase that its
--- own faction wrote for it only one counts.
+-- A map from entries by unit. If a unit had several, the last would count. It has one at most: of the orders of a phase
+-- that its own faction wrote for it only one counts.
 abbrev pub by_unit : List (ℕ × ℕ) → FinMap nat_cmp ℕ
 by_unit es = from_entries (reverse es)
 
 module _ (p : PotMeaning) (w : WorldValue) (c : CampaignValue) where
   -- ---- who takes part
 
-  -- The unit that carries an order out, or the order's fault: NotYours where the unit isn't there or isn't the faction's, else
-  -- what the phase finds.
+  -- The unit that carries an order out, or the order's fault: NotYours where the unit isn't there or isn't of the
+  -- order's faction, else the phase's own fault (`fault`).
   unfoldable pub unit_for : Task → Result Unit EventFault
   unit_for t =
       option_map_or (λ u. option_map_or Err (p.fault w u t) (Ok u)) (of_faction t.faction (get c.units t.unit)) (Err NotYours)
@@ -70,7 +70,8 @@ module _ (p : PotMeaning) (w : WorldValue) (c : CampaignValue) where
   abbrev pub want_by : Task → Option (ℕ × ℕ)
   want_by t = option_map (λ u. (t.unit, p.want w u t)) (result_ok (unit_for t))
 
-  -- the number of the unit that carries an order out, with the item that the order names; none with a fault or without an item
+  -- The number of the unit that carries an order out, with the item that the order names; none with a fault or without
+  -- an item.
   abbrev pub item_by : Task → Option (ℕ × ℕ)
   item_by t = if is_ok (unit_for t) then option_map (λ item. (t.unit, item)) (item_in t.order_value.operands) else None
 
@@ -94,7 +95,8 @@ module _ (p : PotMeaning) (w : WorldValue) (c : CampaignValue) where
 
   -- ---- what is reported
 
-  -- the outcome of an order: its fault, or Done with the event's number for the amount in `given` (0 where there is none)
+  -- The outcome of an order: its fault, or Done with the event's number for the amount in `given` (0 where there is
+  -- none).
   abbrev pub outcome_of : FinMap nat_cmp ℕ → Task → Result Unit EventFault → Outcome
   outcome_of given t (Err fault) = Fault (event_fault_number fault)
   outcome_of given t (Ok u) = Done (p.event_number w u (unwrap_or (get given t.unit) 0))
@@ -107,7 +109,8 @@ module _ (p : PotMeaning) (w : WorldValue) (c : CampaignValue) where
   unfoldable pub events_by : List Task → List Event
   events_by ts = map (event_of (given_by ts)) ts
 
--- the meaning of a phase with pots: the campaign after sharing, and the month with the events; `orders` finds the phase's orders
+-- The meaning of a phase with pots: the campaign after sharing, and the month with the events; `orders` finds the
+-- phase's orders.
 abbrev pub pots_meaning : PotMeaning → (CampaignValue → MonthValue → List Task) → Meaning
 pots_meaning p orders w c m = (after_sharing p w c (orders c m), with_events m (events_by p w c (orders c m)))
 

@@ -17,7 +17,7 @@ AreWants wants = Every (λ number want. want ≤ most_amount) wants
 abbrev pub want_of : FinMap nat_cmp ℕ → ℕ → ℕ
 want_of wants number = unwrap_or (get wants number) 0
 
--- those of some units' numbers whose unit has a want
+-- the numbers of those of some units that have a want
 abbrev pub takers_among : FinMap nat_cmp ℕ → List ℕ → List ℕ
 takers_among wants numbers = filter (λ number. is_some (get wants number)) numbers
 
@@ -82,7 +82,8 @@ GivesEachPot =
     → IsThere c.regions region
     → sum (map (amount_given pot_of wants c) (takers_in wants c.units region)) ≡ min (pot_of region) (sum (wants_in wants c.units region))
 
--- the shares in a region follow from its pot, its units with a want and their wants alone: with these alike they are alike
+-- The shares in a region follow from its pot, its units with a want and their wants alone: with these alike they are
+-- alike.
 abbrev pub OtherRegionsDoNotCount : Type 0
 OtherRegionsDoNotCount =
     (pot_of other_pots : ℕ → ℕ) (wants other_wants : FinMap nat_cmp ℕ) (c other : CampaignValue) (region : ℕ)

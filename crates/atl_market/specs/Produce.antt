@@ -1,4 +1,5 @@
--- PRODUCE: units make items out of raw items, or out of what the terrain of their region gives. See docs/RULES.md, "Producing".
+-- PRODUCE: units make items out of raw items, or out of what the terrain of their region gives.
+-- See docs/RULES.md, "Producing".
 use Rattle.std.specs.Prelude.{◌-◌, ◌*◌, ◌/◌, ◌==◌, ℕ, Bool, true, false, map, min, nat_lt, Option, Some, None, is_some, option_and_then, unwrap_or, if◌then◌else◌, [], ◌∷◌}
 use Rattle.std.specs.List.{slice_get}
 use Rattle.std.specs.Ordering.{nat_cmp}
@@ -36,7 +37,7 @@ item_of w asked = option_and_then (slice_get w.items) asked
 
 -- ---- how much a unit can make
 
--- the lesser of `most` and how many the raw items held are enough for, `count` each; `most` where no raw item goes in
+-- how many pieces the raw items held allow, at `count` each, but at most `most`; `most` where no raw item goes in
 abbrev pub up_to_raw : HoldingValue → (count : ℕ) → (raw : Option ℕ) → (most : ℕ) → ℕ
 up_to_raw h count raw most = option_map_or (λ r. min (amount_of h.items r / count) most) raw most
 
@@ -65,8 +66,8 @@ output_share w asked c wants n = item_share (output_item w asked) (output_at w) 
 
 -- ---- who makes how much
 
--- how much a unit makes, by its number and its want: its share of what its region gives of the item, or, out of raw items,
--- all that it wants
+-- How much a unit makes, by its number and its want: its share of what its region gives of the item, or, out of raw
+-- items, all that it wants.
 abbrev pub made_by : WorldValue → FinMap nat_cmp ℕ → CampaignValue → FinMap nat_cmp ℕ → ℕ × ℕ → ℕ
 made_by w asked c wants (n, want) =
     if is_some (output_item w asked n) then unwrap_or (output_share w asked c wants n) 0 else want
@@ -96,11 +97,12 @@ after_production asked w c (n, made) =
 abbrev pub is_unskilled : HoldingValue → Item → Bool
 is_unskilled h x = if is_some x.skill then nat_lt (level_in_any h x.skill) x.level else true
 
--- whether raw items go into the item and those held are enough for none of it
+-- whether the item needs raw items and the unit holds too few for a single piece
 abbrev pub lacks_raw : HoldingValue → (count : ℕ) → (raw : Option ℕ) → Bool
 lacks_raw h count raw = option_map_or (λ r. amount_of h.items r / count == 0) raw false
 
--- The first fault of PRODUCE, if there is one: NoMen, NoSkill, NoMaterial. No skill makes what is no item of the world.
+-- The first fault of PRODUCE, if there is one: NoMen, NoSkill, NoMaterial. Without an item of the world: NoMen, else
+-- NoSkill.
 abbrev pub make_fault : HoldingValue → Option Item → Option EventFault
 make_fault h None = first_fault ((h.men == 0, NoMen) ∷ (true, NoSkill) ∷ [])
 make_fault h (Some x) =
@@ -108,7 +110,8 @@ make_fault h (Some x) =
 
 -- ---- the phase
 
--- PRODUCE as a phase with pots: faults, wants and shares by the item that each order names. The event says how many were made.
+-- PRODUCE as a phase with pots: faults, wants and shares by the item that each order names. The event says how many
+-- were made.
 abbrev pub produce_pots : PotMeaning
 produce_pots = record {
   fault = λ w u t. make_fault u.holding (item_of w (item_in t.order_value.operands));
@@ -128,7 +131,7 @@ produce_moves most Made (things.Item i) = most
 produce_moves most Used (things.Item i) = most
 produce_moves most e t = 0
 
--- producing takes nothing from a unit whose own faction wrote no order of it
+-- what PRODUCE leaves alone: each unit for which its own faction wrote no order of PRODUCE is there and no worse off
 abbrev pub produce_keeps : Frame
 produce_keeps = spares_unordered is_produce
 

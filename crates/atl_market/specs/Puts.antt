@@ -5,10 +5,10 @@ use Rattle.std.specs.Option.{option_map_or}
 use Rattle.std.specs.Ordering.{nat_cmp}
 use Rattle.std.specs.FinMap.{FinMap, insert}
 
--- a map with each of some entries put into it in turn
+-- a map into which some entries were put, one after another
 abbrev pub with_each : {V : Type 0} → FinMap nat_cmp V → List (ℕ × V) → FinMap nat_cmp V
 with_each m entries = fold (λ so_far entry. insert so_far entry.0 entry.1) m entries
 
--- a map with one entry put into it, if there is one
+-- a map into which one entry was put, if there is one
 abbrev pub with_any : {V : Type 0} → FinMap nat_cmp V → Option (ℕ × V) → FinMap nat_cmp V
 with_any m entry = option_map_or (λ e. insert m e.0 e.1) entry m

@@ -70,7 +70,7 @@ recruit_meaning = pots_by_orders recruit_pots is_recruit
 abbrev pub recruit_moves : ℕ → BookBound
 recruit_moves most = moves_only most Recruiting Money
 
--- recruiting takes nothing from a unit whose own faction wrote no order of it
+-- what RECRUIT leaves alone: each unit for which its own faction wrote no order of RECRUIT is there and no worse off
 abbrev pub recruit_keeps : Frame
 recruit_keeps = spares_unordered is_recruit
 

@@ -12,6 +12,6 @@ abbrev pub region_at : ℕ → Option Unit → List (ℕ × ℕ)
 region_at n None = []
 region_at n (Some u) = (u.region, n) ∷ []
 
--- a map from each region in which a unit has a want to one such unit
+-- a map from each region in which a unit has a want to the number of one of its units with a want
 abbrev pub regions_with_wants : FinMap nat_cmp ℕ → CampaignValue → FinMap nat_cmp ℕ
 regions_with_wants wants c = with_each empty (flat_map (λ e. region_at e.0 (get c.units e.0)) (entries wants))

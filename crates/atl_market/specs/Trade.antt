@@ -1,4 +1,5 @@
--- SELL and BUY: units trade items with the markets of their regions. See docs/RULES.md, "Selling" and docs/RULES.md, "Buying".
+-- SELL and BUY: units trade items with the markets of their regions. See docs/RULES.md, "Selling"
+-- and docs/RULES.md, "Buying".
 use Rattle.std.specs.Prelude.{◌+◌, ◌-◌, ◌*◌, ◌/◌, ◌==◌, ℕ, Bool, true, false, min, pos, neg_ℤ, nat_lt, Option, Some, None, option_and_then, [], ◌∷◌}
 use Rattle.std.specs.Option.{option_map_or}
 use Rattle.std.specs.Ordering.{nat_cmp}
@@ -57,8 +58,8 @@ abbrev pub trade_fault : Trade → HoldingValue → Option Market → Option Eve
 trade_fault trade h None = Some NoMarket
 trade_fault trade h (Some m) = first_fault ((has_too_little trade h m, NotEnough) ∷ [])
 
--- The most pieces that a unit can trade. SELL: by what it has of the item and its room for money. BUY: by its money and its room
--- for the item.
+-- The most pieces that a unit can trade. SELL: by what it has of the item and its room for money. BUY: by its money and
+-- its room for the item.
 abbrev pub most_tradable : Trade → HoldingValue → Market → ℕ
 most_tradable Sell h m = min (amount_of h.items m.item) ((holding_limit - h.money) / m.pays)
 most_tradable Buy h m = min (h.money / m.price) (holding_limit - amount_of h.items m.item)
@@ -78,13 +79,14 @@ pot_by Buy limit stock = stock
 abbrev pub limit_of : WorldValue → (item region : ℕ) → ℕ
 limit_of w item region = option_map_or (λ m. m.limit) (market_of w region item) 0
 
--- the pot of an item in a region, for SELL or BUY
+-- how much of an item there is to share in a region: its market's limit less its stock for SELL, its stock for BUY
 abbrev pub trade_pot : Trade → WorldValue → CampaignValue → (item region : ℕ) → ℕ
 trade_pot trade w c item region = pot_by trade (limit_of w item region) (stock_of c region item)
 
 -- ---- what changes
 
--- the result of trading `share` pieces: the unit's money, its amount of the item and the stock after it, and the money to book
+-- The result of trading `share` pieces: the unit's money, its amount of the item and the stock after it, and the money
+-- to book.
 abbrev pub trade_result_of : Trade → HoldingValue → (stock share : ℕ) → Market → TradeResult
 trade_result_of Sell h stock share m = record {
   money = h.money + share * m.pays;
@@ -114,7 +116,8 @@ with_result c n u item entry d =
     let paid = with_holding c n (with_trade_result u.holding item d) in
     with_amount (with_stock paid u.region item d.stock) entry Money d.booked
 
--- a campaign after a unit, by its number, traded so many of its order's item; unchanged where its region has no market for it
+-- A campaign after a unit, by its number, traded so many of its order's item; unchanged where its region has no market
+-- for it.
 unfoldable pub after_trade : Trade → FinMap nat_cmp ℕ → WorldValue → CampaignValue → ℕ × ℕ → CampaignValue
 after_trade trade items w c (n, share) =
     at_unit c n (λ u.
@@ -124,7 +127,8 @@ after_trade trade items w c (n, share) =
 
 -- ---- the phases
 
--- SELL or BUY as a phase with pots, by the item and the number that each order names. The event says how many were traded.
+-- SELL or BUY as a phase with pots, by the item and the number that each order names. The event says how many were
+-- traded.
 abbrev pub trade_pots : Trade → PotMeaning
 trade_pots trade = record {
   fault = λ w u t. trade_fault trade u.holding (market_for w u (item_in t.order_value.operands));
@@ -142,7 +146,7 @@ trade_meaning trade = pots_by_orders (trade_pots trade) (is_trade trade)
 abbrev pub trade_moves : Trade → ℕ → BookBound
 trade_moves trade most = moves_only most (trade_entry trade) Money
 
--- trading takes nothing from a unit whose own faction wrote no order of it
+-- what SELL or BUY leaves alone: units for which their own faction wrote no order of the phase are no worse off
 abbrev pub trade_keeps : Trade → Frame
 trade_keeps trade = spares_unordered (is_trade trade)
 

@@ -57,7 +57,8 @@ written_work ts = filter (λ t. is_work t.order_value.verb) ts
 abbrev pub sorted_by_unit : List Task → List Task
 sorted_by_unit ts = values (from_entries {R = slice_cmp nat_cmp} (map (λ t. (key_of ByUnit t, t)) ts))
 
--- the orders of the phase WORK: the month-long ones that are WORK, and one for each unit with men without a month-long order
+-- The orders of the phase WORK: the month-long ones that are WORK, and one for each unit with men without a month-long
+-- order.
 unfoldable pub work_orders : CampaignValue → MonthValue → List Task
 work_orders c m =
     let month_long = orders_by_unit is_month_long m in

@@ -1,4 +1,4 @@
-//! BUILD: units begin structures, and go on with those that they are inside. See docs/RULES.md,
+//! BUILD: units begin structures, and continue those that they are inside. See docs/RULES.md,
 //! "Building".
 ghost use Rattle.std.specs.Prelude.{◌≡◌, ◌≤◌, ◌<◌, ◌++◌, IfOk, None, OnOk, Some, true};
 ghost use Rattle.std.specs.FinMap as map;
@@ -27,7 +27,7 @@ use atl_state::{
 use atl_tables::{Kind, Text, World};
 use std::alloc::{AllocError, Global};
 
-/// The phase BUILD: units begin structures, and go on with those that they are inside. See
+/// The phase BUILD: units begin structures, and continue those that they are inside. See
 /// docs/RULES.md, "Building".
 #[derive(Drop, Clone, Copy)]
 pub struct BuildPhase;
@@ -57,7 +57,8 @@ fn is_structure_limit(campaign: &Campaign) -> bool
     campaign.next_structure() > MOST_STRUCTURES
 }
 
-/// The first fault of `BUILD kind`, if there is one.
+/// The first fault of `BUILD kind`, if there is one: NoMen, AtSea, NoSkill, NoMaterial,
+/// StructureLimit.
 fn begin_fault(world: &World, campaign: &Campaign, unit: &Unit, kind: &Kind) -> Option<EventFault>
     requires { IsNumbered campaign.now.value.structures campaign.now.value.next_structure }
     ensures { result ≡ begin_fault world.now campaign.now.value unit.now kind.now }
@@ -88,7 +89,8 @@ fn outside_fault(unit: &Unit) -> EventFault
     }
 }
 
-/// The first fault of `BUILD` by a unit inside a structure of a kind, if there is one.
+/// The first fault of `BUILD` by a unit inside a structure, if there is one: NoMen, Complete,
+/// NoSkill, NoMaterial.
 fn inside_fault(unit: &Unit, structure: &Structure, kind: &Kind) -> Option<EventFault>
     ensures { result ≡ inside_fault unit.now structure.now kind.now }
 {
@@ -226,7 +228,7 @@ fn add(
     Ok(())
 }
 
-/// Carries out `BUILD`: the unit goes on with the structure that it is inside; with a fault nothing
+/// Carries out `BUILD`: the unit continues the structure that it is inside; with a fault nothing
 /// changes.
 #[tactic(auto, unfolding(crate::specs::Build::go_on))]
 fn go_on(

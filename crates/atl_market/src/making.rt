@@ -29,7 +29,7 @@ fn is_unskilled(holding: &Holding, item: &Item) -> bool
     item.skill.is_none() || level_in_any(holding, item.skill) < item.level
 }
 
-/// Whether raw items go into an item, `count` each, and those held are enough for none of it.
+/// Whether an item needs raw items, `count` each, and the unit holds too few for a single piece.
 fn lacks_raw(holding: &Holding, count: u32, raw: Option<u16>) -> bool
     requires { 1 ≤ count }
     ensures { result ≡ lacks_raw holding.now count raw }
@@ -40,7 +40,7 @@ fn lacks_raw(holding: &Holding, count: u32, raw: Option<u16>) -> bool
     }
 }
 
-/// The lesser of `most` and how many the raw items held are enough for, `count` each.
+/// How many pieces the raw items held allow, at `count` each, but at most `most`.
 fn up_to_raw(holding: &Holding, count: u32, raw: Option<u16>, most: u32) -> u32
     requires { 1 ≤ count }
     ensures value { result ≡ up_to_raw holding.now count raw most }

@@ -99,7 +99,7 @@ pub(crate) fn named_count(order: PhaseOrder<'_>) -> u32
     }
 }
 
-/// The unit that carries an order out, or the order's fault.
+/// The unit that carries an order out, or the order's fault: NotYours, or what the phase finds.
 #[tactic(auto, unfolding(crate::specs::PotPhase::unit_for))]
 fn unit_for<'c, P: PotPhase>(
     phase: &P,

@@ -99,7 +99,7 @@ pub(crate) fn share_pot(
     put_shares(takers, &shares, given)
 }
 
-/// A map from each region in which a unit has a want to one such unit.
+/// A map from each region in which a unit has a want to the number of one of its units with a want.
 pub(crate) fn regions_with_wants(
     alloc: Global,
     campaign: &Campaign,

@@ -58,8 +58,8 @@ impl<'a> Pots for RecruitPots<'a> {
     }
 }
 
-/// Adds recruits to a unit that is there, and takes their cost from its money. It sets no dirty
-/// flag of goods.
+/// Adds recruits to a unit that is there, and takes their cost from its money. It marks none of its
+/// goods.
 fn join_unit(campaign: &mut Campaign, unit: u32, recruits: u32, cost: u32)
     requires fits { (u : Unit) → finmap.get campaign.old.value.units unit ≡ Some u
         → u.holding.men + recruits ≤ men_limit }

@@ -59,8 +59,9 @@ pub fn share(alloc: Global, pot: u64, wants: &[u64]) -> Result<Vec<u64>, AllocEr
     proportional_shares(alloc, pot, wants)
 }
 
-/// Does nothing. Its clause is the law that splitting a want into several that follow one another
-/// gives these together what it got, and all others the same. See docs/RULES.md, "Shares".
+/// Does nothing. Its clause is the law of splitting a want into several that follow one another:
+/// together they get what the one want got, and no other share changes. See docs/RULES.md,
+/// "Shares".
 pub fn splitting_keeps_others()
     ensures { SplittingKeepsOthers }
 {}

@@ -1,4 +1,5 @@
--- The law that of two maps with as many values, where one has each number of the other, the other has each number of the one.
+-- The law that of two maps of the same size, where one has each number of the other, the other has each number of the
+-- one.
 use Rattle.std.proofs.Common.{◌≡◌, ℕ, suc, zero, ◌+◌, ◌-◌, ◌≤◌, cond, List, [], ◌∷◌, length, Option, Some, None, refl, sym, ap, ◌∙◌, inl, inr, arith}
 use Rattle.std.specs.Prelude.{is_some}
 use Rattle.std.specs.Ordering.{nat_cmp}
@@ -10,16 +11,19 @@ use Rattle.atl_records.proofs.EveryLaws.{first, get-insert_other, none_some}
 use Rattle.atl_records.proofs.RemovedLaws.{get-remove_other, still}
 
 module _ {V : Type 0} where
-  -- the second map has each number of the first
+  -- the first map has each number of the second
   abbrev HasAllNumbers : FinMap nat_cmp V → FinMap nat_cmp V → Type 0
   HasAllNumbers a b = (n : ℕ) → IsThere b n → IsThere a n
 
+  -- a map without one of its numbers is smaller by 1
   len_without : (m : FinMap nat_cmp V) (n : ℕ) (v : V) → get m n ≡ Some v → len (remove m n) ≡ len m - 1
   len_without m n v is = len-remove nat_cmp_total m n ∙ ap (λ o. cond (is_some o) (len m - 1) (len m)) is
 
+  -- a map with one number more is larger by 1
   len_with : (m : FinMap nat_cmp V) (n : ℕ) (v : V) → get m n ≡ None → len (insert m n v) ≡ len m + 1
   len_with m n v none = len-insert nat_cmp_total m n v ∙ ap (λ o. cond (is_some o) (len m) (len m + 1)) none
 
+  -- a map that has a number isn't empty
   some_values : (m : FinMap nat_cmp V) (n : ℕ) (v : V) → get m n ≡ Some v → 1 ≤ len m
   some_values m n v is = by_count (len m) refl
     where
@@ -27,12 +31,14 @@ module _ {V : Type 0} where
       by_count zero none = none_some v (sym (get-empty nat_cmp n) ∙ ap (λ e. get e n) (sym (empty_of_len m none)) ∙ is)
       by_count (suc k) some = omega arith
 
+  -- if one map has each number of another, that is so without number `n` in both
   has_all_without : (a b : FinMap nat_cmp V) (n : ℕ) → HasAllNumbers a b → HasAllNumbers (remove a n) (remove b n)
   has_all_without a b n all m (v, there) =
       let (apart, at) = still b n m v there in
       let (x, is) = all m (v, at) in
       (x, get-remove_other a n m apart ∙ is)
 
+  -- a map that has each number of one of size `k` has at least size `k`
   at_least : (k : ℕ) (a b : FinMap nat_cmp V) → len b ≡ k → HasAllNumbers a b → k ≤ len a
   at_least zero a b count all = omega arith
   at_least (suc k) a b count all = by_entries (λ c d less has. at_least k c d less has) (entries b) refl
@@ -50,13 +56,14 @@ module _ {V : Type 0} where
           let (x, there) = all e.0 (e.1, here) in
           more (len a) (len (remove a e.0)) (step (remove a e.0) (remove b e.0) (fewer (len b) (len (remove b e.0)) count (len_without b e.0 e.1 here)) (has_all_without a b e.0 all)) (len_without a e.0 x there) (some_values a e.0 x there)
 
+  -- if one map has each number of another, and number `n`, it has each number of the other with `n`
   has_all_with : (a b : FinMap nat_cmp V) (n : ℕ) (v : V) → HasAllNumbers a b → get a n ≡ Some v → HasAllNumbers a (insert b n v)
   has_all_with a b n v all here m (x, there) = elim (cases_eq m n) [
     | inl same ↦ (v, ap (get a) same ∙ here)
     | inr apart ↦ all m (x, sym (get-insert_other b n m v apart) ∙ there)
   ]
 
-  -- if they have as many values, the first has each number of the second
+  -- if a map has each number of another of the same size, the other has each number of it
   pub has_all_back : (a b : FinMap nat_cmp V) → len b ≡ len a → HasAllNumbers a b → HasAllNumbers b a
   has_all_back a b count all n (v, here) = by_value (get b n) refl
     where

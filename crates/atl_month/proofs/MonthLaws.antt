@@ -1,4 +1,5 @@
--- Laws of a whole month: with the month counted and the mail removed the campaign is good again, and mail order doesn't count.
+-- Laws of a whole month: with the month counted and the mail removed the campaign is good again, and mail order doesn't
+-- count.
 use Rattle.std.proofs.Common.{◌≡◌, ℕ, ◌+◌, ◌*◌, ◌≤◌, ◌<◌, List, ap, ◌∙◌, arith}
 use Rattle.std.specs.Prelude.{ℤ}
 use Rattle.std.specs.FinMap.{FinMap, empty, get, len}
@@ -26,9 +27,11 @@ use Rattle.atl_month.proofs.CountLaws.{has_all_back}
 use Rattle.atl_month.proofs.MoveLaws.{month_within, moves_in_month, phases_little}
 
 module _ (w : WorldValue) (d : CampaignValue) where
+  -- a steady campaign before the last month stays steady when its month is counted and its mail is removed
   finished_steady : d.month < last_month → IsSteady w d → IsSteady w (after_month d)
   finished_steady early old = posted-steady w d (d.month + 1) empty d.reports (omega (arith, early)) (posted-unsent old.known.posts) old
 
+  -- books that balance still balance when the month is counted and the mail is removed
   finished_balances : Balances d → Balances (after_month d)
   unfolding total
   finished_balances old t = old t
@@ -38,6 +41,7 @@ module _ (w : WorldValue) (c d : CampaignValue) (moving : BookBound) (little : M
   abbrev same : IsSameMonth c d
   same = well.same_month
 
+  -- an amount within a bound is, after a month moved it, within a bound that is greater by what a month may move
   near_within : (a b : ℤ) (m more most : ℕ) → m ≤ 200000000000000 → more + 200000000000000 ≤ most → IsNear m a b → IsWithin more a → IsWithin most b
   near_within a b m more most l fits near within = record { most = omega (arith, ints, near.above, within.most); least = omega (arith, ints, near.below, within.least) }
 
@@ -45,15 +49,17 @@ module _ (w : WorldValue) (c d : CampaignValue) (moving : BookBound) (little : M
   bound_grows : (a b f g : ℕ) → b ≡ a → g ≡ f → (200000000000000 * (a + 1) + 1000000000 * f) + 200000000000000 ≤ 200000000000000 * ((b + 1) + 1) + 1000000000 * g
   bound_grows a b f g month count = omega (arith, month, count)
 
-  -- each amount of the books is within its bound after the month
+  -- each amount of the books that is within the bound of its campaign is so after the month
   amounts_within : AreAmountsWithin c → AreAmountsWithin (after_month d)
   amounts_within old e t =
       near_within (amount_in c.books e t) (amount_in d.books e t) (moving e t) (amount_bound c) (amount_bound (after_month d)) (little e t)
       (bound_grows c.month d.month (len c.factions) (len d.factions) same.month same.count) (well.near e t) (old e t)
 
+  -- a month's number that stays the same is still below the last
   earlier : (a b : ℕ) → b ≡ a → a < last_month → b < last_month
   earlier a b is l = omega (arith, is, l)
 
+  -- after the phases of a month, counted and without mail, a sound campaign is sound again
   finished_sound : IsSound w c → IsSound w (after_month d)
   finished_sound old = record {
     steady = finished_steady w d (earlier c.month d.month same.month early) well.leaves_it.steady;
@@ -74,17 +80,19 @@ module _ (w : WorldValue) (c d : CampaignValue) (moving : BookBound) (little : M
 -- ---- what a month leaves of the books and of the factions
 
 module _ {leaves : Condition} (w : WorldValue) (c d : CampaignValue) (well : LeavesWell leaves phases_moving w c d) where
+  -- the phases of a month move each amount of the books by at most the bound of a month (`month_moves`)
   pub books_near : BooksAreNear month_moves c d
   books_near e t = near_more (phases_moving e t) (month_moves e t) (amount_in c.books e t) (amount_in d.books e t) (month_within e t) (well.near e t)
 
+  -- each faction of a campaign is still there after the phases of a month
   pub factions_stay : (n : ℕ) → IsThere c.factions n → IsThere d.factions n
   factions_stay = has_all_back c.factions d.factions well.same_month.count well.same_month.factions
 
--- a sound campaign has room for the phases of a month
+-- the books of a sound campaign have room for the phases of a month
 pub phases_room : (w : WorldValue) (c : CampaignValue) → IsSound w c → HaveRoom phases_moving c
 phases_room w c sound = room_when_sound w c phases_moving (λ e t. omega (arith, phases_little e t)) sound
 
--- what some phases make of a month as it begins, given by its parts: the campaign and the events
+-- the campaign and the events after some phases of a month, given one by one, are the result of these phases
 phases_result : (phases : Meaning) (w : WorldValue) (c d : CampaignValue) (m n : MonthValue) (begin : MonthValue) (events : List Event) → (d, n) ≡ phases w c m → m ≡ begin → events ≡ n.events
     → ◌≡◌ {A = CampaignValue × List Event} (d, events) ((phases w c begin).0, (phases w c begin).1.events)
 phases_result phases w c d m n begin events meaning begins told = ap (λ (es : List Event). (d, es)) told ∙ ap (λ (p : CampaignValue × MonthValue). (p.0, p.1.events)) (meaning ∙ ap (phases w c) begins)
@@ -95,6 +103,6 @@ pub month_is : (w : WorldValue) (c d : CampaignValue) (m n : MonthValue) (readin
 unfolding month_of
 month_is w c d m n readings words events meaning begins told = phases_result month_meaning w c d m n (new_month readings words) events meaning begins told
 
--- mailings in another order make the same campaign and events
+-- the mailings of a month, given in another order, make the same campaign and the same events
 pub mail_order_does_not_count : MailOrderDoesNotCount
 mail_order_does_not_count w c words mailings others own same = ap (λ readings. month_of w c readings words) (mailings_have_no_order mailings others own same)

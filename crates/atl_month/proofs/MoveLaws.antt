@@ -1,4 +1,4 @@
--- How far the phases of a month move the amounts of the books.
+-- Laws of how far the phases of a month move the amounts of the books.
 use Rattle.std.proofs.Common.{◌≡◌, ◌≤◌, ℕ, true, refl, arith}
 use Rattle.std.specs.Prelude.{nat_le}
 use Rattle.std.proofs.lemmas.Bool.Decides.{nat_tests}
@@ -16,9 +16,11 @@ use Rattle.atl_month.proofs.PhaseLaws.{IsPhase, early_are, last_move, later_are}
 abbrev pub moves_in_month : BookBound
 moves_in_month e t = most_in_month
 
+-- each phase from FORM to RECRUIT moves the amounts of its own entries alone, each by less than 10^14
 early_move : EachPhase MovesItsOwn early_phases
 early_move = each_also (λ phase (is : IsPhase phase). is.moves) early_phases early_are
 
+-- each phase from GUARD 1 to PRODUCE moves the amounts of its own entries alone, each by less than 10^14
 later_move : EachPhase MovesItsOwn later_phases
 later_move = each_also (λ phase (is : IsPhase phase). is.moves) later_phases later_are
 
@@ -33,6 +35,7 @@ month_within e t =
 
 -- ---- two phases at most move an amount
 
+-- a number that tests as at most 2 is at most 2
 few : (n : ℕ) → nat_le n 2 ≡ true → n ≤ 2
 few n is = grind (arith, nat_tests, is)
 

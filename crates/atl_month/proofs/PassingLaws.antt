@@ -1,4 +1,5 @@
--- Laws of the sweep: what holds of a campaign after a unit without men passed on money or items (`PassesOn`).
+-- Laws of the sweep: what holds of a campaign after a unit without men passed money or items on to another
+-- (`PassesOn`).
 use Rattle.std.proofs.Common.{◌≡◌, ◌≢◌, ◌==◌, ℕ, ◌+◌, ◌-◌, ◌≤◌, ◌<◌, min, Bool, true, false, cond, List, [], ◌∷◌, length, Option, Some, None, refl, sym, ap, subst, ◌∙◌, arith}
 use Rattle.std.specs.Prelude.{ℤ, pos, neg_ℤ, ◌+ℤ◌, fold}
 use Rattle.std.proofs.lemmas.Int.{ints}
@@ -40,15 +41,17 @@ use Rattle.atl_month.specs.Sweep.{IsKept, accepted_of, after_passing_item, after
 
 -- ---- more than is booked
 
--- the campaign has so much more of a thing than its books say
+-- the campaign has this amount of a thing more than its books account for
 abbrev pub Owes : CampaignValue → Thing → ℕ → Type 0
 Owes c s more = pos (total c s) ≡ booked c.books s +ℤ pos more
 
--- ---- a unit of which nothing is taken (`IsKept`)
+-- ---- a unit from which nothing is taken (`IsKept`)
 
+-- a unit that stays as it is is kept
 pub kept-refl : (u : Unit) → IsKept u u
 kept-refl u = record { no_worse = no_worse u; men = refl; days = refl }
 
+-- a unit that is kept by one change and by the next is kept by both
 pub kept-trans : (u v x : Unit) → IsKept u v → IsKept v x → IsKept u x
 kept-trans u v x one two = record { no_worse = no_worse_twice u v x one.no_worse two.no_worse; men = two.men ∙ one.men; days = two.days ∙ one.days }
 
@@ -63,8 +66,8 @@ kept-with u money items more all = record {
 
 -- ---- what passing on does
 
--- Campaign `c`, and `d` after something of unit `n` was passed on: `d` has so much more of each thing than is booked, its books
--- moved by at most `moving`, unit `n` itself is unchanged, and nothing is taken from any unit.
+-- Campaign `c`, and `d` after something of unit `n` was passed on: `d` has so much more of each thing than is booked,
+-- its books moved by at most `moving`, unit `n` itself is unchanged, and nothing is taken from any unit.
 pub record PassesOn (w : WorldValue) (n : ℕ) (owing : Thing → ℕ) (moving : BookBound) (c d : CampaignValue) : Type 0 where
   pub steady : IsSteady w d
   pub owes : (s : Thing) (x : ℕ) → Owes c s x → Owes d s (x + owing s)
@@ -74,6 +77,7 @@ pub record PassesOn (w : WorldValue) (n : ℕ) (owing : Thing → ℕ) (moving :
   pub forth : Every (λ m u. (v : Unit) × (get d.units m ≡ Some v) × IsKept u v) c.units
   pub back : Every (λ m v. (u : Unit) × (get c.units m ≡ Some u) × IsKept u v) d.units
 
+-- a steady campaign that stays as it is passed nothing on
 pub passes-refl : (w : WorldValue) (n : ℕ) (c : CampaignValue) → IsSteady w c → PassesOn w n (λ s. 0) (λ e s. 0) c c
 passes-refl w n c steady = record {
   steady = steady;
@@ -88,6 +92,7 @@ passes-refl w n c steady = record {
     plain : (x : ℕ) → x ≡ x + 0
     plain x = omega arith
 
+-- passing on something and then something else is passing on both together
 pub passes-trans : {o p : Thing → ℕ} {i j : BookBound} (w : WorldValue) (n : ℕ) (a b c : CampaignValue) → PassesOn w n o i a b → PassesOn w n p j b c
     → PassesOn w n (λ s. o s + p s) (both_move i j) a c
 passes-trans {o} {p} {i} {j} w n a b c one two = record {
@@ -103,20 +108,20 @@ passes-trans {o} {p} {i} {j} w n a b c one two = record {
     grouped : (x y z : ℕ) → (x + y) + z ≡ x + (y + z)
     grouped x y z = omega arith
 
--- what is owed of a thing after a part of it was given and the rest booked as lost
+-- what the campaign has more than its books say, after a part of an amount was given and the rest booked as lost
 owed : (b : Bool) (taken lost x before after : ℕ) (books : ℤ) → after ≡ before + cond b taken 0 → pos before ≡ books +ℤ pos x
     → pos after ≡ (books +ℤ cond b (neg_ℤ (pos lost)) (pos 0)) +ℤ pos (x + cond b (taken + lost) 0)
 owed true taken lost x before after books e h = omega (arith, ints, e, h)
 owed false taken lost x before after books e h = omega (arith, ints, e, h)
 
--- what is owed of a thing after an amount was booked as lost
+-- what the campaign has more than its books say, after an amount was booked as lost
 owed_all : (b : Bool) (lost x all : ℕ) (books : ℤ) → pos all ≡ books +ℤ pos x
     → pos all ≡ (books +ℤ cond b (neg_ℤ (pos lost)) (pos 0)) +ℤ pos (x + cond b lost 0)
 owed_all true lost x all books h = omega (arith, ints, h)
 owed_all false lost x all books h = omega (arith, ints, h)
 
 module _ (w : WorldValue) (c : CampaignValue) (n : ℕ) (t : Thing) (inside : thing_index t < things_of w) (steady : IsSteady w c) where
-  -- booking an amount as lost passes it on
+  -- booking an amount of a thing as lost passes it on, in a steady campaign
   pub all_lost : (amount : ℕ) → PassesOn w n (λ s. part_of s t amount) (moves_only amount Lost t) c (with_lost c t amount)
   all_lost amount = record {
     steady = steady-amount w c Lost t (neg_ℤ (pos amount)) inside steady;
@@ -185,13 +190,14 @@ module _ (w : WorldValue) (c : CampaignValue) (n : ℕ) (t : Thing) (inside : th
                   (u, get-insert_other c.units k m (record v { holding = h }) other ∙ there, kept-refl u)
             ] refl
 
--- ---- so much more of an item
+-- ---- a holding with more of an item
 
+-- a number plus nothing, since a test fails, is the number
 nothing_added : (b : Bool) (x n : ℕ) → b ≡ false → x ≡ x + cond b n 0
 nothing_added true x n e = cc
 nothing_added false x n e = omega arith
 
--- a holding with more of one item has as much more of it, and as much as before of others
+-- a holding with more of one item has that much more of it, and as much as before of others
 more_amount : (items : FinMap nat_cmp ℕ) (i n j : ℕ)
     → amount_of (with_amount_of items i (amount_of items i + n)) j ≡ amount_of items j + cond (2 + j == 2 + i) n 0
 more_amount items i n j =
@@ -223,7 +229,7 @@ whole amount have = omega (arith, least amount (holding_limit - have))
     least : (a b : ℕ) → min a b ≤ a
     least a b = omega arith
 
--- what a unit accepts fits into its room
+-- what a unit accepts is within the room that its holding has
 fits : (amount have : ℕ) → have ≤ holding_limit → have + accepted_of amount have ≤ holding_limit
 fits amount have l = omega (arith, least amount (holding_limit - have))
   where
@@ -231,16 +237,17 @@ fits amount have l = omega (arith, least amount (holding_limit - have))
     least a b = omega arith
 
 module _ (w : WorldValue) (c : CampaignValue) (n k : ℕ) (apart : n ≢ k) (steady : IsSteady w c) where
-  -- this campaign is `c` after an amount of a thing was passed on
+  -- campaign `d` is `c` after an amount of a thing of unit `n` was passed on
   abbrev Passed : Thing → ℕ → CampaignValue → Type 0
   Passed t amount d = PassesOn w n (λ s. part_of s t amount) (moves_only amount Lost t) c d
 
+  -- a holding with more money has that much more money, and as much as before of each item
   more_money : (h : HoldingValue) (n : ℕ) (s : Thing) → unit_amount s (record h { money = h.money + n }) ≡ unit_amount s h + part_of s Money n
   more_money h n Money = refl
   more_money h n People = nothing_added false h.men n refl
   more_money h n (Item i) = nothing_added (2 + i == 0) (amount_of h.items i) n (let e : (2 + i == 0) ≡ false = grind (arith, nat_tests) in e)
 
-  -- where nothing of an amount is taken, all of it is booked as lost
+  -- if unit `k` takes nothing of an amount, all of it is booked as lost
   all_left : (t : Thing) (amount : ℕ) → Passed t amount (with_lost c t amount) → Passed t amount (with_lost c t (amount - 0))
   all_left t amount lost = subst (λ a. Passed t amount (with_lost c t a)) (same amount) lost
     where
@@ -253,7 +260,7 @@ module _ (w : WorldValue) (c : CampaignValue) (n k : ℕ) (apart : n ≢ k) (ste
       let taken = option_map_or (λ v. accepted_of amount v.holding.money) o 0 in
       with_lost (option_map_or (λ v. with_money c k (v.holding.money + taken)) o c) Money (amount - taken)
 
-  -- money that unit `k` gets, or that is lost, is passed on
+  -- money that goes to unit `k`, or that is lost, is passed on
   pub pass_money : (amount : ℕ) → Passed Money amount (after_passing_money c k amount)
   unfolding after_passing_money
   pass_money amount = by_unit (get c.units k) refl
@@ -273,6 +280,7 @@ module _ (w : WorldValue) (c : CampaignValue) (n k : ℕ) (apart : n ≢ k) (ste
           (kept-with v money v.holding.items (omega arith) (λ i. omega arith))
           taken (amount - taken) (more_money v.holding taken)))
 
+  -- a holding with more of an item has that much more of the item, and as much as before of any other thing
   more_item : (h : HoldingValue) (i n : ℕ) (s : Thing)
       → unit_amount s (record h { items = with_amount_of h.items i (amount_of h.items i + n) }) ≡ unit_amount s h + part_of s (Item i) n
   more_item h i n Money = nothing_added (0 == 2 + i) h.money n (let e : (0 == 2 + i) ≡ false = grind (arith, nat_tests) in e)
@@ -285,7 +293,7 @@ module _ (w : WorldValue) (c : CampaignValue) (n k : ℕ) (apart : n ≢ k) (ste
       let taken = option_map_or (λ v. accepted_of amount (amount_of v.holding.items i)) o 0 in
       with_lost (option_map_or (λ v. with_item c k i (amount_of v.holding.items i + taken)) o c) (Item i) (amount - taken)
 
-  -- so much of an item that unit `k` gets, or that is lost, is passed on
+  -- an amount of an item of the world that goes to unit `k`, or that is lost, is passed on
   pub pass_item : (i amount : ℕ) → i < length w.items → Passed (Item i) amount (after_passing_item k c (i, amount))
   unfolding after_passing_item
   pass_item i amount known = by_unit (get c.units k) refl

@@ -1,4 +1,5 @@
--- Laws of each phase of a month: it moves its own entries of the books alone, and what it leaves to a faction without a mailing.
+-- Laws of each phase of a month: which entries of the books it moves, and what it leaves to a faction without a
+-- mailing.
 use Rattle.std.proofs.Common.{◌≡◌, ◌≢◌, ◌==◌, ◌&&◌, not, ℕ, ◌+◌, ◌*◌, ◌≤◌, Bool, true, false, [], ◌∷◌, refl, sym, subst, arith}
 use Rattle.std.specs.Prelude.{if◌then◌else◌}
 use Rattle.std.proofs.lemmas.Bool.Decides.{nat_tests}
@@ -51,67 +52,79 @@ MovesAlone moving moved = (e : Entry) (t : Thing) → moving e t ≤ (if may_mov
 nothing : (moved : MovedEntries) → MovesAlone moves_nothing moved
 nothing moved e t = omega arith
 
--- of one thing, the amounts under two entries are the same only if the entries are
+-- two entries whose amounts for the same thing are one amount are the same entry
 same_thing : (a x y : ℕ) (p : Bool) → (x == y) ≡ p → (q : Bool) → (entry_count * a + x == entry_count * a + y) ≡ q → (if q then most_moved else 0) ≤ (if p then most_moved else 0)
 same_thing a x y true e false f = omega arith
 same_thing a x y true e true f = omega arith
 same_thing a x y false e false f = omega arith
 same_thing a x y false e true f = absurd (grind (arith, nat_tests, e, f))
 
--- of two things, the amounts under an entry differ
+-- an entry's amounts for two different things are different amounts
 other_thing : (m n : ℕ) → m ≢ n → (if m == n then most_moved else 0) ≤ 0
 other_thing m n apart = subst (λ q. (if q then most_moved else 0) ≤ 0) (sym (other_number m n apart)) (omega arith)
 
+-- moving one amount of money moves the listed entry of money alone
 money_alone : (k : Entry) → MovesAlone (moves_only most_moved k Money) (record { money = k ∷ []; people = []; items = [] })
 money_alone k e Money = same_thing 0 (entry_index e) (entry_index k) (entry_index e == entry_index k) refl (amount_number e Money == amount_number k Money) refl
 money_alone k e People = other_thing (amount_number e People) (amount_number k Money) (λ same. omega (arith, same, entry_small k))
 money_alone k e (Item i) = other_thing (amount_number e (Item i)) (amount_number k Money) (λ same. omega (arith, same, entry_small k))
 
+-- moving one amount of people moves the listed entry of people alone
 people_alone : (k : Entry) → MovesAlone (moves_only most_moved k People) (record { money = []; people = k ∷ []; items = [] })
 people_alone k e Money = other_thing (amount_number e Money) (amount_number k People) (λ same. omega (arith, same, entry_small e))
 people_alone k e People = same_thing 1 (entry_index e) (entry_index k) (entry_index e == entry_index k) refl (amount_number e People == amount_number k People) refl
 people_alone k e (Item i) = other_thing (amount_number e (Item i)) (amount_number k People) (λ same. omega (arith, same, entry_small k))
 
+-- moving an amount of money and one of people moves the two listed entries alone
 money_and_people : (k j : Entry) → MovesAlone (both_move (moves_only most_moved k Money) (moves_only most_moved j People)) (record { money = k ∷ []; people = j ∷ []; items = [] })
 money_and_people k j e Money = omega (arith, money_alone k e Money, people_alone j e Money)
 money_and_people k j e People = omega (arith, money_alone k e People, people_alone j e People)
 money_and_people k j e (Item i) = omega (arith, money_alone k e (Item i), people_alone j e (Item i))
 
+-- QUIT moves its own entries of the books alone, each by less than 10^14
 quit_alone : MovesItsOwn quit_spec
 quit_alone e Money = omega arith
 quit_alone e People = omega arith
 quit_alone e (Item i) = omega arith
 
+-- BUILD moves its own entries of the books alone, each by less than 10^14
 build_alone : MovesItsOwn build_spec
 build_alone e Money = omega arith
 build_alone e People = omega arith
 build_alone e (Item i) = omega arith
 
+-- PRODUCE moves its own entries of the books alone, each by less than 10^14
 produce_alone : MovesItsOwn produce_spec
 produce_alone entries.Made (Item i) = omega arith
 produce_alone entries.Used (Item i) = omega arith
 produce_alone e t = omega arith
 
+-- WORK moves its own entries of the books alone, each by less than 10^14
 pub work_alone : MovesItsOwn work_spec
 work_alone = money_alone entries.Wages
 
+-- upkeep moves its own entries of the books alone, each by less than 10^14
 pub upkeep_alone : MovesItsOwn upkeep_spec
 upkeep_alone = money_and_people entries.Upkeep entries.Starved
 
+-- a bound by two tests is at most the bound by the first of them
 both_hold : (a b : Bool) → (if a && b then most_moved else 0) ≤ (if a then most_moved else 0)
 both_hold true true = omega arith
 both_hold true false = omega arith
 both_hold false b = omega arith
 
+-- a bound by a test that never holds is 0
 never : (a : Bool) → (if a && false then most_moved else 0) ≤ 0
 never true = omega arith
 never false = omega arith
 
+-- the season moves its own entries of the books alone, each by less than 10^14
 pub season_alone : MovesItsOwn season_spec
 season_alone e Money = omega (arith, money_and_people entries.Income entries.Births e Money, never (entry_index e == entry_index entries.Stocked))
 season_alone e People = omega (arith, money_and_people entries.Income entries.Births e People, never (entry_index e == entry_index entries.Stocked))
 season_alone e (Item i) = omega (arith, money_and_people entries.Income entries.Births e (Item i), both_hold (entry_index e == entry_index entries.Stocked) true)
 
+-- the sweep moves its own entries of the books alone, each by less than 10^14
 pub sweep_alone : MovesItsOwn sweep_spec
 sweep_alone e Money = both_hold (entry_index e == entry_index entries.Lost) true
 sweep_alone e People = never (entry_index e == entry_index entries.Lost)
@@ -119,20 +132,21 @@ sweep_alone e (Item i) = both_hold (entry_index e == entry_index entries.Lost) (
 
 -- ---- each phase
 
--- a phase of a month moves its own entries alone, and leaves what it should to a faction without a mailing
+-- a phase moves its own entries of the books alone, and leaves units of factions without a mailing what is theirs
 pub record IsPhase (phase : PhaseSpec) : Type 0 where
   pub moves : MovesItsOwn phase
   pub leaves : PhaseLeavesUnmailed phase
 
+-- `IsPhase` of a phase follows from its law of the books and its law of units without a mailing
 is_phase : (phase : PhaseSpec) → MovesItsOwn phase → PhaseLeavesUnmailed phase → IsPhase phase
 is_phase phase moves leaves = record { moves = moves; leaves = leaves }
 
--- what is so of one phase, and what is so of the others
+-- a fact of one phase, paired with the facts of the phases that follow
 infixr 5 ◌▹◌
 ◌▹◌ : {A B : Type 0} → A → B → A × B
 one ▹ others = (one, others)
 
--- the phases from FORM to RECRUIT do
+-- each phase from FORM to RECRUIT moves its own entries alone, and leaves units without a mailing what is theirs
 pub early_are : EachPhase IsPhase early_phases
 early_are =
     is_phase form_spec (nothing no_moved_entries) form_leaves
@@ -146,7 +160,7 @@ early_are =
     ▹ is_phase recruit_spec (money_alone entries.Recruiting) recruit_leaves
     ▹ tt
 
--- the phases from GUARD 1 to PRODUCE do
+-- each phase from GUARD 1 to PRODUCE moves its own entries alone, and leaves units without a mailing what is theirs
 pub later_are : EachPhase IsPhase later_phases
 later_are =
     is_phase guard_spec (nothing no_moved_entries) guard_leaves
@@ -158,10 +172,10 @@ later_are =
     ▹ is_phase produce_spec produce_alone produce_leaves
     ▹ tt
 
--- WORK, upkeep, season and sweep move their own entries alone
+-- each of WORK, upkeep, season and sweep moves its own entries of the books alone, each by less than 10^14
 pub last_move : EachPhase MovesItsOwn last_phases
 last_move = work_alone ▹ upkeep_alone ▹ season_alone ▹ sweep_alone ▹ tt
 
--- WORK, upkeep, season and sweep together leave what they should to a faction without a mailing
+-- WORK, upkeep, season and sweep together leave units of factions without a mailing what is theirs (`CloseTogether`)
 pub last_leave : CloseTogether last_phases
 last_leave = work_leaves ▹ upkeep_leaves ▹ season_leaves ▹ sweep_leaves

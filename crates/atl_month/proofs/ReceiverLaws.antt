@@ -1,4 +1,4 @@
--- Laws of the receivers of the sweep: the code's map has them, and they stay the same while units are swept.
+-- Laws of the receivers of the sweep: the code's map has them, and sweeping a unit leaves them the same.
 use Rattle.std.proofs.Common.{◌≡◌, ◌≢◌, ◌==◌, ◌&&◌, ℕ, ◌≤◌, ◌<◌, Bool, true, false, cond, List, [], ◌∷◌, Option, Some, refl, sym, ap, subst, ◌∙◌, inl, inr, ◌⊎◌, arith}
 use Rattle.std.specs.Prelude.{nat_lt, unwrap_or, if◌then◌else◌}
 use Rattle.std.proofs.lemmas.Bool.Decides.{nat_tests}
@@ -24,22 +24,23 @@ use Rattle.atl_month.specs.Sweep.{IsKept, after_sweeping_unit, receiver, receive
 use Rattle.atl_month.proofs.SweepLaws.{first_listed}
 use Rattle.atl_month.proofs.SweepAllLaws.{swept_at_keeps, swept_at_leaves_well, swept_at_were}
 
--- ---- the first of those that pass a test
+-- ---- the first number whose value passes a test
 
 module _ {V : Type 0} (p : V → Bool) where
-  -- a number of a list with one more number, if that is listed, is that one or one of the others
+  -- a number listed in a list with, perhaps, one more in front is that one or one of the others
   either_listed : {P : Type 0} (b : Bool) (n k : ℕ) (ns : List ℕ) → (k ≡ n → P) → (IsListed k ns → P) → IsListed k (cond b (n ∷ ns) ns) → P
   either_listed true n k ns here rest (inl same) = here same
   either_listed true n k ns here rest (inr h) = rest h
   either_listed false n k ns here rest h = rest h
 
+  -- a number below those of all entries is below the listed ones
   below_listed : (x k : ℕ) (es : List (ℕ × V)) → below_all nat_cmp x es ≡ true → IsListed k (numbers_among p es) → x < k
   below_listed x k [] low h = absurd h
   below_listed x k (e ∷ es) low h =
       either_listed (p e.1) e.0 k (numbers_among p es) (λ same. let l = below x e.0 (and_parts _ _ low).0 in omega (arith, same, l)) (below_listed x k es (and_parts _ _ low).1)
       (subst (IsListed k) (chosen-cons p e es) h)
 
-  -- the least of the numbers listed is the first
+  -- of the numbers listed among sorted entries, the first is the least
   first_least : (k : ℕ) (es : List (ℕ × V)) → is_sorted nat_cmp es ≡ true → IsListed k (numbers_among p es) → first_or_zero (numbers_among p es) ≤ k
   first_least k [] s h = absurd h
   first_least k (e ∷ es) s h =
@@ -56,7 +57,7 @@ module _ {V : Type 0} (p : V → Bool) where
   abbrev PassesIn : FinMap nat_cmp V → ℕ → Type 0
   PassesIn m k = (v : V) × (get m k ≡ Some v) × (p v ≡ true)
 
-  -- where the same numbers pass in one map as in another, the first of the one is no greater
+  -- if what passes in `o` passes in `m`, and something does, the first in `m` is no greater than the first in `o`
   first_below : (m o : FinMap nat_cmp V) → Every (λ k v. 1 ≤ k) m → ((k : ℕ) → PassesIn o k → PassesIn m k) → first_or_zero (numbers_where p o) ≢ 0
       → (first_or_zero (numbers_where p m) ≢ 0) × (first_or_zero (numbers_where p m) ≤ first_or_zero (numbers_where p o))
   first_below m o low also some =
@@ -85,19 +86,21 @@ module _ {V : Type 0} (p : V → Bool) where
 -- ---- while units are swept
 
 module _ (w : WorldValue) (c : CampaignValue) (n : ℕ) (steady : IsSteady w c) where
+  -- a unit that is kept receives for a region and faction exactly if it did before
   passes_still : (region faction : ℕ) (u v : Unit) → IsKept u v → receives region faction u ≡ receives region faction v
   passes_still region faction u v kept =
       ap (λ r. (r == region) && ((u.faction == faction) && nat_lt 0 u.holding.men)) (sym kept.no_worse.region)
       ∙ ap (λ f. (v.region == region) && ((f == faction) && nat_lt 0 u.holding.men)) (sym kept.no_worse.faction)
       ∙ ap (λ m. (v.region == region) && ((v.faction == faction) && nat_lt 0 m)) (sym kept.men)
 
+  -- a unit that receives has men
   has_men : (region faction : ℕ) (u : Unit) → receives region faction u ≡ true → 1 ≤ u.holding.men
   has_men region faction u t =
       let both = and_parts (u.region == region) ((u.faction == faction) && nat_lt 0 u.holding.men) t in
       let men = (and_parts (u.faction == faction) (nat_lt 0 u.holding.men) both.1).1 in
       grind (arith, nat_tests)
 
-  -- sweeping a unit leaves each faction's receiver in each region the same
+  -- sweeping a unit leaves the receiver of each faction in each region the same, in a steady campaign
   pub receiver_stays : (region faction : ℕ) → receiver (after_sweeping_unit c n) region faction ≡ receiver c region faction
   receiver_stays region faction =
       same_first (receives region faction) (after_sweeping_unit c n).units c.units
@@ -106,18 +109,20 @@ module _ (w : WorldValue) (c : CampaignValue) (n : ℕ) (steady : IsSteady w c) 
       (λ k h. let (u, is, t) = h in let (v, there, kept) = swept_at_keeps w c n steady k u is (has_men region faction u t) in (v, there, sym (passes_still region faction u v kept) ∙ t))
       (λ k h. let (v, is, t) = h in let (apart, (u, was, kept)) = swept_at_were w c n steady k v is in (u, was, passes_still region faction u v kept ∙ t))
 
--- ---- as they are noted, unit by unit
+-- ---- receivers put into the map, unit by unit
 
--- the receiver of a faction among those of a region; 0 where there is none
+-- the receiver of a faction by a region's part of the map; 0 where there is none
 abbrev receiver_under : ℕ → Option (FinMap nat_cmp ℕ) → ℕ
 receiver_under faction o = unwrap_or (get (unwrap_or o empty) faction) 0
 
 module _ (m : ReceiverMap) (region faction n : ℕ) where
+  -- after a receiver is set for a faction in a region, it is the receiver there
   noted_here : receiver_in (with_receiver m region faction n) region faction ≡ n
   noted_here =
       ap (receiver_under faction) (get-insert_same m region (insert (group_of m region) faction n))
       ∙ ap (λ o. unwrap_or o 0) (get-insert_same (group_of m region) faction n)
 
+  -- after a receiver is set for a faction in a region, any other faction or region has the receiver that it had
   noted_apart : (r f : ℕ) → (r ≢ region) ⊎ (f ≢ faction) → receiver_in (with_receiver m region faction n) r f ≡ receiver_in m r f
   noted_apart r f h =
       elim (cases_eq r region) [
@@ -134,23 +139,25 @@ module _ (m : ReceiverMap) (region faction n : ℕ) where
       ]
 
 module _ (m : ReceiverMap) (n : ℕ) (u : Unit) (es : List (ℕ × Unit)) (low : 1 ≤ n) where
-  -- the receiver among the units still to be noted; 0 where there is none
+  -- the receiver among the units that come after unit `n`; 0 where there is none
   abbrev behind : (region faction : ℕ) → ℕ
   behind r f = first_or_zero (numbers_among (receives r f) es)
 
-  -- noting unit `n` keeps the receiver of a faction in a region: the one noted, else the first of those still to come
+  -- noting unit `n` keeps the receiver of a faction in a region: the one in the map, else the first of the units to
+  -- come
   abbrev GoesOn : (region faction : ℕ) → Type 0
   GoesOn r f = or_if_zero (receiver_in (with_receiver_of m n u) r f) (behind r f) ≡ or_if_zero (receiver_in m r f) (first_or_zero (numbers_among (receives r f) ((n, u) ∷ es)))
 
+  -- the first number of a list with, perhaps, one more in front is that one, or the first of the list
   first_of_cond : (b : Bool) (x : ℕ) (ns : List ℕ) → first_or_zero (cond b (x ∷ ns) ns) ≡ cond b x (first_or_zero ns)
   first_of_cond true x ns = refl
   first_of_cond false x ns = refl
 
-  -- the first receiver among a unit and others
+  -- the first receiver among unit `n` and those after it is unit `n` if it receives, else the first of those after it
   opened : (r f : ℕ) → first_or_zero (numbers_among (receives r f) ((n, u) ∷ es)) ≡ cond (receives r f u) n (behind r f)
   opened r f = ap first_or_zero (chosen-cons (receives r f) (n, u) es) ∙ first_of_cond (receives r f u) n (numbers_among (receives r f) es)
 
-  -- that holds for the unit's own faction in its own region
+  -- noting a unit keeps the receiver of its own faction in its own region (`GoesOn`)
   own : GoesOn u.region u.faction
   own =
       by_tests (nat_lt 0 u.holding.men) (receiver_in m u.region u.faction == 0) refl refl
@@ -188,7 +195,7 @@ module _ (m : ReceiverMap) (n : ℕ) (u : Unit) (es : List (ℕ × Unit)) (low :
           ap (λ a. or_if_zero (receiver_in (if a && (x == 0) then with_receiver m u.region u.faction n else m) u.region u.faction) F) k
           ∙ ap (λ a. or_if_zero x (cond a n F)) (sym k)
 
-  -- that holds for another faction or region
+  -- noting a unit keeps the receiver of any other faction or region (`GoesOn`)
   others : (r f : ℕ) → (r ≢ u.region) ⊎ (f ≢ u.faction) → GoesOn r f
   others r f apart =
       ap (λ a. or_if_zero a (behind r f)) (by_test (nat_lt 0 u.holding.men && (receiver_in m u.region u.faction == 0)))
@@ -206,7 +213,7 @@ module _ (m : ReceiverMap) (n : ℕ) (u : Unit) (es : List (ℕ × Unit)) (low :
       fails (inl h) = ap (λ a. a && ((u.faction == f) && nat_lt 0 u.holding.men)) (other_number u.region r (λ e. h (sym e)))
       fails (inr h) = ap (λ a. (u.region == r) && (a && nat_lt 0 u.holding.men)) (other_number u.faction f (λ e. h (sym e))) ∙ no_second (u.region == r)
 
-  -- that holds for each faction and region
+  -- noting a unit keeps the receiver of each faction in each region (`GoesOn`)
   pub noted_goes_on : (r f : ℕ) → GoesOn r f
   noted_goes_on r f =
       elim (cases_eq r u.region) [

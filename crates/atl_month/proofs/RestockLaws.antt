@@ -1,4 +1,4 @@
--- Laws of restocking a region's markets: it leaves a campaign well, changes no unit, and the books have room for it.
+-- Laws of restocking a region's markets: it keeps a campaign steady, its books balanced and all units as they are.
 use Rattle.std.proofs.Common.{◌≡◌, ◌≢◌, ◌==◌, ◌&&◌, ℕ, ◌+◌, ◌-◌, ◌*◌, ◌≤◌, ◌<◌, min, Bool, true, false, cond, Option, Some, None, List, [], ◌∷◌, length, refl, sym, ap, subst, ◌∙◌, arith}
 use Rattle.std.specs.Prelude.{ℤ, pos, ◌+ℤ◌, is_some, option_and_then, unwrap_or, if◌then◌else◌}
 use Rattle.std.specs.Ordering.{nat_cmp, is_lt}
@@ -46,7 +46,7 @@ use Rattle.atl_month.specs.Restock.{after_market_restock, after_restock, markets
 
 -- ---- how far new goods move the books
 
--- the bound on what these markets' new goods book: 999,999,999 for each market's item
+-- the bound on what new goods of some markets book: 999,999,999 for each market's item
 abbrev pub stocking : List (ℕ × Market) → BookBound
 stocking [] e t = 0
 stocking (x ∷ xs) e t = moves_only most_amount Stocked (Item x.0) e t + stocking xs e t
@@ -80,6 +80,7 @@ no_part false b n f l = omega (arith, l)
 other_item : (k : ℕ) (e : Entry) (t : Thing) → (thing_index t == 2 + k) ≡ false → moves_only most_amount Stocked (Item k) e t ≡ 0
 other_item k e t apart = no_part (entry_index e == entry_index Stocked) (thing_index t == 2 + k) (moves_only most_amount Stocked (Item k) e t) apart (one_stocked k e t)
 
+-- the sum of two numbers that are 0 is 0
 sum_of_none : (n y : ℕ) → n ≡ 0 → y ≡ 0 → n + y ≡ 0
 sum_of_none n y e f = omega (arith, e, f)
 
@@ -143,7 +144,7 @@ stocks_little xs rising e (Item i) = item (entry_index e == entry_index Stocked)
 
 -- ---- a market that gets new goods
 
--- what is added up to a limit stays within the limit
+-- what is added to an amount, at most what is missing to a limit, keeps it within the limit
 fits : (a b d : ℕ) → d ≤ b → d + min a (b - d) ≤ b
 fits a b d l = omega (arith, least a (b - d))
   where
@@ -159,12 +160,15 @@ module _ (w : WorldValue) (c : CampaignValue) (n i : ℕ) (m : Market) (r : Regi
   abbrev more : ℕ
   more = restock m stock
 
+  -- the stock of the market in the campaign is that of its region
   stock_is : stock_of c n i ≡ stock
   stock_is = ap (λ o. option_map_or (λ (q : Region). amount_of q.stocks i) o 0) here
 
+  -- the limit of the stock of the region for the item is the market's limit
   limit_is : stock_limit w n i ≡ m.limit
   limit_is = ap (λ o. option_map_or (λ (k : Market). k.limit) o most_amount) market
 
+  -- the stock of the market is at most its limit
   pub stock_small : stock ≤ m.limit
   stock_small = by_option (get r.stocks i) refl
     where
@@ -172,9 +176,11 @@ module _ (w : WorldValue) (c : CampaignValue) (n i : ℕ) (m : Market) (r : Regi
       by_option None is = omega arith
       by_option (Some amount) is = omega (arith, ((steady.numbers.regions n r here).stocks i amount is).1, limit_is)
 
+  -- the stock of the market with its new goods is at most its limit
   pub stock_fits : stock + more ≤ m.limit
   stock_fits = fits m.restock m.limit stock stock_small
 
+  -- the item is one of the things of the world's books
   inside : thing_index (Item i) < things_of w
   inside = omega (arith, known.item, known.number_is)
 
@@ -182,6 +188,7 @@ module _ (w : WorldValue) (c : CampaignValue) (n i : ℕ) (m : Market) (r : Regi
   abbrev filled : CampaignValue
   filled = with_stock c n i (stock + more)
 
+  -- the campaign with the new goods in stock is steady
   filled_steady : IsSteady w filled
   filled_steady = steady-stock c n i (stock + more) r here w (ap is_some market) (omega (arith, stock_fits, limit_is)) steady
 
@@ -207,7 +214,7 @@ module _ (w : WorldValue) (c : CampaignValue) (n i : ℕ) (m : Market) (r : Regi
           plain : (k : ℕ) → k ≡ k + 0
           plain k = omega arith
 
-  -- with the new goods booked the books balance
+  -- if the books balance before, they balance with the new goods in stock and booked
   balanced : Balances c → Balances (with_amount filled Stocked (Item i) (pos more))
   balanced old t =
       ap pos (total-amount filled Stocked (Item i) t (pos more)) ∙ ap pos (filled_total t) ∙ added (thing_index t == 2 + i) (total c t) (booked c.books t) (old t)
@@ -217,7 +224,7 @@ module _ (w : WorldValue) (c : CampaignValue) (n i : ℕ) (m : Market) (r : Regi
       added true x z e = omega (arith, ints, e)
       added false x z e = omega (arith, ints, e)
 
-  -- new goods of a market of region `n` leave the campaign well
+  -- new goods of a market of region `n` keep a steady campaign steady and its books balanced, and book only that item
   pub market_leaves_well : LeavesWell IsSteady (moves_only most_amount Stocked (Item i)) w c (after_market_restock n c (i, m))
   unfolding after_market_restock
   market_leaves_well =
@@ -236,11 +243,11 @@ abbrev pub IsMarketOf : WorldValue → (n i : ℕ) → Market → Type 0
 IsMarketOf w n i m = (market_of w n i ≡ Some m) × IsMarket (length w.items) i m
 
 module _ (w : WorldValue) (n : ℕ) (there : IsThere w.regions n) where
-  -- new goods of one of a region's markets leave the campaign well
+  -- new goods of a market of the region keep a steady campaign steady and its books balanced, and book only its item
   pub one_leaves_well : (c : CampaignValue) (x : ℕ × Market) → IsMarketOf w n x.0 x.1 → IsSteady w c → LeavesWell IsSteady (moves_only most_amount Stocked (Item x.0)) w c (after_market_restock n c x)
   one_leaves_well c x of steady = let (r, here) = (steady.known.regions n).1 there in market_leaves_well w c n x.0 x.1 r here of.0 of.1 steady
 
-  -- new goods of a region's markets, in turn, leave the campaign well
+  -- new goods of a region's markets, in turn, keep a steady campaign steady and its books balanced, within `stocking`
   all_leave_well : (xs : List (ℕ × Market)) → EachOf (IsMarketOf w n) xs → (c : CampaignValue) → IsSteady w c → LeavesWell IsSteady (stocking xs) w c (after_restock n c xs)
   all_leave_well [] each c steady = well_unchanged (stocking []) w c steady
   all_leave_well (x ∷ xs) each c steady =
@@ -265,7 +272,7 @@ module _ (w : WorldValue) (world : IsWorld w) (n : ℕ) where
   pub markets_are : (p : RegionPlan) → get w.regions n ≡ Some p → EachOf (IsMarketOf w n) (entries p.markets)
   markets_are p is = each-from_every (IsMarketOf w n) p.markets (λ i m at. (ap (λ o. option_and_then (λ (q : RegionPlan). get q.markets i) o) is ∙ at, (world.regions n p is).markets i m at))
 
-  -- restocking a region leaves the campaign well
+  -- restocking a region keeps a steady campaign steady and its books balanced, within the bound of restocking
   pub restocked_leaves_well : (c : CampaignValue) → IsSteady w c → LeavesWell IsSteady (stocks_by most_amount) w c (after_restock n c (entries (markets_of w n)))
   restocked_leaves_well c steady = by_plan (get w.regions n) refl
     where
@@ -275,18 +282,19 @@ module _ (w : WorldValue) (world : IsWorld w) (n : ℕ) where
           well_within (stocking (entries p.markets)) (stocks_by most_amount) w c (after_restock n c (entries p.markets)) (stocks_little (entries p.markets) (sorted p.markets))
           (all_leave_well w n (p, is) (entries p.markets) (markets_are p is) c steady)
 
--- new goods change no unit
+-- new goods of a market change no unit
 one_keeps : (n : ℕ) (c : CampaignValue) (x : ℕ × Market) → (after_market_restock n c x).units ≡ c.units
 unfolding after_market_restock
 one_keeps n c x = refl
 
+-- new goods of several markets change no unit
 pub restocked_keeps : (n : ℕ) (c : CampaignValue) (xs : List (ℕ × Market)) → (after_restock n c xs).units ≡ c.units
 restocked_keeps n c [] = refl
 restocked_keeps n c (x ∷ xs) = restocked_keeps n (after_market_restock n c x) xs ∙ one_keeps n c x
 
--- ---- the code
+-- ---- what the code books and marks
 
--- a market of which the limit is at most 999,999,999 gets at most as many new goods
+-- a market whose limit is at most 999,999,999 gets at most that many new goods
 pub restock_small : (m : Market) (stock : ℕ) → m.limit ≤ most_amount → restock m stock ≤ most_amount
 restock_small m stock l = omega (arith, l, least m.restock (m.limit - stock))
   where
@@ -307,7 +315,7 @@ room_for_market x xs c room = room_less (moves_only most_amount Stocked (Item x.
 pub room_behind_market : (w : WorldValue) (n : ℕ) → IsThere w.regions n → (x : ℕ × Market) (xs : List (ℕ × Market)) (c : CampaignValue) → IsMarketOf w n x.0 x.1 → IsSteady w c → HaveRoom (stocking (x ∷ xs)) c → HaveRoom (stocking xs) (after_market_restock n c x)
 room_behind_market w n there x xs c of steady room = room_behind (moves_only most_amount Stocked (Item x.0)) (stocking xs) w c (after_market_restock n c x) (one_leaves_well w n there c x of steady) room
 
--- setting a stock and booking the new goods sets the dirty flags of all that changes
+-- setting a stock and booking its new goods marks all that changes
 pub market_marks : (stock more n i : ℕ) (c d e : MarkedCampaign) → d.value ≡ with_stock c.value n i (stock + more) → MarksStock c n i (stock + more) d.marks
     → e.value ≡ with_amount d.value Stocked (Item i) (pos more) → e.marks ≡ mark_amount d Stocked (Item i) → MarksChanges c e
 market_marks stock more n i c d e d_is d_marks e_is e_marks =

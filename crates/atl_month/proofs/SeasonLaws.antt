@@ -1,4 +1,5 @@
--- Laws of the season: it leaves a campaign well, changes no unit, and the books have room for it.
+-- Laws of the season: it keeps a campaign steady, its books balanced and all units as they are, and the books have room
+-- for it.
 use Rattle.std.proofs.Common.{◌≡◌, ◌==◌, ◌&&◌, ℕ, ◌+◌, ◌-◌, ◌*◌, ◌/◌, ◌%◌, ◌≤◌, min, Bool, true, false, cond, Option, Some, None, List, [], ◌∷◌, length, map, refl, sym, ap, subst, ◌∙◌, arith}
 use Rattle.std.specs.Prelude.{pos, ◌+ℤ◌, fold, zip, option_and_then, if◌then◌else◌}
 use Rattle.std.specs.List.{slice_get}
@@ -39,25 +40,28 @@ use Rattle.atl_month.specs.Restock.{after_restock, is_item, markets_of, stocks_b
 use Rattle.atl_month.specs.Season.{births, grows_by, income, season, season_at, season_moves, season_of, with_growth}
 use Rattle.atl_month.proofs.RestockLaws.{restocked_keeps, restocked_leaves_well}
 
--- ---- how much there is
+-- ---- births and income
 
+-- the lesser of two numbers is at most the second
 least : (a b : ℕ) → min a b ≤ b
 least a b = omega arith
 
+-- peasants with those born are at most 999,999,999, if the limit and the peasants are
 pub births_fit : (growth limit word peasants : ℕ) → limit ≤ most_amount → peasants ≤ most_amount → peasants + births growth limit word peasants ≤ most_amount
 births_fit growth limit word peasants l p = omega (arith, least (peasants * (word % (growth + 1)) / 100) (limit - peasants))
 
+-- money with the income is at most 999,999,999, if the limit and the money are
 pub income_fits : (per_peasant limit peasants money : ℕ) → limit ≤ most_amount → money ≤ most_amount → money + income per_peasant limit peasants money ≤ most_amount
 income_fits per_peasant limit peasants money l m = omega (arith, least (peasants * per_peasant) (limit - money))
 
 -- ---- the books of a region's season
 
 module _ (w : WorldValue) (c : CampaignValue) (n : ℕ) (r : Region) (born earned : ℕ) (is : get c.regions n ≡ Some r) where
-  -- the campaign with the births, not booked yet
+  -- the campaign with the births and the income, neither booked yet
   abbrev peopled : CampaignValue
   peopled = with_peasants c n (r.peasants + born)
 
-  -- that campaign with the income as well, not booked yet
+  -- the campaign with births and income, and the births booked
   abbrev paid : CampaignValue
   paid = with_region_money peopled n (r.money + earned)
 
@@ -73,9 +77,11 @@ module _ (w : WorldValue) (c : CampaignValue) (n : ℕ) (r : Region) (born earne
   abbrev more_money : Region → Region
   more_money q = record q { money = r.money + earned }
 
+  -- after the births region `n` is there, with more peasants
   peopled_there : get peopled.regions n ≡ Some (more_people r)
   peopled_there = region-changed more_people c n r is
 
+  -- births and income within 999,999,999 keep a steady campaign steady
   growth_steady : r.peasants + born ≤ most_amount → r.money + earned ≤ most_amount → IsSteady w c → IsSteady w (with_growth c n r.peasants r.money born earned)
   growth_steady p m old =
       let grown = IsRegion-peasants r (r.peasants + born) p (old.numbers.regions n r is) in
@@ -83,7 +89,7 @@ module _ (w : WorldValue) (c : CampaignValue) (n : ℕ) (r : Region) (born earne
       steady-amount w counted Income Money (pos earned) (omega arith) (steady-amount w paid Births People (pos born) (omega arith)
       (steady-region more_money peopled n (more_people r) peopled_there w (IsRegion-money (more_people r) (r.money + earned) m grown) stocks (steady-region more_people c n r is w grown stocks old)))
 
-  -- the totals grow by the births and the income
+  -- the totals of the campaign grow by the births and the income
   total_grown : (t : Thing) → pos (total (with_growth c n r.peasants r.money born earned) t) ≡ (pos (total c t) +ℤ share_of t People (pos born)) +ℤ share_of t Money (pos earned)
   total_grown t =
       total_of t (total-amount counted Income Money t (pos earned)) (total-amount paid Births People t (pos born))
@@ -107,9 +113,11 @@ module _ (w : WorldValue) (c : CampaignValue) (n : ℕ) (r : Region) (born earne
           zeros : (x : ℕ) → (pos x +ℤ pos 0) +ℤ pos 0 ≡ pos x
           zeros x = omega (arith, ints)
 
+  -- the books after the births were booked
   abbrev one_booked : BooksValue
   one_booked = after_booking c.books Births People (pos born)
 
+  -- if the books balance before, they balance after births and income are booked
   growth_balances : Balances c → Balances (with_growth c n r.peasants r.money born earned)
   growth_balances old t =
       total_grown t
@@ -117,6 +125,7 @@ module _ (w : WorldValue) (c : CampaignValue) (n : ℕ) (r : Region) (born earne
       ∙ ap (λ z. z +ℤ share_of t Money (pos earned)) (sym (booked-after_booking c.books Births People (pos born) t))
       ∙ sym (booked-after_booking one_booked Income Money (pos earned) t)
 
+  -- births and income of at most 999,999,999 move the books by at most that
   growth_near : born ≤ most_amount → earned ≤ most_amount → (e : Entry) (t : Thing) → IsNear (grows_by most_amount e t) (amount_in c.books e t) (amount_in (with_growth c n r.peasants r.money born earned).books e t)
   growth_near b m e t =
       let people = moves_only most_amount Births People e t in
@@ -126,6 +135,7 @@ module _ (w : WorldValue) (c : CampaignValue) (n : ℕ) (r : Region) (born earne
       (booked-near c.books Births People (pos born) most_amount (within-pos born most_amount b) e t)
       (booked-near one_booked Income Money (pos earned) most_amount (within-pos earned most_amount m) e t))
 
+  -- births and income within 999,999,999 keep a steady campaign steady and its books balanced, within their bound
   pub growth_leaves_well : r.peasants + born ≤ most_amount → r.money + earned ≤ most_amount → IsSteady w c → LeavesWell IsSteady (grows_by most_amount) w c (with_growth c n r.peasants r.money born earned)
   growth_leaves_well p m steady = record {
     leaves_it = growth_steady p m steady;
@@ -134,13 +144,13 @@ module _ (w : WorldValue) (c : CampaignValue) (n : ℕ) (r : Region) (born earne
     near = growth_near (omega arith) (omega arith);
   }
 
--- books with room for income and births have it in the order births, income
+-- books with room for income and births together have room for births and then income
 pub births_first : (c : CampaignValue) → HaveRoom (grows_by most_amount) c → HaveRoom (both_move (moves_only most_amount Births People) (moves_only most_amount Income Money)) c
 births_first c room = room_less (both_move (moves_only most_amount Births People) (moves_only most_amount Income Money)) (grows_by most_amount) c (λ e t. omega arith) room
 
--- ---- what the growth of a region marks
+-- ---- marks
 
--- setting a region's people and money and booking both sets the dirty flags of all that changes
+-- setting a region's peasants and money, and booking births and income, marks all that changes
 pub growth_marks : (c d e f g : MarkedCampaign) (n peasants money born earned : ℕ)
     → d.value ≡ with_peasants c.value n peasants → d.marks ≡ mark_region c n
     → e.value ≡ with_region_money d.value n money → e.marks ≡ mark_region d n
@@ -154,16 +164,18 @@ growth_marks c d e f g n peasants money born earned d_is d_marks e_is e_marks f_
 
 -- ---- the terrains of a world
 
+-- the limits of a terrain of the world are at most 999,999,999, for the terrain of a region's plan
 terrain_in : (w : WorldValue) (o : Option RegionPlan) (t : Terrain) → IsWorld w → option_and_then (λ (p : RegionPlan). slice_get w.terrains p.terrain) o ≡ Some t → (t.peasant_limit ≤ most_amount) × (t.money_limit ≤ most_amount)
 terrain_in w None t world is = none_some t is
 terrain_in w (Some p) t world is = let terrain = world.terrains p.terrain t is in (terrain.peasant_limit, terrain.money_limit)
 
+-- the limits of the terrain of a region of the world are at most 999,999,999
 pub limits_fit : (w : WorldValue) (n : ℕ) (t : Terrain) → IsWorld w → terrain_of w n ≡ Some t → (t.peasant_limit ≤ most_amount) × (t.money_limit ≤ most_amount)
 limits_fit w n t world is = terrain_in w (get w.regions n) t world is
 
 -- ---- the season of a region, and of all
 
--- births and income of a region leave the campaign well
+-- births and income of a region that is there keep a steady campaign steady and its books balanced, within their bound
 pub region_grows_well : (w : WorldValue) → IsWorld w → (c : CampaignValue) (n word : ℕ) (t : Terrain) (r : Region) → terrain_of w n ≡ Some t → get c.regions n ≡ Some r → IsSteady w c
     → LeavesWell IsSteady (grows_by most_amount) w c (with_growth c n r.peasants r.money (births w.rules.growth t.peasant_limit word r.peasants) (income w.rules.income t.money_limit (r.peasants + births w.rules.growth t.peasant_limit word r.peasants) r.money))
 region_grows_well w world c n word t r here is steady =
@@ -174,6 +186,7 @@ region_grows_well w world c n word t r here is steady =
     (births_fit w.rules.growth t.peasant_limit word r.peasants peasant_limit within.peasants)
     (income_fits w.rules.income t.money_limit (r.peasants + born) r.money money_limit within.money) steady
 
+-- the season of one region keeps a steady campaign steady and its books balanced, within the bound of the season
 pub season_at_leaves_well : (w : WorldValue) → IsWorld w → (c : CampaignValue) (x : ℕ × ℕ) → IsSteady w c → LeavesWell IsSteady (season_moves most_amount) w c (season_at w c x)
 unfolding season_at
 season_at_leaves_well w world c (n, word) steady = by_terrain (terrain_of w n) refl
@@ -195,6 +208,7 @@ season_at_leaves_well w world c (n, word) steady = by_terrain (terrain_of w n) r
     by_terrain None is = same
     by_terrain (Some t) is = by_region t is (get c.regions n) refl
 
+-- pairs of two lists are at most as many as the elements of the first
 length-zip : {A B : Type 0} (xs : List A) (ys : List B) → length (zip xs ys) ≤ length xs
 length-zip [] ys = omega arith
 length-zip (x ∷ xs) [] = omega arith
@@ -220,6 +234,7 @@ season_little k few e t = scaled (amount_number e t == amount_number Income Mone
     scaled : (a b d : Bool) → k * ((one a + one b) + one d) ≤ (most a + most b) + most d
     scaled a b d = omega (arith, parts (one a) (one b) (one d), each a, each b, each d)
 
+-- the season of all regions keeps a steady campaign steady and its books balanced, within the phase's bound
 pub season_leaves_well : (w : WorldValue) → IsWorld w → (c : CampaignValue) (words : List ℕ) → IsSteady w c → LeavesWell IsSteady (season_moves most_moved) w c (season w c words)
 season_leaves_well w world c words steady =
     let numbers = map (λ (e : ℕ × RegionPlan). e.0) (entries w.regions) in
@@ -244,16 +259,18 @@ season_at_keeps w c (n, word) = by_terrain (terrain_of w n)
     by_terrain None = refl
     by_terrain (Some t) = by_region t (get c.regions n)
 
+-- the season of several regions in turn changes no unit
 each_keeps : (w : WorldValue) (c : CampaignValue) (xs : List (ℕ × ℕ)) → (fold (season_at w) c xs).units ≡ c.units
 each_keeps w c [] = refl
 each_keeps w c (x ∷ xs) = each_keeps w (season_at w c x) xs ∙ season_at_keeps w c x
 
+-- the season of all regions changes no unit
 pub season_keeps_units : (w : WorldValue) (c : CampaignValue) (words : List ℕ) → (season w c words).units ≡ c.units
 season_keeps_units w c words = each_keeps w c (zip (map (λ (e : ℕ × RegionPlan). e.0) (entries w.regions)) words)
 
--- ---- the loop over the regions
+-- ---- the season region by region
 
--- the season of the first region and then of the others is the season of all
+-- after the season of the first region, that of the others gives the same campaign as the season of all
 pub season_goes_on : (w : WorldValue) (c d all : CampaignValue) (regions rest : List (ℕ × RegionPlan)) (words tail : List ℕ) (n word : ℕ) (plan : RegionPlan)
     → regions ≡ (n, plan) ∷ rest → words ≡ word ∷ tail → d ≡ season_at w c (n, word)
     → fold (season_at w) c (zip (map (λ e. e.0) regions) words) ≡ all → fold (season_at w) d (zip (map (λ e. e.0) rest) tail) ≡ all
@@ -262,7 +279,7 @@ season_goes_on w c d all regions rest words tail n word plan listed given is who
     ∙ sym (ap (λ l. fold (season_at w) c (zip (map (λ (e : ℕ × RegionPlan). e.0) l) words)) listed ∙ ap (λ ws. fold (season_at w) c (zip (n ∷ map (λ (e : ℕ × RegionPlan). e.0) rest) ws)) given)
     ∙ whole
 
--- after the season of a region the books have room for that of the others
+-- after the season of the first region, the books have room for the season of the others
 pub room_goes_on : (w : WorldValue) → IsWorld w → (c d : CampaignValue) (regions rest : List (ℕ × RegionPlan)) (n word : ℕ) (plan : RegionPlan)
     → regions ≡ (n, plan) ∷ rest → d ≡ season_at w c (n, word) → IsSteady w c → HaveRoom (moved_times (length regions) (season_moves most_amount)) c → HaveRoom (moved_times (length rest) (season_moves most_amount)) d
 room_goes_on w world c d regions rest n word plan listed is steady room =

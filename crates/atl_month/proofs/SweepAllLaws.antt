@@ -1,4 +1,5 @@
--- Laws of the whole sweep: afterwards each unit has men, and factions without units are gone; units with men keep all.
+-- Laws of the whole sweep: each unit then has men, factions without units are gone, and nothing is taken from units
+-- with men.
 use Rattle.std.proofs.Common.{◌≡◌, ◌≢◌, ◌==◌, ◌&&◌, ℕ, suc, ◌*◌, ◌≤◌, not, Bool, true, false, cond, List, [], ◌∷◌, length, filter, map, Option, Some, None, refl, sym, ap, subst, ◌∙◌, inl, inr, arith}
 use Rattle.std.specs.Prelude.{pos, fold, if◌then◌else◌}
 use Rattle.std.proofs.lemmas.Bool.Decides.{nat_tests}
@@ -42,7 +43,7 @@ swept_in c n o =
     option_map_or (λ u. if u.holding.men == 0 then without_unit (after_passing_all c (receiver c u.region u.faction) u) n else c) o c
 
 module _ (w : WorldValue) (c : CampaignValue) (n : ℕ) (steady : IsSteady w c) where
-  -- sweeping a unit leaves the campaign well
+  -- sweeping a unit keeps a steady campaign steady and its books balanced, within the bound of the sweep
   pub swept_at_leaves_well : LeavesWell IsSteady (loses_by most_amount) w c (after_sweeping_unit c n)
   unfolding after_sweeping_unit
   swept_at_leaves_well = by_unit (get c.units n) refl
@@ -56,11 +57,11 @@ module _ (w : WorldValue) (c : CampaignValue) (n : ℕ) (steady : IsSteady w c) 
       by_unit None is = well_unchanged (loses_by most_amount) w c steady
       by_unit (Some u) is = by_men u is (u.holding.men == 0) refl
 
-  -- in this campaign each unit that had men is still there, and nothing is taken from it
+  -- each unit that had men before is in campaign `d`, and nothing is taken from it
   abbrev Kept : CampaignValue → Type 0
   Kept d = Every (λ m x. 1 ≤ x.holding.men → (v : Unit) × (get d.units m ≡ Some v) × IsKept x v) c.units
 
-  -- sweeping a unit takes nothing from units with men
+  -- sweeping a unit takes nothing from any unit with men
   pub swept_at_keeps : Kept (after_sweeping_unit c n)
   unfolding after_sweeping_unit
   swept_at_keeps = by_unit (get c.units n) refl
@@ -83,11 +84,11 @@ module _ (w : WorldValue) (c : CampaignValue) (n : ℕ) (steady : IsSteady w c) 
       by_unit None is = same
       by_unit (Some u) is = by_men u is (u.holding.men == 0) refl
 
-  -- in this campaign each unit was there before, nothing was taken from it, and if it has no men it isn't the swept one
+  -- each unit of campaign `d` was there before, and nothing was taken from it; if it has no men, it isn't unit `n`
   abbrev Were : CampaignValue → Type 0
   Were d = Every (λ m v. (v.holding.men ≡ 0 → m ≢ n) × ((x : Unit) × (get c.units m ≡ Some x) × IsKept x v)) d.units
 
-  -- after sweeping a unit each unit that is left was there before
+  -- after sweeping unit `n` each unit that is left was there before; one without men isn't unit `n`
   pub swept_at_were : Were (after_sweeping_unit c n)
   unfolding after_sweeping_unit
   swept_at_were = by_unit (get c.units n) refl
@@ -120,6 +121,7 @@ behind_it : (m n : ℕ) (ns : List ℕ) → m ≢ n → IsListed m (n ∷ ns) �
 behind_it m n ns apart (inl same) = absurd (apart same)
 behind_it m n ns apart (inr rest) = rest
 
+-- a number that isn't 0 is at least 1
 at_least_one : (n : ℕ) → (n ≡ 0 → ⊥) → 1 ≤ n
 at_least_one n some = by_test (n == 0) refl
   where
@@ -128,7 +130,7 @@ at_least_one n some = by_test (n == 0) refl
     by_test false t = let one = is_unequal n 0 t in grind (arith, nat_tests)
 
 module _ (w : WorldValue) where
-  -- after sweeping all that are listed, each unit has men
+  -- after sweeping units that include all without men, each unit has men
   pub all_have_men : (ns : List ℕ) (c : CampaignValue) → IsSteady w c → AreListed ns c → HaveMen (fold after_sweeping_unit c ns)
   all_have_men [] c steady listed = λ m v there. at_least_one v.holding.men (listed m v there)
   all_have_men (n ∷ ns) c steady listed =
@@ -136,7 +138,7 @@ module _ (w : WorldValue) where
       let (apart, (x, was, kept)) = swept_at_were w c n steady m v there in
       behind_it m n ns (apart none) (listed m x was (sym kept.men ∙ none)))
 
-  -- sweeping units takes nothing from units with men
+  -- sweeping several units takes nothing from units with men
   pub all_keep : (ns : List ℕ) (c : CampaignValue) → IsSteady w c → Every (λ m x. 1 ≤ x.holding.men → (v : Unit) × (get (fold after_sweeping_unit c ns).units m ≡ Some v) × IsKept x v) c.units
   all_keep [] c steady m x there some = (x, there, kept-refl x)
   all_keep (n ∷ ns) c steady m x there some =
@@ -146,10 +148,12 @@ module _ (w : WorldValue) where
 
 -- ---- factions
 
+-- a list that tests as empty is empty
 none_at : (ns : List ℕ) → is_empty ns ≡ true → ns ≡ []
 none_at [] h = refl
 none_at (n ∷ ns) h = cc
 
+-- an empty list tests as empty
 some_at : (ns : List ℕ) → ns ≡ [] → is_empty ns ≡ false → ⊥
 some_at [] e h = cc
 some_at (n ∷ ns) e h = cc
@@ -167,7 +171,7 @@ module _ (c : CampaignValue) (n : ℕ) where
       by_test true = refl
       by_test false = refl
 
-  -- sweeping a faction leaves the campaign well, and the books as they are
+  -- sweeping a faction keeps a steady campaign steady and its books as they are
   pub gone_at_leaves_well : (w : WorldValue) → IsSteady w c → LeavesWell IsSteady nothing_moves w c (after_sweeping_faction c n)
   gone_at_leaves_well w steady = by_test (is_empty (numbers_of n c.units)) refl
     where
@@ -184,7 +188,7 @@ module _ (c : CampaignValue) (n : ℕ) where
       by_test true t = by_faction (none_at (numbers_of n c.units) t) (get c.factions n) refl
       by_test false t = well_unchanged nothing_moves w c steady
 
-  -- a faction that isn't gone in this campaign, and has no unit, was so before and isn't faction `n`
+  -- each faction of campaign `d` that has no unit, and isn't gone, was there before as it is now, and isn't faction `n`
   abbrev Remains : CampaignValue → Type 0
   Remains d = Every (λ m f. numbers_of m c.units ≡ [] → f.gone ≡ false → (m ≢ n) × (get c.factions m ≡ Some f)) d.factions
 
@@ -218,11 +222,12 @@ module _ (c : CampaignValue) (n : ℕ) where
 abbrev AreToGo : List ℕ → CampaignValue → Type 0
 AreToGo ns c = Every (λ m f. numbers_of m c.units ≡ [] → f.gone ≡ false → IsListed m ns) c.factions
 
+-- a test that isn't false is true
 not_false : (b : Bool) → (b ≡ false → ⊥) → b ≡ true
 not_false true h = refl
 not_false false h = absurd (h refl)
 
--- after sweeping factions that include all without units, these are gone
+-- after sweeping factions that include all which have no unit and aren't gone, each faction without units is gone
 all_are_gone : (ns : List ℕ) (c : CampaignValue) → AreToGo ns c → UnitlessAreGone (fold after_sweeping_faction c ns)
 all_are_gone [] c listed = λ m f there none. not_false f.gone (listed m f there none)
 all_are_gone (n ∷ ns) c listed =
@@ -238,6 +243,7 @@ units_stay (n ∷ ns) c = units_stay ns (after_sweeping_faction c n) ∙ gone_at
 
 -- ---- the phase
 
+-- of some entries at most as many pass a test as there are
 length-numbers : {V : Type 0} (p : V → Bool) (es : List (ℕ × V)) → length (map (λ e. e.0) (filter (λ e. p e.1) es)) ≤ length es
 length-numbers p [] = omega arith
 length-numbers p (e ∷ es) = subst (λ ns. length ns ≤ length (e ∷ es)) (sym (chosen-cons p e es)) (one_more (p e.1) e.0 _ (length-numbers p es))
@@ -267,29 +273,35 @@ module _ (w : WorldValue) (c : CampaignValue) (steady : IsSteady w c) where
   abbrev units_swept : CampaignValue
   units_swept = fold after_sweeping_unit c (menless_units c)
 
+  -- sweeping the units without men keeps the campaign steady and its books balanced, within the bound of the sweep
   units_well : LeavesWell IsSteady (loses_by most_moved) w c units_swept
   units_well =
       well_within (moved_times (length (menless_units c)) (loses_by most_amount)) (loses_by most_moved) w c units_swept (loses_little (length (menless_units c)) (few_menless w c steady))
       (fold_leaves_well (loses_by most_amount) w after_sweeping_unit (λ d n. swept_at_leaves_well w d n) c (menless_units c) steady)
 
+  -- sweeping the factions then keeps the campaign steady and the books as they are
   factions_well : LeavesWell IsSteady nothing_moves w units_swept (sweep c)
   factions_well =
       well_within (moved_times (length (active units_swept)) nothing_moves) nothing_moves w units_swept (sweep c) (moves_none (length (active units_swept)))
       (fold_leaves_well nothing_moves w after_sweeping_faction (λ d n. gone_at_leaves_well d n w) units_swept (active units_swept) units_well.leaves_it)
 
+  -- the sweep keeps the campaign steady and its books balanced, within its bound
   both_well : LeavesWell IsSteady (loses_by most_moved) w c (sweep c)
   both_well =
       well_within (both_move (loses_by most_moved) nothing_moves) (loses_by most_moved) w c (sweep c) (λ e t. omega arith)
       (both_leave_well (loses_by most_moved) nothing_moves w c units_swept (sweep c) units_well factions_well)
 
+  -- after the sweep each unit has men
   have_men : HaveMen (sweep c)
   have_men =
       subst (λ (units : FinMap nat_cmp Unit). Every (λ n u. 1 ≤ u.holding.men) units) (sym (units_stay (active units_swept) units_swept))
       (all_have_men w (menless_units c) c steady (λ m v there none. passing_listed (λ (u : Unit). u.holding.men == 0) c.units m v there (let t : (v.holding.men == 0) ≡ true = grind (arith, nat_tests) in t)))
 
+  -- after the sweep each faction without units is gone
   are_gone : UnitlessAreGone (sweep c)
   are_gone = all_are_gone (active units_swept) units_swept (λ m f there none stays. passing_listed (λ (x : Faction). not x.gone) units_swept.factions m f there (ap not stays))
 
+  -- the sweep of a steady campaign leaves it swept (`IsSwept`) and its books balanced, within its bound
   pub sweep_leaves_well : LeavesWell IsSwept (loses_by most_moved) w c (sweep c)
   sweep_leaves_well = record {
     leaves_it = record { steady = both_well.leaves_it; men = have_men; gone = are_gone };
@@ -298,6 +310,7 @@ module _ (w : WorldValue) (c : CampaignValue) (steady : IsSteady w c) where
     near = both_well.near;
   }
 
+  -- after the sweep each unit that had men is there, and nothing is taken from it
   pub sweep_keeps_all : Every (λ n u. 1 ≤ u.holding.men → (v : Unit) × (get (sweep c).units n ≡ Some v) × IsKept u v) c.units
   sweep_keeps_all n u is some =
       let (v, there, kept) = all_keep w (menless_units c) c steady n u is some in

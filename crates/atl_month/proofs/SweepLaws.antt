@@ -1,4 +1,5 @@
--- Laws of sweeping one unit without men: it leaves a campaign well, and takes nothing from other units.
+-- Laws of sweeping one unit without men: it keeps a campaign steady and its books balanced, and takes nothing from
+-- other units.
 use Rattle.std.proofs.Common.{◌≡◌, ◌≢◌, ◌==◌, ◌&&◌, ℕ, ◌+◌, ◌*◌, ◌≤◌, ◌<◌, not, Bool, true, false, cond, List, [], ◌∷◌, length, Option, Some, refl, sym, ap, subst, ◌∙◌, inl, arith}
 use Rattle.std.specs.Prelude.{ℤ, pos, ◌+ℤ◌, nat_lt, unwrap_or, if◌then◌else◌}
 use Rattle.std.proofs.lemmas.Int.{ints}
@@ -65,10 +66,11 @@ all_owed h none (Item j) =
 
 -- ---- how far it moves the books
 
--- so much under the entry Lost, 0 under any other
+-- the given amount under the entry Lost, and 0 under any other
 abbrev of_lost : Entry → ℕ → ℕ
 of_lost e n = cond (entry_index e == 7) n 0
 
+-- the bound on booking an amount of a thing as lost is 0 but for that thing under Lost
 one_moved : (a : ℕ) (t : Thing) (e : Entry) (s : Thing) → moves_only a Lost t e s ≤ of_lost e (part_of s t a)
 one_moved a t e s = by_number (amount_number e s == amount_number Lost t) refl
   where
@@ -88,6 +90,7 @@ one_moved a t e s = by_number (amount_number e s == amount_number Lost t) refl
         at_place (entry_index e == 7) (thing_index s == thing_index t) is_lost is_thing
     by_number false is = omega arith
 
+-- two amounts within bounds under Lost are together within the sum of the bounds
 lost_sum : (e : Entry) (x y m n : ℕ) → x ≤ of_lost e m → y ≤ of_lost e n → x + y ≤ of_lost e (m + n)
 lost_sum e x y m n = by_test (entry_index e == 7)
   where
@@ -95,6 +98,7 @@ lost_sum e x y m n = by_test (entry_index e == 7)
     by_test true k l = omega arith
     by_test false k l = omega arith
 
+-- passing items on moves each amount of the books by at most what is passed on of the thing, under Lost alone
 items_moved : (es : List (ℕ × ℕ)) (e : Entry) (s : Thing) → moving_items es e s ≤ of_lost e (owing_items es s)
 items_moved [] e s = omega arith
 items_moved (x ∷ xs) e s =
@@ -108,7 +112,7 @@ all_moved h none e s =
     (lost_sum e (moves_only h.money Lost Money e s) (moving_items (entries h.items) e s) (part_of s Money h.money)
     (owing_items (entries h.items) s) (one_moved h.money Money e s) (items_moved (entries h.items) e s))
 
--- what a unit may hold is within the bound of the sweep
+-- what a unit within the limits holds of a thing is within the bound of the sweep, if it has no men
 little_lost : (h : HoldingValue) → h.men ≡ 0 → h.money ≤ holding_limit → ((i : ℕ) → amount_of h.items i ≤ holding_limit) → (e : Entry) (s : Thing)
     → of_lost e (unit_amount s h) ≤ loses_by most_amount e s
 little_lost h none money items e Money = by_test (entry_index e == 7)
@@ -130,7 +134,7 @@ little_lost h none money items e (Item j) =
     by_test true true f = cc
     by_test false d f = omega arith
 
--- ---- who gets it
+-- ---- the unit that receives
 
 -- the first number of a list, if it isn't 0, is one of the list
 pub first_listed : (ns : List ℕ) → first_or_zero ns ≢ 0 → IsListed (first_or_zero ns) ns
@@ -162,6 +166,7 @@ module _ (w : WorldValue) (c : CampaignValue) (n : ℕ) (u : Unit) (is : get c.u
   abbrev to : ℕ
   to = receiver c u.region u.faction
 
+  -- each item that the unit holds is one of the world
   known : EachOf (λ i a. i < length w.items) (entries u.holding.items)
   known = each-from_every (λ i a. i < length w.items) u.holding.items (steady.known.units n u is).items
 
@@ -169,7 +174,7 @@ module _ (w : WorldValue) (c : CampaignValue) (n : ℕ) (u : Unit) (is : get c.u
   abbrev passed : CampaignValue
   passed = after_passing_all c to u
 
-  -- the unit passes on what it has as it should
+  -- what unit `n` has is passed on as `PassesOn` says: to the receiver, or booked as lost
   passing : PassesOn w n (owing_all u.holding) (moving_all u.holding) c passed
   passing =
       let apart = receiver_apart u.region u.faction in
@@ -177,13 +182,15 @@ module _ (w : WorldValue) (c : CampaignValue) (n : ℕ) (u : Unit) (is : get c.u
       passes-trans w n c (after_passing_money c to u.holding.money) passed money
       (pass_items w (after_passing_money c to u.holding.money) n to apart (entries u.holding.items) known money.steady)
 
+  -- unit `n` is still there, as it was, after it passed on what it has
   there_still : get passed.units n ≡ Some u
   there_still = passing.unit ∙ is
 
-  -- that campaign without unit `n`
+  -- the campaign after unit `n` passed on what it has, without unit `n`
   abbrev swept : CampaignValue
   swept = without_unit passed n
 
+  -- if the books balance before, they balance after the unit passed on what it has and was removed
   balanced : Balances c → Balances swept
   balanced old s =
       let before : Owes passed s (0 + owing_all u.holding s) = passing.owes s 0 (old s ∙ plain _) in
@@ -199,14 +206,17 @@ module _ (w : WorldValue) (c : CampaignValue) (n : ℕ) (u : Unit) (is : get c.u
       rest : (a h b o : ℕ) (z : ℤ) → a + h ≡ b → o ≡ h → pos b ≡ z +ℤ pos (0 + o) → pos a ≡ z
       rest a h b o z e f g = omega (arith, ints, e, f, g)
 
+  -- at most is transitive
   less_less : (a b d : ℕ) → a ≤ b → b ≤ d → a ≤ d
   less_less a b d k l = omega arith
 
+  -- passing on what the unit has moves the books within the bound of the sweep
   pub moves_little : (e : Entry) (s : Thing) → moving_all u.holding e s ≤ loses_by most_amount e s
   moves_little e s =
       less_less (moving_all u.holding e s) (of_lost e (unit_amount s u.holding)) (loses_by most_amount e s) (all_moved u.holding none e s)
       (little_lost u.holding none (steady.numbers.units n u is).1.money (λ i. amount_within u.holding i (steady.numbers.units n u is).1) e s)
 
+  -- sweeping unit `n` keeps the campaign steady and its books balanced, within the bound of the sweep
   pub swept_leaves_well : LeavesWell IsSteady (loses_by most_amount) w c swept
   swept_leaves_well =
       let only = only_reduced w passed n u there_still in
@@ -226,14 +236,14 @@ module _ (w : WorldValue) (c : CampaignValue) (n : ℕ) (u : Unit) (is : get c.u
             (passing.near e s));
       }
 
-  -- each unit other than the one that is removed is still there, and nothing is taken from it
+  -- each unit other than `n` is still there after unit `n` was swept, and nothing is taken from it
   pub others_keep : Every (λ m x. m ≢ n → (v : Unit) × (get swept.units m ≡ Some v) × IsKept x v) c.units
   others_keep m x there apart =
       let only = only_reduced w passed n u there_still in
       let (v, here, kept) = passing.forth m x there in
       (v, ap (λ (units : FinMap nat_cmp Unit). get units m) only.units ∙ get-remove_other passed.units n m apart ∙ here, kept)
 
-  -- each unit that is left was there before, and isn't the one that is removed
+  -- each unit that is left after unit `n` was swept was there before, and isn't `n`
   pub others_were : Every (λ m v. (m ≢ n) × ((x : Unit) × (get c.units m ≡ Some x) × IsKept x v)) swept.units
   others_were m v there =
       let only = only_reduced w passed n u there_still in

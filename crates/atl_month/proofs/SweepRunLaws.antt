@@ -1,4 +1,4 @@
--- Laws for the code of the sweep: which dirty flags it sets, and that the books have room for what it books.
+-- Laws for the code of the sweep: which marks it sets, and that the books have room for what it books.
 use Rattle.std.proofs.Common.{◌≡◌, ◌≢◌, ℕ, suc, ◌+◌, ◌-◌, ◌<◌, List, ◌∷◌, length, Option, Some, refl, sym, ap, arith}
 use Rattle.std.specs.Prelude.{pos, neg_ℤ}
 use Rattle.std.specs.FinMap.{entries, get}
@@ -28,15 +28,15 @@ use Rattle.atl_state.proofs.GoneLaws.{marks-gone_faction}
 use Rattle.atl_month.proofs.PassingLaws.{PassesOn, pass_item, pass_money}
 use Rattle.atl_month.proofs.SweepLaws.{moves_little, moving_all}
 
--- ---- dirty flags
+-- ---- marks
 
--- booking a loss sets the dirty flag of the amount that changes
+-- booking a loss marks the amount that changes
 pub lost_marks : (amount : ℕ) (c d : MarkedCampaign) (t : Thing) → d.value ≡ with_lost c.value t amount → d.marks ≡ mark_amount c Lost t → MarksChanges c d
 lost_marks amount c d t what marks =
     marks_by c d (record { value = with_lost c.value t amount; marks = mark_amount c Lost t }) what marks
     (marks-amount c Lost t (neg_ℤ (pos amount)))
 
--- setting a unit's money and booking the rest as lost sets the dirty flags of all that changes
+-- setting a unit's money and booking the rest as lost marks all that changes
 pub money_marks : (money lost to : ℕ) (c d e : MarkedCampaign) → d.value ≡ with_money c.value to money → d.marks ≡ mark_unit_row c to
     → e.value ≡ with_lost d.value Money lost → e.marks ≡ mark_amount d Lost Money → MarksChanges c e
 money_marks money lost to c d e d_is d_marks e_is e_marks =
@@ -45,13 +45,13 @@ money_marks money lost to c d e d_is d_marks e_is e_marks =
     (marks-unit_row (λ u. record u { holding = record u.holding { money = money } }) (λ u. refl) c to))
     (lost_marks lost d e Money e_is e_marks)
 
--- setting a faction to gone sets its dirty flag
+-- setting a faction to gone marks the faction
 pub gone_marks : (c d : MarkedCampaign) (n : ℕ) → d.value ≡ with_gone c.value n → d.marks ≡ mark_faction c n → MarksChanges c d
 gone_marks c d n what marks = marks_by c d (record { value = with_gone c.value n; marks = mark_faction c n }) what marks (marks-gone_faction c n)
 
 -- ---- an item that is passed on
 
--- giving an item to a unit that is there, and booking the rest as lost, is passing it on
+-- setting a unit's item to what it had and accepts, and booking the rest as lost, is passing the item on
 pub passed_item_is : (c : CampaignValue) (to item amount : ℕ) (v : Unit) → get c.units to ≡ Some v
     → with_lost (with_item c to item (amount_of v.holding.items item + accepted_of amount (amount_of v.holding.items item))) (Item item) (amount - accepted_of amount (amount_of v.holding.items item))
     ≡ after_passing_item to c (item, amount)
@@ -65,30 +65,32 @@ passed_item_is c to item amount v is = sym (ap given is)
 
 -- ---- room
 
--- books that moved by at most one bound have room for another, where they had room for both
+-- books that moved within one bound have room under another bound, if they had room under both together
 pub near_leaves_room : (j k : BookBound) (c d : CampaignValue) → ((e : Entry) (t : Thing) → IsNear (j e t) (amount_in c.books e t) (amount_in d.books e t))
     → HaveRoom (both_move j k) c → HaveRoom k d
 near_leaves_room j k c d near room e t = near_room (j e t) (k e t) (amount_in c.books e t) (amount_in d.books e t) (near e t) (room e t)
 
+-- no number is its own successor
 another : (n : ℕ) → suc n ≢ n
 another n same = omega (arith, same)
 
 module _ (w : WorldValue) (c : CampaignValue) (steady : IsSteady w c) where
-  -- an item that goes to a unit, or is lost, is passed on
+  -- an item of the world that goes to a unit, or is lost, is passed on (`PassesOn`), whichever unit it comes from
   pub item_passes : (to i amount : ℕ) → i < length w.items
       → PassesOn w (suc to) (λ s. part_of s (Item i) amount) (moves_only amount Lost (Item i)) c (after_passing_item to c (i, amount))
   item_passes to i amount known = pass_item w c (suc to) to (another to) steady i amount known
 
-  -- after the first item was passed on, the books have room for the others
+  -- after the first item was passed on, the books have room for the others, if they had room for all
   pub rest_room : (to : ℕ) (x : ℕ × ℕ) (xs : List (ℕ × ℕ)) → x.0 < length w.items → HaveRoom (moving_items (x ∷ xs)) c
       → HaveRoom (moving_items xs) (after_passing_item to c x)
   rest_room to x xs known room =
       near_leaves_room (moves_only x.1 Lost (Item x.0)) (moving_items xs) c (after_passing_item to c x) (item_passes to x.0 x.1 known).near room
 
+  -- a campaign stays steady when money is passed on
   pub money_steady : (to amount : ℕ) → IsSteady w (after_passing_money c to amount)
   money_steady to amount = (pass_money w c (suc to) to (another to) steady amount).steady
 
-  -- after a unit's money was passed on, the books have room for its items
+  -- after the money of a unit without men was passed on, the books have room for its items
   pub items_room : (n to : ℕ) (u : Unit) → get c.units n ≡ Some u → u.holding.men ≡ 0 → HaveRoom (loses_by most_amount) c
       → HaveRoom (moving_items (entries u.holding.items)) (after_passing_money c to u.holding.money)
   items_room n to u is none room =

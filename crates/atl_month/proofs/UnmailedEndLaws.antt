@@ -1,4 +1,4 @@
--- What upkeep, season and sweep leave to the units of a faction that sent no mailing.
+-- Laws of what upkeep, season and sweep leave to units of a faction that sent no mailing.
 use Rattle.std.proofs.Common.{◌≡◌, ◌≢◌, ◌==◌, ◌+◌, ◌-◌, ◌≤◌, ◌<◌, ℕ, Bool, true, false, not, cond, List, [], ◌∷◌, map, filter, sum_by, Option, Some, None, refl, sym, ap, subst, ◌∙◌, inl, inr, arith}
 use Rattle.std.specs.Prelude.{fold, if◌then◌else◌}
 use Rattle.std.specs.Ordering.{nat_cmp}
@@ -26,7 +26,7 @@ use Rattle.atl_month.proofs.UpkeepLaws.{days_left, upkeep_in}
 
 -- ---- upkeep
 
--- a unit that is less by one number of men, and then by another, is less by both
+-- if a unit has `a` men less than before, and then `b` less, it has `a + b` less
 less_plus : (a b : ℕ) (u v x : Unit) → IsLessBy a u v → IsLessBy b v x → IsLessBy (a + b) u x
 less_plus a b u v x one two = record {
   faction = two.faction ∙ one.faction;
@@ -38,11 +38,11 @@ less_plus a b u v x one two = record {
     less : (j k l : ℕ) → k ≡ j - a → l ≡ k - b → l ≡ j - (a + b)
     less j k l e f = omega (arith, e, f)
 
--- a unit is less by no men than itself
+-- each unit has no men less than itself
 nobody_less : (u : Unit) → IsLessBy 0 u u
 nobody_less u = record { faction = refl; name = refl; men = omega arith; items = λ i. omega arith }
 
--- a unit after its upkeep
+-- a unit with what its upkeep leaves it
 abbrev supplied_unit : UpkeepResult → Unit → Unit
 supplied_unit s u = record u { holding = after_upkeep s u.holding }
 
@@ -50,10 +50,11 @@ supplied_unit s u = record u { holding = after_upkeep s u.holding }
 abbrev men_left : UpkeepResult → Unit → ℕ
 men_left s u = u.holding.men - s.starved
 
+-- the holding of a unit after its upkeep; with `b` true its men and days are as they were
 abbrev held_by : UpkeepResult → Unit → Bool → HoldingValue
 held_by s u b = record (if b then u.holding else record u.holding { men = men_left s u; days = days_left (men_left s u) u.holding }) { money = u.holding.money - s.paid }
 
--- a unit after its upkeep is less by the men who starved
+-- after its upkeep a unit has exactly those men less who starved
 fewer_by : (s : UpkeepResult) (u : Unit) → IsLessBy s.starved u (supplied_unit s u)
 fewer_by s u = by_test (men_left s u == u.holding.men) refl
   where
@@ -65,7 +66,7 @@ fewer_by s u = by_test (men_left s u == u.holding.men) refl
 abbrev among : ℕ → UpkeepResult → ℕ
 among n s = if s.unit == n then s.starved else 0
 
--- upkeep of one unit takes from each unit only those of its men who starve
+-- after upkeep of one unit each unit has exactly those men less who starved of it
 supplied_at : (c : CampaignValue) (s : UpkeepResult) (n : ℕ) (u : Unit) → get c.units n ≡ Some u → IsUnaffected (IsLessBy (among n s)) (upkeep_at c s) n u
 unfolding upkeep_at
 supplied_at c s n u there = elim (cases_eq n s.unit) [
@@ -81,7 +82,7 @@ supplied_at c s n u there = elim (cases_eq n s.unit) [
     by_unit apart None = refl
     by_unit apart (Some v) = get-insert_other c.units s.unit n (supplied_unit s v) apart
 
--- upkeep of some units takes from each unit only those of its men who starve
+-- after upkeep of several units each unit has exactly those men less who starved of it
 all_supplied : (c : CampaignValue) (ss : List UpkeepResult) (n : ℕ) (u : Unit) → get c.units n ≡ Some u → IsUnaffected (IsLessBy (sum_by (among n) ss)) (fold upkeep_at c ss) n u
 all_supplied c [] n u there = record { unit = u; there = there; spared = nobody_less u }
 all_supplied c (s ∷ ss) n u there =
@@ -97,7 +98,7 @@ by_event n e = if e.unit == n then men_starved_by e.verb e.outcome else 0
 abbrev starved_reported : ℕ → List UpkeepResult → ℕ
 starved_reported n ss = starved_in (map starved_event ss) n
 
--- the events report, of each unit, all its men who starve
+-- for each unit, the Starved events report all its men who starve
 starved_are_reported : (ss : List UpkeepResult) (n : ℕ) → starved_reported n (filter starves ss) ≡ sum_by (among n) ss
 starved_are_reported [] n = refl
 starved_are_reported (s ∷ ss) n = by_test (starved_are_reported ss n) (s.starved == 0) refl ∙ sym (sum_by-cons (among n) s ss)
@@ -110,7 +111,7 @@ starved_are_reported (s ∷ ss) n = by_test (starved_are_reported ss n) (s.starv
     by_test rest true is = rest ∙ none s.starved (sum_by (among n) ss) (s.unit == n) (is_equal s.starved 0 is)
     by_test rest false is = sum_by-cons (by_event n) (starved_event s) (map starved_event (filter starves ss)) ∙ ap (λ x. among n s + x) rest
 
--- upkeep leaves a faction without a mailing what it should
+-- upkeep leaves units of factions without a mailing what is theirs (`LeavesUnmailed`)
 pub upkeep_leaves : LeavesUnmailed upkeep_meaning upkeep_keeps
 upkeep_leaves = record {
   readings = λ w c m. refl;
@@ -134,14 +135,14 @@ upkeep_leaves = record {
 
 -- ---- season and sweep
 
--- the season leaves a faction without a mailing what it should
+-- the season leaves units of factions without a mailing what is theirs (`LeavesUnmailed`)
 pub season_leaves : LeavesUnmailed season_meaning season_keeps
 season_leaves =
     whole_leaves {meaning = season_meaning} {keeps = season_keeps} (λ w c m. refl) (λ w c m n. refl)
     (λ w c m same n u there none. men_same c (season_meaning w c m).0 same n u there)
     (λ w c m same n u there none. record { unit = u; there = ap (λ (units : FinMap nat_cmp Unit). get units n) same ∙ there; spared = record { name = refl; items = λ i. omega arith } })
 
--- the sweep, as the last phase, leaves a faction without a mailing what it should
+-- the sweep, as the last phase, leaves units of factions without a mailing what is theirs (`ClosesUnmailed`)
 pub sweep_leaves : ClosesUnmailed sweep_meaning sweep_keeps
 sweep_leaves = record {
   told = λ w c m n. omega arith;

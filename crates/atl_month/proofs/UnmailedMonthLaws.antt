@@ -1,4 +1,4 @@
--- What a month leaves to the units of a faction that sent no mailing.
+-- Laws of what a month leaves to units of a faction that sent no mailing.
 use Rattle.std.proofs.Common.{◌≡◌, ◌≢◌, ◌-◌, ◌<◌, ℕ, cond, List, [], ◌∷◌, map, Some, None, refl, sym, ap, subst, ◌∙◌, arith}
 use Rattle.std.specs.List.{AllByRecursion}
 use Rattle.std.specs.Ordering.{is_eq, nat_cmp}
@@ -24,13 +24,13 @@ use Rattle.atl_month.specs.Unmailed.{SentNone, UnmailedAreLeft}
 
 -- ---- the month
 
--- the phases of a month together leave a faction without a mailing what they should
+-- all phases of a month together leave units of factions without a mailing what is theirs (`ClosesUnmailed`)
 month_leaves : ClosesUnmailed month_meaning month_keeps
 month_leaves =
     then_closes (both_leave (leave_together early_phases (each_also (λ phase (is : IsPhase phase). is.leaves) early_phases early_are)) (leave_together later_phases (each_also (λ phase (is : IsPhase phase). is.leaves) later_phases later_are)))
     (closed_together last_phases last_leave)
 
--- where none of the mailings is a faction's, the month has no mailing of it
+-- if none of the mailings is of a faction, the month has no mailing of that faction
 none_read : (f : ℕ) (ms : List Mailing) → SentNone ms f → get (by_faction (map reading_of ms)) f ≡ None
 none_read f ms none = get-from_entries nat_cmp_total (map (λ r. (r.faction, r)) (map reading_of ms)) f ∙ not_found ms (recursion_from_All (λ m. m.faction ≢ f) ms none)
   where
@@ -43,7 +43,8 @@ none_read f ms none = get-from_entries nat_cmp_total (map (λ r. (r.faction, r))
           | Greater ↦ λ o. not_found ms none.1
         ] refl
 
--- what phases leave to factions without a mailing, over a month that begins without events
+-- Phases that leave units without a mailing what is theirs leave them, over a month that begins without events, exactly
+-- the men whom its events don't report as starved.
 left_behind : (phases : Meaning) (keeps : Frame) → ClosesUnmailed phases keeps → (w : WorldValue) (c d : CampaignValue) (m : MonthValue) (events : List Event) → m.events ≡ [] → ◌≡◌ {A = CampaignValue × List Event} (d, events) ((phases w c m).0, (phases w c m).1.events) → keeps w m c d
     → Every (λ n u. get m.readings u.faction ≡ None → IsLeft (starved_in events n) d n u) c.units
 left_behind phases keeps closes w c d m events begins is kept n u there none some =
@@ -54,7 +55,7 @@ left_behind phases keeps closes w c d m events begins is kept n u there none som
     subst (λ k. IsUnaffected (IsLessBy k) d n u) so_many (subst (λ s. IsUnaffected (IsLessBy (starved_in (phases w c m).1.events n - starved_in m.events n)) s n u) (sym state)
     (closes.left w c m (subst (keeps w m c) state kept) n u there none (subst (λ k. k < u.holding.men) (sym so_many) some)))
 
--- after a month each unit of a faction without a mailing is as it should be left
+-- after a month units without a mailing have name, items and all men who didn't starve (`UnmailedAreLeft`)
 pub unmailed_left : (w : WorldValue) (c d : CampaignValue) (ms : List Mailing) (words : List ℕ) (events : List Event) → (d, events) ≡ month_of w c (by_faction (map reading_of ms)) words
     → month_keeps w (new_month (by_faction (map reading_of ms)) words) c d → UnmailedAreLeft ms events c d
 unfolding month_of

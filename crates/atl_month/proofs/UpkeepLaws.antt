@@ -1,4 +1,4 @@
--- Laws of upkeep: it leaves a campaign well, each unit can pay when its turn comes, and the code does what is defined.
+-- Laws of upkeep: it keeps a campaign steady and its books balanced, and each unit can pay when its turn comes.
 use Rattle.std.proofs.Common.{◌≡◌, ◌≢◌, ◌==◌, ℕ, ◌+◌, ◌-◌, ◌*◌, ◌/◌, ◌≤◌, ◌<◌, Bool, true, false, cond, Option, Some, None, List, [], ◌∷◌, length, map, refl, sym, ap, subst, ◌∙◌, arith}
 use Rattle.std.specs.Prelude.{IsTrue, nat_lt, ◌&&◌, ℤ, pos, neg_ℤ, ◌+ℤ◌, fold, is_some, unwrap_or, if◌then◌else◌}
 use Rattle.std.specs.List.{AllByRecursion, list_any}
@@ -60,12 +60,12 @@ use Rattle.atl_month.proofs.UpkeepSharingLaws.{can_spare}
 
 -- ---- what a unit may hold after its upkeep
 
--- so many men may have so many days of a skill, which is one of the world
+-- a skill is one of the world, and so many men may have so many days of it
 abbrev IsStudied : WorldValue → (men skill days : ℕ) → Type 0
 IsStudied w men skill days = (skill < length w.skills) × (1 ≤ days) × (days ≤ most_days * men)
 
 module _ (w : WorldValue) (left men : ℕ) (fewer : left ≤ men) where
-  -- the days that stay with fewer men are within what these may have
+  -- the days that stay with fewer men are at most as many as those men may have
   part : (days : ℕ) → days ≤ most_days * men → days * left / men ≤ most_days * left
   part days most = div-le_of_le-mul men (scaled days most)
     where
@@ -82,8 +82,9 @@ module _ (w : WorldValue) (left men : ℕ) (fewer : left ≤ men) where
 abbrev pub days_left : ℕ → HoldingValue → FinMap nat_cmp ℕ
 days_left left h = amounts_for (going_of left h) (keys h.days)
 
--- with fewer men it has their part of the days, and all else as it was
+-- a holding with fewer men has their part of the days, and all else as it was
 module _ (w : WorldValue) (h : HoldingValue) (left : ℕ) (fewer : left ≤ h.men) (days : Every (IsStudied w h.men) h.days) where
+  -- the days that stay with fewer men are of skills of the world, and no more than those men may have
   studied_left : Every (IsStudied w left) (days_left left h)
   studied_left k d is =
       let (some, said) = each_said (going_of left h) (keys h.days) k d is in
@@ -102,7 +103,7 @@ module _ (w : WorldValue) (h : HoldingValue) (left : ℕ) (fewer : left ≤ h.me
   abbrev IsWithMen : HoldingValue → Type 0
   IsWithMen k = (k.men ≡ left) × Every (IsStudied w left) k.days × (k.name ≡ h.name) × (k.guard ≡ h.guard) × (k.items ≡ h.items)
 
-  -- a holding with fewer men is as it should be
+  -- a holding with fewer men has the days of those, and its name, guard flag and items as they were
   less_men : IsWithMen (with_men_left left h)
   less_men = by_men (left == h.men) refl
     where
@@ -139,21 +140,25 @@ module _ (w : WorldValue) (c : CampaignValue) (s : UpkeepResult) (u : Unit) (is 
   abbrev left : ℕ
   left = old.men - s.starved
 
+  -- the days of the unit before its upkeep are days that its men may have
   studied : Every (IsStudied w old.men) old.days
   studied k days there =
       let skills = (steady.known.units s.unit u is).skills in
       let range = steady.days s.unit u is k days there in
       (skills k days there, range.0, range.1)
 
+  -- the unit's holding with the men left has days that these may have, and the rest as it was
   with_less : IsWithMen w old left (omega arith) studied (with_men_left left old)
   with_less = less_men w old left (omega arith) studied
 
+  -- a unit that guards after its upkeep guarded before
   guard_kept : guards (record u { holding = now }) ≡ true → guards u ≡ true
   guard_kept = both_true now.guard old.guard now.men old.men with_less.3 (omega (arith, with_less.0))
     where
       both_true : (a b : Bool) (m n : ℕ) → a ≡ b → m ≤ n → (a && nat_lt 0 m) ≡ true → (b && nat_lt 0 n) ≡ true
       both_true a b m n same fewer is = grind (arith, nat_tests)
 
+  -- the unit may hold what its upkeep leaves it
   may_hold : MayHold w u now
   may_hold =
       let place = steady.known.units s.unit u is in
@@ -176,7 +181,7 @@ module _ (w : WorldValue) (c : CampaignValue) (s : UpkeepResult) (u : Unit) (is 
   abbrev held_back : CampaignValue
   held_back = with_held c s.unit now (Some u)
 
-  -- that campaign with the money booked
+  -- the campaign in which the unit holds what upkeep leaves it, and the money is booked
   abbrev paid_off : CampaignValue
   paid_off = with_amount held_back Upkeep Money (neg_ℤ (pos s.paid))
 
@@ -184,11 +189,13 @@ module _ (w : WorldValue) (c : CampaignValue) (s : UpkeepResult) (u : Unit) (is 
   abbrev after : CampaignValue
   after = upkeep_in c s (Some u)
 
+  -- after the unit's upkeep the campaign is steady
   after_steady : IsSteady w after
   after_steady =
       steady-amount w paid_off Starved People (neg_ℤ (pos s.starved)) (omega arith)
       (steady-amount w held_back Upkeep Money (neg_ℤ (pos s.paid)) (omega arith) (steady-unit_amount w c s.unit u now is may_hold steady))
 
+  -- the total of money falls by what the unit paid, that of people by those who starved, and others stay the same
   total_after : (t : Thing)
       → pos (total after t) ≡ (pos (total c t) +ℤ share_of t Money (neg_ℤ (pos s.paid))) +ℤ share_of t People (neg_ℤ (pos s.starved))
   total_after t =
@@ -221,9 +228,11 @@ module _ (w : WorldValue) (c : CampaignValue) (s : UpkeepResult) (u : Unit) (is 
           zeros : (x : ℕ) → (pos x +ℤ pos 0) +ℤ pos 0 ≡ pos x
           zeros x = omega (arith, ints)
 
+  -- the books after the money was booked
   abbrev one_booked : BooksValue
   one_booked = after_booking c.books Upkeep Money (neg_ℤ (pos s.paid))
 
+  -- if the books balance before, they balance after the unit's upkeep
   upkeep_balances : Balances c → Balances after
   upkeep_balances before t =
       total_after t
@@ -232,12 +241,15 @@ module _ (w : WorldValue) (c : CampaignValue) (s : UpkeepResult) (u : Unit) (is 
       (sym (booked-after_booking c.books Upkeep Money (neg_ℤ (pos s.paid)) t))
       ∙ sym (booked-after_booking one_booked Starved People (neg_ℤ (pos s.starved)) t)
 
+  -- the unit pays at most 999,999,999
   pub few_paid : s.paid ≤ most_amount
   few_paid = omega (arith, spare.paid, (steady.numbers.units s.unit u is).1.money)
 
+  -- at most 999,999,999 men of the unit starve
   pub few_starved : s.starved ≤ most_amount
   few_starved = omega (arith, spare.starved, (steady.numbers.units s.unit u is).1.men)
 
+  -- the unit's upkeep moves the books within the bound of upkeep for one unit
   upkeep_near : (e : Entry) (t : Thing) → IsNear (takes_up_to most_amount e t) (amount_in c.books e t) (amount_in after.books e t)
   upkeep_near e t =
       near_twice (moves_only most_amount Upkeep Money e t) (moves_only most_amount Starved People e t) _ _ _
@@ -246,7 +258,7 @@ module _ (w : WorldValue) (c : CampaignValue) (s : UpkeepResult) (u : Unit) (is 
       (booked-near one_booked Starved People (neg_ℤ (pos s.starved)) most_amount
       (within-neg s.starved most_amount few_starved) e t)
 
-  -- the upkeep of a unit that can pay leaves the campaign well
+  -- the upkeep of a unit that can pay keeps the campaign steady and its books balanced, within the bound for one unit
   unit_leaves_well : LeavesWell IsSteady (takes_up_to most_amount) w c after
   unit_leaves_well = record {
     leaves_it = after_steady;
@@ -257,12 +269,12 @@ module _ (w : WorldValue) (c : CampaignValue) (s : UpkeepResult) (u : Unit) (is 
 
 -- ---- the upkeep of all
 
--- the upkeep of a unit that is there is the one above
+-- the upkeep of a unit that is there is `upkeep_in` with that unit
 pub upkeep_at_is : (c : CampaignValue) (s : UpkeepResult) (u : Unit) → get c.units s.unit ≡ Some u → upkeep_at c s ≡ upkeep_in c s (Some u)
 unfolding upkeep_at
 upkeep_at_is c s u is = ap (upkeep_in c s) is
 
--- the upkeep of a unit that can pay leaves the campaign well
+-- upkeep by a result that can be paid keeps the campaign steady and its books balanced, within the bound for one unit
 pub upkeep_at_leaves_well : (w : WorldValue) (c : CampaignValue) (s : UpkeepResult) → CanPayUpkeep w c s
     → LeavesWell IsSteady (takes_up_to most_amount) w c (upkeep_at c s)
 upkeep_at_leaves_well w c s can = rw (upkeep_at_is c s can.unit can.there) (unit_leaves_well w c s can.unit can.there can.spare can.steady)
@@ -276,28 +288,30 @@ other_unit c s n apart = by_unit (get c.units s.unit)
     by_unit None = refl
     by_unit (Some u) = get-insert_other c.units s.unit n (record u { holding = after_upkeep s u.holding }) apart
 
--- units whose turn is still to come are as they were
+-- the units after the one that pays are still as they were
 pub each_still : (c : CampaignValue) (s : UpkeepResult) (es : List (ℕ × Unit)) → AllByRecursion (λ e. s.unit < e.0) es
     → EachOf (λ n u. get c.units n ≡ Some u) es → EachOf (λ n u. get (upkeep_at c s).units n ≡ Some u) es
 each_still c s [] above there = tt
 each_still c s (e ∷ es) above there = (other_unit c s e.0 (λ same. omega (arith, above.0, same)) ∙ there.0, each_still c s es above.1 there.1)
 
--- what upkeep takes from one unit, among all
+-- what upkeep takes from one unit, where `all` are the units of the campaign
 abbrev pub settled_one : ℕ → (all : List UpkeepInput) → UpkeepInput → UpkeepResult
 settled_one m all p = upkeep_result_among m (peers_of p.region p.faction all) p
 
--- what upkeep takes from each of some units, among all
+-- what upkeep takes from each of some units, where `all` are the units of the campaign
 abbrev pub settled_each : ℕ → (all : List UpkeepInput) → List (ℕ × Unit) → List UpkeepResult
 settled_each m all es = map (settled_one m all) (map upkeep_input_of es)
 
 module _ (w : WorldValue) (some : 1 ≤ w.rules.maintenance) (all : List UpkeepInput) where
+  -- the bound on what the upkeep of one unit books
   abbrev step_moves : BookBound
   step_moves = takes_up_to most_amount
 
+  -- what upkeep takes from each of some units, where `all` are the units of the campaign
   abbrev each_of : List (ℕ × Unit) → List UpkeepResult
   each_of es = settled_each w.rules.maintenance all es
 
-  -- the upkeep of some units can be taken in turn
+  -- the upkeep of some units can be paid in turn, if they are as they were and the books have room for all of them
   settled_in_turn : (es : List (ℕ × Unit)) (c : CampaignValue) → Rise es → EachOf (λ n u. get c.units n ≡ Some u) es
       → IsSteady w c → HaveRoom (moved_times (length (each_of es)) step_moves) c → CanInTurn (CanPayUpkeep w) upkeep_at c (each_of es)
   settled_in_turn [] c rise there steady room = tt
@@ -318,8 +332,9 @@ module _ (w : WorldValue) (some : 1 ≤ w.rules.maintenance) (all : List UpkeepI
             (later_room step_moves w c (upkeep_at c s) s rest well room),
       )
 
--- what the units have comes in the order of their numbers
+-- what upkeep reads of units is sorted by their numbers, if they are
 module _ (c : CampaignValue) where
+  -- what upkeep reads of units sorted by their numbers is sorted by their numbers
   in_order : (es : List (ℕ × Unit)) → Rise es → AreInOrder (map upkeep_input_of es)
   in_order [] rise = λ i j d h l. absurd (omega (arith, l))
   in_order (e ∷ es) rise =
@@ -331,9 +346,11 @@ module _ (c : CampaignValue) where
   inputs_in_order = in_order (entries c.units) (entries_rise c.units)
 
 module _ (w : WorldValue) (c : CampaignValue) (some : 1 ≤ w.rules.maintenance) (steady : IsSteady w c) (room : HaveRoom (takes_up_to most_moved) c) where
+  -- what upkeep takes from each unit of the campaign
   abbrev list : List UpkeepResult
   list = upkeep_results w c
 
+  -- upkeep takes from at most as many units as there may be
   few : length list ≤ most_units
   few = omega (arith, length-map (upkeep_inputs_of c) (settled_one w.rules.maintenance (upkeep_inputs_of c)), length-map (entries c.units) upkeep_input_of, len-entries c.units, steady.numbers.few_units)
 
@@ -355,7 +372,7 @@ module _ (w : WorldValue) (c : CampaignValue) (some : 1 ≤ w.rules.maintenance)
       (each-from_every (λ n u. get c.units n ≡ Some u) c.units (λ n u is. is)) steady
       (room_less (moved_times (length list) (takes_up_to most_amount)) (takes_up_to most_moved) c little room)
 
-  -- the upkeep of all units leaves the campaign well
+  -- the upkeep of all units keeps a steady campaign steady and its books balanced, within the phase's bound
   pub upkeep_leaves_well : LeavesWell IsSteady (takes_up_to most_moved) w c (upkeep c list)
   upkeep_leaves_well =
       well_within (moved_times (length list) (takes_up_to most_amount)) (takes_up_to most_moved) w c (upkeep c list) little
@@ -371,7 +388,7 @@ men_stay h left is = by_men (left == h.men) refl
     by_men true test = refl
     by_men false test = grind (arith, nat_tests)
 
--- a holding of which nobody starves has only its money changed
+-- the upkeep of a unit of which nobody starves changes only the money of its holding
 pub paid_alone : (s : UpkeepResult) (h : HoldingValue) → s.starved ≡ 0 → after_upkeep s h ≡ record h { money = h.money - s.paid }
 paid_alone s h fed = ap (λ (k : HoldingValue). record k { money = h.money - s.paid }) (men_stay h (h.men - s.starved) (omega (arith, fed)))
 
@@ -384,6 +401,7 @@ pays_nothing c s u is fed none =
 
 -- ---- where somebody starves
 
+-- amounts of a map that are all at least 1 are so after some of them are set
 every_set : (f : ℕ → ℕ → ℕ) (es : List (ℕ × ℕ)) (had : FinMap nat_cmp ℕ) → Every (λ k d. 1 ≤ d) had
     → Every (λ k d. 1 ≤ d) (fold (λ (m : FinMap nat_cmp ℕ) (e : ℕ × ℕ). with_amount_of m e.0 (f e.0 e.1)) had es)
 every_set f [] had old = old
@@ -429,9 +447,9 @@ starved_supplied s h some fewer listed = by_men ((h.men - s.starved) == h.men) r
         ap (λ days. record h { men = h.men - s.starved; money = h.money - s.paid; days = days })
         (days_set (h.men - s.starved) h listed)
 
--- ---- what is marked
+-- ---- marks
 
--- taking upkeep, then booking its money and the starved, marks all that changes, if the taking marks what it changes
+-- upkeep marks all that changes, if taking it marks what it changes and both amounts are booked after that
 pub upkeep_marks : (c d e f : MarkedCampaign) (s : UpkeepResult) (x y : ℤ)
     → MarksChanges c d → e.value ≡ with_amount d.value Upkeep Money x → e.marks ≡ mark_amount d Upkeep Money
     → f.value ≡ with_amount e.value Starved People y → f.marks ≡ mark_amount e Starved People → MarksChanges c f

@@ -21,14 +21,14 @@ use Rattle.atl_month.proofs.UpkeepLaws.{each_still, other_unit, settled_each, se
 abbrev kept : Unit → UpkeepResult → Unit
 kept u s = record u { holding = after_upkeep s u.holding }
 
--- upkeep leaves a unit what its result says
+-- upkeep of a unit that is there leaves it what its result says
 own_unit : (c : CampaignValue) (s : UpkeepResult) (u : Unit) → get c.units s.unit ≡ Some u → get (upkeep_at c s).units s.unit ≡ Some (kept u s)
 own_unit c s u is = ap (λ (d : CampaignValue). get d.units s.unit) (upkeep_at_is c s u is) ∙ get-insert_same c.units s.unit (kept u s)
 
 -- ---- some units, in the order of their numbers
 
 module _ (m : ℕ) (all : List UpkeepInput) where
-  -- units whose numbers are below those still to come stay as they are
+  -- a unit with a lower number than all whose turn is still to come stays as it is
   others_stay : (es : List (ℕ × Unit)) (c : CampaignValue) (n : ℕ) → AllByRecursion (λ e. n < e.0) es
       → get (fold upkeep_at c (settled_each m all es)).units n ≡ get c.units n
   others_stay [] c n h = refl
@@ -36,10 +36,11 @@ module _ (m : ℕ) (all : List UpkeepInput) where
       let s = settled_one m all (upkeep_input_of e) in
       others_stay es (upkeep_at c s) n h.1 ∙ other_unit c s n (λ same. omega (arith, h.0, same))
 
-  -- unit `n`, which was `u`, is in this campaign with what its upkeep among all units leaves it
+  -- unit `n`, which was `u`, is in campaign `after` with what its upkeep among all units leaves it
   abbrev IsSettled : CampaignValue → ℕ → Unit → Type 0
   IsSettled after n u = get after.units n ≡ Some (kept u (settled_one m all (upkeep_input_of (n, u))))
 
+  -- after the upkeep of some units in turn, each of them has what its upkeep among all units leaves it
   each_settled : (es : List (ℕ × Unit)) (c : CampaignValue) → Rise es → EachOf (λ n u. get c.units n ≡ Some u) es
       → EachOf (IsSettled (fold upkeep_at c (settled_each m all es))) es
   each_settled [] c rise there = tt
@@ -50,7 +51,7 @@ module _ (m : ℕ) (all : List UpkeepInput) where
         each_settled es next rise.1 (each_still c s es rise.0 there.1),
       )
 
--- after upkeep each unit is with what its upkeep among all units leaves it
+-- after upkeep each unit has what its upkeep among the units of its faction in its region leaves it
 pub upkeep_is_of_peers : (w : WorldValue) (c : CampaignValue)
     → Every (IsSettled w.rules.maintenance (upkeep_inputs_of c) (upkeep c (upkeep_results w c))) c.units
 upkeep_is_of_peers w c =

@@ -35,17 +35,20 @@ module _ (m : AccountMap) (r f : ℕ) (a : Account) where
   abbrev put : AccountMap
   put = with_account m r f a
 
+  -- the account that was set is the one of the faction in the region
   put_same : account_at put r f ≡ a
   put_same = ap (account_in f) (get-insert_same m r (insert (group_of m r) f a)) ∙ ap account_or (get-insert_same (group_of m r) f a)
 
+  -- the accounts of another region are as they were
   other_region : (s g : ℕ) → s ≢ r → account_at put s g ≡ account_at m s g
   other_region s g apart = ap (account_in g) (get-insert_other m r s (insert (group_of m r) f a) apart)
 
+  -- the account of another faction in the region is as it was
   other_faction : (g : ℕ) → g ≢ f → account_at put r g ≡ account_at m r g
   other_faction g apart =
       ap (account_in g) (get-insert_same m r (insert (group_of m r) f a)) ∙ ap account_or (get-insert_other (group_of m r) f g a apart)
 
-  -- a map in which an account is set has that one there, and elsewhere those that it had
+  -- after an account is set, that faction has it in that region, and any other faction or region has what it had
   pub account_put : (s g : ℕ) → account_at put s g ≡ cond ((r == s) && (f == g)) a (account_at m s g)
   account_put s g = by_region (r == s) refl
     where
@@ -60,7 +63,7 @@ module _ (m : AccountMap) (r f : ℕ) (a : Account) where
 -- ---- a unit more
 
 module _ (amount : UpkeepInput → ℕ) (test : UpkeepInput → Bool) (xs : List UpkeepInput) (p : UpkeepInput) where
-  -- the sum over those of some units that pass a test, with one more unit
+  -- a sum over units that pass a test grows by a further unit's amount if the unit passes the test
   pub among_more : sum_by amount (filter test (xs ++ p ∷ [])) ≡ sum_by amount (filter test xs) + cond (test p) (amount p) 0
   among_more =
       ap (sum_by amount) (filter-append test xs (p ∷ [])) ∙ sum_by-append amount (filter test xs) (filter test (p ∷ []))
@@ -78,7 +81,7 @@ account left short given covered = record { left = left; short = short; given = 
 account_is : (a b c d e f g h : ℕ) → a ≡ e → b ≡ f → c ≡ g → d ≡ h → account a b c d ≡ account e f g h
 account_is a b c d e f g h x y z u = rw (x, y, z, u) refl
 
--- what holds of the account that is set, and of those of other factions or regions, holds of all accounts
+-- what holds of the account that is set, and of each of another faction or region, holds of all accounts
 pub each_account : (P : ℕ → ℕ → Account → Type 0) (m : AccountMap) (p : UpkeepInput) (a : Account)
     → P p.region p.faction a → ((s g : ℕ) → is_input_of s g p ≡ false → P s g (account_at m s g))
     → (s g : ℕ) → P s g (account_at (with_account m p.region p.faction a) s g)
@@ -101,7 +104,7 @@ own p = rw (same_number p.region, same_number p.faction) refl
 
 -- ---- the units are counted
 
--- before the first unit is counted, each account is that of no units
+-- with no unit counted yet, each account is the one of no units
 pub no_accounts : (m s g : ℕ) → account_at empty s g ≡ account_of m [] [] s g
 no_accounts m s g = ap (account_in g) (get-empty nat_cmp s) ∙ ap account_or (get-empty nat_cmp g)
 
@@ -110,6 +113,7 @@ pub record IsFew (n : ℕ) (a : Account) : Type 0 where
   pub left : a.left ≤ holding_limit * n
   pub short : a.short ≤ most_per_head * men_limit * n
 
+-- in the empty map the sums of each account are within those of 0 units
 pub none_few : (s g : ℕ) → IsFew 0 (account_at empty s g)
 none_few s g = rw (ap (account_in g) (get-empty nat_cmp s) ∙ ap account_or (get-empty nat_cmp g)) (record { left = omega arith; short = omega arith })
 
@@ -118,28 +122,35 @@ module _ (m : ℕ) (before : List UpkeepInput) (p : UpkeepInput) where
   abbrev more : List UpkeepInput
   more = before ++ p ∷ []
 
+  -- with one more unit counted, what a faction's units in a region have left grows by what the unit has, if it is one
   left_more : (s g : ℕ) → left_among m s g more ≡ left_among m s g before + cond (is_input_of s g p) (left_of m p) 0
   left_more s g = among_more (left_of m) (is_input_of s g) before p
 
+  -- with one more unit counted, what a faction's units in a region are short of grows by its lack, if it is one
   short_more : (s g : ℕ) → short_among m s g more ≡ short_among m s g before + cond (is_input_of s g p) (short_of m p) 0
   short_more s g = among_more (short_of m) (is_input_of s g) before p
 
+  -- with one more unit counted, what the units of its faction in its region have left grows by what it has left
   left_own : left_among m p.region p.faction more ≡ left_among m p.region p.faction before + left_of m p
   left_own = left_more p.region p.faction ∙ ap (λ b. left_among m p.region p.faction before + cond b (left_of m p) 0) (own p)
 
+  -- with one more unit counted, what the units of its faction in its region are short of grows by what it is short of
   short_own : short_among m p.region p.faction more ≡ short_among m p.region p.faction before + short_of m p
   short_own = short_more p.region p.faction ∙ ap (λ b. short_among m p.region p.faction before + cond b (short_of m p) 0) (own p)
 
+  -- with one more unit counted, what units of another faction or region have left stays the same
   left_other : (s g : ℕ) → is_input_of s g p ≡ false → left_among m s g more ≡ left_among m s g before
   left_other s g is = left_more s g ∙ ap (λ b. left_among m s g before + cond b (left_of m p) 0) is ∙ add-zero (left_among m s g before)
 
+  -- with one more unit counted, what units of another faction or region are short of stays the same
   short_other : (s g : ℕ) → is_input_of s g p ≡ false → short_among m s g more ≡ short_among m s g before
   short_other s g is = short_more s g ∙ ap (λ b. short_among m s g before + cond b (short_of m p) 0) is ∙ add-zero (short_among m s g before)
 
+  -- the lesser of 0 and any number is 0
   none_given : (x y : ℕ) → min 0 x ≡ min 0 y
   none_given x y = omega arith
 
-  -- after the next unit is counted, each account is that of all units counted
+  -- with the next unit counted, each account is that of the units counted so far and this one
   pub opened_more : (accounts : AccountMap) (a : Account) → ((s g : ℕ) → account_at accounts s g ≡ account_of m before [] s g)
       → a ≡ with_counted m p (account_at accounts p.region p.faction)
       → (s g : ℕ) → account_at (with_account accounts p.region p.faction a) s g ≡ account_of m more [] s g
@@ -148,7 +159,7 @@ module _ (m : ℕ) (before : List UpkeepInput) (p : UpkeepInput) where
       (is ∙ ap (with_counted m p) (each p.region p.faction) ∙ account_is _ _ _ _ _ _ _ _ (sym left_own) (sym short_own) (none_given _ _) (none_given _ _))
       (λ s g apart. each s g ∙ account_is _ _ _ _ _ _ _ _ (sym (left_other s g apart)) (sym (short_other s g apart)) (none_given _ _) (none_given _ _))
 
--- after one more unit is counted, each account is within the sums of one more unit
+-- with one more unit counted, the sums of each account are at most those of one more unit
 pub few_more : (m n : ℕ) (accounts : AccountMap) (p : UpkeepInput) (a : Account) → left_of m p ≤ holding_limit → short_of m p ≤ most_per_head * men_limit
     → ((s g : ℕ) → IsFew n (account_at accounts s g)) → a ≡ with_counted m p (account_at accounts p.region p.faction)
     → (s g : ℕ) → IsFew (n + 1) (account_at (with_account accounts p.region p.faction a) s g)
@@ -165,7 +176,7 @@ module _ {A : Type 0} where
   abbrev if_so : Bool → A → List A → List A
   if_so b x xs = cond b (x ∷ xs) xs
 
-  -- two filters in either order
+  -- filtering a list by two tests gives the same in either order
   filters_swap : (t q : A → Bool) (xs : List A) → filter q (filter t xs) ≡ filter t (filter q xs)
   filters_swap t q [] = refl
   filters_swap t q (x ∷ xs) = either (filters_swap t q xs) (t x) (q x) refl refl
@@ -179,6 +190,7 @@ module _ {A : Type 0} where
       either same false true is as_well = same ∙ sym (ap (λ b. if_so b x (filter t (filter q xs))) is)
       either same false false is not_so = same
 
+  -- if no element passes a test, filtering by the test gives the empty list
   none_pass : (t : A → Bool) (xs : List A) → All (λ x. t x ≡ false) xs → filter t xs ≡ []
   none_pass t [] h = refl
   none_pass t (x ∷ xs) h =
@@ -189,9 +201,11 @@ module _ {A : Type 0} where
 abbrev is_lower : ℕ → UpkeepInput → Bool
 is_lower n p = nat_lt p.unit n
 
+-- a number below another tests as lower
 lower : (a b : ℕ) → a < b → nat_lt a b ≡ true
 lower a b l = grind (arith, nat_tests, l)
 
+-- a number that isn't below another doesn't test as lower
 no_lower : (a b : ℕ) → b < a + 1 → nat_lt a b ≡ false
 no_lower a b l = grind (arith, nat_tests, l)
 
@@ -209,11 +223,11 @@ lower_first (p ∷ ps) (suc i) d order l =
 
 -- ---- the upkeep of all units
 
--- what is given in turn, up to an amount, is the lesser of all so far and the amount
+-- what was given so far in turn, with what the next unit gives, is the lesser of all so far and the amount to give
 next_dealt : (before want amount : ℕ) → min before amount + min (amount - min before amount) want ≡ min (before + want) amount
 next_dealt before want amount = omega arith
 
--- what one unit gives or gets in turn is the difference of what is dealt out before and after it
+-- what one unit gives or gets in turn is the difference of what was given up to the unit and before it
 is_dealt : (before want amount : ℕ) → min (amount - min before amount) want ≡ min (before + want) amount - min before amount
 is_dealt before want amount = omega arith
 
@@ -231,7 +245,7 @@ module _ (m : ℕ) (all before : List UpkeepInput) (p : UpkeepInput) (accounts :
   abbrev amount : ℕ
   amount = given_among m peers
 
-  -- after a unit's turn each account is that of all units, after one more had its turn
+  -- after a unit had its turn, the accounts are those of all units after one unit more had its turn
   pub settled_more : (a : Account) → a ≡ account_after m (account_at accounts p.region p.faction) p
       → (s g : ℕ) → account_at (with_account accounts p.region p.faction a) s g ≡ account_of m all (before ++ p ∷ []) s g
   settled_more a is =
@@ -244,12 +258,12 @@ module _ (m : ℕ) (all before : List UpkeepInput) (p : UpkeepInput) (accounts :
       (sym (ap (λ n. min n (given_among m (peers_of s g all))) (left_other m before p s g apart)))
       (sym (ap (λ n. min n (given_among m (peers_of s g all))) (short_other m before p s g apart))))
 
-  -- those of the unit's peers that have lower numbers are the peers among the units that had their turn
+  -- the peers of a unit with lower numbers are the peers among the units that had their turn before it
   before_among : filter (is_lower p.unit) all ≡ before → filter (is_lower p.unit) peers ≡ peers_of p.region p.faction before
   before_among first =
       filters_swap (is_input_of p.region p.faction) (is_lower p.unit) all ∙ ap (peers_of p.region p.faction) first
 
-  -- what upkeep takes by the account is what it takes by the definition
+  -- what upkeep takes from a unit by its account is what the definition takes from it
   pub settled_is : filter (is_lower p.unit) all ≡ before → upkeep_result_by m (account_at accounts p.region p.faction) p ≡ upkeep_result_among m peers p
   settled_is first =
       ap (λ b. upkeep_result_by m b p) (each p.region p.faction)
@@ -267,13 +281,13 @@ module _ (m : ℕ) (all before : List UpkeepInput) (p : UpkeepInput) (accounts :
       same_settled : (a b c d : ℕ) → a ≡ c → b ≡ d → settled a b ≡ settled c d
       same_settled a b c d x y = rw (x, y) refl
 
-  -- at most what is to be given was given and covered so far
+  -- of an account, at most the amount to give was given so far, and at most that amount covered
   pub account_open : IsOpen (account_at accounts p.region p.faction)
   account_open = rw (each p.region p.faction) (record { given = omega arith; covered = omega arith })
 
--- ---- a unit has what is taken from it
+-- ---- a unit pays no more than it has
 
--- where at most what so many men cost is missing, at most so many starve
+-- if at most what some men cost is missing, at most these men starve
 few_starve : (m men short : ℕ) → 1 ≤ m → short ≤ m * men → starved_of m short ≤ men
 few_starve m men short some most =
     let rounded : short + (m - 1) < (men + 1) * m = omega (arith, mul_comm m men) in

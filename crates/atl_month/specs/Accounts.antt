@@ -1,4 +1,5 @@
--- For proofs alone: the accounts in which the code adds up the upkeep of a faction's units in a region; all amounts are money.
+-- For proofs alone: the accounts in which the code adds up the upkeep of a faction's units in a region; all amounts are
+-- money.
 use Rattle.std.specs.Prelude.{List, min, unwrap_or, ℕ, ◌+◌, ◌-◌, ◌≤◌}
 use Rattle.std.specs.Ordering.{nat_cmp}
 use Rattle.std.specs.FinMap.{FinMap, get, insert}
@@ -57,12 +58,12 @@ account_after maintenance a input = record a {
   covered = a.covered + min (to_give a - a.covered) (short_of maintenance input);
 }
 
--- an account of which at most what is to be given was given and covered so far
+-- of an account, at most the amount to give (`to_give`) was given so far, and at most that amount covered
 pub record IsOpen (a : Account) : Type 0 where
   pub given : a.given ≤ to_give a
   pub covered : a.covered ≤ to_give a
 
--- the account of a faction in a region for all these units, after those `before` had their turn
+-- the account of a faction in a region, where `all` are the units of upkeep, and those `before` had their turn
 abbrev pub account_of : ℕ → (all before : List UpkeepInput) → (region faction : ℕ) → Account
 account_of maintenance all before region faction =
     let given = given_among maintenance (peers_of region faction all) in

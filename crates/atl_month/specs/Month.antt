@@ -1,4 +1,5 @@
--- A month: its phases in order, what they make of a campaign, and how far they move the books. See docs/RULES.md, "Closing a month".
+-- A month: its phases in order, what they make of a campaign, and how far they move the books.
+-- See docs/RULES.md, "Closing a month".
 use Rattle.std.specs.Prelude.{◌≡◌, ◌≤◌, ℕ, ◌+◌, ◌*◌, List, [], ◌∷◌, map}
 use Rattle.std.specs.Ordering.{nat_cmp}
 use Rattle.std.specs.List.Sorted.{IsPermutation}
@@ -34,7 +35,8 @@ use Rattle.atl_month.specs.Season.{season_spec}
 use Rattle.atl_month.specs.Sweep.{sweep_spec}
 use Rattle.atl_month.specs.Upkeep.{upkeep_spec}
 
--- what a month carries as its first phase begins: the mailings as they were read, the words of the dice, no alias and no event
+-- What a month carries as its first phase begins: the mailings as they were read, the words of the dice, no alias and
+-- no event.
 abbrev pub new_month : FinMap nat_cmp Reading → List ℕ → MonthValue
 new_month readings words = record { readings = readings; aliases = empty; words = words; events = [] }
 
@@ -44,11 +46,11 @@ new_month readings words = record { readings = readings; aliases = empty; words 
 abbrev pub early_phases : List PhaseSpec
 early_phases = form_spec ∷ name_spec ∷ place_spec ∷ give_spec ∷ transfer_spec ∷ sell_spec ∷ buy_spec ∷ tax_spec ∷ recruit_spec ∷ []
 
--- the phases from GUARD 1 to PRODUCE, in order; WORK is not among them, which units do without an order as well
+-- the phases from GUARD 1 to PRODUCE, in order; WORK is not among them, since units without an order work too
 abbrev pub later_phases : List PhaseSpec
 later_phases = guard_spec ∷ quit_spec ∷ walk_spec ∷ sail_spec ∷ build_spec ∷ learn_spec ∷ produce_spec ∷ []
 
--- the phases after those: WORK, upkeep, season, sweep
+-- the phases after PRODUCE, in order: WORK, upkeep, season, sweep
 abbrev pub last_phases : List PhaseSpec
 last_phases = work_spec ∷ upkeep_spec ∷ season_spec ∷ sweep_spec ∷ []
 

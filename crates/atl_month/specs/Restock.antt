@@ -1,4 +1,5 @@
--- Restocking in the season: the stock of each market rises by its `restock`, up to its limit. See docs/RULES.md, "Season".
+-- Restocking in the season: the stock of each market rises by its `restock`, up to its limit.
+-- See docs/RULES.md, "Season".
 use Rattle.std.specs.Prelude.{ℕ, pos, ◌+◌, ◌-◌, ◌==◌, ◌&&◌, min, Bool, true, false, List, fold, if◌then◌else◌}
 use Rattle.std.specs.Ordering.{nat_cmp}
 use Rattle.std.specs.FinMap.{FinMap, empty, get}

@@ -16,11 +16,11 @@ use Rattle.atl_instant.specs.PhaseSpecs.{PhaseSpec}
 use Rattle.atl_instant.specs.There.{at_region}
 use Rattle.atl_month.specs.Restock.{after_restock, markets_of, stocks_by}
 
--- How many peasants are born: of each hundred as many as the word says, from 0 to `growth`, at most what is missing to the limit.
+-- How many peasants are born: a percentage of them from 0 to `growth`, by the word of the dice, at most up to `limit`.
 abbrev pub births : (growth limit word peasants : ℕ) → ℕ
 births growth limit word peasants = min (peasants * (word % (growth + 1)) / per_hundred) (limit - peasants)
 
--- How much money peasants bring to their region: so much each, at most what is missing to the terrain's limit.
+-- How much money a region gets: `per_peasant` for each of its peasants, at most what is missing to `limit`.
 abbrev pub income : (per_peasant limit peasants money : ℕ) → ℕ
 income per_peasant limit peasants money = min (peasants * per_peasant) (limit - money)
 
@@ -30,19 +30,22 @@ with_growth c n peasants money born earned =
     let grown = with_region_money (with_peasants c n (peasants + born)) n (money + earned) in
     with_amount (with_amount grown Births People (pos born)) Income Money (pos earned)
 
--- A campaign after the season of region `n`: births, then income, also of those just born, then new goods of its markets.
+-- A campaign after the season of region `n`: births, then income, also of those just born, then new goods of its
+-- markets.
 abbrev pub season_of : WorldValue → CampaignValue → (n word : ℕ) → Terrain → Region → CampaignValue
 season_of w c n word t r =
     let born = births w.rules.growth t.peasant_limit word r.peasants in
     let earned = income w.rules.income t.money_limit (r.peasants + born) r.money in
     after_restock n (with_growth c n r.peasants r.money born earned) (entries (markets_of w n))
 
--- a campaign after the season of a region, by its number, with its word of the dice; unchanged where the region isn't there
+-- A campaign after the season of a region, by its number, with its word of the dice; unchanged where the region isn't
+-- there.
 unfoldable pub season_at : WorldValue → CampaignValue → ℕ × ℕ → CampaignValue
 season_at w c (n, word) =
     option_map_or (λ t. at_region c n (season_of w c n word t)) (terrain_of w n) c
 
--- A campaign after the season of all regions of the world, in the order of their numbers, each with its word of the dice.
+-- A campaign after the season of all regions of the world, in the order of their numbers, each with its word of the
+-- dice.
 abbrev pub season : WorldValue → CampaignValue → List ℕ → CampaignValue
 season w c words = fold (season_at w) c (zip (map (λ e. e.0) (entries w.regions)) words)
 
@@ -58,7 +61,7 @@ grows_by most = both_move (moves_only most Income Money) (moves_only most Births
 abbrev pub season_moves : ℕ → BookBound
 season_moves most = both_move (grows_by most) (stocks_by most)
 
--- the season changes no unit
+-- what the season leaves alone: all units are as they were
 abbrev pub season_keeps : Frame
 season_keeps w m before after = after.units ≡ before.units
 

@@ -1,4 +1,5 @@
--- The sweep at the end of a month: units without men are removed, and factions without units are gone. See docs/RULES.md, "Sweep".
+-- The sweep at the end of a month: units without men are removed, and factions without units are gone.
+-- See docs/RULES.md, "Sweep".
 use Rattle.std.specs.Prelude.{◌≡◌, ◌≤◌, ◌+◌, ◌-◌, ◌==◌, ◌&&◌, not, min, ℕ, pos, neg_ℤ, nat_lt, Bool, true, false, List, [], ◌∷◌, fold, Some, if◌then◌else◌}
 use Rattle.std.specs.FinMap.{entries, get}
 use Rattle.std.specs.Option.{option_map_or}
@@ -40,14 +41,16 @@ with_lost c t amount = with_amount c Lost t (neg_ℤ (pos amount))
 abbrev pub accepted_of : (amount have : ℕ) → ℕ
 accepted_of amount have = min amount (holding_limit - have)
 
--- A campaign after money went to unit `to`, up to its room; the rest is booked as lost, all of it where the unit isn't there.
+-- A campaign after money went to unit `to`, up to its room; the rest is booked as lost, all of it where the unit isn't
+-- there.
 unfoldable pub after_passing_money : CampaignValue → (to amount : ℕ) → CampaignValue
 after_passing_money c to amount =
     let taken = option_map_or (λ v. accepted_of amount v.holding.money) (get c.units to) 0 in
     let given = at_unit c to (λ v. with_money c to (v.holding.money + taken)) in
     with_lost given Money (amount - taken)
 
--- A campaign after an amount of an item went to unit `to`, up to its room; the rest is booked as lost, all where it isn't there.
+-- A campaign after an amount of an item went to unit `to`, up to its room; the rest is booked as lost, all where it
+-- isn't there.
 unfoldable pub after_passing_item : ℕ → CampaignValue → ℕ × ℕ → CampaignValue
 after_passing_item to c (item, amount) =
     let taken =
@@ -104,7 +107,8 @@ pub record IsKept (before after : Unit) : Type 0 where
   pub men : after.holding.men ≡ before.holding.men
   pub days : after.holding.days ≡ before.holding.days
 
--- what the sweep leaves alone: each unit with men is still there, no worse off, with its men and their days as they were
+-- What the sweep leaves alone: each unit with men is still there, no worse off, with its men and their days as they
+-- were.
 abbrev pub sweep_keeps : Frame
 sweep_keeps w m before after = Every (λ n u. 1 ≤ u.holding.men → (v : Unit) × (get after.units n ≡ Some v) × IsKept u v) before.units
 

@@ -1,4 +1,5 @@
--- The phase of upkeep: a campaign after each unit paid, and its men who aren't paid for starved. See docs/RULES.md, "Upkeep".
+-- The phase of upkeep: a campaign after each unit paid, and its men who aren't paid for starved.
+-- See docs/RULES.md, "Upkeep".
 use Rattle.std.specs.Prelude.{◌≡◌, ℕ, pos, neg_ℤ, ◌-◌, ◌==◌, not, ◌++◌, Bool, List, map, filter, fold, Some, if◌then◌else◌}
 use Rattle.std.specs.FinMap.{entries, get, keys}
 use Rattle.atl_tables.specs.Worlds.{WorldValue}
@@ -77,7 +78,7 @@ upkeep_meaning w c m = (upkeep c (upkeep_results w c), record m { events = m.eve
 abbrev pub takes_up_to : ℕ → BookBound
 takes_up_to most = both_move (moves_only most Upkeep Money) (moves_only most Starved People)
 
--- what upkeep leaves alone: each unit is there, changed only by what follows from the units of its faction in its region
+-- what upkeep leaves alone: each unit is there, changed only by its upkeep among its faction's units in its region
 abbrev pub upkeep_keeps : Frame
 upkeep_keeps w m before after =
     Every (λ n u.

@@ -1,4 +1,5 @@
--- How the units of one faction in one region share their upkeep: what each pays and how many starve. See docs/RULES.md, "Upkeep".
+-- How the units of one faction in one region share their upkeep: what each pays and how many starve.
+-- See docs/RULES.md, "Upkeep".
 use Rattle.std.specs.Prelude.{ℕ, nat_lt, ◌+◌, ◌-◌, ◌*◌, ◌/◌, ◌==◌, ◌&&◌, Bool, List, filter, map, min, ◌≤◌, ◌<◌}
 use Rattle.std.specs.List.{AllPairs, sum_by}
 use Rattle.atl_records.specs.Limits.{holding_limit, men_limit}
@@ -46,11 +47,11 @@ given_among maintenance peers =
 
 -- ---- a unit among them
 
--- how many men starve where so much money is still missing: it divided by `maintenance`, rounded up
+-- how many men starve if the money `short` is missing: `short` divided by `maintenance`, rounded up
 abbrev pub starved_of : (maintenance short : ℕ) → ℕ
 starved_of maintenance short = (short + (maintenance - 1)) / maintenance
 
--- what upkeep takes from a unit among its peers: those of lower numbers give before it, and are covered before it
+-- what upkeep takes from a unit among its peers: peers with lower numbers give first, and are covered first
 abbrev pub upkeep_result_among : ℕ → (peers : List UpkeepInput) → UpkeepInput → UpkeepResult
 upkeep_result_among maintenance peers input =
     let given = given_among maintenance peers in
@@ -64,7 +65,7 @@ upkeep_result_among maintenance peers input =
       starved = starved_of maintenance (short_of maintenance input - gets);
     }
 
--- what upkeep takes from each of some units, by those of its faction in its region alone
+-- what upkeep takes from each of some units; for each only the units of its faction in its region count
 abbrev pub upkeep_results_of : ℕ → List UpkeepInput → List UpkeepResult
 upkeep_results_of maintenance inputs =
     map (λ p. upkeep_result_among maintenance (peers_of p.region p.faction inputs) p) inputs

@@ -13,7 +13,7 @@ use Rattle.atl_month.specs.declared.upkeep_sharing.UpkeepResult.{UpkeepResult}
 use Rattle.atl_month.specs.UpkeepSharing.{CanSpare}
 use Rattle.atl_month.specs.Upkeep.{after_upkeep, takes_up_to}
 
--- the unit is there and can spare what upkeep takes, and the books have room for it
+-- the unit is there and can spare what upkeep takes, the campaign is steady, and the books have room for it
 pub record CanPayUpkeep (w : WorldValue) (c : CampaignValue) (s : UpkeepResult) : Type 0 where
   pub unit : Unit
   pub there : get c.units s.unit ≡ Some unit
@@ -21,10 +21,10 @@ pub record CanPayUpkeep (w : WorldValue) (c : CampaignValue) (s : UpkeepResult) 
   pub steady : IsSteady w c
   pub room : HaveRoom (takes_up_to most_amount) c
 
--- the unit, where it is there, holds what its upkeep leaves it, and nothing else is changed; nothing is booked yet
+-- after upkeep of a unit, if it is there, its holding is `after_upkeep`; nothing else is changed, and nothing is booked
 abbrev pub IsAfterUpkeep : CampaignValue → UpkeepResult → CampaignValue → Type 0
 IsAfterUpkeep before s after = (u : Unit) → get before.units s.unit ≡ Some u → after ≡ with_held before s.unit (after_upkeep s u.holding) (Some u)
 
--- for each skill, with its number, the days times the men left, divided by the men before
+-- for each skill, with its number, the days times the men left, divided by the men before, rounded down
 abbrev pub staying_list : (left men : ℕ) → FinMap nat_cmp ℕ → List (ℕ × ℕ)
 staying_list left men days = map (λ e. (e.0, e.1 * left / men)) (entries days)

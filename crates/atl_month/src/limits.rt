@@ -1,4 +1,4 @@
 //! The divisor of births, which are some hundredths of the peasants. See docs/RULES.md, "Season".
 
-/// 100: a region's births are so many for each hundred of its peasants.
+/// The divisor of births: they are a percentage of a region's peasants.
 pub(crate) const PER_HUNDRED: u64 = 100;

@@ -12,8 +12,8 @@ use atl_state::Campaign;
 use atl_tables::World;
 use std::alloc::Global;
 
-/// The phases from FORM to PRODUCE, in order, as one phase. WORK is not among them, which units do
-/// without an order as well. See docs/RULES.md, "Closing a month".
+/// The phases from FORM to PRODUCE, in order, as one phase. WORK is not among them, since units
+/// without an order work too. See docs/RULES.md, "Closing a month".
 #[derive(Drop, Clone, Copy)]
 pub struct OrderPhases;
 

@@ -21,7 +21,7 @@ use std::alloc::{AllocError, Global};
 #[derive(Drop, Clone, Copy)]
 pub struct SeasonPhase;
 
-/// How many peasants are born: of each hundred as many as the word says, from 0 to `growth`, at
+/// How many peasants are born: a percentage of them from 0 to `growth`, by the word of the dice, at
 /// most up to the limit.
 fn births(growth: u32, limit: u32, word: u32, peasants: u32) -> u32
     requires growth { growth ≤ most_growth }
@@ -32,7 +32,7 @@ fn births(growth: u32, limit: u32, word: u32, peasants: u32) -> u32
     born.min(u64::from(limit.saturating_sub(peasants))) as u32
 }
 
-/// How much money so many peasants bring their region, at most up to the limit.
+/// How much money a region gets: `per_peasant` for each of its peasants, at most up to the limit.
 fn income(per_peasant: u32, limit: u32, peasants: u32, money: u32) -> u32
     ensures { result ≡ income per_peasant limit peasants money }
 {

@@ -27,7 +27,7 @@ use std::alloc::{AllocError, Global};
 #[derive(Drop, Clone, Copy)]
 pub struct SweepPhase;
 
-/// How much of an amount fits to the `have` that a unit holds already, up to 999,999,999 together.
+/// How much of an amount a unit accepts that holds `have` already, up to 999,999,999 together.
 fn accepted_of(amount: u32, have: u32) -> u32
     ensures { result ≡ accepted_of amount have }
 {

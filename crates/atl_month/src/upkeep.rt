@@ -53,8 +53,8 @@ fn days_with(alloc: Global, left: u32, holding: &Holding) -> Result<Vec<(u32, u3
     Ok(list)
 }
 
-/// Takes from a unit what it pays, where none of its men starves. It sets no dirty flag of its
-/// goods, and where it pays nothing none at all.
+/// Takes from a unit what it pays, where none of its men starves. It marks none of its goods, and
+/// where the unit pays nothing, nothing at all.
 fn pay(campaign: &mut Campaign, settled: &UpkeepResult)
     requires can { (w : WorldValue) × CanPayUpkeep w campaign.old.value settled.now }
     requires fed { settled.now.starved ≡ 0 }
@@ -71,8 +71,8 @@ fn pay(campaign: &mut Campaign, settled: &UpkeepResult)
     }
 }
 
-/// Takes from a unit what it pays and the men who starve, with their days. It sets no dirty flag of
-/// its items.
+/// Takes from a unit what it pays and the men who starve, with their days. It marks none of its
+/// items.
 fn starve(alloc: Global, campaign: &mut Campaign, settled: &UpkeepResult) -> Result<(), AllocError>
     requires can { (w : WorldValue) × CanPayUpkeep w campaign.old.value settled.now }
     requires some { 1 ≤ settled.now.starved }
@@ -90,7 +90,7 @@ fn starve(alloc: Global, campaign: &mut Campaign, settled: &UpkeepResult) -> Res
     set_people(campaign, settled.unit, left, &days)
 }
 
-/// Takes from a unit what upkeep takes from it, without booking it. It sets no dirty flag of its
+/// Takes from a unit what upkeep takes from it, without booking it. It marks none of the unit's
 /// items, and where nobody starves none of its goods.
 fn take_upkeep(
     alloc: Global,
@@ -111,7 +111,7 @@ fn take_upkeep(
     starve(alloc, campaign, settled)
 }
 
-/// Takes from a unit what upkeep takes from it, and books it. It sets no dirty flag of its items,
+/// Takes from a unit what upkeep takes from it, and books it. It marks none of the unit's items,
 /// and where nobody starves none of its goods.
 fn upkeep_of(
     alloc: Global,
