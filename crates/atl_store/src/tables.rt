@@ -1,4 +1,4 @@
-//! Makes the tables of a campaign, and knows them again in a schema. See docs/FORMATS.md, "Tables".
+//! Makes the tables of a campaign, and tests a schema for them. See docs/FORMATS.md, "Tables".
 ghost use Rattle.std.specs.Prelude.{◌≡◌, ◌≤◌, [], length, map, slice_get, take, ◌↔◌, IsTrue};
 ghost use Rattle.atl_store.specs.Tables.{Markets, all_parts, all_tables, campaign_table, creation_of, faction_table};
 ghost use Rattle.atl_store.specs.OwnStatements.{Only, Creations};
