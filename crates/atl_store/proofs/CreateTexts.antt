@@ -38,7 +38,7 @@ pub record IsCreate (before after : Schema) (table : Table) (text : List ℕ) : 
   pub last : after.tables ≡ before.tables ++ table ∷ []
   pub uncounted : lacks_sequence after ≡ false
 
--- running such a text on a database of that schema adds the table
+-- running a CREATE TABLE text (`IsCreate`) on a database of the schema `before` adds the table
 pub makes_table : (before after : Schema) (table : Table) (text : List ℕ) → IsCreate before after table text → (old new : State) (count : ℕ) → old.now.schema ≡ before → Executes text [] old new (Ok count)
     → Creates before after table.tree old.now new.now
 makes_table before after table text is old new count has ran =
@@ -83,9 +83,9 @@ makes before after table text listed is = (listed, run)
     run : (old new : State) → RunsStatement text [] old new → Extends before after old new
     run old new (inside, count, h) = extends before after table old new inside h.1.mode is.last (λ has. makes_table before after table text is old new count has h.0)
 
--- elements with these texts
+-- a list whose elements have the texts of the ten tables, in order
 module _ {X : Type 0} (text : X → List ℕ) (xs : List X) (all : map text xs ≡ map creation_of all_parts) where
-  -- elements with these texts are as many as the tables
+  -- a list whose elements have the ten texts has ten elements
   pub as_many : length xs ≡ table_count
   as_many = sym (length-map xs text) ∙ ap length all
 
@@ -101,10 +101,10 @@ module _ {X : Type 0} (text : X → List ℕ) (xs : List X) (all : map text xs �
 -- ---- in a transaction
 
 module _ {S A : Type 0} (g : Ghosts S) {r : Result A Error} {a b : MutBor (Held S)} where
-  -- a write by such a text is one by the CREATE statements (`Creations`)
+  -- a write by the text of a part's table is one by the CREATE statements (`Creations`)
   pub creating : {Does : State → State → Type 0} {before after : Schema} (text : List ℕ) → Makes before after text → Writes g (Only text []) Does r a b → Writes g Creations Does r a b
   creating text makes one = among_only g text [] (makes.0, refl) one
 
-  -- running such a text is a write by the CREATE statements that makes one more table
+  -- running the text of a part's table is a write by the CREATE statements that makes one more table
   pub made_by : {before after : Schema} (text : List ℕ) → Makes before after text → Writes g (Only text []) (RunsStatement text []) r a b → Writes g Creations (Extends before after) r a b
   made_by text makes one = weaker g makes.1 (creating text makes one)

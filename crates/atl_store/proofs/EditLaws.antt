@@ -31,7 +31,7 @@ use Rattle.sqlite.proofs.Callers.{one_step}
 use Rattle.atl_store.specs.Sets.{IsKeyed}
 use Rattle.atl_store.proofs.ListLaws.{keyed_without, keyed_put, has_map, map_has, AreFound, stays, was_there}
 
--- a step that gave a value did not stop
+-- a step whose result is Ok did not stop with an error
 pub went : {B E R : Type 0} {b : B} {Stops : E → Type 0} → ((stop : E) × Stops stop × (Ok b ≡ Err stop)) ⊎ R → R
 went (inl stopped) = absurd (let e = stopped.2 in cc)
 went (inr on) = on
@@ -131,7 +131,7 @@ module _ (schema : Schema) (table : Table) (unlinked : (olds news : List Row) �
           others = λ t listed other. put.3 t listed other ∙ lost.others t listed other;
         }
 
-    -- the same for one attempt to put the row
+    -- one attempt to put a row by INSERT OR REPLACE swaps the rows with its key for it
     pub tries : (new : Row) (db : Trees) (w : Written) → IsKeyed (db table.tree) → Tries task Replace [] new db (Ok w)
         → Swaps schema table (p new) (cast_row table new) db w.trees
     tries new db w keyed (inl refused) = absurd (let e = refused.1 in cc)
@@ -157,7 +157,7 @@ delete_query tree filter = record {
   offset = lit (Int (pos 0));
 }
 
--- a permutation has the same elements
+-- a permutation of a list has each element of the list
 pub has_permuted : {X : Type 0} (xs ys : List X) (x : X) → IsPermutation xs ys → Has xs x → Has ys x
 has_permuted xs ys x h there = all_has (λ y. Has ys y) xs x (all-permutation (λ y. Has ys y) ys xs (IsPermutation-sym xs ys h) (all_from _ ys (λ y k. k))) there
 

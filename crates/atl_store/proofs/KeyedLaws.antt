@@ -39,12 +39,12 @@ module _ {A : Type 0} (shown : A → Row) (number : A → ℤ) (at : ℕ) (is : 
   same_test : (a b : A) → is_eq (value_cmp (column (shown a) at) (column (shown b) at)) ≡ int_eq (number a) (number b)
   same_test a b = ap (λ v. is_eq (value_cmp v (column (shown b) at))) (is a) ∙ ap (λ v. is_eq (value_cmp (Int (number a)) v)) (is b) ∙ ap is_eq (value_cmp-Int (number a) (number b))
 
-  -- a number that differs from others is shown differently from each
+  -- a number that differs from all others is shown by a different value from each of theirs
   each_apart : (a : A) (xs : List A) → AllByRecursion (λ n. int_eq (number a) n ≡ false) (map number xs) → AllByRecursion (λ r. is_eq (value_cmp (column (shown a) at) (column r at)) ≡ false) (map shown xs)
   each_apart a [] all = tt
   each_apart a (x ∷ xs) all = (same_test a x ∙ all.0, each_apart a xs all.1)
 
-  -- different numbers are shown in different columns' values
+  -- different numbers are shown by different values of the column
   columns_apart : (xs : List A) → IsDistinct int_eq (map number xs) → IsDistinct (λ a b. is_eq (value_cmp (column a at) (column b at))) (map shown xs)
   unfolding IsDistinct
   columns_apart [] apart = tt
@@ -70,7 +70,7 @@ module _ {A : Type 0} (shown : A → Row) (number : A → ℤ) (at : ℕ) (is : 
   numbers_apart [] apart = tt
   numbers_apart (x ∷ xs) apart = (each_number_apart x xs apart.0, numbers_apart xs apart.1)
 
--- ---- lines of the entries of a map, which have their numbers in the first column
+-- ---- rows of the entries of a map, with the numbers in the first column
 
 differ : (m n : ℕ) → m ≢ n → int_eq (pos m) (pos n) ≡ false
 differ m n apart = elim (cases_Bool (int_eq (pos m) (pos n))) [ inl same ↦ absurd (apart (grind (ints, arith))) | inr differs ↦ differs ]
@@ -90,7 +90,7 @@ entries_apart {V} (e ∷ es) sorted = (
 pub lines_keys : {V : Type 0} (line : ℕ → V → Row) → ((n : ℕ) (v : V) → column (line n v) 0 ≡ Int (pos n)) → (m : FinMap nat_cmp V) → HaveKeys 0 (lines_of line (entries m))
 lines_keys {V} line numbered m = numbers_keys (λ (e : ℕ × V). line e.0 e.1) (λ (e : ℕ × V). pos e.0) 0 (λ e. numbered e.0 e.1) (entries m) (entries_apart (entries m) (in_order m))
 
--- one row with a number has no second one
+-- a list of one row with an integer in its first column has different integers there (`HaveKeys`)
 pub one_keys : (row : Row) (n : ℤ) → column row 0 ≡ Int n → HaveKeys 0 (row ∷ [])
 unfolding IsDistinct
 one_keys row n is = record { apart = (tt, tt); ints = (ap is_int is, tt) }
@@ -111,7 +111,7 @@ cut_row : (part : Part) (r : Row) → take (width part) (placed_row part r) ≡ 
 cut_row Own r = refl
 cut_row part r = refl
 
--- the last column of such a row is its rowid
+-- the last column of a row shown with its rowid is the rowid
 row_place : (part : Part) (r : Row) → column (placed_row part r) (width part) ≡ rowid r
 row_place Own r = refl
 row_place part r = refl
@@ -124,7 +124,7 @@ shown_by Books = inl (refl, λ db. refl)
 shown_by Markets = inl (refl, λ db. refl)
 shown_by part = inr (refl, λ db. refl, λ r. refl)
 
--- the listing of such a part shows each row with its rowid
+-- if a part is shown with rowids, its listing shows each row with its rowid
 in_places : (part : Part) → shows_rowids part ≡ true → (db : Trees) → (listing_of part).in_table db ≡ map (placed_row part) (db (table_of part).tree)
 in_places part is = elim (shown_by part) [ inl places ↦ places.1 | inr whole ↦ absurd (true≢false (sym is ∙ whole.0)) ]
 
@@ -171,7 +171,7 @@ module _ (part : Part) (db : Trees) (rows : List Row) where
     | inr whole ↦ subst (IsPermutation (rows_in (table_of part) db)) (sym (cut_nothing part rows whole.0)) (subst (λ l. IsPermutation l rows) (whole.1 db) same)
   ]
 
--- ---- rows that were read with their places
+-- ---- rows that were read with their rowids
 
 -- A row that was read with its rowid is shown as its values and after them the rowid.
 pub record IsPlacedAs {A : Type 0} (part : Part) (stored : RowWithId A → Row) (values : A → Row) : Type 0 where

@@ -53,14 +53,14 @@ mapped_distinct f at (r ∷ rows) is apart = (
   mapped_distinct f at rows is apart.1,
 )
 
--- if the tree's rowids are different integers, so are those in the column where all its rows show them
+-- if the rowids of a tree are different integers, so are the values of the column that shows the rowids
 pub keyed_shown : (f : Row → Row) (at : ℕ) (tree shown : List Row) → ((r : Row) → column (f r) at ≡ rowid r) → IsPermutation (map f tree) shown → IsKeyed tree → HaveKeys at shown
 keyed_shown f at tree shown is same keyed = record {
   apart = IsDistinct-IsPermutation _ (flips at) (map f tree) shown same (mapped_distinct f at tree is keyed.apart);
   ints = all-permutation _ (map f tree) shown same (mapped_all f _ _ tree (λ r h. ap is_int (is r) ∙ h) keyed.ints);
 }
 
--- if the shown rowids are different integers, so are those of the tree
+-- if the values of the column that shows the rowids are different integers, so are the rowids of the tree
 pub keyed_by : (f : Row → Row) (at : ℕ) (tree shown : List Row) → ((r : Row) → column (f r) at ≡ rowid r) → IsPermutation (map f tree) shown → HaveKeys at shown → IsKeyed tree
 keyed_by f at tree shown is same have =
     let back = IsPermutation-sym (map f tree) shown same in

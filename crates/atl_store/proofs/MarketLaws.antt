@@ -82,7 +82,7 @@ finds_stocks = record { either = either; none = none }
     none (Int (pos region) ∷ Int (pos item) ∷ row) = refl
     none row = refl
 
--- keys of two numbers that are the same have the same numbers
+-- two keys of `market` are equal only if both numbers are
 pub two_same : (a b c d : ℕ) → ◌≡◌ {A = Row} (market_key a b) (market_key c d) → (a ≡ c) × (b ≡ d)
 two_same a b c d same = (cc, cc)
 
@@ -91,7 +91,7 @@ module _ (region item : ℕ) where
   abbrev is_here : Row → Bool
   is_here r = of_stock (is_thing region item) r
 
-  -- such a row has their key, and a row with their key is such a row
+  -- a row is of this region and item exactly if it has the key of the region and the item
   key_of : (r : Row) → is_here r ≡ true → take 2 r ≡ market_key region item
   key_of (Int (pos n) ∷ Int (pos t) ∷ row) is =
       let both = and_parts _ _ is in
@@ -120,7 +120,7 @@ module _ (region item : ℕ) where
         let told : Tells region item = subst (λ n. Tells n item) keys.0 (subst (Tells had.0) keys.1 (had.2, had.3)) in
         (λ none. told.0 (sym is ∙ none), told.1 ∙ ap (market_row region item) (sym is))
 
-    -- if the stock is 0, no row of the campaign has its key
+    -- if the stock of this region and item is 0, no row of the campaign has their key
     pub no_stock : stock ≡ 0 → (r : Row) → MarketRowsOf c.regions r → take 2 r ≢ market_key region item
     no_stock none r of key = (wanted_here r (of_key r key) of).0 none
 

@@ -34,7 +34,7 @@ one_mapped f [] y is = absurd (let k = is in cc)
 one_mapped f (x ∷ []) y is = (x, refl, let k = is in cc)
 one_mapped f (x ∷ z ∷ xs) y is = absurd (let k = is in cc)
 
--- the row that is shown says what was read
+-- a row as it was read equals a row with this world text
 module _ (own : StoredCampaign) (h : StoredCampaignRow) (text : List ℕ) (is : campaign_stored own ≡ own_stored text h) where
   at : (n : ℕ) → column (campaign_stored own) n ≡ column (own_stored text h) n
   at n = ap (λ r. column r n) is
@@ -48,7 +48,7 @@ module _ (own : StoredCampaign) (h : StoredCampaignRow) (text : List ℕ) (is : 
   pub same_text : string_bytes own.world ≡ text
   same_text = let e = at 7 in cc
 
--- a row that is as it should be was read as the campaign's own
+-- if the shown rows keep the first rule (`AreOwnRow`), the parsed row keeps it too
 pub own_read : (f : Format) (items : List StoredCampaign) (rows : List Row) (h : StoredCampaignRow) (text : List ℕ) (w : WorldValue)
     → map campaign_stored items ≡ map (first_columns (length campaign_forms)) rows → AreOwnRow f rows h text w
     → (own : StoredCampaign) × IsOwn f items own w
@@ -63,7 +63,7 @@ own_read f items rows h text w shown own =
       },
     )
 
--- the values of such a row are of their columns' types
+-- the values of a row that keeps the first rule (`AreOwnRow`) are of their columns' types
 pub own_typed : (f : Format) (rows : List Row) (h : StoredCampaignRow) (text : List ℕ) (w : WorldValue) → AreOwnRow f rows h text w → AreTyped campaign_forms rows
 own_typed f rows h text w own row there =
     let one = one_mapped (first_columns (length campaign_forms)) rows (own_stored text h) own.is in
@@ -83,7 +83,7 @@ own_typed f rows h text w own row there =
 
 -- ---- the rows that are shown
 
--- what is true of each of three results is true of any
+-- what is true of Ok, of Memory and of Damaged by the first rule is true of any judged result (`Judges`)
 judged_as : (Is : StoredCampaign × WorldValue → Type 0) (Nothing : Type 0) (P : Result (StoredCampaign × WorldValue) LoadFault → Type 0) → ((both : StoredCampaign × WorldValue) → Is both → P (Ok both)) → P (Err Memory) → (Nothing → P (Err (Damaged OneRow)))
     → (r : Result (StoredCampaign × WorldValue) LoadFault) → Judges Is Nothing r → P r
 judged_as Is Nothing P read lacks broken (Ok both) judged = read both judged
