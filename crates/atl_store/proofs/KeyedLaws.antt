@@ -72,6 +72,7 @@ module _ {A : Type 0} (shown : A → Row) (number : A → ℤ) (at : ℕ) (is : 
 
 -- ---- rows of the entries of a map, with the numbers in the first column
 
+-- two different numbers differ by the equality of integers
 differ : (m n : ℕ) → m ≢ n → int_eq (pos m) (pos n) ≡ false
 differ m n apart = elim (cases_Bool (int_eq (pos m) (pos n))) [ inl same ↦ absurd (apart (grind (ints, arith))) | inr differs ↦ differs ]
 
@@ -132,35 +133,35 @@ in_places part is = elim (shown_by part) [ inl places ↦ places.1 | inr whole �
 row_number : (part : Part) → shows_rowids part ≡ false → (r : Row) → column (visible (table_of part) r) 0 ≡ rowid r
 row_number part is = elim (shown_by part) [ inl places ↦ absurd (true≢false (sym places.0 ∙ is)) | inr whole ↦ whole.2 ]
 
--- without their rowids, rows of such a part have their first columns alone
+-- removing the rowids from the rows of a part that shows them leaves the first columns
 pub cut_places : (part : Part) (rows : List Row) → shows_rowids part ≡ true → without_ids part rows ≡ map (take (width part)) rows
 cut_places part rows is = ap (λ b. if b then map (take (width part)) rows else rows) is
 
--- rows of a part that is read without rowids stay as they are
+-- removing the rowids from the rows of a part that shows none leaves the rows as they are
 pub cut_nothing : (part : Part) (rows : List Row) → shows_rowids part ≡ false → without_ids part rows ≡ rows
 cut_nothing part rows is = ap (λ b. if b then map (take (width part)) rows else rows) is
 
 module _ (part : Part) (db : Trees) (rows : List Row) where
-  -- all rows with rowids, cut, are all rows of the table
+  -- all rows shown with rowids are, without the rowids, all rows of the table
   without_places : IsPermutation (map (placed_row part) (db (table_of part).tree)) rows → IsPermutation (rows_in (table_of part) db) (map (take (width part)) rows)
   without_places same =
       subst (λ l. IsPermutation l (map (take (width part)) rows)) (mapped_twice (placed_row part) (take (width part)) (visible (table_of part)) (cut_row part) (db (table_of part).tree))
       (IsPermutation-map (take (width part)) (map (placed_row part) (db (table_of part).tree)) rows same)
 
   module _ (is : shows_rowids part ≡ true) (same : IsPermutation ((listing_of part).in_table db) rows) where
-    -- the rows shown are a permutation of all rows with their rowids
+    -- the rows that the listing shows are a permutation of all rows with their rowids
     same_placed : IsPermutation (map (placed_row part) (db (table_of part).tree)) rows
     same_placed = subst (λ l. IsPermutation l rows) (in_places part is db) same
 
-    -- if the rowids that are shown differ, the tree's rowids do
+    -- if the rowids that are shown are different integers, so are the tree's rowids
     pub places_keyed : HaveKeys (width part) rows → IsKeyed (db (table_of part).tree)
     places_keyed keys = keyed_by (placed_row part) (width part) (db (table_of part).tree) rows (row_place part) same_placed keys
 
-    -- if the tree's rowids differ, those that are shown do
+    -- if the tree's rowids are different integers, so are the rowids that are shown
     pub keyed_places : IsKeyed (db (table_of part).tree) → HaveKeys (width part) rows
     keyed_places keyed = keyed_shown (placed_row part) (width part) (db (table_of part).tree) rows (row_place part) same_placed keyed
 
-  -- if the numbers in the first column differ, the tree's rowids do
+  -- if the first column, which shows the rowid, has different integers, so have the tree's rowids
   pub numbers_keyed : shows_rowids part ≡ false → IsPermutation (rows_in (table_of part) db) rows → HaveKeys 0 rows → IsKeyed (db (table_of part).tree)
   numbers_keyed is same keys = keyed_by (visible (table_of part)) 0 (db (table_of part).tree) rows (row_number part is) same keys
 
@@ -184,41 +185,41 @@ module _ {A : Type 0} {part : Part} {stored : RowWithId A → Row} {values : A �
   placed_values =
       mapped_twice (λ (s : RowWithId A). s.row) values (λ (s : RowWithId A). values s.row) (λ s. refl) placed ∙ sym (mapped_twice stored (take (width part)) (λ (s : RowWithId A). values s.row) is.values_are placed)
 
-  -- rows read with different rowids are shown with different ones
+  -- if the rowids that were read differ, the shown rows have different integers after their values
   pub placed_keys : AreApart placed → HaveKeys (width part) (map stored placed)
   placed_keys apart = numbers_keys stored (λ s. s.rowid) (width part) is.place_is placed apart
 
-  -- rows shown with different rowids are read with different ones
+  -- if the shown rows have different integers after their values, the rowids that were read differ
   pub placed_apart : HaveKeys (width part) (map stored placed) → AreApart placed
   placed_apart keys = numbers_apart stored (λ s. s.rowid) (width part) is.place_is placed keys.apart
 
--- the rows of `has` are read with their rowids
+-- a row of `has` that was read is shown as its values and after them its rowid
 pub has_placed : IsPlacedAs Goods has_stored has_values
 has_placed = record { values_are = λ s. refl; place_is = λ s. refl }
 
--- the rows of `books` are read with their rowids
+-- a row of `books` that was read is shown as its values and after them its rowid
 pub books_placed : IsPlacedAs Books books_stored books_values
 books_placed = record { values_are = λ s. refl; place_is = λ s. refl }
 
--- the rows of `market` are read with their rowids
+-- a row of `market` that was read is shown as its values and after them its rowid
 pub market_placed : IsPlacedAs Markets market_stored market_values
 market_placed = record { values_are = λ s. refl; place_is = λ s. refl }
 
--- ---- the rows that are to be judged
+-- ---- the rows that are to be checked
 
 -- The rows of a part that are to be checked are those that were read, without their rowids, which differ.
 pub record IsMadeAs (p : Parts) (read : Part × List Row) : Type 0 where
   pub rows : (text : List ℕ) → rows_read text p read.0 ≡ without_ids read.0 read.1
   pub apart : shows_rowids read.0 ≡ true → HaveKeys (width read.0) read.1
 
--- a part that is read without rowids is made as it was read
+-- a part that is read without rowids has for the check the rows as they were read (`IsMadeAs`)
 pub made_whole : {p : Parts} {rows : List Row} (part : Part) → shows_rowids part ≡ false → ((text : List ℕ) → rows_read text p part ≡ rows) → IsMadeAs p (part, rows)
 made_whole {p} {rows} part free are = record {
   rows = λ text. are text ∙ sym (cut_nothing part rows free);
   apart = λ placed. absurd (true≢false (sym placed ∙ free));
 }
 
--- a part that is read with rowids is made of its rows, if these differ in them
+-- a part that is read with rowids has for the check its rows without them, if the rowids differ (`IsMadeAs`)
 pub made_placed : {p : Parts} {A : Type 0} {part : Part} {stored : RowWithId A → Row} {values : A → Row} → IsPlacedAs part stored values → shows_rowids part ≡ true → (placed : List (RowWithId A))
     → ((text : List ℕ) → rows_read text p part ≡ map values (map (λ s. s.row) placed)) → AreApart placed → IsMadeAs p (part, map stored placed)
 made_placed {p} {A} {part} {stored} {values} is has placed are apart = record {
@@ -226,7 +227,7 @@ made_placed {p} {A} {part} {stored} {values} is has placed are apart = record {
   apart = λ _. placed_keys is placed apart;
 }
 
--- the rows of all parts are made of what was read
+-- if each part has the rows that were read of it, all parts are made of what was read (`IsMadeOf`)
 pub made_of : {head : StoredCampaignRow} {reads : ReadRows} {p : Parts} → map (λ read. read.0) reads ≡ other_parts Second → p.campaign ≡ head ∷ [] → AllByRecursion (IsMadeAs p) reads → IsMadeOf head reads p
 made_of {head} {reads} {p} parts campaign all = record {
   parts = parts;
@@ -235,7 +236,7 @@ made_of {head} {reads} {p} parts campaign all = record {
   apart = record { each = λ read there. (all_has (IsMadeAs p) reads read all there).apart };
 }
 
--- if two rows of a part have one rowid, the rowids don't all differ
+-- Store may be returned if two rows of a part have the same rowid, and Memory at any time (`Lacks`)
 pub lacks_all : {A B : Type 0} {part : Part} {stored : RowWithId A → Row} {values : A → Row} → IsPlacedAs part stored values → shows_rowids part ≡ true → (placed : List (RowWithId A)) (reads : ReadRows) → Has reads (part, map stored placed)
     → (fault : LoadFault) → Lacks (AreApart placed) fault → (r : Result B LoadFault) → IsErrAnd r (λ told. told ≡ fault) → IfErr r (Lacks (AreAllApart reads))
 lacks_all is has placed reads there fault lacks (Ok b) told = tt

@@ -43,6 +43,7 @@ width_of part = length (table_of part).columns
 
 -- ---- the numbers of the key
 
+-- a row of `has` that passes the table's checks has integers in its key
 goods_ints : (schema : Schema) (x : Row) → passes Datatype schema (λ t. []) has_table x ≡ true → passes NotNull schema (λ t. []) has_table x ≡ true
     → AreInts has_unique x
 goods_ints schema [] typed present = absurd (true≢false (sym present))
@@ -58,6 +59,7 @@ goods_ints schema (r ∷ a ∷ b ∷ c ∷ rest) typed present =
     let p3 = and_parts _ _ p2.1 in
     (int_by a t1.0 (not-true _ p1.0), (int_by b t2.0 (not-true _ p2.0), (int_by c t3.0 (not-true _ p3.0), tt)))
 
+-- a row of `has`, `books` or `market` that passes the table's checks has integers in its key
 ints_of : (k : Keyed) (schema : Schema) (x : Row) → passes Datatype schema (λ t. []) (table_of (part_of k)) x ≡ true → passes NotNull schema (λ t. []) (table_of (part_of k)) x ≡ true
     → AreInts (table_of (part_of k)).primary x
 ints_of InHas = goods_ints
@@ -101,6 +103,7 @@ means k = record { puts = λ more indexes. refl; puts_plain = λ more indexes. (
 
 -- ---- a row is put
 
+-- the terms of the upsert of `has` make the row of these four numbers
 makes_has : (unit sort thing amount : ℕ) → MakesValues has_table has_unique 5 (given 4) 4 (taken_over 3 4) (has_row unit sort thing amount)
 makes_has unit sort thing amount = record {
   source = refl;

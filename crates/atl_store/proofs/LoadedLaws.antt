@@ -59,9 +59,11 @@ module _ (f : Format) {S : Type 0} (g : Ghosts S) where
 
 -- ---- the parts
 
+-- a part that is shown with rowids is not the campaign row
 not_own : (part : Part) → shows_rowids part ≡ true → Has (other_parts Second) part
 not_own part is = elim (every_part part) [ inl own ↦ absurd (true≢false (sym is ∙ ap shows_rowids own)) | inr other ↦ other ]
 
+-- each format has the campaign row
 has_own : (f : Format) → Has (parts_in f) Own
 has_own First = inl refl
 has_own Second = inl refl
@@ -133,6 +135,7 @@ module _ (f : Format) {S : Type 0} (g : Ghosts S) (old : Held S) (reads : ReadRo
           ]
     ]
 
+    -- each part's table has exactly the rows that are put together, if the schema is the format's
     rows_of_part : (text : List ℕ) → HasTablesOf f old.schema → IsPermutation (rows_in campaign_table db) (own_stored text head ∷ []) → (part : Part) → Has (parts_in f) part → IsPermutation (rows_in (table_of part) db) (rows_read text p part)
     rows_of_part text begins own part there = elim (every_part part) [
       | inl is ↦ subst (λ q. IsPermutation (rows_in (table_of q) db) (rows_read text p q)) (sym is) (subst (λ rows. IsPermutation (rows_in campaign_table db) (map (own_stored text) rows)) (sym made.campaign) own)
@@ -142,6 +145,7 @@ module _ (f : Format) {S : Type 0} (g : Ghosts S) (old : Held S) (reads : ReadRo
           (subst (IsPermutation (rows_in (table_of read.0.0) db)) (sym (made.rows text read.0 read.1)) (unplaced_all read.0.0 db read.0.1 (all_of read.0 read.1 (subst (Has (parts_in f)) read.2 there) begins)))
     ]
 
+    -- the tables of the format have exactly the rows that are put together, if the schema is the format's
     have_rows : (text : List ℕ) → HasTablesOf f old.schema → IsPermutation (rows_in campaign_table db) (own_stored text head ∷ []) → HaveRows f db text p
     have_rows text begins own = record { rows = rows_of_part text begins own; none = none_read text }
 
@@ -159,9 +163,11 @@ module _ (f : Format) {S : Type 0} (g : Ghosts S) where
 
   -- ---- what the check of the rows refuses
 
+  -- if the gathered rows break a rule first, the tables do (`BreaksRule`)
   breaks : (old : Held S) (w : WorldValue) (p : Parts) → Gathered f g old w p → HasTablesOf f old.schema → (rule : Rule) → IsFirstBroken f w p rule → BreaksRule f g old rule
   breaks old w p all begins rule first = record { made = record { begins = begins; keyed = all.keyed begins }; world = w; text = all.text; is_world = all.world; parts = p; rows = all.rows begins; first = first }
 
+  -- if the gathered rows break a rule first, Damaged with this rule may be returned
   damaged : (old : Held S) (w : WorldValue) (p : Parts) → Gathered f g old w p → HasTablesOf f old.schema → (rule : Rule) → IsFirstBroken f w p rule → MayReturnDamaged f g old rule
   damaged old w p all begins OneRow first = absurd (first.broken all.first)
   damaged old w p all begins Ranges first = inr (breaks old w p all begins Ranges first)
@@ -267,7 +273,7 @@ module _ {S : Type 0} (g : Ghosts S) where
   is_idle auto true is said = absurd (let k = sym is ∙ said in cc)
   is_idle auto false is said = refl
 
-  -- tables that were confirmed after two reads are confirmed from before the first, if the disk is clean after each
+  -- tables that are confirmed after some reads are confirmed from before these reads, if the disk is clean
   pub confirmed_behind : (f : Format) (old mid new : Held S) → AfterReads g old mid → AfterReads g mid new → HasCleanDisk (state g mid) → HasCleanDisk (state g new) → IsConfirmed f (state g mid) (state g new) → IsConfirmed f (state g old) (state g new)
   confirmed_behind f old mid new one two clean_mid clean confirmed =
       let up = (two.stays clean).was_open confirmed.is_open in

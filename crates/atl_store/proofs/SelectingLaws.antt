@@ -56,7 +56,7 @@ module _ {S : Type 0} (g : Ghosts S) (sql : List ℕ) (old begun mid end : Held 
   survived : Survives (state g old) (state g end) (λ _. ⊥)
   survived = survives_begin g old (state g end) _ (subst (λ h. Survives (state g h) (state g end) (λ _. ⊥)) begins (survives_more (state g begun) (state g mid) (state g end) one two))
 
-  -- after the rollback the tables are those of the last commit
+  -- after the rollback the connection is at rest (`Rests`): its tables are those of the last commit
   rests : (HasCleanDisk (state g mid) → KeepsCommit (state g begun) (state g mid)) → HasCleanDisk (state g end) → Rests (state g old) (state g end)
   rests keeps clean =
       let kept = subst (λ h. KeepsCommit (state g h) (state g mid)) begins (keeps (omega (arith, two.clean))) in
@@ -70,7 +70,7 @@ module _ {S : Type 0} (g : Ghosts S) (sql : List ℕ) (old begun mid end : Held 
   select_of : IsAsked (state g old) (state g begun)
   select_of = subst (λ h. IsAsked (state g old) (state g h)) (sym begins) (record { was_open = λ up. up; is_open = λ up. up; same = refl; limit = refl; faults = no_fewer (state g old).faults })
 
-  -- the SELECT showed rows
+  -- if the SELECT showed rows before the rollback, these are the result of asking it (`Asks`)
   pub showed : {Z : Type 0} (rows : Vec Row Z) → (HasCleanDisk (state g mid) → Shown sql [] (state g begun) (state g mid) rows.items) → Asks g sql old {Z = Z} (Ok rows) end
   showed rows ok = record {
     rows = λ clean. (begun, mid, select_of, ok (omega (arith, two.clean)));
@@ -84,7 +84,7 @@ module _ {S : Type 0} (g : Ghosts S) (sql : List ℕ) (old begun mid end : Held 
   not_late e (inl failed) = failed
   not_late e (inr late) = absurd (let no = sym begun_inside ∙ late.3 in cc)
 
-  -- the SELECT was refused
+  -- if the SELECT was refused, its error's fault is the result of asking it (`Asks`)
   was_refused : {Z : Type 0} (e : Error) (fault : ReadFault) → fault ≡ read_fault e → (HasCleanDisk (state g mid) → FailsToQuery sql [] (state g begun) (state g mid) e ⊎ IsTooLate sql [] (state g begun) (state g mid) e) → Asks g sql old {Z = Z} (Err fault) end
   was_refused e fault is err = record {
     rows = λ _. tt;
@@ -94,14 +94,14 @@ module _ {S : Type 0} (g : Ghosts S) (sql : List ℕ) (old begun mid end : Held 
     idle = ended;
   }
 
-  -- the error of a refused SELECT is the fault that is returned
+  -- a result with the fault of the refused SELECT's error is a result of asking it (`Asks`)
   pub told : {Z : Type 0} (e : Error) (r : Result (Vec Row Z) ReadFault) → IsErrAnd r (λ fault. fault ≡ read_fault e) → (HasCleanDisk (state g mid) → FailsToQuery sql [] (state g begun) (state g mid) e ⊎ IsTooLate sql [] (state g begun) (state g mid) e) → Asks g sql old {Z = Z} r end
   told e (Ok rows) is err = absurd is
   told e (Err fault) is err = was_refused e fault is err
 
 -- ---- each row read
 
--- a SELECT that is refused never gives OtherType
+-- the fault of a SELECT's error is never OtherType
 not_other : (e : Error) → read_fault e ≡ OtherType → ⊥
 not_other e same = by_memory (is_memory e) (is_failure e) same
   where
@@ -110,7 +110,7 @@ not_other e same = by_memory (is_memory e) (is_failure e) same
     by_memory false true is = cc
     by_memory false false is = cc
 
--- the same for the fault of a read
+-- the fault of a SELECT that is refused is never OtherType
 pub never_other : {S : Type 0} (g : Ghosts S) (sql : List ℕ) (old : Held S) (fault : ReadFault) → RefusesToSelect g sql old fault → fault ≡ OtherType → ⊥
 never_other g sql old fault told same = not_other told.2 (sym told.5 ∙ same)
 
@@ -132,7 +132,7 @@ module _ {S A Z : Type 0} (g : Ghosts S) (sql : List ℕ) (old new : Held S) (fo
     idle = asks.idle;
   }
 
-  -- if it was answered, the read returns its rows or the fault of one of them
+  -- if the SELECT was answered, the read returns its rows or the fault of one of them
   pub parsed : {Y : Type 0} (rows : Vec Row Y) (lent : List Row) (r : Result (Vec A Z) ReadFault) → Asks g sql old (Ok rows) new → lent ≡ rows.items
       → IfOk r (λ all. map shown all.items ≡ map (first_columns (length forms)) lent) → IfOk r (λ _. AreTyped forms lent) → IfErr r (λ fault. fault ≡ OtherType → ¬ AreTyped forms lent) → IfErr r (λ fault. fault ≢ OtherType → fault ≡ Memory) → ReadsRows g sql old forms shown r new
   parsed rows lent r asks same ok typed other which = record {

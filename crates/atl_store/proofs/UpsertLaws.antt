@@ -106,7 +106,7 @@ differ_not (Blob x) b p q h = absurd (true≢false (sym p))
 
 -- ---- the query of the update: the one row that has the rowid
 
--- the query of the update: the one row with the rowid of this parameter, and the values to set
+-- the query of the UPDATE: the one row with the rowid of this parameter, and the values to set
 abbrev pub update_query : ℕ → ℕ → List Term → Query
 update_query tree place project = record (delete_query tree (op2 (Compare Eq Binary) (col 1 0) (col 0 place) ∷ [])) { project = col 1 0 ∷ project }
 
@@ -134,7 +134,7 @@ module _ (p : Row → Bool) (f : Row → Env) where
   one_chosen (x ∷ rows) apart r (inr h) is =
       rw (is x (inl refl) ∙ all_has _ rows r apart.0 h, one_chosen rows apart.1 r h (λ y k. is y (inr k)))
 
--- it answers that row alone
+-- the query of the UPDATE answers the row with the rowid alone
 pub row_by : (tree place : ℕ) (project : List Term) (db db' : Trees) (given : Row) (rows : List Row) (r : Row) → IsKeyed (db tree) → Has (db tree) r → column given place ≡ rowid r → db' tree ≡ db tree
     → IsAnswer (update_query tree place project) db' given rows → rows ≡ (rowid r ∷ eval_all project (given ∷ r ∷ [])) ∷ []
 row_by tree place project db db' given rows r keyed there aimed same a =
@@ -237,7 +237,7 @@ module _ (schema : Schema) (t : Table) (unlinked : (olds news : List Row) → wo
       let hit = are.sound x (inl refl) in
       inr (hit.0, hit.1, hit.2, updates new db hit.0 x w keyed hit.1 hit.3 (aimed hit.0 hit.1) h)
 
-  -- an upsert that ran did so
+  -- an upsert that ran put the new row, or changed the row with its key (`Upserted`)
   pub upserts : (new : Row) (db : Trees) (w : Written) → IsKeyed (db t.tree) → ((r : Row) → Has (db t.tree) r → column (given new r) place ≡ rowid r)
       → Tries upsert_task Abort (clause_on target q ∷ []) new db (Ok w) → Upserted new db w.trees
   upserts new db w keyed aimed (inl refused) = absurd (let e = refused.1 in cc)
