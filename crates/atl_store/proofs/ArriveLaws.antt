@@ -31,6 +31,7 @@ use Rattle.atl_store.specs.Inside.{Puts, Drops}
 
 -- ---- one entry more in a map
 
+-- two numbers that are not equal are not equal by their order
 other : (k n : ℕ) → k ≢ n → is_eq (nat_cmp k n) ≡ false
 other k n apart = elim (nat_cmp k n) as (λ o. nat_cmp k n ≡ o → is_eq o ≡ false) [
   | Less ↦ λ _. refl
@@ -42,6 +43,7 @@ module _ {V : Type 0} where
   some_is : (a b : V) → Some a ≡ Some b → a ≡ b
   some_is a b e = cc
 
+  -- None is no value
   nothing_is : (v : V) → None ≡ Some v → ⊥
   nothing_is v e = cc
 

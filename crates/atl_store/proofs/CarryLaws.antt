@@ -21,6 +21,7 @@ use Rattle.atl_store.proofs.ListLaws.{has_map}
 
 -- ---- tables without a foreign key refer to nothing
 
+-- if no table has a foreign key, no reference is to be checked
 none_refer : (tables : List Table) (f : Table → Reference → Option Work) → AllByRecursion (λ t. t.references ≡ []) tables → flat_map (λ child. filter_map (f child) child.references) tables ≡ []
 none_refer [] f free = refl
 none_refer (t ∷ tables) f free = rw (free.0) (none_refer tables f free.1)

@@ -83,6 +83,7 @@ says_to ops (suc depth) root says =
     let (a, b, is, number, constant) = comparing (term_to ops depth) (get_or ops root past) says in
     (a, b, (there ops root (Binary equals a b) (λ same. absurd (cc)) is, number_at ops depth a number, one_at ops depth b constant))
 
+-- if the root compares the column `id` with the number 1, the term of the root is "id = 1"
 read_off : (ops : List Op) (root a b : ℕ) → get_or ops root past ≡ Binary equals a b → get_or ops a past ≡ Column 1 0 → get_or ops b past ≡ Literal one → term_in ops root ≡ is_one
 read_off [] root a b first second third = absurd (cc)
 read_off (x ∷ []) zero zero b first second third = absurd (cc)

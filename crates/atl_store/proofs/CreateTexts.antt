@@ -63,9 +63,11 @@ unfolding understood everything
 is_made Own = record { command = refl; whole = refl; defines = refl; plain = (refl, refl); after_is = refl; tree_is = refl; last = refl; uncounted = refl }
 is_made part = record { command = refl; whole = refl; defines = refl; plain = (refl, refl); after_is = refl; tree_is = refl; last = refl; uncounted = refl }
 
+-- the part at index `i` of the list of all parts has the index `i`
 placed : (i : ℕ) (d : Part) → i < length all_parts → place (get_or all_parts i d) ≡ i
 placed i d small = sym (get_or-map place all_parts i d 0 small) ∙ get_or-range_with_len 0 (length all_parts) i 0 small ∙ zero-add i
 
+-- the text of the part at index `i` makes its table after the first `i` tables
 made_at : (i : ℕ) (d : Part) → i < length all_parts → IsCreate (so_many i) (so_many (i + 1)) (table_of (get_or all_parts i d)) (creation_of (get_or all_parts i d))
 made_at i d small =
     let part = get_or all_parts i d in
@@ -77,6 +79,7 @@ made_at i d small =
 abbrev pub Makes : Schema → Schema → List ℕ → Type 1
 Makes before after text = Has (map creation_of all_parts) text × ((old new : State) → RunsStatement text [] old new → Extends before after old new)
 
+-- a text of one of the ten tables that makes a table (`IsCreate`) makes the schema one table longer (`Makes`)
 makes : (before after : Schema) (table : Table) (text : List ℕ) → Has (map creation_of all_parts) text → IsCreate before after table text → Makes before after text
 makes before after table text listed is = (listed, run)
   where

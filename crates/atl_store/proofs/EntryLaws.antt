@@ -31,6 +31,7 @@ module _ {V : Type 0} where
   same_some : (a b : V) → Some a ≡ Some b → a ≡ b
   same_some a b e = cc
 
+  -- None is no value
   nothing_there : (v : V) → None ≡ Some v → ⊥
   nothing_there v e = cc
 

@@ -101,6 +101,7 @@ module _ (tree : ℕ) (name key_name : List ℕ) (columns : List Column) (unique
     of_parameters : (more : Row) (rows : List Row) → eval_all (map (col 0) (range_with_len 1 width)) ((int n ∷ (values ++ more)) ∷ rows) ≡ values
     of_parameters more rows = map-map (λ (t : Term). eval t ((int n ∷ (values ++ more)) ∷ rows)) (col 0) (range_with_len 1 width) ∙ each_behind (int n) values more
 
+    -- the terms of the INSERT make the row
     source_is : value_rows ((int n ∷ values) ++ []) (width + 2) (length (given_row width) / (width + 2)) (given_row width) ≡ its_row ∷ []
     source_is =
         let counted : length (given_row width) ≡ width + 2 = omega (arith, length-map-range_with_len (col 0) 1 width) in
@@ -108,6 +109,7 @@ module _ (tree : ℕ) (name key_name : List ℕ) (columns : List Column) (unique
         let all : take (width + 2) (given_row width) ≡ given_row width = take_all (width + 2) (given_row width) (omega (arith, counted)) in
         ap (λ (count : ℕ). value_rows ((int n ∷ values) ++ []) (width + 2) count (given_row width)) once ∙ ap (λ (l : List Term). eval_all l (((int n ∷ values) ++ []) ∷ []) ∷ []) all ∙ ap (λ (l : Row). (int n ∷ Null ∷ l) ∷ []) (of_parameters [] [])
 
+    -- SQL shows the row as its number and its values
     shown_is : visible t its_row ≡ int n ∷ values
     shown_is =
         let alone : map (column values) (range_with_len 0 width) ≡ values = subst (λ l. map (column l) (range_with_len 0 width) ≡ values) (append-nil values) (each_column values []) in
@@ -120,6 +122,7 @@ module _ (tree : ℕ) (name key_name : List ℕ) (columns : List Column) (unique
             let place : place_of t (k + 1) ≡ suc (suc k) = rw apart (omega arith) in
             ap (column its_row) place
 
+    -- SQL's casts leave the row unchanged
     casted_is : cast_row t its_row ≡ its_row
     casted_is = rw (cast_int (pos n), cast_null, fits_cast columns values fits) refl
 

@@ -36,15 +36,19 @@ pub shown_open : (sql : List ℕ) (old new : State) (rows : List Row) → Shown 
 unfolding Shown
 shown_open sql old new rows h = shows_open old new sql h.0 _ rows h.0.returning h.2
 
+-- the fault Store is not OtherType
 not_store : read.Store ≢ read.OtherType
 not_store is = cc
 
+-- the fault Refused is not OtherType
 not_refused : read.Refused ≢ read.OtherType
 not_refused is = cc
 
+-- the fault Store is not Memory
 store_no_memory : read.Store ≢ read.Memory
 store_no_memory is = cc
 
+-- the fault Refused is not Memory
 refused_no_memory : read.Refused ≢ read.Memory
 refused_no_memory is = cc
 

@@ -139,10 +139,12 @@ goods_grouped units = record {
 
 -- ---- how much a unit has of a thing
 
+-- what the map has of a kind under a unit that is there is what the unit's holding has
 under_unit : (sort : ThingKind) (u : Unit) → things_under sort (Some u) ≡ things_of sort u.holding
 under_unit Item u = refl
 under_unit Skill u = refl
 
+-- the amount of each thing is 0 where there is no unit
 under_none : (sort : ThingKind) (thing : ℕ) → amount_of (things_under sort None) thing ≡ 0
 under_none Item thing = ap (λ (o : Option ℕ). unwrap_or o 0) (get-empty {X = ℕ} nat_cmp thing)
 under_none Skill thing = ap (λ (o : Option ℕ). unwrap_or o 0) (get-empty {X = ℕ} nat_cmp thing)

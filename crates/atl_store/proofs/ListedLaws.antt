@@ -18,6 +18,7 @@ use Rattle.sqlite_value.specs.Order.{Row, column}
 use Rattle.sqlite_value.specs.declared.value.Value.{Value}
 use Rattle.sqlite_value.specs.declared.value.Value.TheVariants.{Null, Int, Real, Text, Blob}
 
+-- two trees that a row of the schema table shows as the same root page are equal
 same_tree : (m n : ℕ) → Int (pos (m + 1)) ≡ Int (pos (n + 1)) → m ≡ n
 same_tree m n is = let next : m + 1 ≡ n + 1 = cc in omega (arith, next)
 
@@ -50,6 +51,7 @@ one_list R (r ∷ rows) (x ∷ xs) (y ∷ ys) same one two =
 
 -- ---- indexes
 
+-- two numbers below 65536 with the same decimal text are equal
 same_number : (m n : ℕ) → m < 65536 → n < 65536 → decimal (m + 1) ≡ decimal (n + 1) → m ≡ n
 same_number m n small low is =
     let first = (decimal_is_IsNumeral (m + 1) (omega (arith, small))).1 in

@@ -57,6 +57,7 @@ makes_more count a b c first next = (next.0 ∙ first.0, λ bare. let made = nex
 
 -- ---- all ten tables
 
+-- the rowids of a table without rows are different integers
 no_rows : IsKeyed []
 no_rows = record { apart = tt; ints = tt }
 

@@ -24,6 +24,7 @@ use Rattle.atl_store.proofs.EntryLaws.{got_entry, entry_got, in_order}
 use Rattle.atl_store.proofs.GoodsLaws.{amounts_have, have_amount, amounts_apart}
 use Rattle.sqlite.specs.Order.{Row}
 
+-- two rows of one region with the same key are of the same item
 one_item : (region m a n b : ℕ) → ◌≡◌ {A = Row} (take 2 (market_row region m a)) (take 2 (market_row region n b)) → m ≡ n
 one_item region m a n b same = cc
 
@@ -78,6 +79,7 @@ finds_stocks = record { either = either; none = none }
     either f g (Int (pos region) ∷ Int (pos item) ∷ row) = refl
     either f g row = refl
 
+    -- a test that is always false finds no row
     none : (r : Row) → of_stock (λ n t. false) r ≡ false
     none (Int (pos region) ∷ Int (pos item) ∷ row) = refl
     none row = refl
@@ -98,6 +100,7 @@ module _ (region item : ℕ) where
       ap (λ k. market_key k t) (tied n region both.0) ∙ ap (market_key region) (tied t item both.1)
   key_of row is = absurd (true≢false (sym is))
 
+  -- a row with the key of the region and the item is of these
   of_key : (r : Row) → take 2 r ≡ market_key region item → is_here r ≡ true
   of_key [] key = absurd cc
   of_key (u ∷ []) key = absurd cc

@@ -67,9 +67,11 @@ module _ (tree : ℕ) (name key_name : List ℕ) (columns : List Column) (unique
   abbrev t : Table
   t = table tree name (number key_name ∷ columns) (Some 0) (0 ∷ []) uniques []
 
+  -- the text of the upsert by the number
   abbrev put : List ℕ
   put = upsert t 1
 
+  -- the text of the DELETE by the number
   abbrev drop : List ℕ
   drop = deletion t 1
 

@@ -39,12 +39,15 @@ module _ (own : StoredCampaign) (h : StoredCampaignRow) (text : List ℕ) (is : 
   at : (n : ℕ) → column (campaign_stored own) n ≡ column (own_stored text h) n
   at n = ap (λ r. column r n) is
 
+  -- the ids of both rows are equal
   pub same_id : own.head.id ≡ h.id
   same_id = let e = at 0 in cc
 
+  -- the formats of both rows are equal
   pub same_format : own.head.format ≡ h.format
   same_format = let e = at 1 in cc
 
+  -- the world text that was read is this text
   pub same_text : string_bytes own.world ≡ text
   same_text = let e = at 7 in cc
 

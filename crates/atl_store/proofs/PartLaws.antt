@@ -1,4 +1,4 @@
--- Laws on the tables of a campaign's parts: different parts have different tables, and changes to some leave the others.
+-- Laws on the tables of a campaign's parts: different parts have different tables; changes to some leave the others.
 use Rattle.std.proofs.Common.{◌≡◌, ◌&&◌, ◌||◌, ◌⊎◌, ◌++◌, ℕ, Bool, true, false, not, nat_eq, cond, List, [], ◌∷◌, Option, Some, map, refl, sym, ap, ◌∙◌, subst, inl, inr, true≢false, arith}
 use Rattle.std.specs.List.{find, list_any, list_all}
 use Rattle.std.proofs.lemmas.Bool.{and_parts}
@@ -29,6 +29,7 @@ found_part part = refl
 pub same_part : (p q : Part) → tree_of p ≡ tree_of q → p ≡ q
 same_part p q same = same_Some p q (sym (found_part p) ∙ ap (λ tree. find (λ x. nat_eq (tree_of x) tree) all_parts) same ∙ found_part q)
 
+-- an element found by a test is the first one, or is found later
 first_or_later : {X : Type 0} (b : Bool) (y x : X) (later : Option X) → cond b (Some y) later ≡ Some x → (x ≡ y) ⊎ (later ≡ Some x)
 first_or_later true y x later is = inl (same_Some x y (sym is))
 first_or_later false y x later is = inr is
@@ -67,6 +68,7 @@ among parts part there = some_from (λ p. nat_eq (tree_of part) (tree_of p)) par
 pub not_among : (parts : List Part) (part : Part) → is_among parts part ≡ false → ¬ Has parts part
 not_among parts part free there = true≢false (sym (among parts part there) ∙ free)
 
+-- if "`b` or `c`" is true, one of them is
 one_or_more : (b c : Bool) → (b || c) ≡ true → (b ≡ true) ⊎ (c ≡ true)
 one_or_more true c is = inl refl
 one_or_more false c is = inr is

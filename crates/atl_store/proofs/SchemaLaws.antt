@@ -47,6 +47,7 @@ guards_not i (x ∷ tables) none t (inr later) = guards_not i tables (or_parts _
 
 -- ---- the trees of the first tables
 
+-- some element of a mapped list passes a test exactly if some element's image does
 any_mapped : {A B : Type 0} (f : A → B) (p : B → Bool) (xs : List A) → list_any p (map f xs) ≡ list_any (λ x. p (f x)) xs
 any_mapped f p [] = refl
 any_mapped f p (x ∷ xs) = ap (λ b. p (f x) || b) (any_mapped f p xs)
@@ -88,7 +89,7 @@ module _ (count keys : ℕ) (schema : Schema) where
   no_views begins = ap (λ (s : Schema). s.views) begins.is
 
   -- A schema that begins with some tables and indexes begins with fewer of them too.
-  -- The premises: the tables between have no foreign key, and the indexes between make nothing unique in the fewer tables.
+  -- Premises: the tables between have no foreign key, and the indexes between make nothing unique in the fewer tables.
   pub begins_with_fewer : (fewer fewer_keys : ℕ) (tables : List Table) (indexes : List Index)
       → take count all_tables ≡ take fewer all_tables ++ tables → take keys all_indexes ≡ take fewer_keys all_indexes ++ indexes
       → AllByRecursion (λ t. t.references ≡ []) tables → AllByRecursion (IsHarmless fewer) indexes → Begins count keys schema → Begins fewer fewer_keys schema

@@ -20,6 +20,7 @@ module _ (old new : State) (inside : IsTrue old.in_transaction) (sql : List ℕ)
   writes_keep : (what : Option Returning) (command : _) (text : List ℕ) (row : Row) (count : ℕ) → Writes old new what command text row count → KeepsCommit old new
   writes_keep what command text row count w = record { was_open = λ _. w.shown.was_open; committed = λ _. w.shown.committed_is ∙ ap (λ b. cond b old.committed new.now) inside }
 
+  -- a SELECT that shows rows one by one commits nothing
   shows_keep : (c : _) (row : Row) (rows : List Row) (what : Option Returning) → ShowsRows old new sql c row rows what → KeepsCommit old new
   shows_keep c row rows None h = unchanged_keeps old new (inl h.3)
   shows_keep c row rows (Some what) h = writes_keep (Some what) _ _ row h.0 h.1
@@ -29,6 +30,7 @@ module _ (old new : State) (inside : IsTrue old.in_transaction) (sql : List ℕ)
   unfolding Shown
   shown_keeps rows h = shows_keep h.0 _ rows h.0.returning h.2
 
+  -- a SELECT that fails while it shows rows commits nothing
   fails_keep : (c : _) (row : Row) (e : Error) (what : Option Returning) → FailsToShow old new sql c row e what → KeepsCommit old new
   fails_keep c row e None h = unchanged_keeps old new (inl h.3)
   fails_keep c row e (Some what) (inl h) = unchanged_keeps old new (inl h.1)
@@ -53,6 +55,7 @@ module _ {S : Type 0} (g : Ghosts S) (sql : List ℕ) (old begun mid end : Held 
   begun_inside : IsTrue (state g begun).in_transaction
   begun_inside = ap (λ (h : Held S). h.in_transaction) begins
 
+  -- BEGIN, the SELECT and the rollback together commit nothing
   survived : Survives (state g old) (state g end) (λ _. ⊥)
   survived = survives_begin g old (state g end) _ (subst (λ h. Survives (state g h) (state g end) (λ _. ⊥)) begins (survives_more (state g begun) (state g mid) (state g end) one two))
 
@@ -114,6 +117,7 @@ not_other e same = by_memory (is_memory e) (is_failure e) same
 pub never_other : {S : Type 0} (g : Ghosts S) (sql : List ℕ) (old : Held S) (fault : ReadFault) → RefusesToSelect g sql old fault → fault ≡ OtherType → ⊥
 never_other g sql old fault told same = not_other told.2 (sym told.5 ∙ same)
 
+-- if Ok has each of two properties, it has both
 if_both : {A E : Type 0} (P Q : A → Type 0) (r : Result A E) → IfOk r P → IfOk r Q → IfOk r (λ a. P a × Q a)
 if_both P Q (Ok a) p q = (p, q)
 if_both P Q (Err e) p q = tt

@@ -28,6 +28,7 @@ finds_things sort = record { either = either; none = none }
     either f g (Int (pos unit) ∷ Int (pos number) ∷ Int (pos thing) ∷ row) = and-or_distrib_left (number == sort_number sort) (f unit thing) (g unit thing)
     either f g row = refl
 
+    -- a test that is always false finds no row
     none : (r : Row) → of_kind sort (λ n t. false) r ≡ false
     none (Int (pos unit) ∷ Int (pos number) ∷ Int (pos thing) ∷ row) = and-false (number == sort_number sort)
     none row = refl
@@ -44,6 +45,7 @@ module _ (unit : ℕ) (sort : ThingKind) (thing : ℕ) where
   abbrev is_here : Row → Bool
   is_here r = of_kind sort (is_thing unit thing) r
 
+  -- a row of this unit, kind and thing has their key
   key_of : (r : Row) → is_here r ≡ true → take 3 r ≡ has_key unit (sort_number sort) thing
   key_of (Int (pos n) ∷ Int (pos number) ∷ Int (pos t) ∷ row) is =
       let one = and_parts _ _ is in
@@ -54,6 +56,7 @@ module _ (unit : ℕ) (sort : ThingKind) (thing : ℕ) where
       equals a b is = grind (arith, nat_tests)
   key_of row is = absurd (true≢false (sym is))
 
+  -- a row with the key of unit, kind and thing is the row of these
   of_key : (r : Row) → take 3 r ≡ has_key unit (sort_number sort) thing → is_here r ≡ true
   of_key [] key = absurd cc
   of_key (u ∷ []) key = absurd cc

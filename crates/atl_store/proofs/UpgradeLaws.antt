@@ -35,6 +35,7 @@ new_schema = first_tables 10 4
 
 -- ---- the table of markets
 
+-- the rowids of a table without rows are different integers
 no_rows : IsKeyed []
 no_rows = record { apart = tt; ints = tt }
 
@@ -53,6 +54,7 @@ module _ (old new : Database) (is : IsFirstFormat old) (made : Creates old_schem
     };
   }
 
+  -- adding the table `market` carries all other tables along (`Carries`)
   carries_all : Carries old new
   carries_all = record {
     tables = λ t there. subst (λ (s : Schema). Has s.tables t) (sym made.schema_is) (has_left old_schema.tables (market_table ∷ []) t (subst (λ (s : Schema). Has s.tables t) is.just there));
@@ -99,6 +101,7 @@ module _ (text : List ℕ) (c : CampaignValue) (old mid new : Database) (first :
   was : (part : Part) → Has (parts_in First) part → Is (rows_in (table_of part) mid.trees) (rows_for (campaign_row_in First (campaign_row_of c) before) c part)
   was part there = subst (λ rows. Is rows (rows_for (campaign_row_in First (campaign_row_of c) before) c part)) (sym (ap (map (visible (table_of part))) (first.others (table_of part) (has_map table_of (parts_in First) part there)))) (held.rows part there)
 
+  -- the campaign row of the second format, with the new text, was put
   did : Puts campaign_table 1 (campaign_row (campaign_row_of c) text) mid new
   did = second before (was Own (inl refl))
 
@@ -106,6 +109,7 @@ module _ (text : List ℕ) (c : CampaignValue) (old mid new : Database) (first :
   rest : (part : Part) → part ≢ Own → rows_in (table_of part) new.trees ≡ rows_in (table_of part) mid.trees
   rest part other = ap (map (visible (table_of part))) (did.others (table_of part) (listed part) (λ same. other (same_part part Own same)))
 
+  -- each table of the first format but `campaign` still has the campaign's rows after the campaign row is changed
   kept : (part : Part) → part ≢ Own → Has (parts_in First) part → Is (rows_in (table_of part) new.trees) (rows_for (campaign_row_in First (campaign_row_of c) before) c part)
   kept part other there = subst (λ rows. Is rows (rows_for (campaign_row_in First (campaign_row_of c) before) c part)) (sym (rest part other)) (was part there)
 

@@ -20,10 +20,12 @@ use Rattle.atl_store.proofs.Terms.{cast_int}
 abbrev project : List Term
 project = col 1 0 ∷ lit Null ∷ lit (Int (pos 2)) ∷ col 1 3 ∷ col 1 4 ∷ col 1 5 ∷ col 1 6 ∷ col 1 7 ∷ col 0 5 ∷ []
 
+-- the text of the statement means an upsert of the campaign row with this UPDATE
 upgrades_own : MeansOwn upgrading_upsert project
 unfolding understood everything
 upgrades_own = record { is = λ more indexes. refl; plain = λ more indexes. (refl, refl) }
 
+-- the UPDATE makes of a campaign row of the first format that of the second, with the new world text
 upgraded : (head : CampaignRowValue) (text before : List ℕ) (r : Row) → visible campaign_table r ≡ campaign_row_in First head before → changed_to project head text r ≡ campaign_row head text
 upgraded head text before r shows =
     let id : rowid r ≡ int 1 = ap (λ row. column row 0) shows in

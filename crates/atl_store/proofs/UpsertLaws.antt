@@ -63,6 +63,7 @@ equal_ints (Real x) b p q = absurd (true≢false (sym p))
 equal_ints (Text x) b p q = absurd (true≢false (sym p))
 equal_ints (Blob x) b p q = absurd (true≢false (sym p))
 
+-- two integers that are equal by the order of values are equal
 same_int : (m n : ℤ) → is_eq (value_cmp (Int m) (Int n)) ≡ true → m ≡ n
 same_int m n h = let k = rw (value_cmp-Int m n) at h in grind (arith, ints, nat_tests)
 
@@ -86,6 +87,7 @@ equal_is a b p q h = same_ints a b p q (sym (equal_ints a b p q) ∙ h)
 pub is_equal : (a : Value) → is_int a ≡ true → equal Binary a a ≡ true
 is_equal a p = equal_ints a a p p ∙ ap is_eq (tied_itself value_cmp_total a)
 
+-- an ordering that is not "different" is "equal"
 ne_or_eq : (o : Ordering) → is_ne o ≡ false → is_eq o ≡ true
 ne_or_eq Less h = absurd (true≢false h)
 ne_or_eq Equal h = refl
@@ -114,10 +116,12 @@ module _ (p : Row → Bool) (f : Row → Env) where
   abbrev chosen : List Row → List Env
   chosen rows = flat_map (λ r. cond (p r) (f r ∷ []) []) rows
 
+  -- a query whose test no row passes chooses no row
   none_chosen : (rows : List Row) → ((r : Row) → Has rows r → p r ≡ false) → chosen rows ≡ []
   none_chosen [] none = refl
   none_chosen (r ∷ rows) none = rw (none r (inl refl), none_chosen rows (λ x h. none x (inr h)))
 
+  -- a query for one rowid chooses the row with this rowid alone
   one_chosen : (rows : List Row) → IsAscending (λ a b. is_eq (value_cmp (rowid a) (rowid b)) ≡ false) rows → (r : Row) → Has rows r
       → ((x : Row) → Has rows x → p x ≡ is_eq (value_cmp (rowid x) (rowid r))) → chosen rows ≡ f r ∷ []
   one_chosen [] apart r h is = absurd h

@@ -19,6 +19,7 @@ has_own : (f : Format) → Has (parts_in f) Own
 has_own First = inl refl
 has_own Second = inl refl
 
+-- if the table `campaign` has just the campaign row with this text, the world text of the tables is this one
 text_held : (f : Format) (s : State) (text : List ℕ) (c : CampaignValue) → Is (rows_in campaign_table s.now.trees) (λ r. r ≡ campaign_row_in f (campaign_row_of c) text) → world_text s ≡ text
 text_held f s text c holds = of (rows_in campaign_table s.now.trees) holds
   where

@@ -1,4 +1,4 @@
--- Laws on writes inside a transaction: what one statement does, and two or three steps together, and which error they give.
+-- Laws on writes inside a transaction: what one statement, or several steps together, do, and which error they give.
 use Rattle.std.proofs.Common.{◌≡◌, ℕ, List, false, IsTrue, Result, Ok, Err, IsErr, IsErrAnd, OnOk, refl, sym, ◌∙◌, subst, inl, inr, arith}
 use Rattle.std.specs.Borrow.{MutBor}
 use Rattle.std.proofs.lemmas.Bool.{cases_Bool}
