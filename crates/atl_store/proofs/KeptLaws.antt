@@ -1,4 +1,4 @@
--- Laws on parts with one row for each number: which statements are theirs, and how their tables are filled and rewritten.
+-- Laws on parts with one row for each number: their statements, and how their tables are filled and rewritten.
 use Rattle.std.proofs.Common.{◌≡◌, ℕ, Bool, true, false, List, [], ◌∷◌, None, take, refl, sym, ap, ◌∙◌, subst}
 use Rattle.std.specs.Prelude.{◌↔◌}
 use Rattle.std.specs.Ordering.{nat_cmp}

@@ -236,7 +236,7 @@ made_of {head} {reads} {p} parts campaign all = record {
   apart = record { each = λ read there. (all_has (IsMadeAs p) reads read all there).apart };
 }
 
--- Store may be returned if two rows of a part have the same rowid, and Memory at any time (`Lacks`)
+-- a fault of testing the rowids of one part is a fault of testing those of all parts (`Lacks`)
 pub lacks_all : {A B : Type 0} {part : Part} {stored : RowWithId A → Row} {values : A → Row} → IsPlacedAs part stored values → shows_rowids part ≡ true → (placed : List (RowWithId A)) (reads : ReadRows) → Has reads (part, map stored placed)
     → (fault : LoadFault) → Lacks (AreApart placed) fault → (r : Result B LoadFault) → IsErrAnd r (λ told. told ≡ fault) → IfErr r (Lacks (AreAllApart reads))
 lacks_all is has placed reads there fault lacks (Ok b) told = tt

@@ -172,7 +172,7 @@ module _ (tree : ℕ) (name : List ℕ) (columns : List Column) (places : List �
           done_with t old.now new.now has key.ours _ _ (λ did. did) makes,
     )
 
-    -- the upsert puts its row in place of the one with its key
+    -- the upsert that ran put its row, and replaced the row with the same key
     pub puts_keyed : (sql : List ℕ) (width hole : ℕ) (terms project : List Term) → IsPutUnder tree at places sql width terms hole project
         → AlwaysPlain sql → (values : Row) → MakesValues t places width terms hole project values → DoneBy sql values (Puts t (length places) values)
     puts_keyed sql width hole terms project means asks values writes = done_by sql values (Puts t (length places) values) (puts sql width hole terms project means asks values writes)

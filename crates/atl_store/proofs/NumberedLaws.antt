@@ -134,6 +134,6 @@ module _ (tree : ℕ) (name key_name : List ℕ) (columns : List Column) (unique
           done_with t old.now new.now has is.ours _ _ (λ did. did) makes,
     )
 
-    -- the upsert puts its row in place of the one with its number
+    -- the upsert that ran put its row, and replaced the row with the same number
     pub puts_numbered : (n : ℕ) (values : Row) → Fits columns values → PutsRow t 1 (int n ∷ values)
     puts_numbered n values fits = done_by put (int n ∷ values) (Puts t 1 (int n ∷ values)) (puts n values fits)

@@ -38,7 +38,7 @@ module _ (old new : State) (text : List ℕ) (settled : (db : Trees) → IsTrue 
         crash = λ db may. subst (λ t. Stores t text after) (sym (settled db done.is_open may ∙ ap (λ (d : Database). d.trees) done.committed)) (stored new.now text after did.tables rows);
       }
 
-  -- a transaction that failed leaves the campaign before; a crash leaves the campaign before or after
+  -- if the disk is clean, a transaction that failed leaves the campaign before, and a crash the one before or after
   pub leaves_stops : (Does : Database → Database → Type 0) (before after : CampaignValue) → HasCleanDisk new → LeavesOff old new → Survives old new (MayLeave HasTables Does old) → Keeps old text before
       → ((db : Database) → Does old.now db → Holds db.trees text after) → LeavesAfterFault old.faults new text before after
   leaves_stops Does before after clean off survives keeps holds = record {

@@ -111,7 +111,7 @@ module _ {S : Type 0} (g : Ghosts S) (text : List ℕ) (old new : Held S) where
   fails_to_load load.OtherFormat refused = refused
   fails_to_load load.Memory refused = inl refused
 
-  -- a fault of the new world text is a check that failed, if the tables held a campaign of the first format (`FailsCheck`)
+  -- a fault of the new world text is a check that failed, if the tables held a campaign in the first format
   pub fails_to_read : (fault : WorldFault) → Reads (λ (w : WorldValue). w) (Err fault) (world_of text) → HasOld g text old new → FailsCheck g text old new (new_world_fault fault)
   fails_to_read world.NotToml reads was = (was, reads, λ e. absurd cc)
   fails_to_read (world.Missing path) reads was = (was, reads, λ e. absurd cc)

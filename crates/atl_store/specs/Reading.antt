@@ -47,7 +47,7 @@ module _ {S : Type 0} (g : Ghosts S) (sql : List ℕ) (old : Held S) where
     pub rows : HasCleanDisk (state g new) → IfOk result (λ rows. Selects rows.items)
     pub refused : HasCleanDisk (state g new) → IfErr result RefusesToSelect
     pub rests : HasCleanDisk (state g new) → Rests (state g old) (state g new)
-    -- A crash leaves only what it could have left before, and no transaction goes on.
+    -- A crash leaves only what it could have left before, and the connection is in no transaction.
     pub survives : Survives (state g old) (state g new) (λ _. ⊥)
     pub idle : new.in_transaction ≡ false
 

@@ -28,7 +28,7 @@ number name = field name Integer
 abbrev pub text : List ℕ → Column
 text name = field name Text
 
--- ---- the unique key of a table, besides the row's number, by the indexes of its columns in a stored row (0 is the rowid)
+-- ---- the unique key of a table, besides the row's number, by its columns' indexes in a stored row (0 is the rowid)
 
 -- a faction's joined_as
 abbrev pub faction_unique : List ℕ

@@ -34,6 +34,6 @@ pub record AddsMarkets (old new : Database) : Type 0 where
 abbrev pub UpgradesCampaignRow : CampaignRowValue → List ℕ → Database → Database → Type 0
 UpgradesCampaignRow head text old new = (before : List ℕ) → Is (rows_in campaign_table old.trees) (λ r. r ≡ campaign_row_in First head before) → Puts campaign_table 1 (campaign_row head text) old new
 
--- If the tables held the campaign in the first format, and it has no stocks, they hold it in the second with this text.
+-- If the tables held a campaign without stocks in the first format, they hold it in the second, with this text.
 abbrev pub WritesUpgrade : List ℕ → CampaignValue → Database → Database → Type 0
 WritesUpgrade text c old new = (before : List ℕ) → HoldsIn First old.trees before c → HasNoStocks c → Holds new.trees text c

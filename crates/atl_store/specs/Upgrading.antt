@@ -42,7 +42,7 @@ abbrev pub MayUpgrade : State → List ℕ → State → Type 0
 MayUpgrade old text new = (db : Trees) → new.may_leave db → old.may_leave db ⊎ ((w : WorldValue) × (c : CampaignValue) × Matches old text w c × Stores db text c)
 
 module _ {S : Type 0} (g : Ghosts S) (text : List ℕ) (old new : Held S) where
-  -- If the disk is clean, Ok of `upgrade` says: the connection keeps the campaign of the first format, with the new text.
+  -- If the disk is clean, Ok of `upgrade` says: the connection keeps the first format's campaign, with the new text.
   -- The connection is in no transaction; the campaign is good, nothing is in stock, and nothing is marked.
   pub record Upgrades (w : WorldValue) (c : MarkedCampaign) : Type 0 where
     pub world : world_of text ≡ Ok w

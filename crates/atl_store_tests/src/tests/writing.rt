@@ -3,9 +3,9 @@
 use super::script::play_new;
 use std::test::Fail;
 
-/// Only marked rows are written: after a change in each table but `unit`, `has` and `mail`, the unit
-/// keeps the name that it was given by hand. The mail, which the campaign doesn't have, stays, since
-/// it is not marked.
+/// Only marked rows are written: after a change in each table but `unit`, `has` and `mail`, the
+/// unit keeps the name that it was given by hand. The mail, which the campaign doesn't have,
+/// stays, since it is not marked.
 #[test]
 fn marked_rows_alone_are_written(rt: HostRuntime) -> Result<(), Fail> {
     let script = "create small
@@ -53,8 +53,8 @@ SELECT peasants FROM region -> 1000";
     play_new(&rt, rt.alloc(), script)
 }
 
-/// A unit's row and its rows of `has` are written apart: a skill's row that was changed by hand stays
-/// if only the unit's money is marked. A unit that is removed leaves no row.
+/// A unit's row and its rows of `has` are written apart: a skill's row that was changed by hand
+/// stays if only the unit's money is marked. A unit that is removed leaves no row.
 #[test]
 fn a_unit_and_its_goods_are_written_apart(rt: HostRuntime) -> Result<(), Fail> {
     let script = "create small
@@ -135,8 +135,8 @@ SELECT count(*) FROM books -> 4";
     play_new(&rt, rt.alloc(), script)
 }
 
-/// A campaign that was written is loaded again unchanged, after a unit was lent, which is one mark,
-/// money was set and booked, and the mail was cleared.
+/// A campaign that was written is loaded again unchanged. Before the write a unit is lent, which is
+/// one mark, money is set and booked, and the mail is cleared.
 #[test]
 fn a_written_campaign_comes_back(rt: HostRuntime) -> Result<(), Fail> {
     let script = "create small
@@ -182,9 +182,9 @@ load";
     play_new(&rt, rt.alloc(), script)
 }
 
-/// Only stocks that changed are written. All rows are changed by hand; then one stock is set to less,
-/// and later to 0. Another stock of its region, and one that is set to what it is in the campaign,
-/// keep what was set by hand.
+/// Only stocks that changed are written. All rows are changed by hand; then one stock is set to
+/// less, and later to 0. Another stock of the same region, and one that is set to what it is in
+/// the campaign, keep what was set by hand.
 #[test]
 fn only_changed_stocks_are_written(rt: HostRuntime) -> Result<(), Fail> {
     let script = "create isle with markets
