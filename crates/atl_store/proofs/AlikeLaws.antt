@@ -116,7 +116,7 @@ module _ (rows : List Row) (m k : FinMap nat_cmp Unit) (a : Is rows (HasRowsOf m
       left ∙ got ∙ sym (ap Some count)
 
 module _ (rows goods : List Row) (m k : FinMap nat_cmp Unit) (a : Is rows (RowsOf unit_line m)) (b : Is rows (RowsOf unit_line k)) (h : Is goods (HasRowsOf m)) (j : Is goods (HasRowsOf k)) (some : HaveSome m) (more : HaveSome k) where
-  -- each unit of one campaign is in the other
+  -- each unit of one map is in the other, if the tables `unit` and `has` have the rows of both
   units_there : Every (λ n u. get k n ≡ Some u) m
   units_there n u is =
       let (p, v, there, same) = other_line unit_line rows m k a b n u is in
@@ -164,7 +164,7 @@ module _ (rows : List Row) (m k : FinMap nat_cmp Region) (a : Is rows (MarketRow
       left ∙ got ∙ sym (ap Some count)
 
 module _ (rows stocks : List Row) (m k : FinMap nat_cmp Region) (a : Is rows (RowsOf region_line m)) (b : Is rows (RowsOf region_line k)) (h : Is stocks (MarketRowsOf m)) (j : Is stocks (MarketRowsOf k)) (some : AreInStock m) (more : AreInStock k) where
-  -- each region of one campaign is in the other
+  -- each region of one map is in the other, if the tables `region` and `market` have the rows of both
   regions_there : Every (λ n r. get k n ≡ Some r) m
   regions_there n r is =
       let (p, s, there, same) = other_line region_line rows m k a b n r is in
@@ -197,7 +197,7 @@ module _ (rows : List Row) (m k : BooksValue) (a : Is rows (BooksRowsOf m)) (b :
       amount ∙ sym there
 
 module _ (things : ℕ) (rows : List Row) (m k : BooksValue) (g : AreBooks things m) (h : AreBooks things k) (a : Is rows (BooksRowsOf m)) (b : Is rows (BooksRowsOf k)) where
-  -- each amount is the same in both books
+  -- each amount is equal in both books, if one table `books` has the rows of both
   same_amount : (e : Entry) (t : Thing) → amount_in m e t ≡ amount_in k e t
   same_amount e t =
       elim (none_or_some (amount_in m e t)) [
@@ -215,7 +215,7 @@ module _ (things : ℕ) (rows : List Row) (m k : BooksValue) (g : AreBooks thing
 -- ---- the whole
 
 module _ (db : Trees) (one other : List ℕ) (c d : CampaignValue) (h : Holds db one c) (j : Holds db other d) where
-  -- the campaign rows of both campaigns are equal
+  -- two campaigns whose rows one database holds have equal campaign rows
   one_row : campaign_line one c ≡ campaign_line other d
   one_row = (j.rows Own (campaign_line one c)).0 ((h.rows Own (campaign_line one c)).1 refl)
 

@@ -33,7 +33,7 @@ use Rattle.atl_store.proofs.WholeLaws.{inside_weaker}
 
 -- ---- a row that begins with an entry and a thing
 
--- a row passes one of two tests of its entry and thing exactly if it passes their disjunction
+-- a row passes the test "`f` or `g`" of its entry and thing exactly if it passes `f` or passes `g`
 accounts_either : (f g : ℕ → ℕ → Bool) (r : Row) → accounts (λ e t. f e t || g e t) r ≡ (accounts f r || accounts g r)
 accounts_either f g (Int (pos (suc e)) ∷ Int (pos t) ∷ row) = refl
 accounts_either f g row = refl

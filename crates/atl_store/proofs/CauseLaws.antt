@@ -16,11 +16,11 @@ use Rattle.atl_store.specs.Faults.{is_memory}
 use Rattle.atl_store.specs.OwnStatements.{Statements}
 use Rattle.atl_store.specs.Causes.{IsGiven, IsBroken, IsRefused, Gives, Leads, IsReached}
 
--- a count of failures that has risen is still above its start when it rises further
+-- if the disk failed between two states, it failed between the first and any state after the second
 more_later : (a b c : ℕ) → b ≤ c → MoreFaults a b → MoreFaults a c
 more_later a b c later more = omega (arith, later, more)
 
--- failures after a later state are failures after an earlier one too
+-- if the disk failed between two states, it failed between any state before the first and the second
 more_before : (a b c : ℕ) → a ≤ b → MoreFaults b c → MoreFaults a c
 more_before a b c before more = omega (arith, before, more)
 
@@ -35,7 +35,7 @@ module _ (old new : State) where
   no_memory : (e : Error) → e ≡ SqliteFailure code.OutOfMemory → is_memory e ≡ false → ⊥
   no_memory e is other = true≢false (sym (ap is_memory is) ∙ other)
 
-  -- an error of the store, other than out of memory, has its cause
+  -- an error of the store, other than lack of memory, has a cause: a broken connection, or a refusal (`Caused`)
   by_cause : (too_big : Type 0) (e : Error) (cause : StoreError) → e ≡ store_error cause → HasCause old new too_big cause → is_memory e ≡ false → Caused e
   by_cause too_big e OutOfMemory is has other = absurd (no_memory e is other)
   by_cause too_big e Io is has other = inl (inl has)
@@ -44,11 +44,11 @@ module _ (old new : State) where
   by_cause too_big e Broken is has other = inl (inr has)
   by_cause too_big e Unstorable is has other = inr (inl is)
 
-  -- an error of a failed call, other than out of memory, has its cause
+  -- an error of a failed call, other than lack of memory, has a cause (`Caused`)
   by_failure : (too_big : Type 0) (e : Error) → Fails old new too_big e → is_memory e ≡ false → Caused e
   by_failure too_big e failed = by_cause too_big e failed.0 failed.1 failed.2
 
-  -- an error of an executed statement, other than out of memory, has its cause
+  -- an error of an executed statement, other than lack of memory, has a cause (`Caused`)
   by_execution : (sql : List ℕ) (params : Row) (e : Error) → ExecutesIn false sql params old new (Err e) → is_memory e ≡ false → Caused e
   unfolding ExecutesIn IsNotRun
   by_execution sql params e (inl (inl refused)) other = inr (inr refused.1)
@@ -58,7 +58,7 @@ module _ (old new : State) where
     | inr runs ↦ elim (rw runs at ran.2) [ inl refused ↦ inr (inr refused.1) | inr failed ↦ by_failure _ e failed other ]
   ]
 
-  -- an error given by a call, other than out of memory, has its cause
+  -- an error given by a call, other than lack of memory, has a cause (`Caused`)
   by_call : (own : Statements) (e : Error) → IsGiven own e old new → is_memory e ≡ false → Caused e
   by_call own e (inl ran) other = elim ran.3 [ inl whole ↦ by_execution ran.0 ran.1 e whole.0 other | inr ends ↦ inr (inr ends.2) ]
   by_call own e (inr (inside, inl failed)) other = by_failure _ e failed other
@@ -142,7 +142,7 @@ module _ {S : Type 0} (g : Ghosts S) (own : Statements) (e : Error) where
     cause = λ other. elim (gave.cause other) [ inl (inl more) ↦ inl (inl (more_later _ _ _ counts more)) | inl (inr shut) ↦ inl (inr shut) | inr refused ↦ inr refused ];
   }
 
-  -- an error given after BEGIN is given from before it
+  -- an error given by a transaction after BEGIN is given from the connection before BEGIN
   pub gives_begun : (old begun new : Held S) → begun ≡ record old { in_transaction = true } → Gives g own e begun new → Gives g own e old new
   gives_begun old begun new begins gave =
       let same : Gives g own e (record old { in_transaction = true }) new = subst (λ h. Gives g own e h new) begins gave in

@@ -35,7 +35,7 @@ use Rattle.atl_store.proofs.MarketLaws.{stock_had, had_stock}
 
 -- ---- a table whose unmarked rows are the campaign's
 
--- a table whose clean rows are the campaign's has all its rows once the dirty ones are written
+-- a table whose clean rows are the wanted ones has exactly the wanted rows once the dirty rows are written
 all_held : (is_marked : Row → Bool) (After : Row → Type 0) (old new : List Row) → ((r : Row) → is_marked r ≡ false → Has old r ↔ After r) → Is new (rows_after_rewrite is_marked After (Has old)) → Is new After
 all_held is_marked After old new rest now r = (λ there. from (is_marked r) refl ((now r).0 there), λ of. (now r).1 (to (is_marked r) refl of))
   where
@@ -151,7 +151,7 @@ amounts_follow one other marks r same not_marked of =
 abbrev head_in : ℕ × (List ℕ × (ℕ × (ℕ × ℕ))) → CampaignRowValue
 head_in row = record { month = row.0; pass = row.1.0; next_faction = row.1.1.0; next_unit = row.1.1.1.0; next_structure = row.1.1.1.1 }
 
--- the campaign row after the write is that of the campaign after, if it was dirty or unchanged
+-- the campaign row after the write is that of the campaign after, if the row was dirty or unchanged
 head_held : (b : Bool) (before after : CampaignValue) → (b ≡ false → own_row after ≡ own_row before) → campaign_row_after b after (campaign_row_of before) ≡ campaign_row_of after
 head_held true before after same = refl
 head_held false before after same = ap head_in (sym (same refl))

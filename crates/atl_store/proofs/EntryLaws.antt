@@ -1,4 +1,4 @@
--- Laws on numbered maps and their rows: entries and look-ups agree, and a table filled from the entries has the map's rows.
+-- Laws on numbered maps and their rows: entries and look-ups agree, and a table filled from them has the map's rows.
 use Rattle.std.proofs.Common.{◌≡◌, ◌≢◌, ◌⊎◌, ℕ, true, false, cond, List, [], ◌∷◌, ◌++◌, take, Some, None, Less, Equal, Greater, refl, sym, ap, ◌∙◌, subst, inl, inr, true≢false}
 use Rattle.std.specs.List.{flat_map}
 use Rattle.std.specs.Ordering.{nat_cmp, is_eq, is_lt}

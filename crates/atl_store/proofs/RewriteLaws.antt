@@ -126,7 +126,7 @@ is_itself n = ap is_eq (tied_itself nat_cmp_total n)
 
 -- ---- a row that begins with a number
 
--- a row passes one of two tests of its number exactly if it passes their disjunction
+-- a row passes the test "`f` or `g`" of its number exactly if it passes `f` or passes `g`
 begins_either : (f g : ℕ → Bool) (r : Row) → begins (λ n. f n || g n) r ≡ (begins f r || begins g r)
 begins_either f g (Int (pos n) ∷ row) = refl
 begins_either f g row = refl

@@ -293,7 +293,7 @@ pub record StandsIn (f : Format) (s : State) (text : List ℕ) (c : CampaignValu
   pub rows : HoldsIn f s.now.trees text c
 
 -- If the disk is clean, Ok says: the tables of the format hold the campaign and a text of the world.
--- The campaign is good, has no stocks in the first format (`Fits`), and nothing of it is marked.
+-- The campaign is good, and in the first format without markets (`Fits`); nothing of it is marked.
 pub record LoadsIn (f : Format) {S : Type 0} (g : Ghosts S) (old new : Held S) (w : WorldValue) (c : MarkedCampaign) : Type 0 where
   pub world : HasCleanDisk (state g new) → world_by f (world_text (state g new)) ≡ Ok w
   pub stands : HasCleanDisk (state g new) → StandsIn f (state g new) (world_text (state g new)) c.value

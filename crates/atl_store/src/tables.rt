@@ -44,6 +44,7 @@ const CAMPAIGN: TableDefinition = TableDefinition {
     ),
 };
 
+/// The factions: a row for each faction, gone or not.
 pub(crate) const FACTION: TableDefinition = TableDefinition {
     text: "CREATE TABLE faction (number INTEGER NOT NULL PRIMARY KEY, joined_as TEXT NOT NULL UNIQUE, name TEXT NOT NULL, pass TEXT NOT NULL, gone INTEGER NOT NULL) STRICT",
     tree: 1,
