@@ -77,7 +77,7 @@ module _ {S : Type 0} (g : Ghosts S) where
     idle = idle;
   }
 
-  -- two calls that leave the tables as they were (`AfterReads`) together do so
+  -- two calls that each leave the tables as they were leave them so together (`AfterReads`)
   pub leaves_then : (old mid new : Held S) → AfterReads g old mid → AfterReads g mid new → AfterReads g old new
   leaves_then old mid new one two = record {
     stays = λ clean.

@@ -219,7 +219,7 @@ joining_done n f m u report after world start one two found first second =
 
 -- ---- a mailing
 
--- tables that held a campaign hold it with this mailing
+-- tables that held a campaign hold it with this faction's mailing, once the mailing is written
 pub mail_held : (faction : ℕ) (mail : List ℕ) (a b : Database) → WritesMail faction mail a b → (text : List ℕ) (before : CampaignValue) → Holds a.trees text before → Holds b.trees text (with_mail before faction mail)
 mail_held faction mail a b did text before holds = record { rows = rows }
   where

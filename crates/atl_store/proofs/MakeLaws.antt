@@ -131,7 +131,7 @@ module _ (schema : Schema) (among : (u : Table) → Has all_tables u → Has sch
           λ e. alone x r k there (e ∙ sym same),
         )) sound base is
 
-    -- an upsert puts the row, whether it inserted or updated
+    -- an upsert puts the row, whether it inserted a row or updated one
     pub upserts_make : Upserted schema t unlinked limit params target place project plain new old.trees next.trees → visible t (cast_row t new) ≡ v → Changes
         → Tests (hits schema t unlinked limit params target place project plain new) (take key v) (old.trees t.tree) → OneRow
         → Has all_tables t → IsSoundDatabase schema old.trees → IsDatabase next → next.schema ≡ schema → Makes schema t old next (put key v (Has (rows_in t old.trees)))

@@ -57,7 +57,7 @@ module _ (regions : FinMap nat_cmp Region) where
       let amount : stock_in regions of.0 of.3 ≡ of.4 = ap (in_stock of.3) of.2 ∙ ap (λ (o : Option ℕ). unwrap_or o 0) of.5 in
       (of.0, of.3, λ none. of.6 (sym amount ∙ none), of.7 ∙ ap (market_row of.0 of.3) (sym amount))
 
-  -- each stock that is not 0 has its row of `market`
+  -- each stock that is not 0 has a row of `market`, with its region and item
   pub had_stock : (n item amount : ℕ) → amount ≡ stock_in regions n item → amount ≢ 0 → MarketRowsOf regions (market_row n item amount)
   had_stock n item amount is some = there (get regions n) refl
     where
@@ -93,7 +93,7 @@ module _ (region item : ℕ) where
   abbrev is_here : Row → Bool
   is_here r = of_stock (is_thing region item) r
 
-  -- a row is of this region and item exactly if it has the key of the region and the item
+  -- a row of this region and item has the key of the region and the item
   key_of : (r : Row) → is_here r ≡ true → take 2 r ≡ market_key region item
   key_of (Int (pos n) ∷ Int (pos t) ∷ row) is =
       let both = and_parts _ _ is in

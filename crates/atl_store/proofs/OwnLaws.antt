@@ -1,4 +1,4 @@
--- Laws on reading the table `campaign`: its row is the campaign's own, or the load is refused, and by which fault.
+-- Laws on reading the table `campaign`: it has one row that keeps the first rule, or a fault refuses the load.
 use Rattle.std.proofs.Common.{◌≡◌, ℕ, false, List, [], ◌∷◌, map, length, Result, Ok, Err, IfOk, IfErr, IsPermutation, refl, sym, ap, ◌∙◌, subst, inl, inr, string_bytes}
 use Rattle.std.proofs.lemmas.Str.{IsUtf8-string_bytes}
 use Rattle.sqlite.specs.Held.{Held, state}

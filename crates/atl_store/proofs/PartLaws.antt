@@ -125,7 +125,7 @@ module _ (Becomes : Part → List Row → List Row → Type 0) where
 
 -- ---- each of some parts, one after another
 
--- doing one part is doing the list of it in turn
+-- doing `Does` for one part is doing it in turn for the list of this part alone
 pub in_turn_one : (Does : Part → Database → Database → Type 0) (part : Part) (old new : Database) → Does part old new → InTurn Does (part ∷ []) old new
 in_turn_one Does part old new did = (new, did, refl)
 
