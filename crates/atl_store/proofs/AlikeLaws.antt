@@ -32,36 +32,36 @@ use Rattle.atl_store.specs.declared.rows.has.ThingKind.TheVariants.{Item, Skill}
 use Rattle.atl_state.proofs.StateLaws.{same_state}
 use Rattle.atl_store.proofs.ThingLaws.{same_sort}
 
--- ---- maps whose rows tell their numbers and values
+-- ---- maps whose rows determine their numbers and values
 
 -- A row of a map determines its number and its value: equal rows of the two maps have both equal.
 abbrev Tells : {V : Type 0} → (ℕ → V → Row) → FinMap nat_cmp V → FinMap nat_cmp V → Type 0
 Tells {V} line m k = (n p : ℕ) (v u : V) → get m n ≡ Some v → get k p ≡ Some u → line n v ≡ line p u → (n ≡ p) × (v ≡ u)
 
 module _ {V : Type 0} (line : ℕ → V → Row) (rows : List Row) where
-  -- an entry of one map has an entry of the other with the same row
+  -- if one table has exactly the rows of two maps, each entry of the first map has an equal row in the second
   other_line : (m k : FinMap nat_cmp V) → Is rows (RowsOf line m) → Is rows (RowsOf line k) → (n : ℕ) (v : V) → get m n ≡ Some v → RowsOf line k (line n v)
   other_line m k a b n v is = (b (line n v)).0 ((a (line n v)).1 (n, v, is, refl))
 
-  -- each entry of one map is in the other, if the rows determine number and value
+  -- if one table has exactly the rows of two maps, and rows determine number and value, each entry is in the other map
   one_way : (m k : FinMap nat_cmp V) → Tells line m k → Is rows (RowsOf line m) → Is rows (RowsOf line k) → Every (λ n v. get k n ≡ Some v) m
   one_way m k tells a b n v is =
       let (p, u, there, same) = other_line m k a b n v is in
       let at = tells n p v u is there same in
       ap (get k) at.0 ∙ there ∙ sym (ap Some at.1)
 
-  -- two maps with the same rows are equal, if the rows determine number and value
+  -- two maps are equal if one table has exactly the rows of each, and the rows determine number and value
   same_values : (m k : FinMap nat_cmp V) → Tells line m k → Tells line k m → Is rows (RowsOf line m) → Is rows (RowsOf line k) → m ≡ k
   same_values m k there back a b = agree m k (one_way m k there a b) (one_way k m back b a)
 
--- equal flags of rows are of equal booleans
+-- two booleans are equal if a row shows them as equal flags
 same_flag : (a b : Bool) → flag a ≡ flag b → a ≡ b
 same_flag true true is = refl
 same_flag true false is = cc
 same_flag false true is = cc
 same_flag false false is = refl
 
--- a faction's row determines its number and value
+-- a faction's row determines its number and value, if each faction knows its number
 factions_tell : (m k : FinMap nat_cmp Faction) → Every (λ n f. f.number ≡ n) m → Every (λ n f. f.number ≡ n) k → Tells faction_line m k
 factions_tell m k a b n p f g is there same =
     let at : n ≡ p = cc in
@@ -102,7 +102,7 @@ have_some w c good n u is Item thing amount there = let range = (good.sound.stea
 have_some w c good n u is Skill thing amount there = let range = good.sound.steady.days n u is thing amount there in λ none. omega (arith, range.0, none)
 
 module _ (rows : List Row) (m k : FinMap nat_cmp Unit) (a : Is rows (HasRowsOf m)) (b : Is rows (HasRowsOf k)) where
-  -- what a unit has in one map it has in the other
+  -- items and skills of a unit in one map are those of the unit in the other, if one table `has` has the rows of both
   things_there : HaveSome m → (n : ℕ) (u v : Unit) → get m n ≡ Some u → get k n ≡ Some v → (sort : ThingKind) → Every (λ thing amount. get (things_of sort v.holding) thing ≡ Some amount) (things_of sort u.holding)
   things_there some n u v is there sort thing amount has =
       let row = has_row n (sort_number sort) thing amount in
@@ -116,7 +116,7 @@ module _ (rows : List Row) (m k : FinMap nat_cmp Unit) (a : Is rows (HasRowsOf m
       left ∙ got ∙ sym (ap Some count)
 
 module _ (rows goods : List Row) (m k : FinMap nat_cmp Unit) (a : Is rows (RowsOf unit_line m)) (b : Is rows (RowsOf unit_line k)) (h : Is goods (HasRowsOf m)) (j : Is goods (HasRowsOf k)) (some : HaveSome m) (more : HaveSome k) where
-  -- each unit of one campaign is in the other
+  -- each unit of one map is in the other, if the tables `unit` and `has` have the rows of both
   units_there : Every (λ n u. get k n ≡ Some u) m
   units_there n u is =
       let (p, v, there, same) = other_line unit_line rows m k a b n u is in
@@ -151,7 +151,7 @@ are_in_stock : (w : WorldValue) (c : CampaignValue) → IsGood w c → AreInStoc
 are_in_stock w c good n r is item stock there = let range = (good.sound.steady.numbers.regions n r is).stocks item stock there in λ none. omega (arith, range.0, none)
 
 module _ (rows : List Row) (m k : FinMap nat_cmp Region) (a : Is rows (MarketRowsOf m)) (b : Is rows (MarketRowsOf k)) where
-  -- the stocks of a region in one map are those in the other
+  -- stocks of a region in one map are those of the region in the other, if one table `market` has the rows of both
   stocks_there : AreInStock m → (n : ℕ) (r s : Region) → get m n ≡ Some r → get k n ≡ Some s → Every (λ item stock. get s.stocks item ≡ Some stock) r.stocks
   stocks_there some n r s is there item stock has =
       let row = market_row n item stock in
@@ -164,7 +164,7 @@ module _ (rows : List Row) (m k : FinMap nat_cmp Region) (a : Is rows (MarketRow
       left ∙ got ∙ sym (ap Some count)
 
 module _ (rows stocks : List Row) (m k : FinMap nat_cmp Region) (a : Is rows (RowsOf region_line m)) (b : Is rows (RowsOf region_line k)) (h : Is stocks (MarketRowsOf m)) (j : Is stocks (MarketRowsOf k)) (some : AreInStock m) (more : AreInStock k) where
-  -- each region of one campaign is in the other
+  -- each region of one map is in the other, if the tables `region` and `market` have the rows of both
   regions_there : Every (λ n r. get k n ≡ Some r) m
   regions_there n r is =
       let (p, s, there, same) = other_line region_line rows m k a b n r is in
@@ -185,7 +185,7 @@ none_or_some (pos (suc n)) = inr (λ is. cc)
 none_or_some (negsuc n) = inr (λ is. cc)
 
 module _ (rows : List Row) (m k : BooksValue) (a : Is rows (BooksRowsOf m)) (b : Is rows (BooksRowsOf k)) where
-  -- an amount that is not 0 is the same in both books
+  -- an amount that is not 0 is equal in both books, if one table `books` has the rows of both
   amount_there : (e : Entry) (t : Thing) → amount_in m e t ≢ pos 0 → amount_in m e t ≡ amount_in k e t
   amount_there e t some =
       let (f, u, apart, same) = (b (books_row (entry_index e + 1) (thing_index t) (amount_in m e t))).0 ((a _).1 (e, t, some, refl)) in
@@ -197,7 +197,7 @@ module _ (rows : List Row) (m k : BooksValue) (a : Is rows (BooksRowsOf m)) (b :
       amount ∙ sym there
 
 module _ (things : ℕ) (rows : List Row) (m k : BooksValue) (g : AreBooks things m) (h : AreBooks things k) (a : Is rows (BooksRowsOf m)) (b : Is rows (BooksRowsOf k)) where
-  -- each amount is the same in both books
+  -- each amount is equal in both books, if one table `books` has the rows of both
   same_amount : (e : Entry) (t : Thing) → amount_in m e t ≡ amount_in k e t
   same_amount e t =
       elim (none_or_some (amount_in m e t)) [
@@ -215,7 +215,7 @@ module _ (things : ℕ) (rows : List Row) (m k : BooksValue) (g : AreBooks thing
 -- ---- the whole
 
 module _ (db : Trees) (one other : List ℕ) (c d : CampaignValue) (h : Holds db one c) (j : Holds db other d) where
-  -- the campaign rows of both campaigns are equal
+  -- two campaigns whose rows one database holds have equal campaign rows
   one_row : campaign_line one c ≡ campaign_line other d
   one_row = (j.rows Own (campaign_line one c)).0 ((h.rows Own (campaign_line one c)).1 refl)
 

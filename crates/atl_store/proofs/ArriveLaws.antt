@@ -31,6 +31,7 @@ use Rattle.atl_store.specs.Inside.{Puts, Drops}
 
 -- ---- one entry more in a map
 
+-- two numbers that are not equal are not equal by their order
 other : (k n : ℕ) → k ≢ n → is_eq (nat_cmp k n) ≡ false
 other k n apart = elim (nat_cmp k n) as (λ o. nat_cmp k n ≡ o → is_eq o ≡ false) [
   | Less ↦ λ _. refl
@@ -42,18 +43,19 @@ module _ {V : Type 0} where
   some_is : (a b : V) → Some a ≡ Some b → a ≡ b
   some_is a b e = cc
 
+  -- None is no value
   nothing_is : (v : V) → None ≡ Some v → ⊥
   nothing_is v e = cc
 
-  -- a map has the entry that was inserted
+  -- a map gives the inserted value under the inserted number
   pub get_inserted : (m : FinMap nat_cmp V) (n : ℕ) (v : V) → get (insert m n v) n ≡ Some v
   get_inserted m n v = get-insert nat_cmp_total m n v n ∙ ap (λ b. cond b (Some v) (get m n)) (ap is_eq (tied_itself nat_cmp_total n))
 
-  -- an insertion leaves the other numbers
+  -- inserting a number leaves what the map gives under each other number
   pub get_beside : (m : FinMap nat_cmp V) (n : ℕ) (v : V) (k : ℕ) → k ≢ n → get (insert m n v) k ≡ get m k
   get_beside m n v k apart = get-insert nat_cmp_total m n v k ∙ ap (λ b. cond b (Some v) (get m k)) (other k n apart)
 
--- putting one row into the table of a map makes it the table of the map with the entry inserted
+-- putting an entry's row into a table of a map's rows gives the rows of the map with the entry inserted
 pub put_rows : {V : Type 0} (line : ℕ → V → Row) (numbered : (n : ℕ) (v : V) → take 1 (line n v) ≡ int n ∷ []) (rows news : List Row) (m : FinMap nat_cmp V) (n : ℕ) (v : V) → Is rows (RowsOf line m) → Is news (put 1 (line n v) (Has rows)) → Is news (RowsOf line (insert m n v))
 put_rows line numbered rows news m n v was made r = (
   λ there. elim ((made r).0 there) [
@@ -73,7 +75,7 @@ put_rows line numbered rows news m n v was made r = (
   ]),
 )
 
--- a new unit that has nothing adds no row to the table `has`
+-- inserting a new unit without items and skills leaves the rows of the table `has`
 pub no_goods : (rows : List Row) (units : FinMap nat_cmp Unit) (n : ℕ) (u : Unit) → get units n ≡ None → ((sort : ThingKind) → things_of sort u.holding ≡ empty) → Is rows (HasRowsOf units) → Is rows (HasRowsOf (insert units n u))
 no_goods rows units n u fresh bare was r = (
   λ there.
@@ -95,7 +97,7 @@ module _ (c : CampaignValue) (e : Entry) (t : Thing) where
   abbrev row : Row
   row = books_row (entry_index e + 1) (thing_index t) (amount_in c.books e t)
 
-  -- writing one amount turns the rows of books `A` into those of books `B`, which differ in it alone
+  -- writing one amount turns the rows of books `A` into those of books `B`, if the books differ in this amount alone
   pub settled_rows : (A B : BooksValue) (S : Set) → amount_in B e t ≡ amount_in c.books e t
       → ((f : Entry) (u : Thing) → (entry_index f ≢ entry_index e) ⊎ (thing_index u ≢ thing_index t) → amount_in B f u ≡ amount_in A f u)
       → ((r : Row) → S r ↔ BooksRowsOf A r) → (r : Row) → settled c e t S r ↔ BooksRowsOf B r
@@ -136,13 +138,13 @@ module _ (c : CampaignValue) (e : Entry) (t : Thing) where
             elim far [ inl entries ↦ entries (omega (arith, keys.0)) | inr things ↦ things keys.1 ],
       )
 
--- its statements are the ones of the amount
+-- the statements that write an amount of the books (`OfAmount`)
 module _ (c : CampaignValue) (e : Entry) (t : Thing) (n k : ℕ) (entry : n ≡ entry_index e + 1) (thing : k ≡ thing_index t) where
-  -- the upsert of an amount that is not 0 is one of its statements
+  -- the upsert of an amount that is not 0 is a statement of the amount (`OfAmount`)
   pub amount_put : (z : ℤ) → z ≡ amount_in c.books e t → z ≢ pos 0 → OfAmount c e t (upsert books_table 2) (books_row n k z)
   amount_put z amount some = rw (entry, thing, amount) (puts_amount (λ zero. some (amount ∙ zero)))
 
-  -- the deletion of an amount that is 0 is one of its statements
+  -- the DELETE of an amount that is 0 is a statement of the amount (`OfAmount`)
   pub amount_taken : amount_in c.books e t ≡ pos 0 → OfAmount c e t (deletion books_table 2) (books_key n k)
   amount_taken zero = rw (entry, thing) (drops_amount zero)
 
@@ -157,7 +159,7 @@ amount_changes c e t sql params (drops_amount zero) = drops_row Books (
       of.2 (ap (λ (a : Account). amount_in c.books a.0 a.1) (same_account of.0 e of.1 t entry keys.1) ∙ zero),
 )
 
--- the row of an amount is put, or taken out where the amount is 0
+-- an amount is written: its row is put, or deleted if the amount is 0
 module _ (c : CampaignValue) (e : Entry) (t : Thing) (n k : ℕ) (entry : n ≡ entry_index e + 1) (thing : k ≡ thing_index t) (old new : Database) where
   -- putting the row of an amount that is not 0 writes the amount (`Settles`)
   pub settles_by_put : (z : ℤ) → z ≡ amount_in c.books e t → z ≢ pos 0 → Puts books_table 2 (books_row n k z) old new → Settles c e t old new

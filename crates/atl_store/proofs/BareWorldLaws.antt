@@ -13,18 +13,18 @@ use Rattle.atl_records.specs.Every.{IsThere}
 use Rattle.atl_state.specs.Good.{HasNoStocks, IsGood}
 use Rattle.atl_records.specs.declared.records.Region.{Region}
 
--- a region of such a campaign has no stock entry
+-- a region of a campaign with nothing in stock has no stock entry
 nothing_in_stock : (c : CampaignValue) → HasNoStocks c → (n : ℕ) (r : Region) → get c.regions n ≡ Some r → (i amount : ℕ) → ¬ (get r.stocks i ≡ Some amount)
 nothing_in_stock c bare n r is i amount there = let e = sym (get-empty {X = ℕ} nat_cmp i) ∙ ap (λ (m : FinMap nat_cmp ℕ). get m i) (sym (bare n r is)) ∙ there in absurd cc
 
 -- ---- in a world with other regions
 
 module _ (v : WorldValue) (regions : FinMap nat_cmp RegionPlan) (c : CampaignValue) (bare : HasNoStocks c) where
-  -- the world with other regions
+  -- the world `v` with other regions
   abbrev w : WorldValue
   w = record v { regions = regions }
 
-  -- the campaign stays good if the other regions have the same numbers and the same land
+  -- a campaign good in `v` is good in `w`, if the other regions have the same numbers and the same land
   good_with : ((n : ℕ) → is_land_at w n ≡ is_land_at v n) → ((n : ℕ) → IsThere v.regions n → IsThere regions n) → ((n : ℕ) → IsThere regions n → IsThere v.regions n) → IsGood v c → IsGood w c
   good_with land ahead back good =
       let steady = good.sound.steady in
@@ -73,10 +73,10 @@ module _ (v : WorldValue) (regions : FinMap nat_cmp RegionPlan) (c : CampaignVal
         reported = good.reported;
       }
 
--- ---- without its markets
+-- ---- in a world without markets
 
 module _ (w : WorldValue) where
-  -- removing markets leaves which regions are land
+  -- removing the markets of a world leaves which regions are land
   land_same : (n : ℕ) → is_land_at (without_markets w) n ≡ is_land_at w n
   land_same n = ap (λ o. option_map_or (is_land w.terrains) o false) (get-mapped without_market w.regions n) ∙ by_plan (get w.regions n)
     where
@@ -84,11 +84,11 @@ module _ (w : WorldValue) where
       by_plan None = refl
       by_plan (Some p) = refl
 
-  -- removing markets leaves each region
+  -- removing the markets of a world leaves each region
   bared : (n : ℕ) → IsThere w.regions n → IsThere (without_markets w).regions n
   bared n (p, there) = (without_market p, get-mapped without_market w.regions n ∙ ap (option_map without_market) there)
 
-  -- each region of the world without markets was there
+  -- each region of a world without its markets is a region of the world
   was_there : (n : ℕ) → IsThere (without_markets w).regions n → IsThere w.regions n
   was_there n (p, there) = by_plan (get w.regions n) refl (sym (get-mapped without_market w.regions n) ∙ there)
     where

@@ -33,12 +33,12 @@ use Rattle.atl_store.proofs.WholeLaws.{inside_weaker}
 
 -- ---- a row that begins with an entry and a thing
 
--- a row passes one of two tests of its entry and thing exactly if it passes their disjunction
+-- a row passes the test "`f` or `g`" of its entry and thing exactly if it passes `f` or passes `g`
 accounts_either : (f g : ℕ → ℕ → Bool) (r : Row) → accounts (λ e t. f e t || g e t) r ≡ (accounts f r || accounts g r)
 accounts_either f g (Int (pos (suc e)) ∷ Int (pos t) ∷ row) = refl
 accounts_either f g row = refl
 
--- equal tests choose the same rows
+-- two tests that agree on each entry and thing choose the same rows
 accounts_same : (f g : ℕ → ℕ → Bool) → ((e t : ℕ) → f e t ≡ g e t) → (r : Row) → accounts f r ≡ accounts g r
 accounts_same f g same r = ap (λ (h : ℕ → ℕ → Bool). accounts h r) (λ i e t. same e t i)
 
@@ -49,6 +49,7 @@ accounts_none f never row = refl
 
 -- ---- tests of entries and of things
 
+-- "and" distributes over "or" in the test of an amount
 and_or : (p a b c : Bool) → (p && ((a || b) && c)) ≡ ((p && (a && c)) || (p && (b && c)))
 and_or p a b c = ap (λ q. p && q) (and-or_distrib_right a b c) ∙ and-or_distrib_left p (a && c) (b && c)
 
@@ -57,7 +58,7 @@ module _ (marks : FinSet nat_cmp) where
   abbrev marked : ℕ → ℕ → Bool
   marked e t = contains marks (entry_count * t + e)
 
-  -- a row of the entries left is of the next entry or of the rest
+  -- a row is of the remaining entries exactly if it is of the next entry or of the rest
   pub next_entry : (e : ℕ) (es : List ℕ) (things : ℕ → Bool) (r : Row)
       → of_amounts marks (is_among (e ∷ es)) things r ≡ (of_amounts marks (is_number e) things r || of_amounts marks (is_among es) things r)
   next_entry e es things r =
@@ -65,7 +66,7 @@ module _ (marks : FinSet nat_cmp) where
       let rest : ℕ → ℕ → Bool = λ k t. is_among es k && (things t && marked k t) in
       accounts_same (λ k t. is_among (e ∷ es) k && (things t && marked k t)) (λ k t. one k t || rest k t) (λ k t. and-or_distrib_right (is_number e k) (is_among es k) (things t && marked k t)) r ∙ accounts_either one rest r
 
-  -- a row of the things left is of the next thing or of the rest
+  -- a row is of the remaining things exactly if it is of the next thing or of the rest
   pub next_thing : (entries : ℕ → Bool) (t : ℕ) (ts : List ℕ) (r : Row)
       → of_amounts marks entries (is_among (t ∷ ts)) r ≡ (of_amounts marks entries (is_number t) r || of_amounts marks entries (is_among ts) r)
   next_thing entries t ts r =
@@ -73,17 +74,17 @@ module _ (marks : FinSet nat_cmp) where
       let rest : ℕ → ℕ → Bool = λ e k. entries e && (is_among ts k && marked e k) in
       accounts_same (λ e k. entries e && (is_among (t ∷ ts) k && marked e k)) (λ e k. one e k || rest e k) (λ e k. and_or (entries e) (is_number t k) (is_among ts k) (marked e k)) r ∙ accounts_either one rest r
 
-  -- with no entry left no row is chosen
+  -- a test for no entry chooses no row
   pub no_entry : (es : List ℕ) (things : ℕ → Bool) → es ≡ [] → (r : Row) → of_amounts marks (is_among es) things r ≡ false
   no_entry es things none r = ap (λ l. of_amounts marks (is_among l) things r) none ∙ accounts_none (λ e t. false) (λ e t. refl) r
 
-  -- with no thing left no row is chosen
+  -- a test for no thing chooses no row
   pub no_thing : (entries : ℕ → Bool) (ts : List ℕ) → ts ≡ [] → (r : Row) → of_amounts marks entries (is_among ts) r ≡ false
   no_thing entries ts none r = ap (λ l. of_amounts marks entries (is_among l) r) none ∙ accounts_none (λ e t. entries e && false) (λ e t. and-false (entries e)) r
 
   -- ---- all entries and all things
 
-  -- a number within the bounds passes the test for the range
+  -- a number within a range is among the numbers of the range
   in_range : (from count i : ℕ) → from ≤ i → i < from + count → is_among (range_with_len from count) i ≡ true
   in_range from zero i least most = absurd (omega (arith, least, most))
   in_range from (suc count) i least most = elim (cases_Bool (eq_by_cmp nat_cmp i from)) [
@@ -96,7 +97,7 @@ module _ (marks : FinSet nat_cmp) where
       past : (m n : ℕ) → m ≤ n → n ≢ m → m + 1 ≤ n
       past m n least apart = grind (arith, least, apart)
 
-  -- a number above the bounds fails it
+  -- a number above a range is not among the numbers of the range
   beyond : (from count i : ℕ) → from + count ≤ i → is_among (range_with_len from count) i ≡ false
   beyond from zero i past = refl
   beyond from (suc count) i past =
@@ -119,7 +120,7 @@ module _ (marks : FinSet nat_cmp) where
   each_entry : (e : ℕ) → is_among (map entry_index all_entries) e ≡ nat_le (suc e) entry_count
   each_entry e = among_first entry_count e
 
-  -- the rows of all entries and things that are dirty are all dirty rows
+  -- the dirty rows of all entries and all things are all dirty rows of `books`
   pub all_amounts : (things : ℕ) → AreOfThings things marks → (r : Row)
       → of_amounts marks (is_among (map entry_index all_entries)) (is_among (range_with_len 0 things)) r ≡ amount_marked marks r
   all_amounts things few r = accounts_same (λ e t. is_among (map entry_index all_entries) e && (is_among (range_with_len 0 things) t && marked e t)) (is_marked_amount marks) same r
@@ -139,15 +140,15 @@ module _ (marks : FinSet nat_cmp) where
 -- ---- one amount
 
 module _ (c : MarkedCampaign) (e : Entry) (t : Thing) where
-  -- whether a row is that of this entry and thing
+  -- whether a row of `books` is of this entry and thing
   abbrev is_here : Row → Bool
   is_here r = of_amounts c.marks.books (is_number (entry_index e)) (is_number (thing_index t)) r
 
-  -- the row of the amount
+  -- the row of the amount of this entry and thing
   abbrev row : Row
   row = books_row (entry_index e + 1) (thing_index t) (amount_in c.value.books e t)
 
-  -- a row of an amount at this entry's and thing's index is the row of this amount
+  -- two amounts that are not 0, with equal indexes of entry and thing, have equal rows
   same_place : (f : Entry) (u : Thing) → amount_in c.value.books f u ≢ pos 0 → entry_index f ≡ entry_index e → thing_index u ≡ thing_index t
       → (r : Row) → r ≡ books_row (entry_index f + 1) (thing_index u) (amount_in c.value.books f u) → Has (amount_lines c.value e t) r
   same_place f u some entries things r is =
@@ -163,7 +164,7 @@ module _ (c : MarkedCampaign) (e : Entry) (t : Thing) where
       let two = and_parts _ _ one.1 in
       true≢false (sym two.1 ∙ ap (λ x. contains c.marks.books (entry_count * x + k)) (tied j (thing_index t) two.0) ∙ ap (λ x. contains c.marks.books (entry_count * thing_index t + x)) (tied k (entry_index e) one.0) ∙ unmarked))) r
 
-  -- the row of the amount has its key
+  -- a row of this entry and thing has the key of the amount
   key_of : (r : Row) → is_here r ≡ true → take 2 r ≡ books_key (entry_index e + 1) (thing_index t)
   key_of (Int (pos (suc place)) ∷ Int (pos thing) ∷ row) is =
       let one = and_parts _ _ is in
@@ -175,7 +176,7 @@ module _ (c : MarkedCampaign) (e : Entry) (t : Thing) where
   key_of row is = absurd (true≢false (sym is))
 
   module _ (marked : contains c.marks.books (amount_number e t) ≡ true) where
-    -- a row with the key is that of the amount
+    -- a row with the key of the amount is of this entry and thing
     of_key : (r : Row) → take 2 r ≡ books_key (entry_index e + 1) (thing_index t) → is_here r ≡ true
     of_key [] key = absurd cc
     of_key (v ∷ []) key = absurd cc
@@ -186,7 +187,7 @@ module _ (c : MarkedCampaign) (e : Entry) (t : Thing) where
         ap (λ x. is_here (x ∷ w ∷ row)) (first ∙ ap int place) ∙ ap (λ x. is_here (int (suc (entry_index e)) ∷ x ∷ row)) second
         ∙ ap (λ b. b && (is_number (thing_index t) (thing_index t) && contains c.marks.books (amount_number e t))) (is_itself (entry_index e)) ∙ ap (λ b. b && contains c.marks.books (amount_number e t)) (is_itself (thing_index t)) ∙ marked
 
-    -- writing the amount rewrites its row and no other
+    -- writing the amount (`Settles`) rewrites the rows of this entry and thing and no other
     settle_rewrite : (old new : Database) → Settles c.value e t old new
         → RewritesAmounts c (is_number (entry_index e)) (is_number (thing_index t)) old new
     settle_rewrite old new did = rewrites_key is_here (λ r. take 2 r ≡ books_key (entry_index e + 1) (thing_index t)) (Has (amount_lines c.value e t)) (BooksRowsOf c.value.books) key_of of_key
@@ -196,7 +197,7 @@ module _ (c : MarkedCampaign) (e : Entry) (t : Thing) where
         same_place of.0 of.1 of.2 (omega (arith, keys.0)) keys.1 r of.3)
         books_table old new did.rows did.others
 
-    -- writing a dirty amount rewrites its row
+    -- inside a transaction, writing a dirty amount (`Settles`) rewrites the amount
     pub settle_done : (old new : State) → Inside HasTables (Settles c.value e t) old new
         → Inside HasTables (RewritesAmounts c (is_number (entry_index e)) (is_number (thing_index t))) old new
     settle_done old new did = inside_weaker HasTables (Settles c.value e t) (RewritesAmounts c (is_number (entry_index e)) (is_number (thing_index t))) old new (λ has settles. settle_rewrite old.now new.now settles) did
@@ -204,33 +205,33 @@ module _ (c : MarkedCampaign) (e : Entry) (t : Thing) where
 -- ---- one entry after another, and one thing after another
 
 module _ (c : MarkedCampaign) where
-  -- A row of the books that the tables have to hold.
+  -- The rows that the table `books` has to hold for the campaign.
   abbrev wanted : Row → Type 0
   wanted r = BooksRowsOf c.value.books r
 
-  -- Once the rest of these entries is rewritten too, all entries are.
+  -- The dirty amounts of some entries are rewritten: once the `rest` is rewritten too, all these entries are.
   abbrev pub NearingEntries : (ℕ → Bool) → List Entry → List Entry → Database → Database → Type 0
   NearingEntries things rest all old new = Nearing books_table wanted (λ r. of_amounts c.marks.books (is_among (map entry_index rest)) things r) (λ r. of_amounts c.marks.books (is_among (map entry_index all)) things r) old new
 
-  -- one entry more is rewritten
+  -- rewriting one more entry's dirty amounts leaves one entry fewer to rewrite
   pub entry_nearer : (things : ℕ → Bool) (x : Entry) (now rest all : List Entry) → now ≡ x ∷ rest → (old mid new : State)
       → Inside HasTables (NearingEntries things now all) old mid → Inside HasTables (RewritesAmounts c (is_number (entry_index x)) things) mid new
       → Inside HasTables (NearingEntries things rest all) old new
   entry_nearer things x now rest all is = one_nearer books_table wanted (λ r. of_amounts c.marks.books (is_number (entry_index x)) things r) (λ r. of_amounts c.marks.books (is_among (map entry_index now)) things r) (λ r. of_amounts c.marks.books (is_among (map entry_index rest)) things r) (λ r. of_amounts c.marks.books (is_among (map entry_index all)) things r)
       (λ r. ap (λ es. of_amounts c.marks.books (is_among (map entry_index es)) things r) is ∙ next_entry c.marks.books (entry_index x) (map entry_index rest) things r)
 
-  -- with no entry left, all are rewritten
+  -- when no entry is left, the dirty amounts of all these entries are rewritten
   pub entries_rewritten : (things : ℕ → Bool) (rest all : List Entry) → rest ≡ [] → (old new : State)
       → Inside HasTables (NearingEntries things rest all) old new
       → Inside HasTables (RewritesAmounts c (is_among (map entry_index all)) things) old new
   entries_rewritten things rest all none = all_rewritten books_table wanted (λ r. of_amounts c.marks.books (is_among (map entry_index rest)) things r) (λ r. of_amounts c.marks.books (is_among (map entry_index all)) things r) (λ r. of_amounts c.marks.books (is_among (map entry_index all)) things r)
       (no_entry c.marks.books (map entry_index rest) things (ap (map entry_index) none)) (λ r. refl)
 
-  -- Once the rest of these things is rewritten too, all things are.
+  -- The dirty amounts of some things are rewritten: once the `rest` is rewritten too, all these things are.
   abbrev pub NearingThings : List ℕ → List ℕ → Database → Database → Type 0
   NearingThings rest all old new = Nearing books_table wanted (λ r. of_amounts c.marks.books (is_among (map entry_index all_entries)) (is_among rest) r) (λ r. of_amounts c.marks.books (is_among (map entry_index all_entries)) (is_among all) r) old new
 
-  -- one thing more is rewritten
+  -- rewriting one more thing's dirty amounts leaves one thing fewer to rewrite
   pub thing_nearer : (t : ℕ) (now rest all : List ℕ) → now ≡ t ∷ rest → (old mid new : State) → Inside HasTables (NearingThings now all) old mid
       → Inside HasTables (RewritesAmounts c (is_among (map entry_index all_entries)) (is_number t)) mid new
       → Inside HasTables (NearingThings rest all) old new
@@ -238,7 +239,7 @@ module _ (c : MarkedCampaign) where
       (λ r. of_amounts c.marks.books (is_among (map entry_index all_entries)) (is_among rest) r) (λ r. of_amounts c.marks.books (is_among (map entry_index all_entries)) (is_among all) r)
       (λ r. ap (λ ts. of_amounts c.marks.books (is_among (map entry_index all_entries)) (is_among ts) r) is ∙ next_thing c.marks.books (is_among (map entry_index all_entries)) t rest r)
 
-  -- with no thing left, all dirty amounts are rewritten
+  -- when no thing is left, all dirty amounts of the books are rewritten
   pub things_rewritten : (rest : List ℕ) (count : ℕ) → AreOfThings count c.marks.books → rest ≡ [] → (old new : State)
       → Inside HasTables (NearingThings rest (range_with_len 0 count)) old new → Inside HasTables (RewritesBooks c) old new
   things_rewritten rest count few none = all_rewritten books_table wanted (λ r. of_amounts c.marks.books (is_among (map entry_index all_entries)) (is_among rest) r) (λ r. of_amounts c.marks.books (is_among (map entry_index all_entries)) (is_among (range_with_len 0 count)) r) (λ r. amount_marked c.marks.books r)

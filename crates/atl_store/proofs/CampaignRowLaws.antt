@@ -1,4 +1,4 @@
--- Laws on the upsert of the table `campaign`: it puts the row, or changes all of it but format and world text.
+-- Laws on the upsert of the table `campaign`: it inserts the row, or changes all columns but id, format and world text.
 use Rattle.std.proofs.Common.{◌≡◌, ℕ, pos, List, [], ◌∷◌, refl, sym, ap, ◌∙◌}
 use Rattle.sqlite_tied.specs.Compute.{everything}
 use Rattle.sqlite.specs.declared.types.Value.TheVariants.{Null, Text}
@@ -15,14 +15,16 @@ use Rattle.atl_store.proofs.OwnRowLaws.{MeansOwn, changed_to, puts_own}
 use Rattle.atl_store.proofs.StatementLaws.{DoneBy, done_by}
 use Rattle.atl_store.proofs.Terms.{cast_int}
 
--- the values of the update: all are set but the format and the world text
+-- the terms of the UPDATE: all columns are set but id, format and world text
 abbrev project : List Term
 project = col 1 0 ∷ lit Null ∷ col 1 2 ∷ col 0 0 ∷ col 0 1 ∷ col 0 2 ∷ col 0 3 ∷ col 0 4 ∷ col 1 8 ∷ []
 
+-- the text of the upsert means an INSERT of the campaign row with this UPDATE
 means : MeansOwn campaign_upsert project
 unfolding understood everything
 means = record { is = λ more indexes. refl; plain = λ more indexes. (refl, refl) }
 
+-- the UPDATE makes of a campaign row the new campaign row with the old world text
 changed : (head before : CampaignRowValue) (world text : List ℕ) (r : Row) → visible campaign_table r ≡ campaign_row before text → changed_to project head world r ≡ campaign_row head text
 changed head before world text r shows =
     let id : rowid r ≡ int 1 = ap (λ row. column row 0) shows in
@@ -30,7 +32,7 @@ changed head before world text r shows =
     let kept : column r 8 ≡ Text text = ap (λ row. column row 7) shows in
     rw (kept, format, id, cast_int (pos 1), cast_int (pos 2), cast_int (pos head.month), cast_int (pos head.next_faction), cast_int (pos head.next_unit), cast_int (pos head.next_structure)) refl
 
--- the upsert writes the campaign row
+-- the upsert that ran put the campaign row (`PutsCampaignRow`)
 pub puts_campaign : (head : CampaignRowValue) (world : List ℕ) → DoneBy campaign_upsert (campaign_row_values head world) (PutsCampaignRow head world)
 puts_campaign head world = done_by campaign_upsert (campaign_row_values head world) (PutsCampaignRow head world) (λ old new count inside ran. (
   ran.1.mode ∙ sym inside,

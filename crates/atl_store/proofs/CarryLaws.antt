@@ -1,4 +1,4 @@
--- Laws on a write of one of a campaign's tables: the other tables, indexes and the schema stay (`Carries`).
+-- Laws on a write of one of a campaign's tables: the other tables, the indexes and the schema stay (`Carries`).
 use Rattle.std.proofs.Common.{◌≡◌, ◌≢◌, ℕ, false, List, [], ◌∷◌, ◌++◌, Option, refl, sym, ◌∙◌, subst, inl, inr}
 use Rattle.std.specs.List.{AllByRecursion, flat_map, filter_map, list_any}
 use Rattle.sqlite_value.specs.Order.{Row}
@@ -21,17 +21,18 @@ use Rattle.atl_store.proofs.ListLaws.{has_map}
 
 -- ---- tables without a foreign key refer to nothing
 
+-- if no table has a foreign key, no reference is to be checked
 none_refer : (tables : List Table) (f : Table → Reference → Option Work) → AllByRecursion (λ t. t.references ≡ []) tables → flat_map (λ child. filter_map (f child) child.references) tables ≡ []
 none_refer [] f free = refl
 none_refer (t ∷ tables) f free = rw (free.0) (none_refer tables f free.1)
 
--- tables without foreign keys check no reference
+-- a write of a table checks no reference, if no table of the schema has a foreign key
 pub unlinked : (tables : List Table) (indexes : List Index) (tree : ℕ) → AllByRecursion (λ t. t.references ≡ []) tables → (olds news : List Row) → works (all_and tables indexes) Enforced 0 tree olds news ≡ []
 unlinked tables indexes tree free olds news = none_refer tables (work_for (all_and tables indexes) Enforced 0 tree olds news) free
 
 -- ---- indexes that make nothing unique find nothing
 
--- no index but the key makes a row of the table unique
+-- no two rows share values of an index that is unique in the table, if no index makes anything unique there
 pub none_share : (t : Table) (target : Option (List ℕ)) (new r : Row) (indexes : List Index) → ((i : Index) → Has indexes i → guards i t ≡ false) → list_any (shares target t new r) indexes ≡ false
 none_share t target new r [] plain = refl
 none_share t target new r (i ∷ indexes) plain = rw (plain i (inl refl)) (none_share t target new r indexes (λ j there. plain j (inr there)))
@@ -75,11 +76,11 @@ module _ (t : Table) (old new : Database) (has : HasTables old) (ours : Has all_
   pub altered : (S : Set) → Makes schema t old new S → Alters t S old new
   altered S makes = record { rows = makes.rows; others = λ u listed apart. makes.others u (among_all has.begins.tables u listed) apart }
 
-  -- a write of one table does what its rows show
+  -- a write of one table does `Does`, if `Does` follows from the table's new rows
   pub done_with : (Does : Database → Database → Type 0) (S : Set) → (Alters t S old new → Does old new) → Makes schema t old new S → Done Does old new
   done_with Does S is makes = record { does = is (altered S makes); tables = stays_there makes.schema_is makes.sound; carries = carried makes.schema_is makes.others }
 
--- ---- nothing is done, and one after the other
+-- ---- tables carried along by no write, and by two
 
 -- `Carries` is reflexive
 pub carries_none : (a : Database) → Carries a a

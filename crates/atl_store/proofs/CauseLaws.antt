@@ -1,4 +1,4 @@
--- Laws on causes: the error that a function returns was given by a call of its own statements (`Gives`), at each level.
+-- Laws on causes: an error that a step returns was given by a statement of the step, or by the commit (`Gives`).
 use Rattle.std.proofs.Common.{◌≡◌, ◌⊎◌, ◌≤◌, ℕ, List, zero, suc, true, false, true≢false, IsTrue, Result, Ok, Err, IsErrAnd, IfErr, refl, sym, ap, ◌∙◌, subst, inl, inr, arith}
 use Rattle.std.proofs.lemmas.Bool.{cases_Bool}
 use Rattle.sqlite_disk.specs.Disk.{MoreFaults}
@@ -16,26 +16,26 @@ use Rattle.atl_store.specs.Faults.{is_memory}
 use Rattle.atl_store.specs.OwnStatements.{Statements}
 use Rattle.atl_store.specs.Causes.{IsGiven, IsBroken, IsRefused, Gives, Leads, IsReached}
 
--- more failures than before stay more later
+-- if the disk failed between two states, it failed between the first and any state after the second
 more_later : (a b c : ℕ) → b ≤ c → MoreFaults a b → MoreFaults a c
 more_later a b c later more = omega (arith, later, more)
 
--- more failures than at a later time are more than at an earlier one
+-- if the disk failed between two states, it failed between any state before the first and the second
 more_before : (a b c : ℕ) → a ≤ b → MoreFaults b c → MoreFaults a c
 more_before a b c before more = omega (arith, before, more)
 
 -- ---- one call
 
 module _ (old new : State) where
-  -- The call broke the connection, or it was refused with this error.
+  -- The disk failed or the connection was shut (`IsBroken`), or the call was refused with this error.
   abbrev Caused : Error → Type 0
   Caused e = IsBroken old new ⊎ IsRefused e old new
 
-  -- an error out of memory passes the test for it
+  -- an error that is lack of memory can't fail the test `is_memory`
   no_memory : (e : Error) → e ≡ SqliteFailure code.OutOfMemory → is_memory e ≡ false → ⊥
   no_memory e is other = true≢false (sym (ap is_memory is) ∙ other)
 
-  -- an error of the store, other than out of memory, has its cause
+  -- an error of the store, other than lack of memory, has a cause: a broken connection, or a refusal (`Caused`)
   by_cause : (too_big : Type 0) (e : Error) (cause : StoreError) → e ≡ store_error cause → HasCause old new too_big cause → is_memory e ≡ false → Caused e
   by_cause too_big e OutOfMemory is has other = absurd (no_memory e is other)
   by_cause too_big e Io is has other = inl (inl has)
@@ -44,11 +44,11 @@ module _ (old new : State) where
   by_cause too_big e Broken is has other = inl (inr has)
   by_cause too_big e Unstorable is has other = inr (inl is)
 
-  -- an error of a failed call, other than out of memory, has its cause
+  -- an error of a failed call, other than lack of memory, has a cause (`Caused`)
   by_failure : (too_big : Type 0) (e : Error) → Fails old new too_big e → is_memory e ≡ false → Caused e
   by_failure too_big e failed = by_cause too_big e failed.0 failed.1 failed.2
 
-  -- an error of an executed statement, other than out of memory, has its cause
+  -- an error of an executed statement, other than lack of memory, has a cause (`Caused`)
   by_execution : (sql : List ℕ) (params : Row) (e : Error) → ExecutesIn false sql params old new (Err e) → is_memory e ≡ false → Caused e
   unfolding ExecutesIn IsNotRun
   by_execution sql params e (inl (inl refused)) other = inr (inr refused.1)
@@ -58,7 +58,7 @@ module _ (old new : State) where
     | inr runs ↦ elim (rw runs at ran.2) [ inl refused ↦ inr (inr refused.1) | inr failed ↦ by_failure _ e failed other ]
   ]
 
-  -- an error given by a call, other than out of memory, has its cause
+  -- an error given by a call, other than lack of memory, has a cause (`Caused`)
   by_call : (own : Statements) (e : Error) → IsGiven own e old new → is_memory e ≡ false → Caused e
   by_call own e (inl ran) other = elim ran.3 [ inl whole ↦ by_execution ran.0 ran.1 e whole.0 other | inr ends ↦ inr (inr ends.2) ]
   by_call own e (inr (inside, inl failed)) other = by_failure _ e failed other
@@ -67,7 +67,7 @@ module _ (old new : State) where
 -- ---- one statement after another
 
 module _ {S : Type 0} (g : Ghosts S) (own : Statements) where
-  -- some statements and then those that were reached are reached
+  -- running `count` statements, and then those that lead from there on, is running all of them
   pub reached_then : (count : ℕ) (a b c : Held S) → Leads g own count a b → IsReached g own b c → IsReached g own a c
   reached_then zero a b c same rest = subst (λ h. IsReached g own h c) (sym same) rest
   reached_then (suc count) a b c first rest = let whole = reached_then count first.0 b c first.2 rest in (suc whole.0, (first.0, first.1, whole.1))
@@ -100,7 +100,7 @@ module _ {S : Type 0} (g : Ghosts S) (own more : Statements) (among : (sql : Lis
     cause = gave.cause;
   }
 
--- ---- as it goes up
+-- ---- from one call to the whole transaction
 
 module _ {S : Type 0} (g : Ghosts S) (own : Statements) (e : Error) where
   -- a connection in a transaction is unchanged by setting its flag `in_transaction`
@@ -131,7 +131,7 @@ module _ {S : Type 0} (g : Ghosts S) (own : Statements) (e : Error) where
     ];
   }
 
-  -- an error given before further calls is given up to their end, too
+  -- an error given before further calls is given up to the end of these calls too
   pub gives_until : (old mid new : Held S) → (state g mid).faults ≤ (state g new).faults → Gives g own e old mid → Gives g own e old new
   gives_until old mid new counts gave = record {
     before = gave.before;
@@ -142,7 +142,7 @@ module _ {S : Type 0} (g : Ghosts S) (own : Statements) (e : Error) where
     cause = λ other. elim (gave.cause other) [ inl (inl more) ↦ inl (inl (more_later _ _ _ counts more)) | inl (inr shut) ↦ inl (inr shut) | inr refused ↦ inr refused ];
   }
 
-  -- an error given after BEGIN is given from before it
+  -- an error given by a transaction after BEGIN is given from the connection before BEGIN
   pub gives_begun : (old begun new : Held S) → begun ≡ record old { in_transaction = true } → Gives g own e begun new → Gives g own e old new
   gives_begun old begun new begins gave =
       let same : Gives g own e (record old { in_transaction = true }) new = subst (λ h. Gives g own e h new) begins gave in

@@ -1,4 +1,4 @@
--- Laws on `write_changes`: tables that hold what is not dirty of a campaign hold all of it, once what is dirty is written.
+-- Laws on `write_changes`: tables that hold a campaign's clean rows hold all of it once its dirty rows are written.
 use Rattle.std.proofs.Common.{◌≡◌, ◌+◌, ◌<◌, ◌&&◌, ◌||◌, ℕ, suc, ℤ, Bool, true, false, List, Option, Some, None, unwrap_or, nat_le, refl, sym, ap, subst, ◌∙◌, true≢false, arith}
 use Rattle.std.proofs.lemmas.Bool.Decides.{nat_tests}
 use Rattle.std.proofs.Math.Bool.{or-false}
@@ -35,7 +35,7 @@ use Rattle.atl_store.proofs.MarketLaws.{stock_had, had_stock}
 
 -- ---- a table whose unmarked rows are the campaign's
 
--- a table whose clean rows are the campaign's has all its rows once the dirty ones are written
+-- a table whose clean rows are the wanted ones has exactly the wanted rows once the dirty rows are written
 all_held : (is_marked : Row → Bool) (After : Row → Type 0) (old new : List Row) → ((r : Row) → is_marked r ≡ false → Has old r ↔ After r) → Is new (rows_after_rewrite is_marked After (Has old)) → Is new After
 all_held is_marked After old new rest now r = (λ there. from (is_marked r) refl ((now r).0 there), λ of. (now r).1 (to (is_marked r) refl of))
   where
@@ -47,7 +47,7 @@ all_held is_marked After old new rest now r = (λ there. from (is_marked r) refl
     to true is of = of
     to false is of = (rest r is).1 of
 
--- a table of the campaign before has the clean rows of the one after, if the two differ only under dirty keys
+-- a table of the campaign before has the clean rows of the campaign after, if the two differ only under dirty keys
 rest_of : (is_marked : Row → Bool) (Before After : Row → Type 0) (old : List Row) → ((r : Row) → is_marked r ≡ false → Before r → After r) → ((r : Row) → is_marked r ≡ false → After r → Before r) → Is old Before
     → (r : Row) → is_marked r ≡ false → Has old r ↔ After r
 rest_of is_marked Before After old ahead back was r is = (λ there. ahead r is ((was r).0 there), λ of. (was r).1 (back r is of))
@@ -75,22 +75,22 @@ module _ {V : Type 0} (line : ℕ → V → Row) (marks : FinSet nat_cmp) (heads
   same_follows : (before after : FinMap nat_cmp V) → SameBut marks before after → Follows before after
   same_follows before after same n v not_marked there = (v, same n not_marked ∙ there, refl)
 
-  -- the same from after to before
+  -- maps that differ only under dirty numbers have the same clean rows, from after to before
   same_followed : (before after : FinMap nat_cmp V) → SameBut marks before after → Follows after before
   same_followed before after same n v not_marked there = (v, sym (same n not_marked) ∙ there, refl)
 
-  -- both together
+  -- a table of the map before has the clean rows of the map after, if the maps differ only under dirty numbers
   rest_same : (before after : FinMap nat_cmp V) (old : List Row) → SameBut marks before after → Is old (RowsOf line before) → (r : Row) → begins_marked marks r ≡ false → Has old r ↔ RowsOf line after r
   rest_same before after old same = rest_numbered before after old (same_follows before after same) (same_followed before after same)
 
--- ---- regions, whose stocks stand elsewhere
+-- ---- regions, whose stocks are in the table `market`
 
 -- regions that differ in stocks alone have the same row
 unstocked_same : (n : ℕ) (o p : Option Region) (v : Region) → option_map unstocked p ≡ option_map unstocked o → o ≡ Some v → (w : Region) × (p ≡ Some w) × (region_line n w ≡ region_line n v)
 unstocked_same n o None v same there = absurd (let e = same ∙ ap (option_map unstocked) there in cc)
 unstocked_same n o (Some w) v same there = (w, refl, let e : unstocked w ≡ unstocked v = (let s = same ∙ ap (option_map unstocked) there in cc) in ap (region_line n) e)
 
--- ---- units, whose goods stand elsewhere
+-- ---- units, whose items and skills are in the table `has`
 
 -- units that differ in items and skills alone have the same row
 bare_same : (n : ℕ) (o p : Option Unit) (v : Unit) → option_map bare p ≡ option_map bare o → o ≡ Some v → (w : Unit) × (p ≡ Some w) × (unit_line n w ≡ unit_line n v)
@@ -151,7 +151,7 @@ amounts_follow one other marks r same not_marked of =
 abbrev head_in : ℕ × (List ℕ × (ℕ × (ℕ × ℕ))) → CampaignRowValue
 head_in row = record { month = row.0; pass = row.1.0; next_faction = row.1.1.0; next_unit = row.1.1.1.0; next_structure = row.1.1.1.1 }
 
--- the campaign row after the write is that of the campaign after, if it was dirty or unchanged
+-- the campaign row after the write is that of the campaign after, if the row was dirty or unchanged
 head_held : (b : Bool) (before after : CampaignValue) → (b ≡ false → own_row after ≡ own_row before) → campaign_row_after b after (campaign_row_of before) ≡ campaign_row_of after
 head_held true before after same = refl
 head_held false before after same = ap head_in (sym (same refl))
@@ -194,6 +194,6 @@ covers_unmarked c db text before covers held = record { before = campaign_row_of
         rest_of (stocks_marked c.marks) (MarketRowsOf before.regions) (MarketRowsOf c.value.regions) _ (λ r is. stocks_follow before.regions c.value.regions c.marks r covers.stocks is)
         (λ r is. stocks_follow c.value.regions before.regions c.marks r (λ n item not_marked. sym (covers.stocks n item not_marked)) is) (held.rows Markets)
 
--- both together: tables of the campaign before hold the one after, once all that is dirty is written
+-- tables that hold the campaign before hold the one after, once all dirty rows are written
 pub changes_held : (c : MarkedCampaign) (old new : Database) → WritesChanges c old new → (text : List ℕ) (before : CampaignValue) → Covers c.marks before c.value → Holds old.trees text before → Holds new.trees text c.value
 changes_held c old new changes text before covers held = unmarked_held c old new changes text (covers_unmarked c old.trees text before covers held)

@@ -1,4 +1,4 @@
--- Laws on the CHECK that a row's id is 1: which nodes of the parsed term say so.
+-- Laws on the CHECK that a row's id is 1: which nodes of the parsed term make "id = 1".
 use Rattle.std.proofs.Common.{◌≡◌, ◌≢◌, ℕ, zero, suc, List, [], ◌∷◌, length, get_or, slice_get, Some, pos, refl, sym, ap}
 use Rattle.std.proofs.lemmas.Option.{get_or_from_slice_get}
 use Rattle.sqlite_value.specs.declared.value.Value.{Value}
@@ -24,7 +24,7 @@ one = Int (pos 1)
 abbrev is_one : Term
 is_one = op2 equals (col 1 0) (lit one)
 
--- ---- what a term says of its node
+-- ---- from a term to its node
 
 -- an operator that makes "id = 1" is a comparison of two nodes
 comparing : (below : ℕ → Term) (op : Op) → op_term below op ≡ is_one → (a : ℕ) × (b : ℕ) × (op ≡ Binary equals a b) × (below a ≡ col 1 0) × (below b ≡ lit one)
@@ -34,7 +34,7 @@ comparing below (Unary op a) says = absurd (cc)
 comparing below (Binary op a b) says = (a, b, cc, cc, cc)
 comparing below (Case t a b) says = absurd (cc)
 
--- an operator that makes the column is that column
+-- an operator that makes the column `id` is that column
 numbering : (below : ℕ → Term) (op : Op) → op_term below op ≡ col 1 0 → op ≡ Column 1 0
 numbering below (Literal v) says = absurd (cc)
 numbering below (Column slot at) says = cc
@@ -60,7 +60,7 @@ there [] at op other is = absurd (other (sym is))
 there (x ∷ ops) zero op other is = ap Some is
 there (x ∷ ops) (suc at) op other is = there ops at op other is
 
--- a node that makes the column is that column
+-- a node that makes the column `id` is that column
 number_at : (ops : List Op) (depth at : ℕ) → term_to ops depth at ≡ col 1 0 → slice_get ops at ≡ Some (Column 1 0)
 number_at ops zero at says = absurd (cc)
 number_at ops (suc depth) at says = there ops at (Column 1 0) (λ same. absurd (cc)) (numbering (term_to ops depth) (get_or ops at past) says)
@@ -76,13 +76,14 @@ one_at ops (suc depth) at says = there ops at (Literal one) (λ same. absurd (cc
 abbrev Says : List Op → ℕ → ℕ → ℕ → Type 0
 Says ops root a b = (slice_get ops root ≡ Some (Binary equals a b)) × (slice_get ops a ≡ Some (Column 1 0)) × (slice_get ops b ≡ Some (Literal one))
 
--- a term "id = 1" has these three nodes
+-- a term "id = 1" has three nodes: the comparison, the column `id` and the number 1 (`Says`)
 says_to : (ops : List Op) (depth root : ℕ) → term_to ops depth root ≡ is_one → (a : ℕ) × (b : ℕ) × Says ops root a b
 says_to ops zero root says = absurd (cc)
 says_to ops (suc depth) root says =
     let (a, b, is, number, constant) = comparing (term_to ops depth) (get_or ops root past) says in
     (a, b, (there ops root (Binary equals a b) (λ same. absurd (cc)) is, number_at ops depth a number, one_at ops depth b constant))
 
+-- if the root compares the column `id` with the number 1, the term of the root is "id = 1"
 read_off : (ops : List Op) (root a b : ℕ) → get_or ops root past ≡ Binary equals a b → get_or ops a past ≡ Column 1 0 → get_or ops b past ≡ Literal one → term_in ops root ≡ is_one
 read_off [] root a b first second third = absurd (cc)
 read_off (x ∷ []) zero zero b first second third = absurd (cc)
@@ -90,7 +91,7 @@ read_off (x ∷ []) zero (suc a) b first second third = absurd (cc)
 read_off (x ∷ []) (suc root) a b first second third = absurd (cc)
 read_off (x ∷ y ∷ ops) root a b first second third = rw (first, second, third) refl
 
--- these three nodes make the term "id = 1"
+-- the comparison, the column `id` and the number 1 (`Says`) make the term "id = 1"
 said : (ops : List Op) (root a b : ℕ) → Says ops root a b → term_in ops root ≡ is_one
 said ops root a b (first, second, third) =
     read_off ops root a b (get_or_from_slice_get ops root _ past first) (get_or_from_slice_get ops a _ past second) (get_or_from_slice_get ops b _ past third)

@@ -19,7 +19,7 @@ use Rattle.atl_store.specs.Tables.{HasTablesOf, campaign_table}
 use Rattle.atl_store.specs.declared.fault.LoadFault.{LoadFault}
 use Rattle.atl_store.specs.declared.fault.LoadFault.TheVariants as load
 
--- an unchanged connection is at rest
+-- an unchanged connection is at rest: open only if it was, with its tables as they were (`Rests`)
 pub rests_unchanged : (old new : State) → IsUnchanged old new → Rests old new
 rests_unchanged old new h = record { was_open = λ _. h.0.was_open; same = λ _. (inr h.0.now_is, h.0.committed_is) }
 
@@ -37,7 +37,7 @@ module _ (sql : List ℕ) (old new : State) (plain : IsPlain (understood old.now
   unchanged_stays : IsUnchanged old new → Stays old new
   unchanged_stays h = record { was_open = λ _. h.0.was_open; same = λ _. (h.0.now_is, h.0.committed_is) }
 
-  -- a rollback leaves the tables as they were, if the disk is clean and the connection was settled
+  -- a rollback leaves the tables as they were, if the disk is clean and all was committed (`IsSettled`)
   rolled_stays : IsSettled old → HasCleanDisk old → IsRolledBack old new → Stays old new
   rolled_stays settled clean h = record { was_open = h.was_open; same = λ up. let back = h.undone up in (back.0 ∙ sym (settled clean (h.was_open up)), back.1) }
 
@@ -50,21 +50,21 @@ module _ (sql : List ℕ) (old new : State) (plain : IsPlain (understood old.now
   fails_stay c row e None is h = h.3
   fails_stay c row e (Some what) is h = absurd (let k = is in cc)
 
-  -- a query that is refused leaves the tables as they were, if the disk is clean and the connection was settled
+  -- a query that is refused leaves the tables as they were, if the disk is clean and all was committed (`IsSettled`)
   pub refused_stays : IsSettled old → HasCleanDisk old → (e : Error) → FailsToQuery sql [] old new e → Stays old new
   unfolding FailsToQuery IsNotRun
   refused_stays settled clean e (inl (inl h)) = unchanged_stays h.1
   refused_stays settled clean e (inl (inr h)) = rolled_stays settled clean h.3
   refused_stays settled clean e (inr h) = unchanged_stays (fails_stay h.0 _ e h.0.returning (subst IsPlain h.1.is plain).0 h.2)
 
-  -- a query that is refused leaves the connection at rest, but that a transaction may be rolled back
+  -- a query that is refused leaves the connection at rest (`Rests`): unchanged, or with its transaction rolled back
   pub refused_rests : (e : Error) → FailsToQuery sql [] old new e → Rests old new
   unfolding FailsToQuery IsNotRun
   refused_rests e (inl (inl h)) = rests_unchanged old new h.1
   refused_rests e (inl (inr h)) = record { was_open = h.3.was_open; same = λ up. let back = h.3.undone up in (inl back.0, back.1) }
   refused_rests e (inr h) = rests_unchanged old new (fails_stay h.0 _ e h.0.returning (subst IsPlain h.1.is plain).0 h.2)
 
--- the campaign's own row can't be asked for once more
+-- the SELECT of the campaign row is refused when it is asked a second time
 module _ (f : Format) {S : Type 0} (g : Ghosts S) (old during : Held S) (begins : HasTablesOf f old.schema) (e : Error) (failed : FailsToQuery (selection campaign_table 1) [] (state g old) (state g during) e) where
   -- the fault of confirming is Memory or Store, by the error
   told_by : (memory : Bool) → is_memory e ≡ memory → FailsToConfirm g old f (cond memory load.Memory load.Store)

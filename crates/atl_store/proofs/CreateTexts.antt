@@ -38,7 +38,7 @@ pub record IsCreate (before after : Schema) (table : Table) (text : List ℕ) : 
   pub last : after.tables ≡ before.tables ++ table ∷ []
   pub uncounted : lacks_sequence after ≡ false
 
--- running such a text on a database of that schema adds the table
+-- running a CREATE TABLE text (`IsCreate`) on a database of the schema `before` adds the table
 pub makes_table : (before after : Schema) (table : Table) (text : List ℕ) → IsCreate before after table text → (old new : State) (count : ℕ) → old.now.schema ≡ before → Executes text [] old new (Ok count)
     → Creates before after table.tree old.now new.now
 makes_table before after table text is old new count has ran =
@@ -63,9 +63,11 @@ unfolding understood everything
 is_made Own = record { command = refl; whole = refl; defines = refl; plain = (refl, refl); after_is = refl; tree_is = refl; last = refl; uncounted = refl }
 is_made part = record { command = refl; whole = refl; defines = refl; plain = (refl, refl); after_is = refl; tree_is = refl; last = refl; uncounted = refl }
 
+-- the part at index `i` of the list of all parts has the index `i`
 placed : (i : ℕ) (d : Part) → i < length all_parts → place (get_or all_parts i d) ≡ i
 placed i d small = sym (get_or-map place all_parts i d 0 small) ∙ get_or-range_with_len 0 (length all_parts) i 0 small ∙ zero-add i
 
+-- the text of the part at index `i` makes its table after the first `i` tables
 made_at : (i : ℕ) (d : Part) → i < length all_parts → IsCreate (so_many i) (so_many (i + 1)) (table_of (get_or all_parts i d)) (creation_of (get_or all_parts i d))
 made_at i d small =
     let part = get_or all_parts i d in
@@ -77,15 +79,16 @@ made_at i d small =
 abbrev pub Makes : Schema → Schema → List ℕ → Type 1
 Makes before after text = Has (map creation_of all_parts) text × ((old new : State) → RunsStatement text [] old new → Extends before after old new)
 
+-- a text of one of the ten tables that makes a table (`IsCreate`) makes the schema one table longer (`Makes`)
 makes : (before after : Schema) (table : Table) (text : List ℕ) → Has (map creation_of all_parts) text → IsCreate before after table text → Makes before after text
 makes before after table text listed is = (listed, run)
   where
     run : (old new : State) → RunsStatement text [] old new → Extends before after old new
     run old new (inside, count, h) = extends before after table old new inside h.1.mode is.last (λ has. makes_table before after table text is old new count has h.0)
 
--- elements with these texts
+-- a list whose elements have the texts of the ten tables, in order
 module _ {X : Type 0} (text : X → List ℕ) (xs : List X) (all : map text xs ≡ map creation_of all_parts) where
-  -- elements with these texts are as many as the tables
+  -- a list whose elements have the ten texts has ten elements
   pub as_many : length xs ≡ table_count
   as_many = sym (length-map xs text) ∙ ap length all
 
@@ -101,10 +104,10 @@ module _ {X : Type 0} (text : X → List ℕ) (xs : List X) (all : map text xs �
 -- ---- in a transaction
 
 module _ {S A : Type 0} (g : Ghosts S) {r : Result A Error} {a b : MutBor (Held S)} where
-  -- a write by such a text is one by the CREATE statements (`Creations`)
+  -- a write by the text of a part's table is one by the CREATE statements (`Creations`)
   pub creating : {Does : State → State → Type 0} {before after : Schema} (text : List ℕ) → Makes before after text → Writes g (Only text []) Does r a b → Writes g Creations Does r a b
   creating text makes one = among_only g text [] (makes.0, refl) one
 
-  -- running such a text is a write by the CREATE statements that makes one more table
+  -- running the text of a part's table is a write by the CREATE statements that makes one more table
   pub made_by : {before after : Schema} (text : List ℕ) → Makes before after text → Writes g (Only text []) (RunsStatement text []) r a b → Writes g Creations (Extends before after) r a b
   made_by text makes one = weaker g makes.1 (creating text makes one)

@@ -31,7 +31,7 @@ use Rattle.sqlite.proofs.Callers.{one_step}
 use Rattle.atl_store.specs.Sets.{IsKeyed}
 use Rattle.atl_store.proofs.ListLaws.{keyed_without, keyed_put, has_map, map_has, AreFound, stays, was_there}
 
--- a step that gave a value did not stop
+-- a step whose result is Ok did not stop with an error
 pub went : {B E R : Type 0} {b : B} {Stops : E → Type 0} → ((stop : E) × Stops stop × (Ok b ≡ Err stop)) ⊎ R → R
 went (inl stopped) = absurd (let e = stopped.2 in cc)
 went (inr on) = on
@@ -69,7 +69,7 @@ module _ (schema : Schema) (table : Table) (unlinked : (olds news : List Row) �
 
   -- ---- DELETE
 
-  -- a DELETE by a test loses the rows that pass it
+  -- a DELETE that ran removed exactly the rows that pass its test (`Loses`)
   pub deletes : (limit : Option ℕ) (params : Row) (q : _) (p : Row → Bool) (db : Trees) (w : Written) → IsKeyed (db table.tree)
       → ((rows : List Row) → Answers (record { schema = schema; trees = db }) q params rows → AreFound p (db table.tree) rows)
       → Deletes (record { limit = limit; keys = Enforced; schema = schema; table = table; params = params }) q db (Ok w) → Loses schema table p db w.trees
@@ -85,7 +85,7 @@ module _ (schema : Schema) (table : Table) (unlinked : (olds news : List Row) �
     abbrev task : Task
     task = record { limit = limit; keys = Enforced; schema = schema; table = table; params = params }
 
-    -- an INSERT OR REPLACE of one row swaps the rows with its key for it
+    -- an INSERT OR REPLACE of one row replaces the rows with the same key by the row (`Swaps`)
     pub puts : (new : Row) (db : Trees) (w : Written) → IsKeyed (db table.tree) → Puts task new db (Ok w)
         → Has (w.trees table.tree) (cast_row table new)
         × ((r : Row) → Has (w.trees table.tree) r → (r ≡ cast_row table new) ⊎ Has (db table.tree) r)
@@ -131,7 +131,7 @@ module _ (schema : Schema) (table : Table) (unlinked : (olds news : List Row) �
           others = λ t listed other. put.3 t listed other ∙ lost.others t listed other;
         }
 
-    -- the same for one attempt to put the row
+    -- one attempt to put a row by INSERT OR REPLACE replaces the rows with the same key by the row (`Swaps`)
     pub tries : (new : Row) (db : Trees) (w : Written) → IsKeyed (db table.tree) → Tries task Replace [] new db (Ok w)
         → Swaps schema table (p new) (cast_row table new) db w.trees
     tries new db w keyed (inl refused) = absurd (let e = refused.1 in cc)
@@ -157,7 +157,7 @@ delete_query tree filter = record {
   offset = lit (Int (pos 0));
 }
 
--- a permutation has the same elements
+-- a permutation of a list has each element of the list
 pub has_permuted : {X : Type 0} (xs ys : List X) (x : X) → IsPermutation xs ys → Has xs x → Has ys x
 has_permuted xs ys x h there = all_has (λ y. Has ys y) xs x (all-permutation (λ y. Has ys y) ys xs (IsPermutation-sym xs ys h) (all_from _ ys (λ y k. k))) there
 

@@ -1,4 +1,4 @@
--- Laws on numbered maps and their rows: entries and look-ups agree, and a table filled with one row for each entry has exactly those.
+-- Laws on numbered maps and their rows: entries and look-ups agree, and a table filled from them has the map's rows.
 use Rattle.std.proofs.Common.{◌≡◌, ◌≢◌, ◌⊎◌, ℕ, true, false, cond, List, [], ◌∷◌, ◌++◌, take, Some, None, Less, Equal, Greater, refl, sym, ap, ◌∙◌, subst, inl, inr, true≢false}
 use Rattle.std.specs.List.{flat_map}
 use Rattle.std.specs.Ordering.{nat_cmp, is_eq, is_lt}
@@ -23,7 +23,7 @@ use Rattle.atl_store.proofs.ListLaws.{has_map, map_has}
 pub not_less_itself : (n : ℕ) → is_lt (nat_cmp n n) ≡ false
 not_less_itself n = ap is_lt (tied_itself nat_cmp_total n)
 
--- a lesser number is another one
+-- a number that is less than another is not equal to it
 pub less_apart : (m n : ℕ) → is_lt (nat_cmp m n) ≡ true → m ≢ n
 less_apart m n less same = true≢false (sym less ∙ ap (λ k. is_lt (nat_cmp m k)) (sym same) ∙ not_less_itself m)
 
@@ -31,10 +31,11 @@ module _ {V : Type 0} where
   same_some : (a b : V) → Some a ≡ Some b → a ≡ b
   same_some a b e = cc
 
+  -- None is no value
   nothing_there : (v : V) → None ≡ Some v → ⊥
   nothing_there v e = cc
 
-  -- an entry of a list above a number is above it
+  -- if all entries of a list are above a number, each entry is
   pub below_has : (k : ℕ) (es : List (ℕ × V)) (x : ℕ × V) → below_all nat_cmp k es ≡ true → Has es x → is_lt (nat_cmp k x.0) ≡ true
   below_has k [] x below there = absurd there
   below_has k (e ∷ es) x below (inl same) = ap (λ (y : ℕ × V). is_lt (nat_cmp k y.0)) same ∙ (and_parts _ _ below).0
@@ -52,7 +53,7 @@ module _ {V : Type 0} where
     | Greater ↦ λ _ h. inr (get_has es n v h)
   ] refl got
 
-  -- what is in a sorted list is found under its number
+  -- an entry of a sorted list is found under its number
   has_get : (es : List (ℕ × V)) (n : ℕ) (v : V) → is_sorted nat_cmp es ≡ true → Has es (n, v) → find nat_cmp n es ≡ Some v
   has_get [] n v sorted there = absurd there
   has_get (e ∷ es) n v sorted (inl same) =
@@ -68,11 +69,11 @@ module _ {V : Type 0} where
       ] refl in
       ap (λ b. cond b (Some e.1) (find nat_cmp n es)) other ∙ has_get es n v (and_parts _ _ sorted).1 later
 
-  -- what a map gives under a number is one of its entries
+  -- a value that a map gives under a number is in the map's list of entries
   pub got_entry : (m : FinMap nat_cmp V) (n : ℕ) (v : V) → get m n ≡ Some v → Has (entries m) (n, v)
   got_entry m n v got = get_has (entries m) n v (sym (get-entries m n) ∙ got)
 
-  -- an entry of a map is what it gives under the number
+  -- a map gives the value of an entry of its list under the entry's number
   pub entry_got : (m : FinMap nat_cmp V) (n : ℕ) (v : V) → Has (entries m) (n, v) → get m n ≡ Some v
   entry_got m n v there = get-entries m n ∙ has_get (entries m) n v (is_true _ (entries_sorted m)) there
 
@@ -110,7 +111,7 @@ puts_has key (x ∷ xs) S apart free r =
       λ h. later.1 (elim h [ inl (inl same) ↦ inr (inl same) | inl (inr there) ↦ inl there | inr was ↦ inr (inr (was, free r was x (inl refl))) ]),
     )
 
--- an empty table has exactly these rows once they are put
+-- an empty table has exactly the put rows, once rows with different keys are put
 pub filled : (key : ℕ) (rows news old : List Row) → old ≡ [] → DifferInKey key news → Is rows (puts key news (Has old)) → Is rows (Has news)
 filled key rows news old none apart made r =
     let empty : (s : Row) → Has old s → ⊥ = λ s there. subst (λ l. Has l s) none there in
@@ -129,7 +130,7 @@ apart_append key (x ∷ xs) ys one two cross = (
 
 -- ---- one row for each entry
 
--- equal keys of one number are of equal numbers
+-- two keys of one number each are equal only if the numbers are
 pub same_number : (m n : ℕ) → ◌≡◌ {A = Row} (int m ∷ []) (int n ∷ []) → m ≡ n
 same_number m n e = cc
 

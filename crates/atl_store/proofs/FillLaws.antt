@@ -34,11 +34,11 @@ one_row rows old row none made r = (
 module _ (c : CampaignValue) where
   -- ---- one table
 
-  -- the campaign row is filled
+  -- putting the campaign row fills the table `campaign`, if it was empty
   pub own_filled : (text : List ℕ) (old new : Database) → PutsCampaignRow (campaign_row_of c) text old new → FillsWithOwn text c (Own ∷ []) old new
   own_filled text old new did none = one_changed (Fills c (campaign_line text c)) Own _ old new (did.first none) (λ rows empty. one_row _ _ (campaign_line text c) empty rows)
 
-  -- a table with one row for each number is filled
+  -- putting the rows of all entries fills a table with one row for each number
   pub numbered_filled : {V : Type 0} (part : Part) (line : ℕ → V → Row) → ((n : ℕ) (v : V) → take 1 (line n v) ≡ int n ∷ []) → (m : FinMap nat_cmp V) → ((own : Row) (rows : List Row) → Is rows (RowsOf line m) → Is rows (rows_for own c part)) → (es : List (ℕ × V))
       → es ≡ entries m → (old new : Database) → PutsRows (table_of part) 1 (lines_of line es) old new → FillsParts c (part ∷ []) old new
   numbered_filled {V} part line numbered m are es same old new did own = one_changed (Fills c own) part _ old new did (λ made none.
@@ -46,7 +46,7 @@ module _ (c : CampaignValue) where
       let now = rows_in (table_of part) new.trees in
       are own now (rows_filled line numbered now was m none (subst (λ (l : List (ℕ × V)). Is now (puts 1 (lines_of line l) (Has was))) same made)))
 
-  -- a table whose rows belong to numbered units or regions is filled
+  -- putting the rows of all units or regions fills a table with groups of rows
   pub groups_fill : {V : Type 0} (part : Part) (lines : ℕ → V → List Row) (more : ℕ) (m : FinMap nat_cmp V) → ((own : Row) → AreGroups lines (suc more) m (rows_for own c part)) → (es : List (ℕ × V)) → es ≡ entries m → (old new : Database)
       → PutsRows (table_of part) (suc more) (groups_of lines es) old new → FillsParts c (part ∷ []) old new
   groups_fill {V} part lines more m are es same old new did own = one_changed (Fills c own) part _ old new did (λ made none.
@@ -54,7 +54,7 @@ module _ (c : CampaignValue) where
       let now = rows_in (table_of part) new.trees in
       groups_filled lines more m (rows_for own c part) (are own) now was none (subst (λ (l : List (ℕ × V)). Is now (puts (suc more) (groups_of lines l) (Has was))) same made))
 
-  -- the table of the books is filled
+  -- putting the rows of all amounts fills the table `books`
   pub books_fill : AreBooks c.books.things c.books → (old new : Database) → PutsRows books_table 2 (things_lines c (range_with_len 0 c.books.things)) old new → FillsParts c (Books ∷ []) old new
   books_fill are old new did own = one_changed (Fills c own) Books _ old new did (λ made none. books_filled c are (rows_in books_table new.trees) (rows_in books_table old.trees) none made)
 

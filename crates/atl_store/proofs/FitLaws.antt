@@ -1,4 +1,4 @@
--- Laws on a row whose values fit their columns: SQL stores them unchanged, whether the row is put or changed.
+-- Laws on rows whose values are of their columns' types: SQL stores them unchanged, inserted or updated.
 use Rattle.std.proofs.Common.{◌≡◌, ◌++◌, ◌+◌, ◌/◌, ℕ, pos, zero, suc, List, [], ◌∷◌, length, map, take, Some, refl, ap, ◌∙◌, subst, arith, nat_eq, false}
 use Rattle.std.specs.List.{range_with_len}
 use Rattle.std.proofs.Math.Nat.{div_self}
@@ -28,14 +28,14 @@ Fits [] (v ∷ vs) = ⊥
 Fits (c ∷ cs) [] = ⊥
 Fits (c ∷ cs) (v ∷ vs) = (cast c.kind v ≡ v) × Fits cs vs
 
--- fitting values are as many as the columns
+-- values that are of their columns' types are as many as the columns
 pub fits_length : (cs : List Column) (vs : Row) → Fits cs vs → length vs ≡ length cs
 fits_length [] [] fits = refl
 fits_length [] (v ∷ vs) fits = absurd fits
 fits_length (c ∷ cs) [] fits = absurd fits
 fits_length (c ∷ cs) (v ∷ vs) fits = ap suc (fits_length cs vs fits.1)
 
--- SQL's casts leave fitting values
+-- SQL's casts leave values that are of their columns' types
 fits_cast : (cs : List Column) (vs : Row) → Fits cs vs → cast_all cs vs ≡ vs
 fits_cast [] [] fits = refl
 fits_cast [] (v ∷ vs) fits = absurd fits
@@ -44,12 +44,12 @@ fits_cast (c ∷ cs) (v ∷ vs) fits = let here = fits.0 in let later = fits_cas
 
 -- ---- the columns of a row, one by one
 
--- mapping a range that begins one higher
+-- mapping a range that begins one higher is mapping the range by the shifted function
 shifted : {X : Type 0} (f g : ℕ → X) → ((k : ℕ) → f (k + 1) ≡ g k) → (a n : ℕ) → map f (range_with_len (a + 1) n) ≡ map g (range_with_len a n)
 shifted f g same a zero = refl
 shifted f g same a (suc n) = let here = same a in let later = shifted f g same (a + 1) n in cc
 
--- a column of a row is the one before it of the rest
+-- column `k + 1` of a row is column `k` of the row without its first value
 next_column : (v : Value) (vs : Row) (k : ℕ) → column (v ∷ vs) (k + 1) ≡ column vs k
 next_column v vs k = let next : k + 1 ≡ suc k = omega arith in ap (column (v ∷ vs)) next
 
@@ -58,7 +58,7 @@ each_column : (vs more : Row) → map (column (vs ++ more)) (range_with_len 0 (l
 each_column [] more = refl
 each_column (v ∷ vs) more = ap (λ (l : Row). v ∷ l) (shifted (column (v ∷ (vs ++ more))) (column (vs ++ more)) (next_column v (vs ++ more)) 0 (length vs) ∙ each_column vs more)
 
--- all columns after the first, one by one, are the rest
+-- all columns after the first, one by one, are the row without its first value
 each_behind : (v : Value) (vs more : Row) → map (column (v ∷ (vs ++ more))) (range_with_len 1 (length vs)) ≡ vs
 each_behind v vs more = shifted (column (v ∷ (vs ++ more))) (column (vs ++ more)) (next_column v (vs ++ more)) 0 (length vs) ∙ each_column vs more
 
@@ -77,7 +77,7 @@ given_row width = col 0 0 ∷ lit Null ∷ map (col 0) (range_with_len 1 width)
 abbrev pub changed_row : ℕ → List Term
 changed_row width = col 1 0 ∷ lit Null ∷ map (col 0) (range_with_len 1 width)
 
--- The terms of both make the row of this number and these values.
+-- The terms of the INSERT and of the UPDATE make the row of this number and these values.
 pub record MakesRow (t : Table) (width number : ℕ) (values : Row) : Type 0 where
   pub source : value_rows ((int number ∷ values) ++ []) (width + 2) (length (given_row width) / (width + 2)) (given_row width) ≡ (int number ∷ Null ∷ values) ∷ []
   pub changed : (more r : Row) → eval_all (changed_row width) (((int number ∷ values) ++ more) ∷ r ∷ []) ≡ column r 0 ∷ Null ∷ values
@@ -94,13 +94,15 @@ module _ (tree : ℕ) (name key_name : List ℕ) (columns : List Column) (unique
     abbrev width : ℕ
     width = length values
 
-    -- the row as it is stored
+    -- the row of the number and the values as it is stored
     abbrev its_row : Row
     its_row = int n ∷ Null ∷ values
 
+    -- the terms of the parameters after the first give the values
     of_parameters : (more : Row) (rows : List Row) → eval_all (map (col 0) (range_with_len 1 width)) ((int n ∷ (values ++ more)) ∷ rows) ≡ values
     of_parameters more rows = map-map (λ (t : Term). eval t ((int n ∷ (values ++ more)) ∷ rows)) (col 0) (range_with_len 1 width) ∙ each_behind (int n) values more
 
+    -- the terms of the INSERT make the row
     source_is : value_rows ((int n ∷ values) ++ []) (width + 2) (length (given_row width) / (width + 2)) (given_row width) ≡ its_row ∷ []
     source_is =
         let counted : length (given_row width) ≡ width + 2 = omega (arith, length-map-range_with_len (col 0) 1 width) in
@@ -108,6 +110,7 @@ module _ (tree : ℕ) (name key_name : List ℕ) (columns : List Column) (unique
         let all : take (width + 2) (given_row width) ≡ given_row width = take_all (width + 2) (given_row width) (omega (arith, counted)) in
         ap (λ (count : ℕ). value_rows ((int n ∷ values) ++ []) (width + 2) count (given_row width)) once ∙ ap (λ (l : List Term). eval_all l (((int n ∷ values) ++ []) ∷ []) ∷ []) all ∙ ap (λ (l : Row). (int n ∷ Null ∷ l) ∷ []) (of_parameters [] [])
 
+    -- SQL shows the row as its number and its values
     shown_is : visible t its_row ≡ int n ∷ values
     shown_is =
         let alone : map (column values) (range_with_len 0 width) ≡ values = subst (λ l. map (column l) (range_with_len 0 width) ≡ values) (append-nil values) (each_column values []) in
@@ -120,6 +123,7 @@ module _ (tree : ℕ) (name key_name : List ℕ) (columns : List Column) (unique
             let place : place_of t (k + 1) ≡ suc (suc k) = rw apart (omega arith) in
             ap (column its_row) place
 
+    -- SQL's casts leave the row unchanged
     casted_is : cast_row t its_row ≡ its_row
     casted_is = rw (cast_int (pos n), cast_null, fits_cast columns values fits) refl
 
@@ -132,6 +136,6 @@ module _ (tree : ℕ) (name key_name : List ℕ) (columns : List Column) (unique
       aimed = λ x more. next_column (int n) (values ++ x ∷ more) width ∙ column_behind values x more;
     }
 
-    -- fitting values make their row
+    -- values that are of their columns' types make the row of the number and these values
     pub makes_row : MakesRow t (length columns) n values
     makes_row = subst (λ w. MakesRow t w n values) (fits_length columns values fits) made

@@ -36,19 +36,23 @@ pub shown_open : (sql : List ℕ) (old new : State) (rows : List Row) → Shown 
 unfolding Shown
 shown_open sql old new rows h = shows_open old new sql h.0 _ rows h.0.returning h.2
 
+-- the fault Store is not OtherType
 not_store : read.Store ≢ read.OtherType
 not_store is = cc
 
+-- the fault Refused is not OtherType
 not_refused : read.Refused ≢ read.OtherType
 not_refused is = cc
 
+-- the fault Store is not Memory
 store_no_memory : read.Store ≢ read.Memory
 store_no_memory is = cc
 
+-- the fault Refused is not Memory
 refused_no_memory : read.Refused ≢ read.Memory
 refused_no_memory is = cc
 
--- before any call nothing is committed
+-- doing nothing commits nothing
 survives_start : (s : State) → Survives s s (λ _. ⊥)
 survives_start s = record { clean = omega arith; shield = λ k. k; counts = omega arith; limit = refl; closes = λ clean up. inl up; crash = λ clean db may. inl may }
 
@@ -59,13 +63,13 @@ each_of_both P xs ys first second x there = elim (has_either xs ys x there) [
   | inr one ↦ second x one
 ]
 
--- what is true of one element is true of each of the list of it
+-- what is true of one element is true of each element of the list with this element alone
 each_of_one : {X : Type 0} (P : X → Type 0) (x : X) → P x → (y : X) → Has (x ∷ []) y → P y
 each_of_one P x p y (inl same) = subst P (sym same) p
 each_of_one P x p y (inr none) = absurd none
 
 module _ {S : Type 0} (g : Ghosts S) where
-  -- doing nothing outside a transaction leaves the connection
+  -- doing nothing outside a transaction leaves the tables as they were (`AfterReads`)
   pub leaves_none : (old : Held S) → old.in_transaction ≡ false → AfterReads g old old
   leaves_none old idle = record {
     stays = λ _. record { was_open = λ up. up; same = λ up. (refl, refl) };
@@ -73,7 +77,7 @@ module _ {S : Type 0} (g : Ghosts S) where
     idle = idle;
   }
 
-  -- two calls that leave the connection leave it together
+  -- two calls that each leave the tables as they were leave them so together (`AfterReads`)
   pub leaves_then : (old mid new : Held S) → AfterReads g old mid → AfterReads g mid new → AfterReads g old new
   leaves_then old mid new one two = record {
     stays = λ clean.
@@ -87,14 +91,14 @@ module _ {S : Type 0} (g : Ghosts S) where
     idle = two.idle;
   }
 
-  -- a settled connection stays settled
+  -- a connection on which all is committed (`IsSettled`) stays so after reads
   pub settled_then : (old new : Held S) → IsSettled (state g old) → AfterReads g old new → IsSettled (state g new)
   settled_then old new settled leaves clean up =
       let stays = leaves.stays clean in
       let same = stays.same up in
       same.0 ∙ settled (omega (arith, leaves.survives.clean, clean)) (stays.was_open up) ∙ sym same.1
 
-  -- a settled connection at rest leaves its tables
+  -- a connection at rest has its tables as they were, if all was committed (`IsSettled`) and the disk was clean
   rests_stays : (old new : State) → IsSettled old → HasCleanDisk old → Rests old new → Stays old new
   rests_stays old new settled clean rests = record {
     was_open = rests.was_open;
@@ -104,11 +108,11 @@ module _ {S : Type 0} (g : Ghosts S) where
   -- ---- one table
 
   module _ {A : Type 0} (sql : List ℕ) (forms : List Form) (shown : A → Row) (part : Part) (old new : Held S) (settled : IsSettled (state g old)) (idle : old.in_transaction ≡ false) where
-    -- this SELECT alone, with the forms of its columns
+    -- the list of one SELECT, with the forms of its columns
     abbrev this_select : List (List ℕ × List Form)
     this_select = (sql, forms) ∷ []
 
-    -- a SELECT that showed rows gave these rows
+    -- a SELECT that showed rows on a connection with the tables of `old` shows the rows of these tables
     tells : (rows : List Row) → Selects g sql old rows → Tells g old sql rows
     tells rows told = record { before = told.0; during = told.1; same = told.2.same; shown = told.3 }
 
@@ -116,7 +120,7 @@ module _ {S : Type 0} (g : Ghosts S) where
     selects_open : (rows : List Row) → Selects g sql old rows → IsTrue (state g old).is_open
     selects_open rows told = told.2.was_open (shown_open sql _ _ rows told.3)
 
-    -- rows of one table that were read are found
+    -- rows that were read of one table are what the list of its SELECT finds (`Found`)
     found_one : {Z : Type 0} (r : Result (Vec A Z) ReadFault) → ReadsRows g sql old forms shown r new → GivesTable g (listing_of part).since (listing_of part).in_table shown r old new → HasCleanDisk (state g new) → IfOk (kept_of r) (Found g old this_select (λ all. AreAllRows (state g old).now ((part, map shown all.items) ∷ [])))
     found_one (Ok all) reads gives clean =
         let told = reads.rows clean in
@@ -143,7 +147,7 @@ module _ {S : Type 0} (g : Ghosts S) where
     open_one (Err read.Store) reads clean = tt
     open_one (Err read.Refused) reads clean = tt
 
-    -- a SELECT that is refused refuses the list of it
+    -- if a SELECT is refused, one of the list with this SELECT alone is refused
     refuses : (fault : ReadFault) → RefusesToSelect g sql old fault → RefusesOne g old this_select fault
     refuses fault refused = record { select = (sql, forms); one = inl refl; before = old; leaves = leaves_none old idle; refused = refused }
 
@@ -152,7 +156,7 @@ module _ {S : Type 0} (g : Ghosts S) where
     wants (inl refused) = inl (refuses read.Memory refused)
     wants (inr told) = inr (record { select = (sql, forms); one = inl refl; before = old; leaves = leaves_none old idle; rows = told.0; answered = told.1 })
 
-    -- a fault of reading one table
+    -- a fault of reading one table is one that the list of its SELECT may return
     fails_one : {Z : Type 0} (r : Result (Vec A Z) ReadFault) → ReadsRows g sql old forms shown r new → HasCleanDisk (state g new) → IfErr (kept_of r) (FailsToRead g old this_select)
     fails_one (Ok all) reads clean = tt
     fails_one (Err read.OtherType) reads clean = tt
@@ -160,7 +164,7 @@ module _ {S : Type 0} (g : Ghosts S) where
     fails_one (Err read.Store) reads clean = inl (refuses read.Store (reads.refused clean not_store store_no_memory))
     fails_one (Err read.Refused) reads clean = inr (refuses read.Refused (reads.refused clean not_refused refused_no_memory))
 
-    -- the result of reading one table, as that of reading a list of one
+    -- reading one table is reading the list with its SELECT alone (`ReadsSome`)
     pub reads_one : {Z : Type 0} (r : Result (Vec A Z) ReadFault) → ReadsRows g sql old forms shown r new → GivesTable g (listing_of part).since (listing_of part).in_table shown r old new → (kept : Result (Option (Vec A Z)) LoadFault) → kept ≡ kept_of r
         → ReadsSome g old this_select (λ all. AreAllRows (state g old).now ((part, map shown all.items) ∷ [])) kept new
     reads_one r reads gives kept is = record {
@@ -181,11 +185,11 @@ module _ {S : Type 0} (g : Ghosts S) where
     told_then : (sql : List ℕ) (rows : List Row) → Tells g mid sql rows → Tells g old sql rows
     told_then sql rows told = record { before = told.before; during = told.during; same = told.same ∙ same; shown = told.shown }
 
-    -- the same for several SELECTs
+    -- if each of several SELECTs showed rows later, each would have shown them before, since the tables are unchanged
     all_told_then : (selects : List (List ℕ × List Form)) → AreTold g mid selects → AreTold g old selects
     all_told_then selects all select one = let told = all select one in (told.0, told_then select.0 told.0 told.1)
 
-    -- the same for what was found
+    -- what SELECTs found later they would have found before, since the tables are unchanged
     found_then : {A : Type 0} (selects : List (List ℕ × List Form)) (P Q : A → Type 0) (o : Option A) → ((a : A) → P a → Q a) → Found g mid selects P o → Found g old selects Q o
     found_then selects P Q (Some a) weaker found = (λ select one. let told = found.0 select one in (told.0, told_then select.0 told.0 told.1, told.2), weaker a found.1)
     found_then selects P Q None weaker found = record {
@@ -255,7 +259,7 @@ module _ {S : Type 0} (g : Ghosts S) where
   told_of : (old : Held S) (selects : List (List ℕ × List Form)) → AreToldTyped g old selects → AreTold g old selects
   told_of old selects typed select one = let told = typed select one in (told.0, told.1)
 
-  -- what two reads found is found together
+  -- what two reads on one connection found is found by all their SELECTs together
   found_both : {A B : Type 0} (xs ys : List (List ℕ × List Form)) (P : A → Type 0) (Q : B → Type 0) (old : Held S) (a : Option A) (b : Option B) → Found g old xs P a → Found g old ys Q b → Found g old (xs ++ ys) (λ x. P x.0 × Q x.1) (option_zip a b)
   found_both xs ys P Q old (Some a) (Some b) p q = (each_of_both (λ s. (rows : List Row) × Tells g old s.0 rows × AreTyped s.1 rows) xs ys p.0 q.0, (p.1, q.1))
   found_both xs ys P Q old (Some a) None p q = other_within old ys (xs ++ ys) (has_right xs ys) (each_of_both (λ s. (rows : List Row) × Tells g old s.0 rows) xs ys (told_of old xs p.0) q.all) q
@@ -270,7 +274,7 @@ module _ {S : Type 0} (g : Ghosts S) where
       let same = ((before.stays (omega (arith, reads.leaves.survives.clean, clean))).same up).0 in
       found_then old mid same selects P Q o (weaker same) (subst (λ r. IfOk r (Found g mid selects P)) was (reads.found clean))
 
-  -- a read with a consequence of what it found
+  -- a read that finds `P` finds `Q`, if `P` implies `Q`
   reads_as : {A : Type 0} (selects : List (List ℕ × List Form)) (P Q : A → Type 0) (old new : Held S) (r : Result (Option A) LoadFault) → ((a : A) → P a → Q a) → ReadsSome g old selects P r new → ReadsSome g old selects Q r new
   reads_as {A} selects P Q old new r weaker reads = record { was_open = reads.was_open; found = λ clean. found r (reads.found clean); fails = reads.fails; leaves = reads.leaves }
     where
@@ -290,7 +294,7 @@ module _ {S : Type 0} (g : Ghosts S) where
     leaves = first.leaves;
   }
 
-  -- where the second one begins
+  -- the second stage begins at `mid`, where the first ended
   module _ {A B : Type 0} (xs ys : List (List ℕ × List Form)) (P : A → Type 0) (Q : B → Type 0) (old mid new : Held S) (one : Result (Option A) LoadFault) (two : Result (Option B) LoadFault)
       (first : ReadsSome g old xs P one mid) (second : ReadsSome g mid ys Q two new) (a : Option A) (was_first : one ≡ Ok a) where
     -- a fault of the second stage is a fault of both
@@ -305,7 +309,7 @@ module _ {S : Type 0} (g : Ghosts S) where
       leaves = leaves_then old mid new first.leaves second.leaves;
     }
 
-    -- both stages have read their tables
+    -- if both stages have read their tables, the tables of both are read from the start
     reads_both : (Q2 : B → Type 0) (b : Option B) → two ≡ Ok b → ((state g mid).now ≡ (state g old).now → (b : B) → Q b → Q2 b) → (o : Option (A × B)) → o ≡ option_zip a b → ReadsSome g old (xs ++ ys) (λ x. P x.0 × Q2 x.1) (Ok o) new
     reads_both Q2 b was weaker o is = record {
       was_open = λ clean. subst (λ r. IfOk r (λ _. IsTrue (state g old).is_open)) was_first (first.was_open (clean_mid clean));
@@ -320,7 +324,7 @@ module _ {S : Type 0} (g : Ghosts S) where
         clean_mid : HasCleanDisk (state g new) → HasCleanDisk (state g mid)
         clean_mid clean = omega (arith, second.leaves.survives.clean, clean)
 
-  -- the rows of some tables and then of others are read
+  -- reading all rows of some tables and then of others reads all rows of both
   pub both_read : {A B : Type 0} (xs ys : List (List ℕ × List Form)) (some : A → ReadRows) (others : B → ReadRows) (old mid new : Held S) (one : Result (Option A) LoadFault) (two : Result (Option B) LoadFault)
       → ReadsSome g old xs (λ a. AreAllRows (state g old).now (some a)) one mid → ReadsSome g mid ys (λ b. AreAllRows (state g mid).now (others b)) two new
       → (a : Option A) → one ≡ Ok a → (b : Option B) → two ≡ Ok b → (o : Option (A × B)) → o ≡ option_zip a b → ReadsSome g old (xs ++ ys) (λ x. AreAllRows (state g old).now (some x.0 ++ others x.1)) (Ok o) new
@@ -331,7 +335,7 @@ module _ {S : Type 0} (g : Ghosts S) where
 
   -- ---- by the format
 
-  -- rows that were found, paired with other rows that were given
+  -- rows that were found, paired with given rows, are found
   found_with : {A B : Type 0} (old : Held S) (selects : List (List ℕ × List Form)) (P : A → Type 0) (Q : A × B → Type 0) (b : B) → ((a : A) → P a → Q (a, b)) → (o : Option A) → Found g old selects P o → Found g old selects Q (option_zip o (Some b))
   found_with old selects P Q b weaker (Some a) found = (found.0, weaker a found.1)
   found_with old selects P Q b weaker None found = found
@@ -372,7 +376,7 @@ module _ {S : Type 0} (g : Ghosts S) where
   pub reads_second : {A : Type 0} (selects : List (List ℕ × List Form)) (rows : A → ReadRows) (old new : Held S) (r : Result (Option A) LoadFault) → ReadsSome g old selects (λ a. AreAllRows (state g old).now (rows a)) r new → ReadsSome g old selects (λ a. AreOfFormat Second (state g old).now (rows a)) r new
   reads_second selects rows old new r reads = reads_as selects _ _ old new r (λ a are. record { each = λ read there. inl (every_part read.0, are read there) }) reads
 
-  -- a fault of one stage ends the whole read
+  -- a fault of reading some tables is the fault of the whole read
   pub fails_as : {A B : Type 0} (selects : List (List ℕ × List Form)) (P : A → Type 0) (Q : B → Type 0) (old new : Held S) (fault : LoadFault) (one : Result (Option A) LoadFault) (r : Result (Option B) LoadFault)
       → ReadsSome g old selects P one new → one ≡ Err fault → IsErrAnd r (λ told. told ≡ fault) → ReadsSome g old selects Q r new
   fails_as selects P Q old new fault one (Ok o) first was told = absurd told
@@ -383,7 +387,7 @@ module _ {S : Type 0} (g : Ghosts S) where
     leaves = first.leaves;
   }
 
-  -- the read by the format that the campaign row has
+  -- a read of the tables of format `f` is one of the tables of an equal format
   pub reads_by : {A : Type 0} (some others : List (List ℕ × List Form)) (rows : A → ReadRows) (old new : Held S) (r : Result (Option A) LoadFault) (f is : Format) → f ≡ is
       → ReadsSome g old (selects_by is some others) (λ a. AreOfFormat is (state g old).now (rows a)) r new → ReadsSome g old (selects_by f some others) (λ a. AreOfFormat f (state g old).now (rows a)) r new
   reads_by some others rows old new r f is same reads = subst (λ f. ReadsSome g old (selects_by f some others) (λ a. AreOfFormat f (state g old).now (rows a)) r new) (sym same) reads
@@ -403,7 +407,7 @@ same_selects : (some others : List (List ℕ × List Form)) → some ≡ other_s
 same_selects some others first second First = first
 same_selects some others first second Second = second
 
--- the read of the other tables of a format
+-- a read of the SELECTs that `selects_by` gives for a format is one of all tables but `campaign`
 pub reads_others : {A S : Type 0} (g : Ghosts S) (some others : List (List ℕ × List Form)) (P : A → Type 0) (old new : Held S) (r : Result (Option A) LoadFault) (f : Format) → some ≡ other_selects First → some ++ others ≡ other_selects Second
     → ReadsSome g old (selects_by f some others) P r new → ReadsSome g old (other_selects f) P r new
 reads_others g some others P old new r f first second reads = subst (λ selects. ReadsSome g old selects P r new) (same_selects some others first second f) reads

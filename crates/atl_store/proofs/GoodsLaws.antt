@@ -19,18 +19,18 @@ use Rattle.atl_store.proofs.EntryLaws.{apart_append, below_has, less_apart, got_
 
 -- ---- one amount
 
--- a row of an optional list is its one row, and the condition `b` to leave it out is false
+-- a row of a list that `b` leaves empty is its one row, and `b` is false
 pub optional_has : (b : Bool) (row r : Row) → Has (if b then [] else row ∷ []) r → (b ≡ false) × (r ≡ row)
 optional_has true row r there = absurd there
 optional_has false row r (inl same) = (refl, same)
 optional_has false row r (inr none) = absurd none
 
--- an optional list has its row if the condition `b` to leave it out is false
+-- a list that `b` leaves empty has its one row if `b` is false
 pub has_optional : (b : Bool) (row : Row) → b ≡ false → Has (if b then [] else row ∷ []) row
 has_optional true row is = absurd (true≢false is)
 has_optional false row is = inl refl
 
--- one optional row has no second one with its key
+-- the rows of a list with at most one row have different keys
 pub optional_apart : (key : ℕ) (b : Bool) (row : Row) → DifferInKey key (if b then [] else row ∷ [])
 optional_apart key true row = tt
 optional_apart key false row = (λ y none. absurd none, tt)
@@ -46,14 +46,14 @@ is_not_zero a apart = elim (cases_Bool (a == 0)) [ inl same ↦ absurd (apart (g
 -- ---- the amounts under some numbers
 
 module _ (row : ℕ → ℕ → Row) where
-  -- each row of an amount is of an entry that is not 0
+  -- each row of a list of amounts is of an entry whose amount is not 0
   pub amounts_have : (es : List (ℕ × ℕ)) (r : Row) → Has (amount_rows row es) r → (e : ℕ × ℕ) × Has es e × (e.1 ≢ 0) × (r ≡ row e.0 e.1)
   amounts_have es r there =
       let found = flat_has (λ (e : ℕ × ℕ). if e.1 == 0 then [] else row e.0 e.1 ∷ []) es r there in
       let line = optional_has (found.0.1 == 0) (row found.0.0 found.0.1) r found.2 in
       (found.0, found.1, not_zero found.0.1 line.0, line.1)
 
-  -- each entry that is not 0 has its row
+  -- each entry whose amount is not 0 has a row in the list of amounts
   pub have_amount : (es : List (ℕ × ℕ)) (n amount : ℕ) → Has es (n, amount) → amount ≢ 0 → Has (amount_rows row es) (row n amount)
   have_amount es n amount there some =
       has_flat (λ (e : ℕ × ℕ). if e.1 == 0 then [] else row e.0 e.1 ∷ []) es (n, amount) _ there (has_optional (amount == 0) (row n amount) (is_not_zero amount some))
@@ -68,18 +68,18 @@ module _ (row : ℕ → ℕ → Row) where
       let two = amounts_have es y late in
       less_apart e.0 two.0.0 (below_has e.0 es two.0 (and_parts _ _ sorted).0 two.1) (tells e.0 e.1 two.0.0 two.0.1 (ap (take key) (sym one.1) ∙ same ∙ ap (take key) two.3)))
 
--- ---- the things of one sort
+-- ---- the things of one kind: items or skills
 
--- equal keys of three numbers have equal numbers
+-- two keys of `has` are equal only if all three numbers are
 pub three_same : (a b c d e f : ℕ) → ◌≡◌ {A = Row} (has_key a b c) (has_key d e f) → (a ≡ d) × (b ≡ e) × (c ≡ f)
 three_same a b c d e f same = (cc, cc, cc)
 
 module _ (unit : ℕ) (sort : ThingKind) where
-  -- each row of one kind of thing is of an entry that is not 0
+  -- each row of a unit's items, or of its skills, is of an entry whose amount is not 0
   sort_has : (es : List (ℕ × ℕ)) (r : Row) → Has (kind_lines unit sort es) r → (e : ℕ × ℕ) × Has es e × (e.1 ≢ 0) × (r ≡ has_row unit (sort_number sort) e.0 e.1)
   sort_has = amounts_have (has_row unit (sort_number sort))
 
-  -- each entry of one kind of thing that is not 0 has its row
+  -- each entry of a unit's items, or of its skills, has its row of `has`, if the amount is not 0
   has_sort : (es : List (ℕ × ℕ)) (thing amount : ℕ) → Has es (thing, amount) → amount ≢ 0 → Has (kind_lines unit sort es) (has_row unit (sort_number sort) thing amount)
   has_sort = have_amount (has_row unit (sort_number sort))
 
@@ -89,14 +89,14 @@ module _ (unit : ℕ) (sort : ThingKind) where
 
 -- ---- all that one unit has
 
--- each row of a unit is of one of its items or skills
+-- each row of `has` of a unit is of one of its items or skills, whose amount is not 0
 pub goods_has : (unit : ℕ) (held : HoldingValue) (r : Row) → Has (goods_lines unit held) r → (sort : ThingKind) × (e : ℕ × ℕ) × Has (entries (things_of sort held)) e × (e.1 ≢ 0) × (r ≡ has_row unit (sort_number sort) e.0 e.1)
 goods_has unit held r there = elim (has_either (kind_lines unit Item (entries held.items)) (kind_lines unit Skill (entries held.days)) r there) [
   | inl item ↦ let e = sort_has unit Item (entries held.items) r item in (Item, e.0, e.1, e.2, e.3)
   | inr skill ↦ let e = sort_has unit Skill (entries held.days) r skill in (Skill, e.0, e.1, e.2, e.3)
 ]
 
--- each item or skill of a unit that is not 0 has its row
+-- each item or skill of a unit has its row of `has`, if its amount is not 0
 pub has_goods : (unit : ℕ) (held : HoldingValue) (sort : ThingKind) (thing amount : ℕ) → Has (entries (things_of sort held)) (thing, amount) → amount ≢ 0 → Has (goods_lines unit held) (has_row unit (sort_number sort) thing amount)
 has_goods unit held Item thing amount there some = has_left (kind_lines unit Item (entries held.items)) (kind_lines unit Skill (entries held.days)) _ (has_sort unit Item (entries held.items) thing amount there some)
 has_goods unit held Skill thing amount there some = has_right (kind_lines unit Item (entries held.items)) (kind_lines unit Skill (entries held.days)) _ (has_sort unit Skill (entries held.days) thing amount there some)
@@ -111,7 +111,7 @@ goods_apart unit held =
     let keys = three_same unit 0 one.0.0 unit 1 two.0.0 (ap (take 3) (sym one.3) ∙ same ∙ ap (take 3) two.3) in
     absurd (omega (arith, keys.1)))
 
--- each row of a unit begins with its number
+-- each row of `has` of a unit begins with the unit's number
 goods_begin : (n : ℕ) (held : HoldingValue) (r : Row) → Has (goods_lines n held) r → take 1 r ≡ int n ∷ []
 goods_begin n held r there = ap (take 1) (goods_has n held r there).4
 
@@ -139,20 +139,22 @@ goods_grouped units = record {
 
 -- ---- how much a unit has of a thing
 
+-- what the map has of a kind under a unit that is there is what the unit's holding has
 under_unit : (sort : ThingKind) (u : Unit) → things_under sort (Some u) ≡ things_of sort u.holding
 under_unit Item u = refl
 under_unit Skill u = refl
 
+-- the amount of each thing is 0 where there is no unit
 under_none : (sort : ThingKind) (thing : ℕ) → amount_of (things_under sort None) thing ≡ 0
 under_none Item thing = ap (λ (o : Option ℕ). unwrap_or o 0) (get-empty {X = ℕ} nat_cmp thing)
 under_none Skill thing = ap (λ (o : Option ℕ). unwrap_or o 0) (get-empty {X = ℕ} nat_cmp thing)
 
 module _ (units : FinMap nat_cmp Unit) where
-  -- a unit that isn't there has 0 of each thing
+  -- the amount of each thing is 0 for a unit that the map lacks
   pub amount_none : (n : ℕ) (sort : ThingKind) (thing : ℕ) → get units n ≡ None → amount_under units n sort thing ≡ 0
   amount_none n sort thing none = ap (λ o. amount_of (things_under sort o) thing) none ∙ under_none sort thing
 
-  -- the amount of a thing of a unit that is there
+  -- the amount of a thing for a unit of the map is the amount in the unit's holding
   pub amount_some : (n : ℕ) (sort : ThingKind) (thing : ℕ) (u : Unit) → get units n ≡ Some u → amount_under units n sort thing ≡ amount_of (things_of sort u.holding) thing
   amount_some n sort thing u there = ap (λ o. amount_of (things_under sort o) thing) there ∙ ap (λ things. amount_of things thing) (under_unit sort u)
 

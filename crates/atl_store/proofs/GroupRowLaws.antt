@@ -24,7 +24,7 @@ use Rattle.atl_store.proofs.EntryLaws.{apart_append, filled, puts_has, below_has
 use Rattle.atl_store.proofs.RewriteLaws.{begins_key, key_begins, kept_only, rewrites_key}
 use Rattle.atl_store.proofs.WholeLaws.{inside_then, inside_weaker}
 
--- rows that are equal in more columns are equal in the first
+-- rows whose first columns up to some index are equal have equal first columns
 first_of : (more : ℕ) (a b : Row) → take (suc more) a ≡ take (suc more) b → take 1 a ≡ take 1 b
 first_of more a b same = sym (first a) ∙ ap (take 1) same ∙ first b
   where
@@ -51,7 +51,7 @@ module _ {V : Type 0} (lines : ℕ → V → List Row) (more : ℕ) (values : Fi
       let found = flat_has (λ (v : ℕ × V). lines v.0 v.1) es r there in
       are.wanted found.0.0 found.0.1 (entry_got values found.0.0 found.0.1 (subst (λ (l : List (ℕ × V)). Has l found.0) same found.1)) r found.2
 
-  -- an empty table filled with them has exactly the wanted rows
+  -- an empty table filled with the rows of all entries has exactly the wanted rows
   pub groups_filled : (rows old : List Row) → old ≡ [] → Is rows (puts (suc more) (groups_of lines (entries values)) (Has old)) → Is rows Wanted
   groups_filled rows old none made r =
       let is = filled (suc more) rows (groups_of lines (entries values)) old none (all_apart (entries values) (in_order values)) made r in (
@@ -59,7 +59,7 @@ module _ {V : Type 0} (lines : ℕ → V → List Row) (more : ℕ) (values : Fi
         λ of. let line = are.lined r of in is.1 (has_flat (λ (v : ℕ × V). lines v.0 v.1) (entries values) (line.0, line.1) r (got_entry values line.0 line.1 line.2) line.3),
       )
 
-  -- ---- taken out and put anew
+  -- ---- the rows of one number deleted and put anew
 
   module _ (table : Table) (n : ℕ) where
     -- a wanted row with this number is one of the rows of the number's value
@@ -69,6 +69,7 @@ module _ {V : Type 0} (lines : ℕ → V → List Row) (more : ℕ) (values : Fi
         let number : line.0 ≡ n = same_number line.0 n (sym (are.numbered line.0 line.1 r line.3) ∙ begins_key n r is) in
         (line.1, ap (get values) (sym number) ∙ line.2, subst (λ k. Has (lines k line.1) r) number line.3)
 
+    -- in the database, deleting the rows of a number and putting those of its value rewrites the rows of the number
     lines_rewrite : (old mid new : Database) → Drops table 1 (int n ∷ []) old mid → (v : V) → get values n ≡ Some v
         → PutsRows table (suc more) (lines n v) mid new → RewritesGroup table Wanted n old new
     lines_rewrite old mid new dropped v there did = rewrites_key (begins (is_number n)) (λ r. take 1 r ≡ int n ∷ []) (Has (lines n v)) Wanted (begins_key n) (key_begins n)
@@ -83,12 +84,13 @@ module _ {V : Type 0} (lines : ℕ → V → List Row) (more : ℕ) (values : Fi
               λ h. (did.rows r).1 (all.1 (elim h [ inl here ↦ inl here | inr kept ↦ inr ((dropped.rows r).1 kept) ])),
             )
 
+    -- in the database, deleting the rows of a number that the map lacks rewrites the rows of the number
     bare_rewrite : (old new : Database) → Drops table 1 (int n ∷ []) old new → get values n ≡ None → RewritesGroup table Wanted n old new
     bare_rewrite old new dropped none = rewrites_key (begins (is_number n)) (λ r. take 1 r ≡ int n ∷ []) (λ r. ⊥) Wanted (begins_key n) (key_begins n) (λ r never. absurd never)
         (λ r is of. let line = lined_at r is of in none-some line.0 (sym none ∙ line.1))
         table old new (λ r. let so = dropped.rows r in (λ h. inr (so.0 h), λ h. so.1 (kept_only h))) dropped.others
 
-    -- deleting the rows of a number and putting its rows anew rewrites them
+    -- deleting the rows of a number and putting the rows of its value rewrites the rows of the number
     pub lines_done : (v : V) → get values n ≡ Some v → (old mid new : State) → Inside HasTables (Drops table 1 (int n ∷ [])) old mid
         → Inside HasTables (PutsRows table (suc more) (lines n v)) mid new → Inside HasTables (RewritesGroup table Wanted n) old new
     lines_done v there old mid new one two =
@@ -96,7 +98,7 @@ module _ {V : Type 0} (lines : ℕ → V → List Row) (more : ℕ) (values : Fi
         let puts = PutsRows table (suc more) (lines n v) in
         inside_weaker HasTables (Both drops puts) (RewritesGroup table Wanted n) old new (λ has did. lines_rewrite old.now did.0 new.now did.1 v there did.2) (inside_then HasTables drops puts old mid new one two)
 
-    -- deleting the rows of a number that is no more rewrites them
+    -- deleting the rows of a number that the map lacks rewrites the rows of the number
     pub bare_done : get values n ≡ None → (old new : State) → Inside HasTables (Drops table 1 (int n ∷ [])) old new
         → Inside HasTables (RewritesGroup table Wanted n) old new
     bare_done none old new did = inside_weaker HasTables (Drops table 1 (int n ∷ [])) (RewritesGroup table Wanted n) old new (λ has drops. bare_rewrite old.now new.now drops none) did

@@ -42,7 +42,7 @@ beside_booked books e t n f u far = other_amount books e t (amount_in books e t 
 
 -- ---- how the campaign after a joining differs
 
--- The campaign after a join is the one before with these faction, unit and report, and the money booked.
+-- The campaign after a join: that before it with this faction, unit and report, and with money and people booked.
 record IsArrival (n : ℕ) (f : Faction) (m : ℕ) (u : Unit) (report : List ℕ) (before after : CampaignValue) : Type 0 where
   factions : after.factions ≡ insert before.factions n f
   units : after.units ≡ insert before.units m u
@@ -59,7 +59,7 @@ record IsArrival (n : ℕ) (f : Faction) (m : ℕ) (u : Unit) (report : List ℕ
 found_is : {V : Type 0} (m after : FinMap nat_cmp V) (n k : ℕ) (v w : V) → after ≡ insert m n v → k ≡ n → get after k ≡ Some w → v ≡ w
 found_is {V} m after n k v w is same got = same_Some v w (sym (get_inserted m n v) ∙ ap (λ (x : FinMap nat_cmp V). get x n) (sym is) ∙ ap (get after) (sym same) ∙ got)
 
--- a join with its first report is such an arrival (`IsArrival`)
+-- a join after which the first report is stored adds faction, unit and report, and books two amounts (`IsArrival`)
 arrives : (n : ℕ) (f : Faction) (m : ℕ) (u : Unit) (report : List ℕ) (before after : CampaignValue) → IsFound after n f m u report → IsJoining before n after → IsArrival n f m u report before after
 unfolding joined
 arrives n f m u report before after found joining =
@@ -98,7 +98,7 @@ arrives n f m u report before after found joining =
 
 -- ---- the statements of a joining
 
--- a table with one campaign row has the new one alone after it is put
+-- a table with one campaign row has only the new campaign row after this is put
 put_campaign_row : (rows news : List Row) (text : List ℕ) (before after : CampaignRowValue) → Is rows (λ r. r ≡ campaign_row before text) → Is news (put 1 (campaign_row after text) (Has rows)) → Is news (λ r. r ≡ campaign_row after text)
 put_campaign_row rows news text before after was made r = (
   λ there. elim ((made r).0 there) [ inl same ↦ same | inr kept ↦ absurd (kept.1 (ap (take 1) ((was r).0 kept.0))) ],
@@ -113,7 +113,7 @@ Enrolls n f m u after world = Both (PutsCampaignRow (campaign_row_of after) worl
 abbrev Welcomes : ℕ → List ℕ → CampaignValue → Database → Database → Type 0
 Welcomes n report after = Both (Puts report_table 1 (report_row n report)) (Both (Settles after Joining Money) (Settles after Joining People))
 
--- a table that other steps left alone changes by its own step
+-- a table that the steps before and after leave alone changes as the step between changes it
 rows_moved : (t : Table) (F : List Row → Set) (a b c d : Database) → b.trees t.tree ≡ a.trees t.tree → d.trees t.tree ≡ c.trees t.tree → Is (rows_in t c.trees) (F (rows_in t b.trees)) → Is (rows_in t d.trees) (F (rows_in t a.trees))
 rows_moved t F a b c d first last is = subst (λ rows. Is rows (F (rows_in t a.trees))) (sym (ap (map (visible t)) last)) (subst (λ rows. Is (rows_in t c.trees) (F rows)) (ap (map (visible t)) first) is)
 
@@ -125,7 +125,7 @@ settled_on c e t rows news S was is r = (
 )
 
 module _ (n : ℕ) (f : Faction) (m : ℕ) (u : Unit) (report : List ℕ) (after : CampaignValue) (found : IsFound after n f m u report) where
-  -- both steps together are the writes of a join
+  -- enrolling and then welcoming a faction are together the write of a join (`WritesJoin`)
   joins : (world : List ℕ) (a b d : Database) → Enrolls n f m u after world a b → Welcomes n report after b d → WritesJoin n after a d
   joins world a b d enrolls reports before text was =
       let x = enrolls.0 in
@@ -193,7 +193,7 @@ module _ (n : ℕ) (f : Faction) (m : ℕ) (u : Unit) (report : List ℕ) (after
           (λ there. people.0 ((enters.books r).0 there), λ of. (enters.books r).1 (people.1 of))
       rows part = subst (λ (c : CampaignValue). Is (rows_in (table_of part) d.trees) (rows_for (campaign_line text c) c part)) (sym joining.7) (stays part refl)
 
--- the three steps write faction, unit and campaign row
+-- putting the rows of campaign, faction and unit enrolls the faction (`Enrolls`)
 pub enrolling_done : (n : ℕ) (f : Faction) (m : ℕ) (u : Unit) (after : CampaignValue) (world : List ℕ) (start one two three : State) → Inside HasTables (PutsCampaignRow (campaign_row_of after) world) start one → Inside HasTables (Puts faction_table 1 (faction_line n f)) one two
     → Inside HasTables (Puts unit_table 1 (unit_line m u)) two three → Inside HasTables (Both (PutsCampaignRow (campaign_row_of after) world) (Both (Puts faction_table 1 (faction_line n f)) (Puts unit_table 1 (unit_line m u)))) start three
 enrolling_done n f m u after world start one two three first second third =
@@ -201,7 +201,7 @@ enrolling_done n f m u after world start one two three first second third =
     let units = Puts unit_table 1 (unit_line m u) in
     inside_then HasTables (PutsCampaignRow (campaign_row_of after) world) (Both factions units) start one three first (inside_then HasTables factions units one two three second third)
 
--- the three steps write the report and the books
+-- putting the report and writing the two amounts welcomes the faction (`Welcomes`)
 pub reporting_done : (n : ℕ) (report : List ℕ) (after : CampaignValue) (start one two three : State) → Inside HasTables (Puts report_table 1 (report_row n report)) start one → Inside HasTables (Settles after Joining Money) one two
     → Inside HasTables (Settles after Joining People) two three → Inside HasTables (Both (Puts report_table 1 (report_row n report)) (Both (Settles after Joining Money) (Settles after Joining People))) start three
 reporting_done n report after start one two three first second third =
@@ -209,7 +209,7 @@ reporting_done n report after start one two three first second third =
     let people = Settles after Joining People in
     inside_then HasTables (Puts report_table 1 (report_row n report)) (Both money people) start one three first (inside_then HasTables money people one two three second third)
 
--- both together write the join
+-- enrolling and then welcoming a faction writes the join, inside a transaction
 pub joining_done : (n : ℕ) (f : Faction) (m : ℕ) (u : Unit) (report : List ℕ) (after : CampaignValue) (world : List ℕ) (start one two : State) → IsFound after n f m u report
     → Inside HasTables (Both (PutsCampaignRow (campaign_row_of after) world) (Both (Puts faction_table 1 (faction_line n f)) (Puts unit_table 1 (unit_line m u)))) start one
     → Inside HasTables (Both (Puts report_table 1 (report_row n report)) (Both (Settles after Joining Money) (Settles after Joining People))) one two → Inside HasTables (WritesJoin n after) start two
@@ -217,9 +217,9 @@ joining_done n f m u report after world start one two found first second =
     inside_weaker HasTables (Both (Enrolls n f m u after world) (Welcomes n report after)) (WritesJoin n after) start two (λ has did. joins n f m u report after found world start.now did.0 two.now did.1 did.2)
     (inside_then HasTables (Enrolls n f m u after world) (Welcomes n report after) start one two first second)
 
--- ---- a mail
+-- ---- a mailing
 
--- tables that held a campaign hold it with this mailing
+-- tables that held a campaign hold it with this faction's mailing, once the mailing is written
 pub mail_held : (faction : ℕ) (mail : List ℕ) (a b : Database) → WritesMail faction mail a b → (text : List ℕ) (before : CampaignValue) → Holds a.trees text before → Holds b.trees text (with_mail before faction mail)
 mail_held faction mail a b did text before holds = record { rows = rows }
   where

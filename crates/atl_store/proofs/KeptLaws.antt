@@ -1,4 +1,4 @@
--- Laws on parts with one row for each number: which statements are theirs, and how their tables are filled and rewritten.
+-- Laws on parts with one row for each number: their statements, and how their tables are filled and rewritten.
 use Rattle.std.proofs.Common.{◌≡◌, ℕ, Bool, true, false, List, [], ◌∷◌, None, take, refl, sym, ap, ◌∙◌, subst}
 use Rattle.std.specs.Prelude.{◌↔◌}
 use Rattle.std.specs.Ordering.{nat_cmp}
@@ -31,26 +31,28 @@ key_one Books is = absurd is
 key_one Markets is = absurd is
 key_one part is = refl
 
--- ---- chosen rows, said otherwise
+-- ---- chosen rows of two equivalent sets
 
+-- a choice between wanted and old rows is the same for equivalent wanted sets
 chosen_as : (b : Bool) (P Q W : Type 0) → (P ↔ Q) → Chosen b P W ↔ Chosen b Q W
 chosen_as true P Q W same = same
 chosen_as false P Q W same = (λ h. h, λ h. h)
 
+-- rows rewritten by one test and wanted set are rewritten by an equal test and an equivalent set
 rewritten_as : (one other : Row → Bool) (P Q : Set) → ((r : Row) → one r ≡ other r) → ((r : Row) → P r ↔ Q r) → (after before : List Row) → Is after (rows_after_rewrite one P (Has before)) → Is after (rows_after_rewrite other Q (Has before))
 rewritten_as one other P Q same are after before is r =
     let turned = subst (λ b. Chosen (one r) (P r) (Has before r) ↔ Chosen b (Q r) (Has before r)) (same r) (chosen_as (one r) (P r) (Q r) (Has before r) (are r)) in
     (λ there. turned.0 ((is r).0 there), λ h. (is r).1 (turned.1 h))
 
--- ---- a part whose rows are these
+-- ---- a part with one row for each number
 
 module _ {V : Type 0} (part : Part) (line : ℕ → V → Row) (values : CampaignValue → FinMap nat_cmp V) (are : (own : Row) (c : CampaignValue) (r : Row) → rows_for own c part r ↔ RowsOf line (values c) r) where
-  -- the upsert of a row of the part is one of its statements
+  -- the upsert of a row of the part is a statement of the campaign's rows (`OfRow`)
   pub puts_line : key_of part ≡ 1 → (c : CampaignValue) (r : Row) → RowsOf line (values c) r → OfRow c (upsert (table_of part) 1) r
   puts_line key c r is = subst (λ k. OfRow c (upsert (table_of part) k) r) key (puts_row part (λ own. (are own c r).1 is))
 
   module _ (numbered : (n : ℕ) (v : V) → take 1 (line n v) ≡ int n ∷ []) where
-    -- the deletion of a number that the map lacks is one of the change's statements
+    -- the DELETE of the row of a number that the map lacks is a statement of a change (`OfChange`)
     pub drops_none : key_of part ≡ 1 → (c : CampaignValue) (n : ℕ) → get (values c) n ≡ None → OfChange c (deletion (table_of part) 1) (int n ∷ [])
     drops_none key c n none = subst (λ k. OfChange c (deletion (table_of part) k) (int n ∷ [])) key (drops_row part (
       sym key,
@@ -60,11 +62,11 @@ module _ {V : Type 0} (part : Part) (line : ℕ → V → Row) (values : Campaig
           absurd (let there = sym of.2 ∙ ap (get (values c)) number ∙ none in cc),
     ))
 
-    -- putting the rows of all entries fills the part
+    -- putting the rows of all entries fills the part's table, if it was empty (`FillsPart`)
     pub kept_filled : (c : CampaignValue) (es : List (ℕ × V)) → es ≡ entries (values c) → (old new : Database) → PutsRows (table_of part) 1 (lines_of line es) old new → FillsPart c part old new
     kept_filled c = numbered_filled c part line numbered (values c) (λ own rows is r. (λ there. (are own c r).1 ((is r).0 there), λ of. (is r).1 ((are own c r).0 of)))
 
-  -- rewriting the dirty rows rewrites the part
+  -- rewriting the rows of the dirty numbers rewrites the part (`RewritesPart`)
   pub kept_rewritten : (marks : Marks → FinSet nat_cmp) → ((m : Marks) (r : Row) → is_marked m part r ≡ begins_marked (marks m) r) → (c : MarkedCampaign) (old new : Database)
       → RewritesMarked (table_of part) line (values c.value) (marks c.marks) old new → RewritesPart c part old new
   kept_rewritten marks marked c old new did own = one_changed (Becomes c own) part _ old new did (rewritten_as (begins_marked (marks c.marks)) (is_marked c.marks part) (RowsOf line (values c.value)) (rows_for own c.value part)

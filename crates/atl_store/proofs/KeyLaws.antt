@@ -20,7 +20,7 @@ int_by (Blob b) typed some = absurd (true≢false (sym typed))
 pub cons_is : (a b : Value) (xs ys : Row) → ◌≡◌ {A = Row} (a ∷ xs) (b ∷ ys) → (a ≡ b) × (xs ≡ ys)
 cons_is a b xs ys e = (cc, cc)
 
--- the test of the key alone, if no other index tests anything
+-- a test "`b` or `rest`" is `b`, if `rest` is false
 pub unwrapped : (b rest : Bool) → rest ≡ false → (b || rest) ≡ b
 unwrapped true rest none = refl
 unwrapped false rest none = none

@@ -39,12 +39,12 @@ module _ {A : Type 0} (shown : A → Row) (number : A → ℤ) (at : ℕ) (is : 
   same_test : (a b : A) → is_eq (value_cmp (column (shown a) at) (column (shown b) at)) ≡ int_eq (number a) (number b)
   same_test a b = ap (λ v. is_eq (value_cmp v (column (shown b) at))) (is a) ∙ ap (λ v. is_eq (value_cmp (Int (number a)) v)) (is b) ∙ ap is_eq (value_cmp-Int (number a) (number b))
 
-  -- a number that differs from others is shown differently from each
+  -- a number that differs from all others is shown by a different value from each of theirs
   each_apart : (a : A) (xs : List A) → AllByRecursion (λ n. int_eq (number a) n ≡ false) (map number xs) → AllByRecursion (λ r. is_eq (value_cmp (column (shown a) at) (column r at)) ≡ false) (map shown xs)
   each_apart a [] all = tt
   each_apart a (x ∷ xs) all = (same_test a x ∙ all.0, each_apart a xs all.1)
 
-  -- different numbers are shown in different columns' values
+  -- different numbers are shown by different values of the column
   columns_apart : (xs : List A) → IsDistinct int_eq (map number xs) → IsDistinct (λ a b. is_eq (value_cmp (column a at) (column b at))) (map shown xs)
   unfolding IsDistinct
   columns_apart [] apart = tt
@@ -70,8 +70,9 @@ module _ {A : Type 0} (shown : A → Row) (number : A → ℤ) (at : ℕ) (is : 
   numbers_apart [] apart = tt
   numbers_apart (x ∷ xs) apart = (each_number_apart x xs apart.0, numbers_apart xs apart.1)
 
--- ---- lines of the entries of a map, which have their numbers in the first column
+-- ---- rows of the entries of a map, with the numbers in the first column
 
+-- two different numbers differ by the equality of integers
 differ : (m n : ℕ) → m ≢ n → int_eq (pos m) (pos n) ≡ false
 differ m n apart = elim (cases_Bool (int_eq (pos m) (pos n))) [ inl same ↦ absurd (apart (grind (ints, arith))) | inr differs ↦ differs ]
 
@@ -90,7 +91,7 @@ entries_apart {V} (e ∷ es) sorted = (
 pub lines_keys : {V : Type 0} (line : ℕ → V → Row) → ((n : ℕ) (v : V) → column (line n v) 0 ≡ Int (pos n)) → (m : FinMap nat_cmp V) → HaveKeys 0 (lines_of line (entries m))
 lines_keys {V} line numbered m = numbers_keys (λ (e : ℕ × V). line e.0 e.1) (λ (e : ℕ × V). pos e.0) 0 (λ e. numbered e.0 e.1) (entries m) (entries_apart (entries m) (in_order m))
 
--- one row with a number has no second one
+-- a list of one row with an integer in its first column has different integers there (`HaveKeys`)
 pub one_keys : (row : Row) (n : ℤ) → column row 0 ≡ Int n → HaveKeys 0 (row ∷ [])
 unfolding IsDistinct
 one_keys row n is = record { apart = (tt, tt); ints = (ap is_int is, tt) }
@@ -111,7 +112,7 @@ cut_row : (part : Part) (r : Row) → take (width part) (placed_row part r) ≡ 
 cut_row Own r = refl
 cut_row part r = refl
 
--- the last column of such a row is its rowid
+-- the last column of a row shown with its rowid is the rowid
 row_place : (part : Part) (r : Row) → column (placed_row part r) (width part) ≡ rowid r
 row_place Own r = refl
 row_place part r = refl
@@ -124,7 +125,7 @@ shown_by Books = inl (refl, λ db. refl)
 shown_by Markets = inl (refl, λ db. refl)
 shown_by part = inr (refl, λ db. refl, λ r. refl)
 
--- the listing of such a part shows each row with its rowid
+-- if a part is shown with rowids, its listing shows each row with its rowid
 in_places : (part : Part) → shows_rowids part ≡ true → (db : Trees) → (listing_of part).in_table db ≡ map (placed_row part) (db (table_of part).tree)
 in_places part is = elim (shown_by part) [ inl places ↦ places.1 | inr whole ↦ absurd (true≢false (sym is ∙ whole.0)) ]
 
@@ -132,35 +133,35 @@ in_places part is = elim (shown_by part) [ inl places ↦ places.1 | inr whole �
 row_number : (part : Part) → shows_rowids part ≡ false → (r : Row) → column (visible (table_of part) r) 0 ≡ rowid r
 row_number part is = elim (shown_by part) [ inl places ↦ absurd (true≢false (sym places.0 ∙ is)) | inr whole ↦ whole.2 ]
 
--- without their rowids, rows of such a part have their first columns alone
+-- removing the rowids from the rows of a part that shows them leaves the first columns
 pub cut_places : (part : Part) (rows : List Row) → shows_rowids part ≡ true → without_ids part rows ≡ map (take (width part)) rows
 cut_places part rows is = ap (λ b. if b then map (take (width part)) rows else rows) is
 
--- rows of a part that is read without rowids stay as they are
+-- removing the rowids from the rows of a part that shows none leaves the rows as they are
 pub cut_nothing : (part : Part) (rows : List Row) → shows_rowids part ≡ false → without_ids part rows ≡ rows
 cut_nothing part rows is = ap (λ b. if b then map (take (width part)) rows else rows) is
 
 module _ (part : Part) (db : Trees) (rows : List Row) where
-  -- all rows with rowids, cut, are all rows of the table
+  -- all rows shown with rowids are, without the rowids, all rows of the table
   without_places : IsPermutation (map (placed_row part) (db (table_of part).tree)) rows → IsPermutation (rows_in (table_of part) db) (map (take (width part)) rows)
   without_places same =
       subst (λ l. IsPermutation l (map (take (width part)) rows)) (mapped_twice (placed_row part) (take (width part)) (visible (table_of part)) (cut_row part) (db (table_of part).tree))
       (IsPermutation-map (take (width part)) (map (placed_row part) (db (table_of part).tree)) rows same)
 
   module _ (is : shows_rowids part ≡ true) (same : IsPermutation ((listing_of part).in_table db) rows) where
-    -- the rows shown are a permutation of all rows with their rowids
+    -- the rows that the listing shows are a permutation of all rows with their rowids
     same_placed : IsPermutation (map (placed_row part) (db (table_of part).tree)) rows
     same_placed = subst (λ l. IsPermutation l rows) (in_places part is db) same
 
-    -- if the rowids that are shown differ, the tree's rowids do
+    -- if the rowids that are shown are different integers, so are the tree's rowids
     pub places_keyed : HaveKeys (width part) rows → IsKeyed (db (table_of part).tree)
     places_keyed keys = keyed_by (placed_row part) (width part) (db (table_of part).tree) rows (row_place part) same_placed keys
 
-    -- if the tree's rowids differ, those that are shown do
+    -- if the tree's rowids are different integers, so are the rowids that are shown
     pub keyed_places : IsKeyed (db (table_of part).tree) → HaveKeys (width part) rows
     keyed_places keyed = keyed_shown (placed_row part) (width part) (db (table_of part).tree) rows (row_place part) same_placed keyed
 
-  -- if the numbers in the first column differ, the tree's rowids do
+  -- if the first column, which shows the rowid, has different integers, so have the tree's rowids
   pub numbers_keyed : shows_rowids part ≡ false → IsPermutation (rows_in (table_of part) db) rows → HaveKeys 0 rows → IsKeyed (db (table_of part).tree)
   numbers_keyed is same keys = keyed_by (visible (table_of part)) 0 (db (table_of part).tree) rows (row_number part is) same keys
 
@@ -171,7 +172,7 @@ module _ (part : Part) (db : Trees) (rows : List Row) where
     | inr whole ↦ subst (IsPermutation (rows_in (table_of part) db)) (sym (cut_nothing part rows whole.0)) (subst (λ l. IsPermutation l rows) (whole.1 db) same)
   ]
 
--- ---- rows that were read with their places
+-- ---- rows that were read with their rowids
 
 -- A row that was read with its rowid is shown as its values and after them the rowid.
 pub record IsPlacedAs {A : Type 0} (part : Part) (stored : RowWithId A → Row) (values : A → Row) : Type 0 where
@@ -184,41 +185,41 @@ module _ {A : Type 0} {part : Part} {stored : RowWithId A → Row} {values : A �
   placed_values =
       mapped_twice (λ (s : RowWithId A). s.row) values (λ (s : RowWithId A). values s.row) (λ s. refl) placed ∙ sym (mapped_twice stored (take (width part)) (λ (s : RowWithId A). values s.row) is.values_are placed)
 
-  -- rows read with different rowids are shown with different ones
+  -- if the rowids that were read differ, the shown rows have different integers after their values
   pub placed_keys : AreApart placed → HaveKeys (width part) (map stored placed)
   placed_keys apart = numbers_keys stored (λ s. s.rowid) (width part) is.place_is placed apart
 
-  -- rows shown with different rowids are read with different ones
+  -- if the shown rows have different integers after their values, the rowids that were read differ
   pub placed_apart : HaveKeys (width part) (map stored placed) → AreApart placed
   placed_apart keys = numbers_apart stored (λ s. s.rowid) (width part) is.place_is placed keys.apart
 
--- the rows of `has` are read with their rowids
+-- a row of `has` that was read is shown as its values and after them its rowid
 pub has_placed : IsPlacedAs Goods has_stored has_values
 has_placed = record { values_are = λ s. refl; place_is = λ s. refl }
 
--- the rows of `books` are read with their rowids
+-- a row of `books` that was read is shown as its values and after them its rowid
 pub books_placed : IsPlacedAs Books books_stored books_values
 books_placed = record { values_are = λ s. refl; place_is = λ s. refl }
 
--- the rows of `market` are read with their rowids
+-- a row of `market` that was read is shown as its values and after them its rowid
 pub market_placed : IsPlacedAs Markets market_stored market_values
 market_placed = record { values_are = λ s. refl; place_is = λ s. refl }
 
--- ---- the rows that are to be judged
+-- ---- the rows that are to be checked
 
 -- The rows of a part that are to be checked are those that were read, without their rowids, which differ.
 pub record IsMadeAs (p : Parts) (read : Part × List Row) : Type 0 where
   pub rows : (text : List ℕ) → rows_read text p read.0 ≡ without_ids read.0 read.1
   pub apart : shows_rowids read.0 ≡ true → HaveKeys (width read.0) read.1
 
--- a part that is read without rowids is made as it was read
+-- a part that is read without rowids has for the check the rows as they were read (`IsMadeAs`)
 pub made_whole : {p : Parts} {rows : List Row} (part : Part) → shows_rowids part ≡ false → ((text : List ℕ) → rows_read text p part ≡ rows) → IsMadeAs p (part, rows)
 made_whole {p} {rows} part free are = record {
   rows = λ text. are text ∙ sym (cut_nothing part rows free);
   apart = λ placed. absurd (true≢false (sym placed ∙ free));
 }
 
--- a part that is read with rowids is made of its rows, if these differ in them
+-- a part that is read with rowids has for the check its rows without them, if the rowids differ (`IsMadeAs`)
 pub made_placed : {p : Parts} {A : Type 0} {part : Part} {stored : RowWithId A → Row} {values : A → Row} → IsPlacedAs part stored values → shows_rowids part ≡ true → (placed : List (RowWithId A))
     → ((text : List ℕ) → rows_read text p part ≡ map values (map (λ s. s.row) placed)) → AreApart placed → IsMadeAs p (part, map stored placed)
 made_placed {p} {A} {part} {stored} {values} is has placed are apart = record {
@@ -226,7 +227,7 @@ made_placed {p} {A} {part} {stored} {values} is has placed are apart = record {
   apart = λ _. placed_keys is placed apart;
 }
 
--- the rows of all parts are made of what was read
+-- if each part has the rows that were read of it, all parts are made of what was read (`IsMadeOf`)
 pub made_of : {head : StoredCampaignRow} {reads : ReadRows} {p : Parts} → map (λ read. read.0) reads ≡ other_parts Second → p.campaign ≡ head ∷ [] → AllByRecursion (IsMadeAs p) reads → IsMadeOf head reads p
 made_of {head} {reads} {p} parts campaign all = record {
   parts = parts;
@@ -235,7 +236,7 @@ made_of {head} {reads} {p} parts campaign all = record {
   apart = record { each = λ read there. (all_has (IsMadeAs p) reads read all there).apart };
 }
 
--- if two rows of a part have one rowid, the rowids don't all differ
+-- a fault of testing the rowids of one part is a fault of testing those of all parts (`Lacks`)
 pub lacks_all : {A B : Type 0} {part : Part} {stored : RowWithId A → Row} {values : A → Row} → IsPlacedAs part stored values → shows_rowids part ≡ true → (placed : List (RowWithId A)) (reads : ReadRows) → Has reads (part, map stored placed)
     → (fault : LoadFault) → Lacks (AreApart placed) fault → (r : Result B LoadFault) → IsErrAnd r (λ told. told ≡ fault) → IfErr r (Lacks (AreAllApart reads))
 lacks_all is has placed reads there fault lacks (Ok b) told = tt

@@ -41,7 +41,7 @@ use Rattle.atl_store.proofs.MakeLaws.{did, upserts_make, loses_make}
 use Rattle.atl_store.proofs.StatementLaws.{AlwaysPlain, DoneBy, upserting, removes, done_by}
 use Rattle.atl_store.proofs.UpsertLaws.{Upserted, update_query, clause_on, equal_is, is_equal, differ_not}
 
--- ---- two rows at some places
+-- ---- two rows in some columns
 
 -- the values of a row in these columns, given by index
 abbrev pub at_places : List ℕ → Row → Row
@@ -72,7 +72,8 @@ agree_same (p ∷ places) x y ints same =
 
 -- ---- the table and its statements
 
--- The columns `places` of table `t` are its key: whole numbers, shown first, and the only unique columns. `at` is the table's index among all.
+-- The columns of index `places` are the key of table `t`: whole numbers, shown first, and the only unique columns.
+-- `at` is the table's index among all tables.
 pub record HasKey (t : Table) (at : ℕ) (places : List ℕ) : Type 0 where
   pub ours : Has all_tables t
   pub place : (more : List Table) → slice_get (all_tables ++ more) at ≡ Some t
@@ -95,7 +96,7 @@ abbrev pub IsPutUnder : ℕ → ℕ → List ℕ → List ℕ → ℕ → List T
 IsPutUnder tree at places sql width terms hole project = (more : List Table) (indexes : List Index)
     → command_of (understood (all_and more indexes) sql) ≡ InsertOr at Abort (Values terms width) (clause_on places (record { lets = []; body = update_query tree hole project }) ∷ [])
 
--- The terms make these values, whether the row is put or changed, and under whatever rowid.
+-- The terms make a row that shows these values, whether it is inserted or updated, and under whatever rowid.
 pub record MakesValues (t : Table) (places : List ℕ) (width : ℕ) (terms : List Term) (hole : ℕ) (project : List Term) (values : Row) : Type 0 where
   pub source : value_rows (values ++ []) width (length terms / width) terms ≡ (Null ∷ values) ∷ []
   pub casted : cast_row t (Null ∷ values) ≡ Null ∷ values
@@ -106,7 +107,7 @@ pub record MakesValues (t : Table) (places : List ℕ) (width : ℕ) (terms : Li
   pub changed : (more r : Row) → at_places places r ≡ take (length places) values
       → visible t (cast_row t (eval_all project ((values ++ more) ∷ r ∷ []))) ≡ values
 
--- one of the tables, at this place among them
+-- the table of index `at` among the tables of a campaign, with a key of whole numbers
 module _ (tree : ℕ) (name : List ℕ) (columns : List Column) (places : List ℕ) (at : ℕ) where
   -- the table of index `at`
   abbrev t : Table
@@ -120,7 +121,7 @@ module _ (tree : ℕ) (name : List ℕ) (columns : List Column) (places : List �
       key_ints : (x : Row) → Has (db tree) x → AreInts places x
       key_ints x there = key.ints schema x (keeps_at Datatype schema db t x (sound.listed.obeys.rules Datatype) (among_all more t key.ours) there) (keeps_at NotNull schema db t x (sound.listed.obeys.rules NotNull) (among_all more t key.ours) there)
 
-      -- two rows with one key have one rowid
+      -- two rows of the table with the same key have the same rowid
       alone : (x r : Row) → Has (db tree) x → Has (db tree) r → take (length places) (visible t x) ≡ take (length places) (visible t r)
           → is_eq (value_cmp (rowid x) (rowid r)) ≡ true
       alone x r one two same =
@@ -132,7 +133,7 @@ module _ (tree : ℕ) (name : List ℕ) (columns : List Column) (places : List �
             | inr near ↦ near
           ])
 
-    -- ---- putting
+    -- ---- the upsert of a row
 
     puts : (sql : List ℕ) (width hole : ℕ) (terms project : List Term) → IsPutUnder tree at places sql width terms hole project → AlwaysPlain sql
         → (values : Row) → MakesValues t places width terms hole project values
@@ -171,12 +172,12 @@ module _ (tree : ℕ) (name : List ℕ) (columns : List Column) (places : List �
           done_with t old.now new.now has key.ours _ _ (λ did. did) makes,
     )
 
-    -- the upsert puts its row in place of the one with its key
+    -- the upsert that ran put its row, and replaced the row with the same key
     pub puts_keyed : (sql : List ℕ) (width hole : ℕ) (terms project : List Term) → IsPutUnder tree at places sql width terms hole project
         → AlwaysPlain sql → (values : Row) → MakesValues t places width terms hole project values → DoneBy sql values (Puts t (length places) values)
     puts_keyed sql width hole terms project means asks values writes = done_by sql values (Puts t (length places) values) (puts sql width hole terms project means asks values writes)
 
-    -- ---- taking out what has the first columns of the key
+    -- ---- the DELETE of rows by the first columns of the key
 
     drops : (sql : List ℕ) (filter : List Term) → IsTakeOut tree at sql filter → AlwaysPlain sql → (front : List ℕ)
         → ((x : Row) → AreInts places x → AreInts front x) → ((x : Row) → take (length front) (visible t x) ≡ at_places front x)
@@ -207,7 +208,7 @@ module _ (tree : ℕ) (name : List ℕ) (columns : List Column) (places : List �
           done_with t old.now new.now has key.ours _ _ (λ did. did) makes,
     )
 
-    -- the DELETE removes the rows whose first key columns are these
+    -- the DELETE removes the rows whose first columns of the key are the parameters
     pub drops_keyed : (sql : List ℕ) (filter : List Term) → IsTakeOut tree at sql filter → AlwaysPlain sql → (front : List ℕ)
         → ((x : Row) → AreInts places x → AreInts front x) → ((x : Row) → take (length front) (visible t x) ≡ at_places front x)
         → (k : Row) → AreInts front (Null ∷ k) → at_places front (Null ∷ k) ≡ k

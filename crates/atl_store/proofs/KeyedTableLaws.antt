@@ -31,7 +31,7 @@ data Keyed : Type 0 where
   InBooks : Keyed
   InMarket : Keyed
 
--- the part of each
+-- the part of each of the three: `has`, `books` and `market`
 abbrev part_of : Keyed → Part
 part_of InHas = Goods
 part_of InBooks = Books
@@ -43,6 +43,7 @@ width_of part = length (table_of part).columns
 
 -- ---- the numbers of the key
 
+-- a row of `has` that passes the table's checks has integers in its key
 goods_ints : (schema : Schema) (x : Row) → passes Datatype schema (λ t. []) has_table x ≡ true → passes NotNull schema (λ t. []) has_table x ≡ true
     → AreInts has_unique x
 goods_ints schema [] typed present = absurd (true≢false (sym present))
@@ -58,13 +59,14 @@ goods_ints schema (r ∷ a ∷ b ∷ c ∷ rest) typed present =
     let p3 = and_parts _ _ p2.1 in
     (int_by a t1.0 (not-true _ p1.0), (int_by b t2.0 (not-true _ p2.0), (int_by c t3.0 (not-true _ p3.0), tt)))
 
+-- a row of `has`, `books` or `market` that passes the table's checks has integers in its key
 ints_of : (k : Keyed) (schema : Schema) (x : Row) → passes Datatype schema (λ t. []) (table_of (part_of k)) x ≡ true → passes NotNull schema (λ t. []) (table_of (part_of k)) x ≡ true
     → AreInts (table_of (part_of k)).primary x
 ints_of InHas = goods_ints
 ints_of InBooks = pair_ints 10 (codes "books") (codes "entry") (codes "thing") (codes "amount")
 ints_of InMarket = pair_ints 12 (codes "market") (codes "region") (codes "item") (codes "stock")
 
--- the primary key of each of these tables is its key (`HasKey`)
+-- the first columns of `has`, `books` and `market` are the table's key, and its only unique key (`HasKey`)
 key_is : (k : Keyed) → HasKey (table_of (part_of k)) (place_in (part_of k)) (table_of (part_of k)).primary
 unfolding first_key
 key_is InHas = record { ours = listed Goods; place = λ more. refl; plain = λ db. refl; ints = ints_of InHas; first = λ x. refl; unique = λ indexes rows r passed. not-true _ (and_parts _ _ passed).0; hits = λ indexes new x. refl }
@@ -93,7 +95,7 @@ record Statements (part : Part) : Type 0 where
   clears : IsTakeOut (table_of part).tree (place_in part) (deletion (table_of part) 1) (of_key 1)
   clears_plain : AlwaysPlain (deletion (table_of part) 1)
 
--- the statements of each of these tables mean what they should
+-- the statements of `has`, `books` and `market` mean their upsert and DELETEs, whatever other tables follow
 means : (k : Keyed) → Statements (part_of k)
 unfolding understood everything
 means InHas = record { puts = λ more indexes. refl; puts_plain = λ more indexes. (refl, refl); drops = λ more indexes. refl; drops_plain = λ more indexes. (refl, refl); clears = λ more indexes. refl; clears_plain = λ more indexes. (refl, refl) }
@@ -101,6 +103,7 @@ means k = record { puts = λ more indexes. refl; puts_plain = λ more indexes. (
 
 -- ---- a row is put
 
+-- the terms of the upsert of `has` make the row of these four numbers
 makes_has : (unit sort thing amount : ℕ) → MakesValues has_table has_unique 5 (given 4) 4 (taken_over 3 4) (has_row unit sort thing amount)
 makes_has unit sort thing amount = record {
   source = refl;
@@ -116,51 +119,51 @@ makes_has unit sort thing amount = record {
       rw (one.0, two.0, three.0, cast_int (pos unit), cast_int (pos sort), cast_int (pos thing), cast_int (pos amount)) refl;
 }
 
--- the upsert of `has` puts its row
+-- the upsert of `has` that ran put the row of this unit, kind, thing and amount
 pub puts_has : (unit sort thing amount : ℕ) → PutsRow has_table 3 (has_row unit sort thing amount)
 puts_has unit sort thing amount =
     let is = means InHas in
     puts_keyed has_table.tree _ _ has_unique 4 (key_is InHas) (upsert has_table 3) 5 4 (given 4) (taken_over 3 4) is.puts is.puts_plain (has_row unit sort thing amount) (makes_has unit sort thing amount)
 
--- the upsert of `books` puts its row
+-- the upsert of `books` that ran put the row of this entry, thing and amount
 pub puts_books : (entry thing : ℕ) (amount : ℤ) → PutsRow books_table 2 (books_row entry thing amount)
 puts_books entry thing amount =
     let is = means InBooks in
     puts_keyed books_table.tree _ _ books_unique 8 (key_is InBooks) (upsert books_table 2) 4 3 (given 3) (taken_over 2 3) is.puts is.puts_plain (books_row entry thing amount) (makes_pair 10 (codes "books") (codes "entry") (codes "thing") (codes "amount") entry thing amount)
 
--- the upsert of `market` puts its row
+-- the upsert of `market` that ran put the row of this region, item and stock
 pub puts_market : (region item stock : ℕ) → PutsRow market_table 2 (market_row region item stock)
 puts_market region item stock =
     let is = means InMarket in
     puts_keyed market_table.tree _ _ market_unique 9 (key_is InMarket) (upsert market_table 2) 4 3 (given 3) (taken_over 2 3) is.puts is.puts_plain (market_row region item stock) (makes_pair 12 (codes "market") (codes "region") (codes "item") (codes "stock") region item (pos stock))
 
--- ---- rows are taken out
+-- ---- rows are deleted
 
--- the DELETE of `has` by the key removes its row
+-- the DELETE of `has` by the key removes the row of this unit, kind and thing
 pub drops_has : (unit sort thing : ℕ) → DropsKey has_table 3 (has_key unit sort thing)
 drops_has unit sort thing =
     let is = means InHas in
     drops_keyed has_table.tree _ _ has_unique 4 (key_is InHas) (deletion has_table 3) (of_key 3) is.drops is.drops_plain has_unique (λ x ints. ints) (λ x. refl) (has_key unit sort thing) (refl, (refl, (refl, tt))) refl (λ x. refl)
 
--- the DELETE of `books` by the key removes its row
+-- the DELETE of `books` by the key removes the row of this entry and thing
 pub drops_books : (entry thing : ℕ) → DropsKey books_table 2 (books_key entry thing)
 drops_books entry thing =
     let is = means InBooks in
     drops_keyed books_table.tree _ _ books_unique 8 (key_is InBooks) (deletion books_table 2) (of_key 2) is.drops is.drops_plain books_unique (λ x ints. ints) (λ x. refl) (books_key entry thing) (refl, (refl, tt)) refl (λ x. refl)
 
--- the DELETE of `market` by region and item removes the row of these
+-- the DELETE of `market` by the key removes the row of this region and item
 pub drops_stock : (region item : ℕ) → DropsKey market_table 2 (market_key region item)
 drops_stock region item =
     let is = means InMarket in
     drops_keyed market_table.tree _ _ market_unique 9 (key_is InMarket) (deletion market_table 2) (of_key 2) is.drops is.drops_plain market_unique (λ x ints. ints) (λ x. refl) (market_key region item) (refl, (refl, tt)) refl (λ x. refl)
 
--- the DELETE of `has` by the unit removes all its rows
+-- the DELETE of `has` by the unit removes all rows of the unit
 pub drops_goods : (unit : ℕ) → DropsKey has_table 1 (int unit ∷ [])
 drops_goods unit =
     let is = means InHas in
     drops_keyed has_table.tree _ _ has_unique 4 (key_is InHas) (deletion has_table 1) (of_key 1) is.clears is.clears_plain (1 ∷ []) (λ x ints. (ints.0, tt)) (λ x. refl) (int unit ∷ []) (refl, tt) refl (λ x. refl)
 
--- the DELETE of `market` by the region removes all its rows
+-- the DELETE of `market` by the region removes all rows of the region
 pub drops_stocks : (region : ℕ) → DropsKey market_table 1 (int region ∷ [])
 drops_stocks region =
     let is = means InMarket in

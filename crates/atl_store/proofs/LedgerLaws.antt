@@ -23,9 +23,9 @@ use Rattle.atl_store.specs.Lines.{DifferInKey, amount_lines, entries_lines, thin
 use Rattle.atl_store.proofs.EntryLaws.{apart_append, filled, flat_has, has_flat}
 use Rattle.atl_store.proofs.GoodsLaws.{optional_has, has_optional, optional_apart}
 
--- ---- entries by their places
+-- ---- entries by their indexes
 
--- the element of an index is in the list
+-- the element at an index of a list is in the list
 has_at : {X : Type 0} (xs : List X) (k : ℕ) (x : X) → slice_get xs k ≡ Some x → Has xs x
 has_at [] k x is = absurd (none-some x is)
 has_at (y ∷ ys) zero x is = inl (sym (same_Some y x is))
@@ -35,7 +35,7 @@ has_at (y ∷ ys) (suc k) x is = inr (has_at ys k x is)
 pub every_entry : (e : Entry) → Has all_entries e
 every_entry e = has_at all_entries (entry_index e) e (entry_there e)
 
--- whether the indexes of these entries rise
+-- whether each entry of a list has a greater index than the one before it
 abbrev are_sorted : List Entry → Bool
 are_sorted [] = true
 are_sorted (e ∷ es) = list_all (λ f. nat_lt (entry_index e) (entry_index f)) es && are_sorted es
@@ -50,7 +50,7 @@ differs_zero z differs same = grind (ints, arith)
 pub is_differing : (z : ℤ) → z ≢ pos 0 → int_eq z (pos 0) ≡ false
 is_differing z apart = elim (cases_Bool (int_eq z (pos 0))) [ inl same ↦ absurd (apart (grind (ints, arith))) | inr differs ↦ differs ]
 
--- the one row of an amount that is not 0
+-- the rows of an amount that is not 0 are its one row
 pub amount_is : (c : CampaignValue) (entry : Entry) (thing : Thing) (e t : ℕ) (z : ℤ) → e ≡ entry_index entry + 1 → t ≡ thing_index thing → z ≡ amount_in c.books entry thing → z ≢ pos 0 → amount_lines c entry thing ≡ books_row e t z ∷ []
 amount_is c entry thing e t z entry_is thing_is amount some =
     let place = entry_index entry + 1 in
@@ -58,11 +58,11 @@ amount_is c entry thing e t z entry_is thing_is amount some =
     ap (λ (zero : Bool). if zero then [] else books_row place (thing_index thing) value ∷ []) (is_differing value (λ zero. some (amount ∙ zero)))
     ∙ ap (λ n. books_row n (thing_index thing) value ∷ []) (sym entry_is) ∙ ap (λ n. books_row e n value ∷ []) (sym thing_is) ∙ ap (λ n. books_row e t n ∷ []) (sym amount)
 
--- equal keys of two numbers have equal numbers
+-- two keys of `books` are equal only if both numbers are
 pub two_same : (a b c d : ℕ) → ◌≡◌ {A = Row} (books_key a b) (books_key c d) → (a ≡ c) × (b ≡ d)
 two_same a b c d same = (cc, cc)
 
--- ---- places that are there
+-- ---- indexes within bounds
 
 -- an index in a range is within its bounds
 pub range_has : (from count i : ℕ) → Has (range_with_len from count) i → (from ≤ i) × (i < from + count)
@@ -92,14 +92,14 @@ module _ (c : CampaignValue) where
   abbrev row_at : Entry → Thing → Row
   row_at e t = books_row (entry_index e + 1) (thing_index t) (amount_in c.books e t)
 
-  -- each row of a thing is of one of its entries with an amount that is not 0
+  -- each row of a thing is of one of these entries, under which its amount is not 0
   entries_has : (t : Thing) (es : List Entry) (r : Row) → Has (entries_lines c t es) r → (e : Entry) × Has es e × (amount_in c.books e t ≢ pos 0) × (r ≡ row_at e t)
   entries_has t es r there =
       let found = flat_has (λ e. amount_lines c e t) es r there in
       let row = optional_has (int_eq (amount_in c.books found.0 t) (pos 0)) (row_at found.0 t) r found.2 in
       (found.0, found.1, differs_zero (amount_in c.books found.0 t) row.0, row.1)
 
-  -- each amount of a thing that is not 0 has its row
+  -- a thing has a row for each of these entries under which its amount is not 0
   has_entries : (t : Thing) (es : List Entry) (e : Entry) → Has es e → amount_in c.books e t ≢ pos 0 → Has (entries_lines c t es) (row_at e t)
   has_entries t es e there some = has_flat (λ e. amount_lines c e t) es e (row_at e t) there (has_optional (int_eq (amount_in c.books e t) (pos 0)) (row_at e t) (is_differing (amount_in c.books e t) some))
 
@@ -130,7 +130,7 @@ module _ (c : CampaignValue) where
       let places : from ≡ found.0 = sym (place_at from) ∙ keys.1 ∙ place_at found.0 in
       absurd (omega (arith, places, (range_has (from + 1) count found.0 found.1).0)))
 
-  -- each row of some things is one of the rows of the books
+  -- each row that is made for these things is a row of `books` for the campaign
   pub things_rows : (places : List ℕ) (r : Row) → Has (things_lines c places) r → BooksRowsOf c.books r
   things_rows places r there =
       let found = flat_has (λ place. entries_lines c (thing_at place) all_entries) places r there in

@@ -48,7 +48,7 @@ eq_sym a b h = sym (ap is_eq (value_cmp_total.antisymm a b) ∙ reversed (value_
     reversed Equal = refl
     reversed Greater = refl
 
--- two rows of a table with one rowid are one row
+-- two rows of a table with the same rowid are equal
 pub one_rowid : (rows : List Row) → IsAscending (λ a b. is_eq (value_cmp (rowid a) (rowid b)) ≡ false) rows → (a b : Row) → Has rows a → Has rows b → is_eq (value_cmp (rowid a) (rowid b)) ≡ true → a ≡ b
 one_rowid [] up a b h k same = absurd h
 one_rowid (r ∷ rows) up a b (inl e) (inl f) same = e ∙ sym f

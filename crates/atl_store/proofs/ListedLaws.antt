@@ -1,4 +1,4 @@
--- Law: the schema table of a database lists one schema, if there is no view.
+-- Law: the schema table of a database lists only one schema, if this has no view.
 use Rattle.std.proofs.Common.{◌≡◌, ℕ, ◌+◌, ◌<◌, ◌++◌, false, pos, codes, List, [], ◌∷◌, filter, slice_get, Some, refl, sym, ap, ◌∙◌, subst, arith}
 use Rattle.std.specs.Fmt.{decimal}
 use Rattle.std.specs.List.{AllZip}
@@ -18,25 +18,26 @@ use Rattle.sqlite_value.specs.Order.{Row, column}
 use Rattle.sqlite_value.specs.declared.value.Value.{Value}
 use Rattle.sqlite_value.specs.declared.value.Value.TheVariants.{Null, Int, Real, Text, Blob}
 
+-- two trees that a row of the schema table shows as the same root page are equal
 same_tree : (m n : ℕ) → Int (pos (m + 1)) ≡ Int (pos (n + 1)) → m ≡ n
 same_tree m n is = let next : m + 1 ≡ n + 1 = cc in omega (arith, next)
 
 -- ---- tables
 
--- a CREATE text defines one table of a tree
+-- two tables of the same tree that one CREATE text defines are equal
 one_made : (sql : List ℕ) (a b : Table) → a.tree ≡ b.tree → DefinesTable sql a → DefinesTable sql b → a ≡ b
 one_made sql a b tree (made, given, is) (other, told, same) =
     let both : made ≡ other = let e = sym given ∙ told in cc in
     is ∙ ap (λ (t : Table). record t { tree = a.tree }) both ∙ ap (λ n. record other { tree = n }) tree ∙ sym same
 
--- a row of the schema table lists one table
+-- two tables that one row of the schema table lists are equal
 one_table : (row : Row) (a b : Table) → IsTableRow row a → IsTableRow row b → a ≡ b
 one_table row a b one two =
     let tree : a.tree ≡ b.tree = same_tree a.tree b.tree (sym one.described.id ∙ two.described.id) in
     let sql : one.sql ≡ two.sql = let e = sym one.sql_is ∙ two.sql_is in cc in
     one_made two.sql a b tree (subst (λ text. DefinesTable text a) sql one.defined) two.defined
 
--- rows that each list one thing list one list of things
+-- two lists that the same rows list are equal, if two things that one row lists are equal
 one_list : {A B : Type 0} (R : A → B → Type 0) (rows : List A) (xs ys : List B) → ((row : A) (x y : B) → R row x → R row y → x ≡ y) → AllZip R rows xs → AllZip R rows ys → xs ≡ ys
 one_list R [] [] [] same one two = refl
 one_list R [] [] (y ∷ ys) same one two = absurd two
@@ -50,6 +51,7 @@ one_list R (r ∷ rows) (x ∷ xs) (y ∷ ys) same one two =
 
 -- ---- indexes
 
+-- two numbers below 65536 with the same decimal text are equal
 same_number : (m n : ℕ) → m < 65536 → n < 65536 → decimal (m + 1) ≡ decimal (n + 1) → m ≡ n
 same_number m n small low is =
     let first = (decimal_is_IsNumeral (m + 1) (omega (arith, small))).1 in
@@ -62,20 +64,20 @@ same_made : (table : Table) (k l : ℕ) (a b : Index) → a.name ≡ b.name → 
 same_made table k l a b name first second =
     append_cancel_left (codes "_") _ _ (append_cancel_left table.name _ _ (append_cancel_left (codes "sqlite_autoindex_") _ _ (sym first ∙ name ∙ second)))
 
--- an automatic index of a tree and a name is one
+-- two automatic indexes of a table with the same tree and name are equal
 one_automatic : (table : Table) (a b : Index) → a.tree ≡ b.tree → a.name ≡ b.name → IsDefined table a Null → IsDefined table b Null → a ≡ b
 one_automatic table a b tree name (k, key, at, is, small) (l, other, place, same, low) =
     let number : k ≡ l = same_number k l small low (same_made table k l a b name (ap (λ (i : Index). i.name) is) (ap (λ (i : Index). i.name) same)) in
     let keys : key ≡ other = let e : Some key ≡ Some other = sym at ∙ ap (slice_get table.uniques) number ∙ place in cc in
     is ∙ ap (λ n. automatic table n key a.tree) number ∙ ap (λ k. automatic table l k a.tree) keys ∙ ap (automatic table l other) tree ∙ sym same
 
--- a CREATE INDEX text defines one index of a tree
+-- two indexes of the same tree and name that one CREATE INDEX text defines are equal
 one_stated : (table : Table) (sql : List ℕ) (a b : Index) → a.tree ≡ b.tree → IsDefined table a (Text sql) → IsDefined table b (Text sql) → a ≡ b
 one_stated table sql a b tree (made, given, is) (other, told, same) =
     let both : made ≡ other = let e = sym given ∙ told in cc in
     is ∙ ap (λ (i : Index). record i { tree = a.tree; table = table.tree }) both ∙ ap (λ n. record other { tree = n; table = table.tree }) tree ∙ sym same
 
--- an index of a tree and a name has one definition
+-- two indexes of a table with the same tree, name and definition are equal
 one_defined : (table : Table) (a b : Index) (v : Value) → a.tree ≡ b.tree → a.name ≡ b.name → IsDefined table a v → IsDefined table b v → a ≡ b
 one_defined table a b Null tree name one two = one_automatic table a b tree name one two
 one_defined table a b (Int n) tree name one two = absurd one
@@ -83,7 +85,7 @@ one_defined table a b (Real x) tree name one two = absurd one
 one_defined table a b (Text sql) tree name one two = one_stated table sql a b tree one two
 one_defined table a b (Blob bytes) tree name one two = absurd one
 
--- a row of the schema table lists one index
+-- two indexes that one row of the schema table lists are equal, if the tables' names differ
 one_index : (tables : List Table) → IsAscending (λ s t. same_name s.name t.name ≡ false) tables → (row : Row) (a b : Index) → IsIndexRow tables row a → IsIndexRow tables row b → a ≡ b
 one_index tables apart row a b one two =
     let tree : a.tree ≡ b.tree = same_tree a.tree b.tree (sym one.described.id ∙ two.described.id) in
@@ -94,7 +96,7 @@ one_index tables apart row a b one two =
 
 -- ---- views
 
--- a schema table without views lists no views
+-- rows that list no views list no other list of views
 no_views : (rows : List Row) (none views : List View) → none ≡ [] → AllZip IsViewRow rows none → AllZip IsViewRow rows views → views ≡ []
 no_views [] none [] is one two = refl
 no_views [] none (v ∷ views) is one two = absurd two

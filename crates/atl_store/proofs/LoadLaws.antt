@@ -13,10 +13,12 @@ use Rattle.sqlite_trees.proofs.ListLemmas.{all-permutation}
 use Rattle.atl_store.specs.Gathering.{HaveKeys}
 use Rattle.atl_store.specs.Sets.{IsKeyed}
 
+-- what is true of each image of the rows is true of each row, if it carries over from image to row
 all_mapped : (f : Row → Row) (P Q : Row → Type 0) (rows : List Row) → ((r : Row) → P (f r) → Q r) → AllByRecursion P (map f rows) → AllByRecursion Q rows
 all_mapped f P Q [] so all = tt
 all_mapped f P Q (r ∷ rows) so all = (so r all.0, all_mapped f P Q rows so all.1)
 
+-- if the images differ in the column that shows the rowid, the rows' rowids differ
 distinct_mapped : (f : Row → Row) (at : ℕ) (rows : List Row) → ((r : Row) → column (f r) at ≡ rowid r) → IsDistinct (λ a b. is_eq (value_cmp (column a at) (column b at))) (map f rows)
     → IsDistinct (λ a b. is_eq (value_cmp (rowid a) (rowid b))) rows
 unfolding IsDistinct
@@ -32,6 +34,7 @@ unfolding IsDistinct
 ascending_from [] apart = tt
 ascending_from (r ∷ rows) apart = (apart.0, ascending_from rows apart.1)
 
+-- equality of two rows in one column is symmetric
 flips : (at : ℕ) (a b : Row) → is_eq (value_cmp (column a at) (column b at)) ≡ is_eq (value_cmp (column b at) (column a at))
 flips at a b = ap is_eq (value_cmp_total.antisymm (column a at) (column b at)) ∙ reversed (value_cmp (column b at) (column a at))
   where
@@ -40,10 +43,12 @@ flips at a b = ap is_eq (value_cmp_total.antisymm (column a at) (column b at)) �
     reversed Equal = refl
     reversed Greater = refl
 
+-- what is true of each row is true of each image, if it carries over from row to image
 mapped_all : (f : Row → Row) (P Q : Row → Type 0) (rows : List Row) → ((r : Row) → Q r → P (f r)) → AllByRecursion Q rows → AllByRecursion P (map f rows)
 mapped_all f P Q [] so all = tt
 mapped_all f P Q (r ∷ rows) so all = (so r all.0, mapped_all f P Q rows so all.1)
 
+-- if the rows' rowids differ, the images differ in the column that shows the rowid
 mapped_distinct : (f : Row → Row) (at : ℕ) (rows : List Row) → ((r : Row) → column (f r) at ≡ rowid r) → IsAscending (λ a b. is_eq (value_cmp (rowid a) (rowid b)) ≡ false) rows
     → IsDistinct (λ a b. is_eq (value_cmp (column a at) (column b at))) (map f rows)
 unfolding IsDistinct
@@ -53,14 +58,14 @@ mapped_distinct f at (r ∷ rows) is apart = (
   mapped_distinct f at rows is apart.1,
 )
 
--- if the tree's rowids are different integers, so are those in the column where all its rows show them
+-- if the rowids of a tree are different integers, so are the values of the column that shows the rowids
 pub keyed_shown : (f : Row → Row) (at : ℕ) (tree shown : List Row) → ((r : Row) → column (f r) at ≡ rowid r) → IsPermutation (map f tree) shown → IsKeyed tree → HaveKeys at shown
 keyed_shown f at tree shown is same keyed = record {
   apart = IsDistinct-IsPermutation _ (flips at) (map f tree) shown same (mapped_distinct f at tree is keyed.apart);
   ints = all-permutation _ (map f tree) shown same (mapped_all f _ _ tree (λ r h. ap is_int (is r) ∙ h) keyed.ints);
 }
 
--- if the shown rowids are different integers, so are those of the tree
+-- if the values of the column that shows the rowids are different integers, so are the rowids of the tree
 pub keyed_by : (f : Row → Row) (at : ℕ) (tree shown : List Row) → ((r : Row) → column (f r) at ≡ rowid r) → IsPermutation (map f tree) shown → HaveKeys at shown → IsKeyed tree
 keyed_by f at tree shown is same have =
     let back = IsPermutation-sym (map f tree) shown same in

@@ -59,18 +59,20 @@ module _ (f : Format) {S : Type 0} (g : Ghosts S) where
 
 -- ---- the parts
 
+-- a part that is shown with rowids is not the campaign row
 not_own : (part : Part) → shows_rowids part ≡ true → Has (other_parts Second) part
 not_own part is = elim (every_part part) [ inl own ↦ absurd (true≢false (sym is ∙ ap shows_rowids own)) | inr other ↦ other ]
 
+-- each format has the campaign row
 has_own : (f : Format) → Has (parts_in f) Own
 has_own First = inl refl
 has_own Second = inl refl
 
--- each other part is among those that were read
+-- each part but the campaign row is among the parts that were read
 read_of : (reads : ReadRows) → map (λ read. read.0) reads ≡ other_parts Second → (part : Part) → Has (other_parts Second) part → (read : Part × List Row) × Has reads read × (part ≡ read.0)
 read_of reads parts part there = map_has (λ (read : Part × List Row). read.0) reads part (subst (λ l. Has l part) (sym parts) there)
 
--- no rows without their rowids are no rows
+-- removing the rowids from no rows leaves no rows
 nothing_unplaced : (part : Part) → without_ids part [] ≡ []
 nothing_unplaced part = elim (cases_Bool (shows_rowids part)) [
   | inl is ↦ cut_places part [] is
@@ -83,7 +85,7 @@ nothing_unplaced part = elim (cases_Bool (shows_rowids part)) [
 since_first : (part : Part) → Has (parts_in First) part → (listing_of part).since ≡ First
 since_first part there = all_has (λ p. (listing_of p).since ≡ First) (parts_in First) part (refl, (refl, (refl, (refl, (refl, (refl, (refl, (refl, (refl, tt))))))))) there
 
--- the tables of a format include those under which each of its parts is read
+-- a schema with a format's tables has those of the first format that has the part, for each part of the format
 has_since : (f : Format) (schema : Schema) → HasTablesOf f schema → (part : Part) → Has (parts_in f) part → HasTablesOf (listing_of part).since schema
 has_since First schema has part there = subst (λ since. HasTablesOf since schema) (sym (since_first part there)) has
 has_since Second schema has part there = under (listing_of part).since
@@ -96,11 +98,11 @@ module _ (f : Format) {S : Type 0} (g : Ghosts S) (old : Held S) (reads : ReadRo
   abbrev db : Trees
   db = (state g old).now.trees
 
-  -- of a part that the format has, all rows were read
+  -- all rows of a part's table were read, if the format has the part and the schema has the format's tables
   all_of : (read : Part × List Row) → Has reads read → Has (parts_in f) read.0 → HasTablesOf f old.schema → IsPermutation ((listing_of read.0).in_table db) read.1
   all_of read there has begins = elim (are.each read there) [ inl all ↦ all.1 (has_since f old.schema begins read.0 has) | inr none ↦ absurd (none.0 has) ]
 
-  -- if the rowids that were read differ, the rowids of the tables do
+  -- if the rowids that were read are different integers, so are those of the tables, if the schema is the format's
   all_keyed : map (λ read. read.0) reads ≡ other_parts Second → AreAllApart reads → HasTablesOf f old.schema → (table : Table) → Has (tables_with_rowids f) table → IsKeyed (db table.tree)
   all_keyed parts apart begins table there =
       let part = map_has table_of (filter shows_rowids (parts_in f)) table there in
@@ -109,7 +111,7 @@ module _ (f : Format) {S : Type 0} (g : Ghosts S) (old : Held S) (reads : ReadRo
       subst (λ (t : Table). IsKeyed (db t.tree)) (sym (part.2 ∙ ap table_of read.2))
       (places_keyed read.0.0 db read.0.1 (subst (λ p. shows_rowids p ≡ true) read.2 kept.1) (all_of read.0 read.1 (subst (Has (parts_in f)) read.2 kept.0) begins) (apart.each read.0 read.1 (subst (λ p. shows_rowids p ≡ true) read.2 kept.1)))
 
-  -- if the tables are made as those of the format, the rowids that were read differ
+  -- the rowids that were read are different integers, if the tables are made as the format has them (`AreMade`)
   all_apart : AreMade f g old → AreAllApart reads
   unfolding IsDistinct
   all_apart made = record {
@@ -119,7 +121,7 @@ module _ (f : Format) {S : Type 0} (g : Ghosts S) (old : Held S) (reads : ReadRo
     ];
   }
 
-  -- the rows that are to be judged are all rows
+  -- the rows that are put together for the check are all rows of the tables
   module _ (head : StoredCampaignRow) (p : Parts) (made : IsMadeOf head reads p) where
     -- no row was read of a part that the format lacks
     none_read : (text : List ℕ) (part : Part) → ¬ Has (parts_in f) part → rows_read text p part ≡ []
@@ -133,6 +135,7 @@ module _ (f : Format) {S : Type 0} (g : Ghosts S) (old : Held S) (reads : ReadRo
           ]
     ]
 
+    -- each part's table has exactly the rows that are put together, if the schema is the format's
     rows_of_part : (text : List ℕ) → HasTablesOf f old.schema → IsPermutation (rows_in campaign_table db) (own_stored text head ∷ []) → (part : Part) → Has (parts_in f) part → IsPermutation (rows_in (table_of part) db) (rows_read text p part)
     rows_of_part text begins own part there = elim (every_part part) [
       | inl is ↦ subst (λ q. IsPermutation (rows_in (table_of q) db) (rows_read text p q)) (sym is) (subst (λ rows. IsPermutation (rows_in campaign_table db) (map (own_stored text) rows)) (sym made.campaign) own)
@@ -142,6 +145,7 @@ module _ (f : Format) {S : Type 0} (g : Ghosts S) (old : Held S) (reads : ReadRo
           (subst (IsPermutation (rows_in (table_of read.0.0) db)) (sym (made.rows text read.0 read.1)) (unplaced_all read.0.0 db read.0.1 (all_of read.0 read.1 (subst (Has (parts_in f)) read.2 there) begins)))
     ]
 
+    -- the tables of the format have exactly the rows that are put together, if the schema is the format's
     have_rows : (text : List ℕ) → HasTablesOf f old.schema → IsPermutation (rows_in campaign_table db) (own_stored text head ∷ []) → HaveRows f db text p
     have_rows text begins own = record { rows = rows_of_part text begins own; none = none_read text }
 
@@ -159,9 +163,11 @@ module _ (f : Format) {S : Type 0} (g : Ghosts S) where
 
   -- ---- what the check of the rows refuses
 
+  -- if the gathered rows break a rule first, the tables do (`BreaksRule`)
   breaks : (old : Held S) (w : WorldValue) (p : Parts) → Gathered f g old w p → HasTablesOf f old.schema → (rule : Rule) → IsFirstBroken f w p rule → BreaksRule f g old rule
   breaks old w p all begins rule first = record { made = record { begins = begins; keyed = all.keyed begins }; world = w; text = all.text; is_world = all.world; parts = p; rows = all.rows begins; first = first }
 
+  -- if the gathered rows break a rule first, Damaged with this rule may be returned
   damaged : (old : Held S) (w : WorldValue) (p : Parts) → Gathered f g old w p → HasTablesOf f old.schema → (rule : Rule) → IsFirstBroken f w p rule → MayReturnDamaged f g old rule
   damaged old w p all begins OneRow first = absurd (first.broken all.first)
   damaged old w p all begins Ranges first = inr (breaks old w p all begins Ranges first)
@@ -176,7 +182,7 @@ module _ (f : Format) {S : Type 0} (g : Ghosts S) where
   damaged old w p all begins Books first = breaks old w p all begins Books first
   damaged old w p all begins Mail first = breaks old w p all begins Mail first
 
-  -- once the first rule holds, memory may run out at any point
+  -- Memory may be returned, if the campaign row keeps the first rule and the connection is in no transaction
   wants_memory : (old : Held S) → old.in_transaction ≡ false → KeepsOneRow f g old → MayReturnMemory g old
   wants_memory old idle kept = (idle, inr (kept.rows, kept.selects))
 
@@ -185,7 +191,7 @@ module _ (f : Format) {S : Type 0} (g : Ghosts S) where
   judged_damaged old idle w p all begins (check.Damaged rule) first = damaged old w p all begins rule first
   judged_damaged old idle w p all begins check.Memory none = wants_memory old idle all.one
 
-  -- ---- what else is refused behind the first rule
+  -- ---- what else refuses the load after the first rule holds
 
   -- a fault of reading another table refuses the load
   pub unread_refuses : (old mid : Held S) → old.in_transaction ≡ false → KeepsOneRow f g old → AfterReads g old mid → (fault : LoadFault) → FailsToRead g mid (other_selects f) fault → RefusesToLoadIn f g old fault
@@ -198,13 +204,13 @@ module _ (f : Format) {S : Type 0} (g : Ghosts S) where
       refused OtherFormat fails = absurd fails
       refused Memory fails = wants_memory old idle kept
 
-  -- the tables are not confirmed
+  -- the tables are tested on a connection after reads, with a clean disk
   module _ (old mid : Held S) (kept : KeepsOneRow f g old) (first : AfterReads g old mid) (clean : HasCleanDisk (state g mid)) where
     -- the connection was open when the campaign row was read
     was_open : IsTrue (state g old).is_open
     was_open = kept.selects.2.was_open (shown_open (selection campaign_table 1) _ _ kept.rows kept.selects.3)
 
-    -- a connection that is shut by then had a failure of the disk
+    -- if the connection is shut after the reads, the disk failed meanwhile
     shut_failed : (state g mid).is_open ≡ false → FailedMeanwhile g old
     shut_failed shut = record {
       after = mid;
@@ -229,7 +235,7 @@ module _ (f : Format) {S : Type 0} (g : Ghosts S) where
     unconfirmed_refuses idle typed OtherFormat fails = absurd fails
     unconfirmed_refuses idle typed Memory fails = wants_memory old idle kept
 
--- what was found of the other tables behind the reading of the campaign's own row
+-- what was read of the other tables after the campaign row was read
 module _ (f : Format) {S : Type 0} (g : Ghosts S) {A : Type 0} (rows : A → ReadRows) (old mid new : Held S) (own : StoredCampaign) (w : WorldValue) (row : OwnRead g old f own w) (before : AfterReads g old mid) (r : Result (Option A) LoadFault)
     (reads : ReadsSome g mid (other_selects f) (λ a. AreOfFormat f (state g mid).now (rows a)) r new) (o : Option A) (was : r ≡ Ok o) (clean : HasCleanDisk (state g new)) where
   found : (told : Option A) → o ≡ told → Found g old (other_selects f) (λ a. AreOfFormat f (state g old).now (rows a)) told
@@ -267,7 +273,7 @@ module _ {S : Type 0} (g : Ghosts S) where
   is_idle auto true is said = absurd (let k = sym is ∙ said in cc)
   is_idle auto false is said = refl
 
-  -- tables confirmed at the end of a second call were those before the first, if both calls leave them
+  -- tables that are confirmed after some reads are confirmed from before these reads, if the disk is clean
   pub confirmed_behind : (f : Format) (old mid new : Held S) → AfterReads g old mid → AfterReads g mid new → HasCleanDisk (state g mid) → HasCleanDisk (state g new) → IsConfirmed f (state g mid) (state g new) → IsConfirmed f (state g old) (state g new)
   confirmed_behind f old mid new one two clean_mid clean confirmed =
       let up = (two.stays clean).was_open confirmed.is_open in
@@ -278,7 +284,7 @@ module _ {S : Type 0} (g : Ghosts S) where
         sound = subst (λ (d : Database). IsSound d.schema d.trees) same confirmed.sound;
       }
 
-  -- calls outside a transaction that leave the tables leave the connection alone
+  -- reads outside a transaction (`AfterReads`) change nothing of the connection (`LeavesAlone`)
   pub leaves_alone : (old new : Held S) → old.in_transaction ≡ false → AfterReads g old new → LeavesAlone g old new
   leaves_alone old new idle leaves = record {
     spares = λ clean. record {
@@ -292,7 +298,7 @@ module _ {S : Type 0} (g : Ghosts S) where
 -- ---- the campaign that the tables hold
 
 module _ (f : Format) {S : Type 0} (g : Ghosts S) (old new : Held S) (w : WorldValue) (c : MarkedCampaign) (loaded : IsLoaded f g old new w c) (leaves : AfterReads g old new) (settled : IsSettled (state g old)) where
-  -- the tables hold the loaded campaign in this format
+  -- if the disk is clean, the tables hold the loaded campaign in this format (`StandsIn`)
   new_stands : (clean : HasCleanDisk (state g new)) → StandsIn f (state g new) (loaded.gathered clean).text c.value
   new_stands clean =
       let all = loaded.gathered clean in

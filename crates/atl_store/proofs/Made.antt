@@ -8,7 +8,8 @@ use Rattle.sqlite_schema.specs.declared.schema.Table.{Table}
 use Rattle.atl_store.specs.Sets.{Set, Is, rows_in}
 use Rattle.atl_store.specs.Tables.{IsSoundDatabase}
 
--- A statement wrote one table: its rows are the set `S`, every other table is unchanged, and the database is sound under its schema.
+-- A statement wrote one table: its rows are the set `S`, and every other table is unchanged.
+-- The database is sound under its schema.
 pub record Makes (schema : Schema) (table : Table) (old new : Database) (S : Set) : Type 0 where
   pub schema_is : new.schema ≡ schema
   pub rows : Is (rows_in table new.trees) S
@@ -27,6 +28,6 @@ pub record AreBare (schema : Schema) (db : Database) : Type 0 where
   pub schema_is : db.schema ≡ schema
   pub empty : (t : Table) → Has schema.tables t → db.trees t.tree ≡ []
 
--- Inside a transaction, which goes on: empty tables of the first schema have become empty tables of the second.
+-- A step inside a transaction, which remains open: empty tables of the first schema become empty tables of the second.
 abbrev pub Extends : Schema → Schema → State → State → Type 0
 Extends before after old new = (new.in_transaction ≡ old.in_transaction) × (AreBare before old.now → AreBare after new.now × IsDatabase new.now)

@@ -1,4 +1,4 @@
--- Laws from the rows of a tree to the set of rows that SQL shows of its table, after a DELETE, an INSERT OR REPLACE and an upsert.
+-- Laws on the rows that SQL shows of a table after a DELETE, an INSERT OR REPLACE and an upsert of the tree's rows.
 use Rattle.std.proofs.Common.{arith, ◌≡◌, ◌≢◌, ℕ, Bool, true, List, [], ◌∷◌, map, take, eqb, Option, None, Ok, sym, ap, ◌∙◌, subst, inl, inr, true≢false}
 use Rattle.std.specs.Ordering.{is_eq}
 use Rattle.std.proofs.lemmas.Bool.{cases_Bool}
@@ -36,7 +36,7 @@ module _ (schema : Schema) (among : (u : Table) → Has all_tables u → Has sch
   shown_again : (rows : List Row) (r : Row) → Has (map (visible t) rows) r → (x : Row) × Has rows x × (r ≡ visible t x)
   shown_again rows r h = map_has (visible t) rows r h
 
-  -- The test finds exactly the rows that have this key.
+  -- The test finds exactly those rows of a list that have this key.
   abbrev pub Tests : (Row → Bool) → Row → List Row → Type 0
   Tests p k rows = (x : Row) → Has rows x → (p x ≡ true → take key (visible t x) ≡ k) × (take key (visible t x) ≡ k → p x ≡ true)
 
@@ -79,7 +79,7 @@ module _ (schema : Schema) (among : (u : Table) → Has all_tables u → Has sch
         ]))),
   )
 
-  -- the trees stay sound under the same schema
+  -- the trees stay sound if the schema is unchanged and the written table's rowids are still different integers
   pub stays_sound : (old new : Database) → IsSoundDatabase schema old.trees → IsDatabase new → new.schema ≡ schema → IsKeyed (new.trees t.tree)
       → ((u : Table) → Has schema.tables u → u.tree ≢ t.tree → new.trees u.tree ≡ old.trees u.tree) → IsSoundDatabase schema new.trees
   stays_sound old new sound base is keyed others = record {
@@ -90,7 +90,7 @@ module _ (schema : Schema) (among : (u : Table) → Has all_tables u → Has sch
     listed = subst (λ s. IsSound s new.trees) is base;
   }
 
-  -- such a swap is a write of the table that puts the row
+  -- swapping the rows of a key for a new row is a write of the table that puts the row
   pub swaps_make : (p : Row → Bool) (n v : Row) (old new : Database) → Swaps schema t p n old.trees new.trees → visible t n ≡ v → Tests p (take key v) (old.trees t.tree)
       → IsSoundDatabase schema old.trees → IsDatabase new → new.schema ≡ schema → Makes schema t old new (put key v (Has (rows_in t old.trees)))
   swaps_make p n v old new swap shows tests sound base is = record {
@@ -100,7 +100,7 @@ module _ (schema : Schema) (among : (u : Table) → Has all_tables u → Has sch
     sound = stays_sound old new sound base is swap.keyed swap.others;
   }
 
-  -- such a loss is a write of the table that drops the key
+  -- losing the rows of a key is a write of the table that drops the key
   pub loses_make : (p : Row → Bool) (k : Row) (old new : Database) → Loses schema t p old.trees new.trees → Tests p k (old.trees t.tree)
       → IsSoundDatabase schema old.trees → IsDatabase new → new.schema ≡ schema → Makes schema t old new (drop_key key k (Has (rows_in t old.trees)))
   loses_make p k old new lose tests sound base is = record {
@@ -131,7 +131,7 @@ module _ (schema : Schema) (among : (u : Table) → Has all_tables u → Has sch
           λ e. alone x r k there (e ∙ sym same),
         )) sound base is
 
-    -- an upsert puts the row, whether it inserted or updated
+    -- an upsert puts the row, whether it inserted a row or updated one
     pub upserts_make : Upserted schema t unlinked limit params target place project plain new old.trees next.trees → visible t (cast_row t new) ≡ v → Changes
         → Tests (hits schema t unlinked limit params target place project plain new) (take key v) (old.trees t.tree) → OneRow
         → Has all_tables t → IsSoundDatabase schema old.trees → IsDatabase next → next.schema ≡ schema → Makes schema t old next (put key v (Has (rows_in t old.trees)))

@@ -33,7 +33,7 @@ extends before after table old new inside mode more makes = (
       ),
 )
 
--- ---- so many
+-- ---- the first tables
 
 -- the schema of these first tables and the indexes of their keys
 abbrev pub with_tables : List Table → Schema
@@ -43,7 +43,7 @@ with_tables tables = record { tables = tables; indexes = take (sum_by (λ t. len
 abbrev pub so_many : ℕ → Schema
 so_many count = with_tables (take count all_tables)
 
--- Inside a transaction, which goes on: from no table to the first `count` tables, all empty.
+-- A step inside a transaction, which remains open: from no table to the first `count` tables, all empty.
 abbrev pub MakesSome : ℕ → State → State → Type 0
 MakesSome count old new = (new.in_transaction ≡ old.in_transaction) × (AreBare no_tables old.now → AreBare (so_many count) new.now × (0 < count → IsDatabase new.now))
 
@@ -51,12 +51,13 @@ MakesSome count old new = (new.in_transaction ≡ old.in_transaction) × (AreBar
 pub makes_none : (s : State) → MakesSome 0 s s
 makes_none s = (refl, λ bare. (bare, λ some. absurd (omega (arith, some))))
 
--- one table more is made
+-- making the next table after the first `count` makes the first `count + 1`
 pub makes_more : (count : ℕ) (a b c : State) → MakesSome count a b → Extends (so_many count) (so_many (count + 1)) b c → MakesSome (count + 1) a c
 makes_more count a b c first next = (next.0 ∙ first.0, λ bare. let made = next.1 (first.1 bare).0 in (made.0, λ some. made.1))
 
--- ---- all
+-- ---- all ten tables
 
+-- the rowids of a table without rows are different integers
 no_rows : IsKeyed []
 no_rows = record { apart = tt; ints = tt }
 

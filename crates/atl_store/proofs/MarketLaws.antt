@@ -24,6 +24,7 @@ use Rattle.atl_store.proofs.EntryLaws.{got_entry, entry_got, in_order}
 use Rattle.atl_store.proofs.GoodsLaws.{amounts_have, have_amount, amounts_apart}
 use Rattle.sqlite.specs.Order.{Row}
 
+-- two rows of one region with the same key are of the same item
 one_item : (region m a n b : ℕ) → ◌≡◌ {A = Row} (take 2 (market_row region m a)) (take 2 (market_row region n b)) → m ≡ n
 one_item region m a n b same = cc
 
@@ -56,7 +57,7 @@ module _ (regions : FinMap nat_cmp Region) where
       let amount : stock_in regions of.0 of.3 ≡ of.4 = ap (in_stock of.3) of.2 ∙ ap (λ (o : Option ℕ). unwrap_or o 0) of.5 in
       (of.0, of.3, λ none. of.6 (sym amount ∙ none), of.7 ∙ ap (market_row of.0 of.3) (sym amount))
 
-  -- each stock that is not 0 has its row of `market`
+  -- each stock that is not 0 has a row of `market`, with its region and item
   pub had_stock : (n item amount : ℕ) → amount ≡ stock_in regions n item → amount ≢ 0 → MarketRowsOf regions (market_row n item amount)
   had_stock n item amount is some = there (get regions n) refl
     where
@@ -78,11 +79,12 @@ finds_stocks = record { either = either; none = none }
     either f g (Int (pos region) ∷ Int (pos item) ∷ row) = refl
     either f g row = refl
 
+    -- a test that is always false finds no row
     none : (r : Row) → of_stock (λ n t. false) r ≡ false
     none (Int (pos region) ∷ Int (pos item) ∷ row) = refl
     none row = refl
 
--- keys of two numbers that are the same have the same numbers
+-- two keys of `market` are equal only if both numbers are
 pub two_same : (a b c d : ℕ) → ◌≡◌ {A = Row} (market_key a b) (market_key c d) → (a ≡ c) × (b ≡ d)
 two_same a b c d same = (cc, cc)
 
@@ -91,13 +93,14 @@ module _ (region item : ℕ) where
   abbrev is_here : Row → Bool
   is_here r = of_stock (is_thing region item) r
 
-  -- such a row has their key, and a row with their key is such a row
+  -- a row of this region and item has the key of the region and the item
   key_of : (r : Row) → is_here r ≡ true → take 2 r ≡ market_key region item
   key_of (Int (pos n) ∷ Int (pos t) ∷ row) is =
       let both = and_parts _ _ is in
       ap (λ k. market_key k t) (tied n region both.0) ∙ ap (market_key region) (tied t item both.1)
   key_of row is = absurd (true≢false (sym is))
 
+  -- a row with the key of the region and the item is of these
   of_key : (r : Row) → take 2 r ≡ market_key region item → is_here r ≡ true
   of_key [] key = absurd cc
   of_key (u ∷ []) key = absurd cc
@@ -120,7 +123,7 @@ module _ (region item : ℕ) where
         let told : Tells region item = subst (λ n. Tells n item) keys.0 (subst (Tells had.0) keys.1 (had.2, had.3)) in
         (λ none. told.0 (sym is ∙ none), told.1 ∙ ap (market_row region item) (sym is))
 
-    -- if the stock is 0, no row of the campaign has its key
+    -- if the stock of this region and item is 0, no row of the campaign has their key
     pub no_stock : stock ≡ 0 → (r : Row) → MarketRowsOf c.regions r → take 2 r ≢ market_key region item
     no_stock none r of key = (wanted_here r (of_key r key) of).0 none
 

@@ -43,8 +43,9 @@ use Rattle.atl_store.proofs.Terms.{head_is, by_number, one_number, at_number}
 abbrev has_number : List Term
 has_number = op2 (Compare Eq Binary) (col 1 0) (col 0 0) ∷ []
 
--- Table `t`, of index `at` among all, has rows of a number and `width` values, and its two statements mean what they should, whatever other tables follow:
--- an INSERT of the given row with an UPDATE of the one that has its number, and a DELETE of the one that has the number.
+-- Table `t`, of index `at` among all, has rows of a number and `width` values. Its two statements mean,
+-- whatever other tables follow: an INSERT of the given row with an UPDATE of the row that has its number,
+-- and a DELETE of the row that has the number.
 pub record IsNumbered (t : Table) (at width : ℕ) : Type 0 where
   pub ours : Has all_tables t
   pub place : (more : List Table) → slice_get (all_tables ++ more) at ≡ Some t
@@ -66,14 +67,16 @@ module _ (tree : ℕ) (name key_name : List ℕ) (columns : List Column) (unique
   abbrev t : Table
   t = table tree name (number key_name ∷ columns) (Some 0) (0 ∷ []) uniques []
 
+  -- the text of the upsert by the number
   abbrev put : List ℕ
   put = upsert t 1
 
+  -- the text of the DELETE by the number
   abbrev drop : List ℕ
   drop = deletion t 1
 
   module _ (is : IsNumbered t at width) where
-    -- ---- taking out
+    -- ---- the DELETE of a row
 
     drops : (n : ℕ) (old new : State) (count : ℕ) → IsTrue old.in_transaction → ExecutesInside 0 drop (int n ∷ []) old new (Ok count)
         → Inside HasTables (Drops t 1 (int n ∷ [])) old new
@@ -97,7 +100,7 @@ module _ (tree : ℕ) (name key_name : List ℕ) (columns : List Column) (unique
     pub drops_numbered : (n : ℕ) → DropsKey t 1 (int n ∷ [])
     drops_numbered n = done_by drop (int n ∷ []) (Drops t 1 (int n ∷ [])) (drops n)
 
-    -- ---- putting
+    -- ---- the upsert of a row
 
     puts : (n : ℕ) (values : Row) → Fits columns values → (old new : State) (count : ℕ) → IsTrue old.in_transaction
         → ExecutesInside 0 put (int n ∷ values) old new (Ok count) → Inside HasTables (Puts t 1 (int n ∷ values)) old new
@@ -131,6 +134,6 @@ module _ (tree : ℕ) (name key_name : List ℕ) (columns : List Column) (unique
           done_with t old.now new.now has is.ours _ _ (λ did. did) makes,
     )
 
-    -- the upsert puts its row in place of the one with its number
+    -- the upsert that ran put its row, and replaced the row with the same number
     pub puts_numbered : (n : ℕ) (values : Row) → Fits columns values → PutsRow t 1 (int n ∷ values)
     puts_numbered n values fits = done_by put (int n ∷ values) (Puts t 1 (int n ∷ values)) (puts n values fits)

@@ -14,11 +14,11 @@ use Rattle.atl_store.proofs.StatementLaws.{PutsRow, DropsKey}
 abbrev pub place_in : Part → ℕ
 place_in part = unwrap_or (position (λ p. nat_eq (tree_of p) (tree_of part)) all_parts) 0
 
--- the number of values of its rows after their number
+-- how many values a row of a part's table has after its number
 abbrev width_of : Part → ℕ
 width_of part = length (drop 1 (table_of part).columns)
 
--- the table of a part whose key is the row's number is numbered: its two statements mean what they should
+-- the upsert and the DELETE of a table whose key is the row's number mean an upsert and a DELETE by the number
 numbered : (part : Part) → IsNumberedPart part → IsNumbered (table_of part) (place_in part) (width_of part)
 unfolding understood everything
 numbered Own is = absurd is

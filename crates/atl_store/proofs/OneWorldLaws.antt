@@ -1,4 +1,4 @@
--- Law: two world texts whose rows one database holds are read as one world.
+-- Law: two world texts with campaigns whose rows one database holds read as equal worlds.
 use Rattle.std.proofs.Common.{◌≡◌, ◌∙◌, Result, Ok, sym, ap}
 use Rattle.atl_tables.specs.Worlds.{WorldValue}
 use Rattle.atl_tables.specs.World.{world_of}
@@ -10,5 +10,6 @@ use Rattle.atl_store.proofs.AlikeLaws.{one_text}
 pub same_world : (v w : WorldValue) → ◌≡◌ {A = Result WorldValue WorldFault} (Ok v) (Ok w) → v ≡ w
 same_world v w is = cc
 
+-- two world texts with campaigns whose rows one database holds read as equal worlds
 pub holds_one_world : HoldsOneWorld
 holds_one_world v w db one other c d reads others h j = same_world v w (sym reads ∙ ap world_of (one_text db one other c d h j) ∙ others)

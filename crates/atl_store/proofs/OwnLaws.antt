@@ -1,4 +1,4 @@
--- Laws on reading the table `campaign`: its row is the campaign's own, or the load is refused, and by which fault.
+-- Laws on reading the table `campaign`: it has one row that keeps the first rule, or a fault refuses the load.
 use Rattle.std.proofs.Common.{◌≡◌, ℕ, false, List, [], ◌∷◌, map, length, Result, Ok, Err, IfOk, IfErr, IsPermutation, refl, sym, ap, ◌∙◌, subst, inl, inr, string_bytes}
 use Rattle.std.proofs.lemmas.Str.{IsUtf8-string_bytes}
 use Rattle.sqlite.specs.Held.{Held, state}
@@ -34,21 +34,24 @@ one_mapped f [] y is = absurd (let k = is in cc)
 one_mapped f (x ∷ []) y is = (x, refl, let k = is in cc)
 one_mapped f (x ∷ z ∷ xs) y is = absurd (let k = is in cc)
 
--- the row that is shown says what was read
+-- a row as it was read equals a row with this world text
 module _ (own : StoredCampaign) (h : StoredCampaignRow) (text : List ℕ) (is : campaign_stored own ≡ own_stored text h) where
   at : (n : ℕ) → column (campaign_stored own) n ≡ column (own_stored text h) n
   at n = ap (λ r. column r n) is
 
+  -- the ids of both rows are equal
   pub same_id : own.head.id ≡ h.id
   same_id = let e = at 0 in cc
 
+  -- the formats of both rows are equal
   pub same_format : own.head.format ≡ h.format
   same_format = let e = at 1 in cc
 
+  -- the world text that was read is this text
   pub same_text : string_bytes own.world ≡ text
   same_text = let e = at 7 in cc
 
--- a row that is as it should be was read as the campaign's own
+-- if the shown rows keep the first rule (`AreOwnRow`), the parsed row keeps it too
 pub own_read : (f : Format) (items : List StoredCampaign) (rows : List Row) (h : StoredCampaignRow) (text : List ℕ) (w : WorldValue)
     → map campaign_stored items ≡ map (first_columns (length campaign_forms)) rows → AreOwnRow f rows h text w
     → (own : StoredCampaign) × IsOwn f items own w
@@ -63,7 +66,7 @@ own_read f items rows h text w shown own =
       },
     )
 
--- the values of such a row are of their columns' types
+-- the values of a row that keeps the first rule (`AreOwnRow`) are of their columns' types
 pub own_typed : (f : Format) (rows : List Row) (h : StoredCampaignRow) (text : List ℕ) (w : WorldValue) → AreOwnRow f rows h text w → AreTyped campaign_forms rows
 own_typed f rows h text w own row there =
     let one = one_mapped (first_columns (length campaign_forms)) rows (own_stored text h) own.is in
@@ -83,7 +86,7 @@ own_typed f rows h text w own row there =
 
 -- ---- the rows that are shown
 
--- what is true of each of three results is true of any
+-- what is true of Ok, of Memory and of Damaged by the first rule is true of any judged result (`Judges`)
 judged_as : (Is : StoredCampaign × WorldValue → Type 0) (Nothing : Type 0) (P : Result (StoredCampaign × WorldValue) LoadFault → Type 0) → ((both : StoredCampaign × WorldValue) → Is both → P (Ok both)) → P (Err Memory) → (Nothing → P (Err (Damaged OneRow)))
     → (r : Result (StoredCampaign × WorldValue) LoadFault) → Judges Is Nothing r → P r
 judged_as Is Nothing P read lacks broken (Ok both) judged = read both judged
@@ -105,14 +108,14 @@ judged_as Is Nothing P read lacks broken (Err (Damaged Books)) judged = absurd j
 judged_as Is Nothing P read lacks broken (Err (Damaged Mail)) judged = absurd judged
 
 module _ (f : Format) where
-  -- the rows were read, and then checked
+  -- if the rows were parsed, the result of checking the parsed rows judges the shown rows (`JudgesRows`)
   pub judged_rows : (items : List StoredCampaign) (rows : List Row) (r : Result (StoredCampaign × WorldValue) LoadFault)
       → map campaign_stored items ≡ map (first_columns (length campaign_forms)) rows → JudgesOwn f items r → JudgesRows f rows r
   judged_rows items rows r shown =
       judged_as (λ both. IsOwn f items both.0 both.1) ((own : StoredCampaign) (w : WorldValue) → ¬ IsOwn f items own w) (JudgesRows f rows) (λ both own. record { is = sym shown ∙ ap (map campaign_stored) own.only; id = own.id; format = own.format; utf8 = IsUtf8-string_bytes both.0.world; world = own.world }) tt
       (λ none h text w own. let was = own_read f items rows h text w shown own in none was.0 w was.1) r
 
-  -- the rows were not read, for a value of another type or out of memory
+  -- if the rows couldn't be parsed, for a value of another type or lack of memory, the fault judges them (`JudgesRows`)
   pub unread_rows : (rows : List Row) (fault : ReadFault) → (fault ≡ read.OtherType → ¬ AreTyped campaign_forms rows)
       → ((fault ≡ read.OtherType → ⊥) → fault ≡ read.Memory) → JudgesRows f rows (Err (own_fault fault))
   unread_rows rows read.OtherType other which = λ h text w own. other refl (own_typed f rows h text w own)
@@ -121,24 +124,25 @@ module _ (f : Format) where
   unread_rows rows read.Refused other which = absurd (let e = which (λ e. cc) in cc)
 
 module _ (f : Format) {S : Type 0} (g : Ghosts S) (old : Held S) where
-  -- rows that are not as they should be refuse the load
+  -- rows that break the first rule, or are of the other format, refuse the load with the fault that was returned
   pub refuses_own : old.in_transaction ≡ false → (rows : List Row) (r : Result (StoredCampaign × WorldValue) LoadFault) → JudgesFormat f rows r → Selects g (selection campaign_table 1) old rows
       → IfErr r (RefusesToLoadIn f g old)
   refuses_own idle rows r (inl other) told = subst (λ answer. IfErr answer (RefusesToLoadIn f g old)) (sym other.1) (rows, told, other.0)
   refuses_own idle rows r (inr judged) told =
       judged_as (λ both. AreOwnRow f rows both.0.head (string_bytes both.0.world) both.1) ((h : StoredCampaignRow) (text : List ℕ) (w : WorldValue) → ¬ AreOwnRow f rows h text w) (λ answer. IfErr answer (RefusesToLoadIn f g old)) (λ both own. tt) (idle, inr (rows, told)) (λ none. record { rows = rows; selects = told; broken = none; of_format = judged.0 }) r judged.1
 
+  -- if judging the shown rows by the first rule gives Ok, the campaign row was read (`OwnRead`)
   rows_own : (rows : List Row) (r : Result (StoredCampaign × WorldValue) LoadFault) → JudgesRows f rows r → Selects g (selection campaign_table 1) old rows → IfOk r (λ both. OwnRead g old f both.0 both.1)
   rows_own rows (Err fault) judged told = tt
   rows_own rows (Ok both) judged told = record { rows = rows; selects = told; row = judged; table = λ begins. subst (IsPermutation (rows_in campaign_table (state g old).now.trees)) judged.is (asked_rows First (selection campaign_table 1) (rows_in campaign_table) 8 (reads_part Own 8 refl) (state g old) (state g told.0) (state g told.1) rows told.2 told.3 begins) }
 
-  -- else they are the campaign's own row and its world
+  -- if judging the rows gives Ok, the campaign row and its world were read (`OwnRead`)
   pub own_is : (rows : List Row) (r : Result (StoredCampaign × WorldValue) LoadFault) → JudgesFormat f rows r → Selects g (selection campaign_table 1) old rows
       → IfOk r (λ both. OwnRead g old f both.0 both.1)
   own_is rows r (inl other) told = subst (λ answer. IfOk answer (λ both. OwnRead g old f both.0 both.1)) (sym other.1) tt
   own_is rows r (inr judged) told = rows_own rows r judged.1 told
 
-  -- a SELECT of the row that fails refuses the load
+  -- a SELECT of the campaign row that is refused refuses the load with its fault, outside a transaction
   pub unasked_own : old.in_transaction ≡ false → (fault : ReadFault) → RefusesToSelect g (selection campaign_table 1) old fault → RefusesToLoadIn f g old (own_fault fault)
   unasked_own idle read.Store refused = inr (inl refused)
   unasked_own idle read.Memory refused = (idle, inl refused)

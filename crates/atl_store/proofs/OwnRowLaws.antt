@@ -1,4 +1,4 @@
--- Laws on the upsert of the table `campaign`: it puts the row, or changes some columns of the one that is there.
+-- Laws on an upsert of the table `campaign`: it inserts the row, or changes some columns of the row that is there.
 use Rattle.std.proofs.Common.{◌≡◌, ℕ, pos, true, List, [], ◌∷◌, ◌++◌, Some, Ok, refl, sym, ap, ◌∙◌, subst, take}
 use Rattle.sqlite.specs.declared.types.Value.TheVariants.{Null, Int}
 use Rattle.sqlite.specs.Command.TheVariants.{InsertOr}
@@ -34,6 +34,7 @@ use Rattle.atl_store.proofs.CarryLaws.{among_all, unlinked, none_share, sound_un
 use Rattle.atl_store.proofs.MakeLaws.{did, upserts_make, updates_make, upserts_sound, upserts_others, Tests}
 use Rattle.atl_store.proofs.Terms.{cast_null, cast_int, by_number, one_number}
 
+-- `campaign` is one of the ten tables
 ours : Has all_tables campaign_table
 ours = listed Own
 
@@ -45,23 +46,23 @@ own_terms = lit (Int (pos 1)) ∷ lit Null ∷ lit (Int (pos 2)) ∷ col 0 0 ∷
 abbrev src : CampaignRowValue → List ℕ → Row
 src head world = int 1 ∷ Null ∷ int 2 ∷ campaign_row_values head world
 
--- the row that the UPDATE makes of the one that is there, if it sets these columns
+-- the row that the UPDATE with these terms makes of a row that is there
 abbrev pub changed_to : List Term → CampaignRowValue → List ℕ → Row → Row
 changed_to project head world r = visible campaign_table (cast_row campaign_table (eval_all project ((campaign_row_values head world ++ rowid r ∷ shown campaign_table (src head world)) ∷ r ∷ [])))
 
--- What an upsert does whose UPDATE sets these columns: it puts the first row, or changes the one that is there.
+-- What an upsert whose UPDATE has these terms does: it inserts the first row, or changes the row that is there.
 pub record PutsOwn (project : List Term) (head : CampaignRowValue) (world : List ℕ) (old new : Database) : Type 0 where
   pub first : rows_in campaign_table old.trees ≡ [] → Puts campaign_table 1 (campaign_row head world) old new
   pub again : (before after : Row) → take 1 before ≡ int 1 ∷ [] → take 1 after ≡ int 1 ∷ [] → Is (rows_in campaign_table old.trees) (λ r. r ≡ before) → ((r : Row) → visible campaign_table r ≡ before → changed_to project head world r ≡ after) → Puts campaign_table 1 after old new
   pub tables : HasTables new
   pub carries : Carries old new
 
--- The text is this upsert, whatever other tables follow.
+-- The text means the upsert whose UPDATE has these terms, whatever other tables follow.
 pub record MeansOwn (sql : List ℕ) (project : List Term) : Type 1 where
   pub is : (more : List Table) (indexes : List Index) → command_of (understood (all_and more indexes) sql) ≡ InsertOr 0 Abort (Values own_terms 9) (clause_on (0 ∷ []) (record { lets = []; body = update_query campaign_table.tree 6 project }) ∷ [])
   pub plain : (more : List Table) (indexes : List Index) → IsPlain (understood (all_and more indexes) sql)
 
--- such a text does what `PutsOwn` says
+-- a text that means an upsert of the campaign row (`MeansOwn`) inserts or changes the row (`PutsOwn`)
 pub puts_own : (sql : List ℕ) (project : List Term) → MeansOwn sql project → (old new : State) (head : CampaignRowValue) (world : List ℕ) (count : ℕ) → HasTables old.now → ExecutesInside 0 sql (campaign_row_values head world) old new (Ok count) → PutsOwn project head world old.now new.now
 unfolding first_key
 puts_own sql project means old new head world count has ran =

@@ -28,7 +28,7 @@ abbrev pub pair_project : List Term
 pair_project = col 1 0 ∷ col 1 1 ∷ col 1 2 ∷ col 0 2 ∷ []
 
 module _ (tree : ℕ) (name first second amount : List ℕ) where
-  -- such a table
+  -- a table whose rows are a key of two numbers and one number more
   abbrev pub pair_table : Table
   pair_table = table tree name (number first ∷ number second ∷ number amount ∷ []) None pair_unique (pair_unique ∷ []) []
 
@@ -45,7 +45,7 @@ module _ (tree : ℕ) (name first second amount : List ℕ) where
       let p2 = and_parts _ _ p1.1 in
       (int_by a t1.0 (not-true _ p1.0), (int_by b t2.0 (not-true _ p2.0), tt))
 
-  -- the terms make the row of these three numbers
+  -- the terms of INSERT and UPDATE make the row of these three numbers
   pub makes_pair : (a b : ℕ) (n : ℤ) → MakesValues pair_table pair_unique 4 pair_terms 3 pair_project (int a ∷ int b ∷ Int n ∷ [])
   makes_pair a b n = record {
     source = refl;

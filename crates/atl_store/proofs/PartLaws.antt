@@ -1,4 +1,4 @@
--- Laws on the tables of the parts of a campaign: different parts have different tables, and changes to some parts leave the others.
+-- Laws on the tables of a campaign's parts: different parts have different tables; changes to some leave the others.
 use Rattle.std.proofs.Common.{◌≡◌, ◌&&◌, ◌||◌, ◌⊎◌, ◌++◌, ℕ, Bool, true, false, not, nat_eq, cond, List, [], ◌∷◌, Option, Some, map, refl, sym, ap, ◌∙◌, subst, inl, inr, true≢false, arith}
 use Rattle.std.specs.List.{find, list_any, list_all}
 use Rattle.std.proofs.lemmas.Bool.{and_parts}
@@ -29,11 +29,12 @@ found_part part = refl
 pub same_part : (p q : Part) → tree_of p ≡ tree_of q → p ≡ q
 same_part p q same = same_Some p q (sym (found_part p) ∙ ap (λ tree. find (λ x. nat_eq (tree_of x) tree) all_parts) same ∙ found_part q)
 
+-- an element found by a test is the first one, or is found later
 first_or_later : {X : Type 0} (b : Bool) (y x : X) (later : Option X) → cond b (Some y) later ≡ Some x → (x ≡ y) ⊎ (later ≡ Some x)
 first_or_later true y x later is = inl (same_Some x y (sym is))
 first_or_later false y x later is = inr is
 
--- what is found in a list is in it
+-- an element that is found in a list is in the list
 found_has : {X : Type 0} (p : X → Bool) (xs : List X) (x : X) → find p xs ≡ Some x → Has xs x
 found_has p [] x is = absurd cc
 found_has p (y ∷ xs) x is = elim (first_or_later (p y) y x (find p xs) is) [ inl same ↦ inl same | inr later ↦ inr (found_has p xs x later) ]
@@ -56,22 +57,23 @@ is_among parts part = list_any (λ p. nat_eq (tree_of part) (tree_of p)) parts
 abbrev pub are_apart : List Part → List Part → Bool
 are_apart ps qs = list_all (λ p. not (is_among qs p)) ps
 
--- a part in a list passes the test
+-- a part of a list is among the list by the test `is_among`
 among : (parts : List Part) (part : Part) → Has parts part → is_among parts part ≡ true
 among parts part there = some_from (λ p. nat_eq (tree_of part) (tree_of p)) parts part there (itself (tree_of part))
   where
     itself : (n : ℕ) → nat_eq n n ≡ true
     itself n = grind (arith, nat_tests)
 
--- a part that fails the test is not in the list
+-- a part that fails the test `is_among` is not in the list
 pub not_among : (parts : List Part) (part : Part) → is_among parts part ≡ false → ¬ Has parts part
 not_among parts part free there = true≢false (sym (among parts part there) ∙ free)
 
+-- if "`b` or `c`" is true, one of them is
 one_or_more : (b c : Bool) → (b || c) ≡ true → (b ≡ true) ⊎ (c ≡ true)
 one_or_more true c is = inl refl
 one_or_more false c is = inr is
 
--- a part that passes the test is in the list
+-- a part that passes the test `is_among` is in the list
 among_has : (parts : List Part) (part : Part) → is_among parts part ≡ true → Has parts part
 among_has [] part is = absurd cc
 among_has (p ∷ parts) part is = elim (one_or_more (nat_eq (tree_of part) (tree_of p)) (is_among parts part) is) [
@@ -121,9 +123,9 @@ module _ (Becomes : Part → List Row → List Row → Type 0) where
     others = λ p free. second.others p (λ late. free (has_right ps qs p late)) ∙ first.others p (λ early. free (has_left ps qs p early));
   }
 
--- ---- each of some parts in its turn
+-- ---- each of some parts, one after another
 
--- one part is done in its turn
+-- doing `Does` for one part is doing it in turn for the list of this part alone
 pub in_turn_one : (Does : Part → Database → Database → Type 0) (part : Part) (old new : Database) → Does part old new → InTurn Does (part ∷ []) old new
 in_turn_one Does part old new did = (new, did, refl)
 
@@ -137,13 +139,13 @@ abbrev pub are_distinct : List Part → Bool
 are_distinct [] = true
 are_distinct (part ∷ parts) = are_apart (part ∷ []) parts && are_distinct parts
 
--- what becomes of each of them in its turn becomes of all
+-- what rows become, part by part
 module _ {X : Type 0} (Becomes : X → Part → List Row → List Row → Type 0) where
-  -- What becomes of one part in its turn.
+  -- One step: the rows of one part become what `Becomes` says, for each `X`, and all other tables stay.
   abbrev pub Turn : Part → Database → Database → Type 0
   Turn part old new = (x : X) → Changes (Becomes x) (part ∷ []) old new
 
-  -- what becomes of each part in its turn becomes of all
+  -- if the rows of each part become in turn what `Becomes` says, the rows of all parts do (`Changes`)
   pub in_turn_changed : (parts : List Part) → are_distinct parts ≡ true → (old new : Database) → InTurn Turn parts old new → (x : X) → Changes (Becomes x) parts old new
   in_turn_changed [] apart old new none x = record { done = λ part there. absurd there; others = λ part free. ap (λ (db : Database). db.trees (tree_of part)) none }
   in_turn_changed (p ∷ ps) apart old new first x =

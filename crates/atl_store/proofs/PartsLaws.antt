@@ -1,4 +1,4 @@
--- Laws from the rows of the tables to the campaign: if the rows that were read are made of a campaign, the tables hold it, table by table.
+-- Laws on tables whose rows are those of a campaign: if the rows that were read are made of it, the tables hold it.
 use Rattle.std.proofs.Common.{◌≡◌, ◌≢◌, ◌==◌, ℕ, ℤ, pos, Bool, true, false, cond, not, unwrap_or, Some, None, List, [], ◌∷◌, filter, map, refl, sym, ap, ◌∙◌, subst, inl, inr, true≢false, IsTrue}
 use Rattle.std.specs.List.{AllByRecursion}
 use Rattle.std.specs.List.Sorted.{IsPermutation}
@@ -87,16 +87,16 @@ by_number {A} {V} shown row line same numbered rows read m in_table of_them = (h
       λ of. has_permuted lines rows r (IsPermutation-sym rows lines is) (subst (Has lines) (sym of.3) (has_map (λ (e : ℕ × V). line e.0 e.1) (entries m) (of.0, of.1) (got_entry m of.0 of.1 of.2))),
     )
 
--- a flag as a row stores it is the flag as a row of the campaign shows it
+-- a flag in a row that is made of a campaign is shown as the flag of the campaign's row
 same_flag : (b : Bool) → Int (made.flag b) ≡ flag b
 same_flag true = refl
 same_flag false = refl
 
--- the row made of a faction shows as the row that stands for it
+-- the row made of a faction is shown as the campaign's row of the faction
 faction_row_is_line : (n : ℕ) (f : Faction) → faction_stored (made.faction_row n f) ≡ faction_line n f
 faction_row_is_line n f = ap (λ v. Int (pos n) ∷ Text f.joined_as ∷ Text f.name ∷ Text f.pass ∷ v ∷ []) (same_flag f.gone)
 
--- the row made of a unit shows as the row that stands for it
+-- the row made of a unit is shown as the campaign's row of the unit
 unit_row_is_line : (n : ℕ) (u : Unit) → unit_stored (made.unit_row n u) ≡ unit_line n u
 unit_row_is_line n u =
     ap (λ v. Int (pos n) ∷ Int (pos u.faction) ∷ Text u.holding.name ∷ Int (pos u.region) ∷ Int (pos u.structure) ∷ Int (pos u.holding.men) ∷ Int (pos u.holding.money) ∷ v ∷ []) (same_flag u.holding.guard)
@@ -117,41 +117,41 @@ own_held f text c rows read in_table of_them = (
 -- ---- amounts that are not 0
 
 module _ {R : Type 0} (amount : R → ℤ) (row : ℕ → ℕ → R) (is : (thing count : ℕ) → amount (row thing count) ≡ pos count) where
-  -- each row of an amount is of an entry that is not 0
+  -- each row made of amounts is of an entry whose amount is not 0
   amount_row_is_of_entry : (es : List (ℕ × ℕ)) (s : R) → Has (amount_rows amount row es) s → (e : ℕ × ℕ) × Has es e × (e.1 ≢ 0) × (s ≡ row e.0 e.1)
   amount_row_is_of_entry es s there =
       let kept = has_filtered (λ r. not (is_zero (amount r))) (rows_by row es) s there in
       let e = map_has (λ (e : ℕ × ℕ). row e.0 e.1) es s kept.0 in
       (e.0, e.1, λ zero. true≢false (sym kept.1 ∙ ap (λ r. not (is_zero (amount r))) e.2 ∙ ap (λ z. not (is_zero z)) (is e.0.0 e.0.1) ∙ ap (λ a. not (a == 0)) zero), e.2)
 
-  -- each entry that is not 0 has its row
+  -- a row is made of each entry whose amount is not 0
   entry_has_amount_row : (es : List (ℕ × ℕ)) (thing count : ℕ) → Has es (thing, count) → count ≢ 0 → Has (amount_rows amount row es) (row thing count)
   entry_has_amount_row es thing count there some =
       has_kept (λ r. not (is_zero (amount r))) (rows_by row es) (row thing count) (has_map (λ (e : ℕ × ℕ). row e.0 e.1) es (thing, count) there) (ap (λ z. not (is_zero z)) (is thing count) ∙ ap not (is_not_zero count some))
 
 -- ---- what units have
 
--- each row of one kind of thing of a unit is of an entry that is not 0
+-- each row made of a unit's items, or of its skills, is of an entry whose amount is not 0
 kind_row_is_of_entry : (n sort : ℕ) (es : List (ℕ × ℕ)) (s : StoredHas) → Has (made.rows_of_sort n sort es) s → (e : ℕ × ℕ) × Has es e × (e.1 ≢ 0) × (s ≡ made.has_row n sort e.0 e.1)
 kind_row_is_of_entry n sort = amount_row_is_of_entry (λ (r : StoredHas). r.amount) (made.has_row n sort) (λ thing count. refl)
 
--- each entry of one kind of thing that is not 0 has its row
+-- a row is made of each entry of a unit's items, or of its skills, whose amount is not 0
 entry_has_kind_row : (n sort : ℕ) (es : List (ℕ × ℕ)) (thing amount : ℕ) → Has es (thing, amount) → amount ≢ 0 → Has (made.rows_of_sort n sort es) (made.has_row n sort thing amount)
 entry_has_kind_row n sort = entry_has_amount_row (λ (r : StoredHas). r.amount) (made.has_row n sort) (λ thing count. refl)
 
--- each row of what a unit has is of an entry of items or skills that is not 0
+-- each row made of a unit's goods is of an item or skill whose amount is not 0
 goods_row_is_of_entry : (n : ℕ) (held : HoldingValue) (s : StoredHas) → Has (made.held_rows n held) s → (sort : ThingKind) × (e : ℕ × ℕ) × Has (entries (things_of sort held)) e × (e.1 ≢ 0) × (s ≡ made.has_row n (sort_number sort) e.0 e.1)
 goods_row_is_of_entry n held s there = elim (has_either (made.rows_of_sort n 0 (entries held.items)) (made.rows_of_sort n 1 (entries held.days)) s there) [
   | inl item ↦ let e = kind_row_is_of_entry n 0 (entries held.items) s item in (Item, e.0, e.1, e.2, e.3)
   | inr skill ↦ let e = kind_row_is_of_entry n 1 (entries held.days) s skill in (Skill, e.0, e.1, e.2, e.3)
 ]
 
--- each entry of items or skills of a unit that is not 0 has its row
+-- a row is made of each item or skill of a unit whose amount is not 0
 entry_has_goods_row : (n : ℕ) (held : HoldingValue) (sort : ThingKind) (thing amount : ℕ) → Has (entries (things_of sort held)) (thing, amount) → amount ≢ 0 → Has (made.held_rows n held) (made.has_row n (sort_number sort) thing amount)
 entry_has_goods_row n held Item thing amount there some = has_left (made.rows_of_sort n 0 (entries held.items)) (made.rows_of_sort n 1 (entries held.days)) _ (entry_has_kind_row n 0 (entries held.items) thing amount there some)
 entry_has_goods_row n held Skill thing amount there some = has_right (made.rows_of_sort n 0 (entries held.items)) (made.rows_of_sort n 1 (entries held.days)) _ (entry_has_kind_row n 1 (entries held.days) thing amount there some)
 
--- the row of an entry of a unit is one of those that the units' table must have
+-- the row made of an item or skill of a unit is a row of `has` for the campaign
 row_of_goods : (units : FinMap nat_cmp Unit) (r : Row) (n : ℕ) (unit : Unit) → Has (entries units) (n, unit) → (a : StoredHas) → r ≡ has_values a → (sort : ThingKind) (e : ℕ × ℕ) → Has (entries (things_of sort unit.holding)) e → e.1 ≢ 0 → a ≡ made.has_row n (sort_number sort) e.0 e.1 → HasRowsOf units r
 row_of_goods units r n unit there a is sort e has some made_is = (n, unit, entry_got units n unit there, sort, e.0, e.1, entry_got (things_of sort unit.holding) e.0 e.1 has, some, is ∙ ap has_values made_is)
 
@@ -200,7 +200,7 @@ stocks_held rows read regions in_table of_them r =
 
 -- ---- the books
 
--- what is true of each element of a list is true of one that it has
+-- what is true of each element of a list is true of an element that the list has
 each_of : {A : Type 0} (P : A → Type 0) (xs : List A) (x : A) → AllByRecursion P xs → Has xs x → P x
 each_of P [] x all there = absurd there
 each_of P (y ∷ xs) x all (inl same) = subst P (sym same) all.0
@@ -211,11 +211,11 @@ all_has : {A : Type 0} (xs ys : List A) → ((x : A) → Has ys x → Has xs x) 
 all_has xs [] within = tt
 all_has xs (y ∷ ys) within = (within y (inl refl), all_has xs ys (λ x there. within x (inr there)))
 
--- the row of the books for one account and its amount
+-- the row of `books` that is made of one account and its amount
 abbrev made_line : Account × ℤ → StoredBooks
 made_line x = made.books_row x.0.0 x.0.1 x.1
 
--- the table `books` has exactly the rows of the amounts, if the books are of this number of things
+-- the table `books` has exactly the rows of the amounts, if the rows read are made of the books, of `things` things
 books_held : (things : ℕ) (books : BooksValue) → AreBooks things books → (rows : List Row) (read : List StoredBooks) → IsPermutation rows (map books_values read) → IsPermutation (made.books_rows books) read → Is rows (BooksRowsOf books)
 books_held things books are rows read in_table of_them r =
     let m = books.amounts in
@@ -247,7 +247,7 @@ only_second Second part late there = refl
 
 -- tables that have the rows of a campaign
 module _ (f : Format) (db : Trees) (text : List ℕ) (p : Parts) (c : CampaignValue) (have : HaveRows f db text p) (are : AreRowsOf f c p) (things : ℕ) (books : AreBooks things c.books) where
-  -- Each part's table has exactly the rows that stand for the part, and these differ in the first column if it is the key.
+  -- Each part's table has exactly the campaign's rows; these differ in the first column if it is the rowid.
   by_part : (part : Part) → Has (parts_in f) part → Is (rows_in (table_of part) db) (rows_for (campaign_row_in f (campaign_row_of c) text) c part) × (shows_rowids part ≡ false → HasKeys (rows_in (table_of part) db))
   unfolding rows_of
   by_part Own there = own_held f text c _ p.campaign (have.rows Own there) are.campaign
@@ -261,11 +261,11 @@ module _ (f : Format) (db : Trees) (text : List ℕ) (p : Parts) (c : CampaignVa
   by_part Books there = (books_held things c.books books _ p.books (have.rows Books there) are.books, λ number. absurd (true≢false number))
   by_part Markets there = (stocks_held _ p.markets c.regions (have.rows Markets there) (subst (λ f. IsPermutation (made.market_rows f (entries c.regions)) p.markets) (only_second f Markets refl there) are.markets), λ number. absurd (true≢false number))
 
-  -- the tables hold the campaign
+  -- tables whose rows are made of the campaign hold it in the format
   pub rows_hold : HoldsIn f db text c
   rows_hold = record { rows = λ part there. (by_part part there).0 }
 
-  -- the rowids of each table differ, if those of the tables without an integer key do
+  -- the rowids of each table are different integers, if those of the tables without an INTEGER PRIMARY KEY are
   pub rows_keyed : ((table : Table) → Has (tables_with_rowids f) table → IsKeyed (db table.tree)) → (table : Table) → Has (map table_of (parts_in f)) table → IsKeyed (db table.tree)
   rows_keyed placed table there =
       let part = map_has table_of (parts_in f) table there in

@@ -1,4 +1,4 @@
--- Laws on putting the rows of a list one after another: what is put so far, and with the rest.
+-- Laws on putting the rows of a list, one after another, into a table: some rows put, then others, put them all.
 use Rattle.std.proofs.Common.{◌≡◌, ◌≢◌, ◌↔◌, ◌++◌, ℕ, List, [], ◌∷◌, refl, sym, ◌∙◌, subst, inl, inr}
 use Rattle.sqlite.specs.Order.{Row}
 use Rattle.sqlite.specs.Table.{Table}
@@ -10,7 +10,7 @@ use Rattle.atl_store.specs.Tables.{all_tables}
 use Rattle.atl_store.specs.Inside.{Inside, HasTables, Puts, PutsRows}
 use Rattle.atl_store.proofs.CarryLaws.{carries_then, carries_none}
 
--- The rows put so far: with the rest put too, all rows of the list are put. Other tables are unchanged.
+-- Some rows of a list are put: once the `rest` is put too, all rows are. The other tables are unchanged.
 pub record Towards (table : Table) (key : ℕ) (rest all : List Row) (old now : Database) : Type 0 where
   pub rows : (r : Row) → puts key rest (Has (rows_in table now.trees)) r ↔ puts key all (Has (rows_in table old.trees)) r
   pub others : (t : Table) → Has all_tables t → t.tree ≢ table.tree → now.trees t.tree ≡ old.trees t.tree
@@ -34,7 +34,7 @@ append_puts key [] ys S r h = h
 append_puts key (x ∷ xs) ys S r h = append_puts key xs ys (put key x S) r h
 
 module _ (table : Table) (key : ℕ) where
-  -- putting a part of the rest comes nearer to all
+  -- putting the first rows of the rest leaves the others to put
   towards_rows : (xs rest all : List Row) (old mid new : Database) → Towards table key (xs ++ rest) all old mid → PutsRows table key xs mid new → Towards table key rest all old new
   towards_rows xs rest all old mid new so_far more = record {
     rows = λ r.
@@ -49,7 +49,7 @@ module _ (table : Table) (key : ℕ) where
   puts_one : (x : Row) (old new : Database) → Puts table key x old new → PutsRows table key (x ∷ []) old new
   puts_one x old new one = record { rows = one.rows; others = one.others }
 
-  -- a part of the rest is put inside the transaction
+  -- inside a transaction, putting the first rows of the rest leaves the others to put
   pub inside_rows : (xs rest all : List Row) (old mid new : State) → Inside HasTables (Towards table key (xs ++ rest) all) old mid → Inside HasTables (PutsRows table key xs) mid new → Inside HasTables (Towards table key rest all) old new
   inside_rows xs rest all old mid new so_far more = (
     more.0 ∙ so_far.0,
@@ -59,7 +59,7 @@ module _ (table : Table) (key : ℕ) where
         record { does = towards_rows xs rest all old.now mid.now new.now was.does now.does; tables = now.tables; carries = carries_then old.now mid.now new.now was.carries now.carries },
   )
 
-  -- nothing is put yet
+  -- before any row is put, the whole list is left to put
   pub none_yet : (rest all : List Row) → rest ≡ all → (s : State) → Inside HasTables (Towards table key rest all) s s
   none_yet rest all same s = (
     refl,
@@ -70,7 +70,7 @@ module _ (table : Table) (key : ℕ) where
     },
   )
 
-  -- nothing is left to put
+  -- when no row is left to put, all rows of the list are put
   pub all_put : (rest all : List Row) → rest ≡ [] → (old new : State) → Inside HasTables (Towards table key rest all) old new → Inside HasTables (PutsRows table key all) old new
   all_put rest all none old new did = (
     did.0,
@@ -87,11 +87,11 @@ module _ (table : Table) (key : ℕ) where
   pub none_put : (rows : List Row) → rows ≡ [] → (s : State) → Inside HasTables (PutsRows table key rows) s s
   none_put rows none s = all_put rows rows none s s (none_yet rows rows refl s)
 
-  -- one row is put
+  -- putting one row puts the list of this row alone, inside a transaction
   pub one_put : (row : Row) (rows : List Row) → rows ≡ row ∷ [] → (old new : State) → Inside HasTables (Puts table key row) old new → Inside HasTables (PutsRows table key rows) old new
   one_put row rows is old new did = (did.0, λ has. let made = did.1 has in record { does = subst (λ list. PutsRows table key list old.now new.now) (sym is) (puts_one row old.now new.now made.does); tables = made.tables; carries = made.carries })
 
-  -- one list of rows and then another are put
+  -- putting one list of rows and then another puts both joined, inside a transaction
   pub inside_both : (xs ys : List Row) (a b c : State) → Inside HasTables (PutsRows table key xs) a b → Inside HasTables (PutsRows table key ys) b c → Inside HasTables (PutsRows table key (xs ++ ys)) a c
   inside_both xs ys a b c one two = (
     two.0 ∙ one.0,

@@ -1,4 +1,4 @@
--- Laws on the loop that puts the rows of a list: its result is that of writing the whole list.
+-- Laws on writing the rows of a list step by step: all steps together, or up to an error, write the whole list.
 use Rattle.std.proofs.Common.{◌≡◌, ◌++◌, ℕ, List, [], ◌∷◌, Result, Ok, Err, refl, sym, subst, inl}
 use Rattle.std.specs.Borrow.{MutBor}
 use Rattle.sqlite_trees.specs.declared.store.Store.{Ghosts}
@@ -16,15 +16,15 @@ use Rattle.atl_store.specs.Writes.{Writes, WritesRow, WritesRows}
 use Rattle.atl_store.proofs.PutsLaws.{Towards, inside_rows, inside_both, none_yet, none_put, one_put, all_put}
 use Rattle.atl_store.proofs.WriteLaws.{HandsOn, SoFar, begins, goes_on, stops, stops_second, two_steps, weaker, among, among_each}
 
--- The loop has put some of the rows, and `rest` is still to put.
+-- Some of the rows are put without an error, and `rest` is still to put.
 pub record Putting {S : Type 0} (g : Ghosts S) (table : Table) (key : ℕ) (rest all : List Row) (old now : MutBor (Held S)) : Type 0 where
   pub so_far : SoFar g (Each (upsert table key) (Has all)) (Inside HasTables (Towards table key rest all)) old now
   pub left : (row : Row) → Has rest row → Has all row
 
 module _ {S : Type 0} (g : Ghosts S) (table : Table) (key : ℕ) where
-  -- ---- lists by their parts
+  -- ---- lists of rows and their parts
 
-  -- writing equal lists is the same
+  -- writing a list of rows is writing an equal list
   pub same_written : (xs ys : List Row) {A : Type 0} {r : Result A Error} {a b : MutBor (Held S)} → xs ≡ ys → WritesRows g table key xs r a b → WritesRows g table key ys r a b
   same_written xs ys {r = r} {a = a} {b = b} same done = subst (λ (rows : List Row). WritesRows g table key rows r a b) same done
 
@@ -51,7 +51,7 @@ module _ {S : Type 0} (g : Ghosts S) (table : Table) (key : ℕ) where
 
   -- ---- in a loop
 
-  -- before the first row
+  -- before the first row is put, the whole list is still to put
   pub putting_begins : (rest all : List Row) {a : MutBor (Held S)} → rest ≡ all → Putting g table key rest all a a
   putting_begins rest all same = record { so_far = begins g (none_yet table key rest all same); left = λ row there. subst (λ (l : List Row). Has l row) same there }
 
@@ -59,17 +59,17 @@ module _ {S : Type 0} (g : Ghosts S) (table : Table) (key : ℕ) where
     next_part : {old now : MutBor (Held S)} {Does : State → State → Type 0} {A : Type 0} {r : Result A Error} {a b : MutBor (Held S)} → Putting g table key was all old now → Writes g (Each (upsert table key) (Has xs)) Does r a b → Writes g (Each (upsert table key) (Has all)) Does r a b
     next_part so_far more = among_each g (upsert table key) (Has xs) (λ row there. (refl, so_far.left row (subst (λ (l : List Row). Has l row) (sym is) (has_left xs rest row there)))) more
 
-    -- some rows more are put
+    -- putting the next rows without an error leaves the rest to put
     pub putting_more : {u : Unit {0}} {a b c : MutBor (Held S)} → Putting g table key was all a b → WritesRows g table key xs (Ok u) b c → Putting g table key rest all a c
     putting_more so_far more = record {
       so_far = goes_on g (λ old mid new did next. inside_rows table key xs rest all old mid new (subst (λ (l : List Row). Inside HasTables (Towards table key l all) old mid) is did) next) so_far.so_far (next_part so_far more);
       left = λ row there. so_far.left row (subst (λ (l : List Row). Has l row) (sym is) (has_right xs rest row there));
     }
 
-    -- a row that fails ends the loop with its error
+    -- if the next rows can't be put, the write of the whole list ends with this error
     pub putting_failed : {Does : State → State → Type 0} {A X : Type 0} {e : Error} {r : Result A Error} {a b c : MutBor (Held S)} → Putting g table key was all a b → WritesRows {A = X} g table key xs (Err e) b c → HandsOn e r → Writes g (Each (upsert table key) (Has all)) Does r a c
     putting_failed so_far more failed = stops_second g so_far.so_far (next_part so_far more) failed
 
-  -- after the last row all are written
+  -- when no row is left to put, the whole list is written
   pub putting_ends : (rest all : List Row) {a b : MutBor (Held S)} → rest ≡ [] → Putting g table key rest all a b → WritesRows {A = Unit {0}} g table key all (Ok (tt {0})) a b
   putting_ends rest all none so_far = weaker g (all_put table key rest all none) so_far.so_far

@@ -1,4 +1,4 @@
--- Laws on opening a file again: what a crash left is a campaign once more.
+-- Laws on opening a file again after a crash: the campaign that the file stores is held again.
 use Rattle.std.proofs.Common.{◌≡◌, ◌⊎◌, ℕ, List, sym, ap, ◌∙◌, subst, inl, inr}
 use Rattle.sqlite.specs.Effect.{Database}
 use Rattle.sqlite.specs.Held.{Held, state}
@@ -27,11 +27,11 @@ module _ {S : Type 0} (g : Ghosts S) where
       }
 
   module _ (old new : Held S) (reopens : Reopens g old new) where
-    -- a campaign held before the file was shut is held when it is opened again
+    -- a campaign that was held before the crash is held by the connection that is opened again
     pub kept_again : (text : List ℕ) (c : CampaignValue) → HoldsCampaign g old text c → HoldsCampaign g new text c
     kept_again text c holds clean = reopens.keeps clean text c ((holds (reopens.clean clean)).crash (state g new).now.trees (reopens.found clean))
 
-    -- after a command that failed, the opened file has the campaign before it or after it
+    -- after a command that failed, a connection opened again keeps the campaign before or after it, if the disk is clean
     pub stopped_again : HasCleanDisk (state g new) → (faults : ℕ) (text : List ℕ) (before after : CampaignValue) → LeavesAfterFault faults (state g old) text before after → Keeps (state g new) text before ⊎ Keeps (state g new) text after
     stopped_again clean faults text before after stops = elim (stops.crash (state g new).now.trees (reopens.found clean)) [
       | inl is ↦ inl (reopens.keeps clean text before is)

@@ -34,11 +34,11 @@ module _ (c : MarkedCampaign) where
       only r (inl same) = same
       only r (inr kept) = absurd (kept.1 (ap (take 1) ((was r).0 kept.0)))
 
-  -- a dirty campaign row is written
+  -- putting the campaign row rewrites it (`RewritesCampaignRow`), if it is dirty
   pub head_done : c.marks.row ≡ true → (old new : State) → Inside HasTables (PutsCampaignRow (campaign_row_of c.value) []) old new → Inside HasTables (RewritesCampaignRow c) old new
   head_done is old new did = inside_weaker HasTables (PutsCampaignRow (campaign_row_of c.value) []) (RewritesCampaignRow c) old new (λ has puts. head_put true is refl old.now new.now puts) did
 
-  -- a campaign row that is not dirty is left
+  -- doing nothing rewrites the campaign row (`RewritesCampaignRow`), if it is not dirty
   pub head_left : c.marks.row ≡ false → (s : State) → Inside HasTables (RewritesCampaignRow c) s s
   head_left is s = (
     refl,
@@ -52,16 +52,16 @@ module _ (c : MarkedCampaign) where
 -- ---- one table after another
 
 module _ (c : MarkedCampaign) where
-  -- the part of the campaign row is rewritten
+  -- rewriting the campaign row rewrites the part `Own`
   pub own_rewritten : (old new : Database) → RewritesCampaignRow c old new → RewritesWithOwn c (Own ∷ []) old new
   own_rewritten old new did before text was = one_changed (Becomes c (own_after c before text)) Own _ old new (did before text was) (λ rows. rows)
 
-  -- another part is rewritten, whatever the campaign row
+  -- rewriting the rows of a part other than the campaign row rewrites the part, whatever the campaign row is
   pub part_rewritten : (part : Part) → ((own : Row) (before after : List Row) → Becomes c [] part before after → Becomes c own part before after) → (old new : Database)
       → Rewrites (table_of part) (is_marked c.marks part) (rows_for [] c.value part) old new → RewritesParts c (part ∷ []) old new
   part_rewritten part any old new did own = one_changed (Becomes c own) part _ old new did (any own _ _)
 
-  -- some parts and then others are rewritten
+  -- rewriting some parts, the campaign row among them, and then others rewrites all of them
   pub own_then_rewritten : (ps qs : List Part) → are_apart ps qs ≡ true → (old mid new : Database) → RewritesWithOwn c ps old mid → RewritesParts c qs mid new → RewritesWithOwn c (ps ++ qs) old new
   own_then_rewritten ps qs apart old mid new first second before text was = let own = own_after c before text in both_changed (Becomes c own) ps qs apart old mid new (first before text was) (second own)
 

@@ -33,13 +33,13 @@ chosen_step false true W M N same = (λ h. h, λ h. h)
 chosen_step true false W M N same = same
 chosen_step false false W M N same = same
 
--- Some rows are rewritten so far: with the rest rewritten too, all are. Other tables are unchanged.
+-- Some chosen rows are rewritten: once the `rest` is rewritten too, all are. The other tables are unchanged.
 pub record Nearing (table : Table) (Wanted : Set) (rest all : Row → Bool) (old now : Database) : Type 0 where
   pub rows : (r : Row) → Chosen (rest r) (Wanted r) (Has (rows_in table now.trees) r) ↔ Chosen (all r) (Wanted r) (Has (rows_in table old.trees) r)
   pub others : (t : Table) → Has all_tables t → t.tree ≢ table.tree → now.trees t.tree ≡ old.trees t.tree
 
 module _ (table : Table) (Wanted : Set) where
-  -- nothing is rewritten yet
+  -- before any step, all chosen rows are left to rewrite
   pub none_nearer : (rest all : Row → Bool) → ((r : Row) → rest r ≡ all r) → (s : State) → Inside HasTables (Nearing table Wanted rest all) s s
   none_nearer rest all same s = (
     refl,
@@ -53,7 +53,7 @@ module _ (table : Table) (Wanted : Set) where
     },
   )
 
-  -- one step rewrites its rows
+  -- a step that rewrites some of the remaining rows leaves the others to rewrite
   pub one_nearer : (step rest next all : Row → Bool) → ((r : Row) → rest r ≡ (step r || next r)) → (old mid new : State)
       → Inside HasTables (Nearing table Wanted rest all) old mid → Inside HasTables (Rewrites table step Wanted) mid new
       → Inside HasTables (Nearing table Wanted next all) old new
@@ -77,7 +77,7 @@ module _ (table : Table) (Wanted : Set) where
         },
   )
 
-  -- nothing is left to rewrite
+  -- when no row is left to rewrite, all chosen rows are rewritten
   pub all_rewritten : (rest all goal : Row → Bool) → ((r : Row) → rest r ≡ false) → ((r : Row) → all r ≡ goal r) → (old new : State)
       → Inside HasTables (Nearing table Wanted rest all) old new → Inside HasTables (Rewrites table goal Wanted) old new
   all_rewritten rest all goal none is old new did = (
@@ -97,7 +97,7 @@ module _ (table : Table) (Wanted : Set) where
         },
   )
 
-  -- the rows of one test and then those of another are rewritten
+  -- rewriting the rows of one test and then those of another rewrites the rows that pass either
   pub both_rewritten : (p q : Row → Bool) (old mid new : Database) → Rewrites table p Wanted old mid → Rewrites table q Wanted mid new → Rewrites table (λ r. p r || q r) Wanted old new
   both_rewritten p q old mid new one two = record {
     rows = λ r.
@@ -112,7 +112,7 @@ module _ (table : Table) (Wanted : Set) where
 
 -- ---- numbers
 
--- equal by the order of numbers is equal
+-- two numbers that are equal by their order are equal
 pub tied : (k n : ℕ) → eq_by_cmp nat_cmp k n ≡ true → k ≡ n
 tied k n is = elim (nat_cmp k n) as (λ o. nat_cmp k n ≡ o → is_eq o ≡ true → k ≡ n) [
   | Less ↦ λ _ never. absurd (true≢false (sym never))
@@ -126,7 +126,7 @@ is_itself n = ap is_eq (tied_itself nat_cmp_total n)
 
 -- ---- a row that begins with a number
 
--- a row passes one of two tests of its number exactly if it passes their disjunction
+-- a row passes the test "`f` or `g`" of its number exactly if it passes `f` or passes `g`
 begins_either : (f g : ℕ → Bool) (r : Row) → begins (λ n. f n || g n) r ≡ (begins f r || begins g r)
 begins_either f g (Int (pos n) ∷ row) = refl
 begins_either f g row = refl
@@ -136,50 +136,50 @@ begins_none : (r : Row) → begins (λ n. false) r ≡ false
 begins_none (Int (pos n) ∷ row) = refl
 begins_none row = refl
 
--- a row that passes the test for a number has that key
+-- a row that passes the test for a number has the number as its first column
 pub begins_key : (n : ℕ) (r : Row) → begins (is_number n) r ≡ true → take 1 r ≡ int n ∷ []
 begins_key n (Int (pos k) ∷ row) is = ap (λ k. int k ∷ []) (tied k n is)
 begins_key n row is = absurd (true≢false (sym is))
 
--- a row with that key passes the test for the number
+-- a row with a number as its first column passes the test for the number
 pub key_begins : (n : ℕ) (r : Row) → take 1 r ≡ int n ∷ [] → begins (is_number n) r ≡ true
 key_begins n [] key = absurd cc
 key_begins n (v ∷ row) key =
     let value : v ≡ int n = cc in
     ap (λ x. begins (is_number n) (x ∷ row)) value ∙ is_itself n
 
--- a row of the numbers left is of the next one or of the rest
+-- a row is of the remaining numbers exactly if it is of the next number or of the rest
 next_number : (n : ℕ) (ns : List ℕ) (r : Row) → begins (is_among (n ∷ ns)) r ≡ (begins (is_number n) r || begins (is_among ns) r)
 next_number n ns r = begins_either (is_number n) (is_among ns) r
 
--- with no number left no row is chosen
+-- a test for no number chooses no row
 no_number : (ns : List ℕ) → ns ≡ [] → (r : Row) → begins (is_among ns) r ≡ false
 no_number ns none r = ap (λ l. begins (is_among l) r) none ∙ begins_none r
 
--- the rows of all numbers of a set
+-- a row is of the listed numbers of a set exactly if its number is in the set
 of_set : (marks : FinSet nat_cmp) (ns : List ℕ) → from_list ns ≡ marks → (r : Row) → begins (is_among ns) r ≡ begins_marked marks r
 of_set marks ns all r = ap (λ (f : ℕ → Bool). begins f r) (λ i n. (sym (contains-from_list nat_cmp_total ns n) ∙ ap (λ s. contains s n) all) i)
 
 -- ---- the rows of all numbers of a set, one after another
 
 module _ (table : Table) (Wanted : Set) where
-  -- Once the rows of the rest of these numbers are rewritten too, those of all are.
+  -- The rows of some numbers are rewritten: once those of the `rest` are rewritten too, the rows of all numbers are.
   abbrev pub NearingNumbers : List ℕ → List ℕ → Database → Database → Type 0
   NearingNumbers rest all = Nearing table Wanted (λ r. begins (is_among rest) r) (λ r. begins (is_among all) r)
 
-  -- the rows of one number more are rewritten
+  -- rewriting the rows of one more number leaves one number fewer to rewrite
   pub number_nearer : (n : ℕ) (now rest all : List ℕ) → now ≡ n ∷ rest → (old mid new : State) → Inside HasTables (NearingNumbers now all) old mid
       → Inside HasTables (Rewrites table (begins (is_number n)) Wanted) mid new → Inside HasTables (NearingNumbers rest all) old new
   number_nearer n now rest all is = one_nearer table Wanted (λ r. begins (is_number n) r) (λ r. begins (is_among now) r) (λ r. begins (is_among rest) r) (λ r. begins (is_among all) r) (λ r. ap (λ ns. begins (is_among ns) r) is ∙ next_number n rest r)
 
-  -- with no number left, the rows of all numbers of the set are rewritten
+  -- when no number is left, the rows of all numbers of the set are rewritten
   pub numbers_rewritten : (marks : FinSet nat_cmp) (rest all : List ℕ) → rest ≡ [] → from_list all ≡ marks → (old new : State)
       → Inside HasTables (NearingNumbers rest all) old new → Inside HasTables (Rewrites table (begins_marked marks) Wanted) old new
   numbers_rewritten marks rest all none is = all_rewritten table Wanted (λ r. begins (is_among rest) r) (λ r. begins (is_among all) r) (λ r. begins_marked marks r) (no_number rest none) (of_set marks all is)
 
--- ---- rows that take the place of those with a key
+-- ---- new rows that replace those with a key
 
--- Where a test finds the rows of a key, and the new rows are the wanted ones of it, these are rewritten and no others.
+-- A test `p` that finds exactly the rows of a key, and new rows that are exactly the wanted rows of the key.
 module _ (p : Row → Bool) (Key New Wanted : Set) (found : (r : Row) → p r ≡ true → Key r) (finds : (r : Row) → Key r → p r ≡ true) (news : (r : Row) → New r → Key r × Wanted r) (olds : (r : Row) → p r ≡ true → Wanted r → New r) where
   in_place : (Were : Type 0) (r : Row) → (New r ⊎ (Were × ¬ Key r)) ↔ Chosen (p r) (Wanted r) Were
   in_place Were r = (ahead, back (p r) refl)
@@ -192,21 +192,21 @@ module _ (p : Row → Bool) (Key New Wanted : Set) (found : (r : Row) → p r �
       back true is wanted = inl (olds r is wanted)
       back false is was = inr (was, λ key. true≢false (sym (finds r key) ∙ is))
 
-  -- that rewrites the rows of the key and no others
+  -- replacing the rows of a key by the wanted rows of the key rewrites the rows that the test finds, and no others
   pub rewrites_key : (table : Table) (old new : Database)
       → ((r : Row) → Has (rows_in table new.trees) r ↔ (New r ⊎ (Has (rows_in table old.trees) r × ¬ Key r)))
       → ((t : Table) → Has all_tables t → t.tree ≢ table.tree → new.trees t.tree ≡ old.trees t.tree) → Rewrites table p Wanted old new
   rewrites_key table old new rows others = record { rows = λ r. let so = in_place (Has (rows_in table old.trees) r) r in (λ h. so.0 ((rows r).0 h), λ h. (rows r).1 (so.1 h)); others = others }
 
--- of a choice with an impossible first case, the second
+-- if the first of two cases is impossible, the second holds
 pub kept_only : {P : Type 0} → ⊥ ⊎ P → P
 kept_only (inl never) = absurd never
 kept_only (inr kept) = kept
 
--- ---- a row that is put, or taken out
+-- ---- a row that is put or deleted
 
 module _ {V : Type 0} (table : Table) (line : ℕ → V → Row) (numbered : (n : ℕ) (v : V) → take 1 (line n v) ≡ int n ∷ []) (values : FinMap nat_cmp V) (n : ℕ) where
-  -- a wanted row with this number is that of the number's value
+  -- a wanted row with the number `n` is the row of the map's value under `n`
   wanted_at : (r : Row) → begins (is_number n) r ≡ true → RowsOf line values r → (v : V) × (get values n ≡ Some v) × (r ≡ line n v)
   wanted_at r is of =
       let number : of.0 ≡ n = same_number of.0 n (sym (numbered of.0 of.1) ∙ ap (take 1) (sym of.3) ∙ begins_key n r is) in
@@ -227,12 +227,12 @@ module _ {V : Type 0} (table : Table) (line : ℕ → V → Row) (numbered : (n 
       (λ r is of. let w = wanted_at r is of in none-some w.0 (sym none ∙ w.1))
       table old new (λ r. let so = did.rows r in (λ h. inr (so.0 h), λ h. so.1 (kept_only h))) did.others
 
-  -- putting the row of a number that the map has rewrites it
+  -- inside a transaction, putting the row of a number that the map has rewrites the row of the number
   pub put_done : (v : V) → get values n ≡ Some v → (old new : State) → Inside HasTables (Puts table 1 (line n v)) old new
       → Inside HasTables (RewritesNumber table line values n) old new
   put_done v there old new did = inside_weaker HasTables (Puts table 1 (line n v)) (RewritesNumber table line values n) old new (λ has puts. put_rewrites old.now new.now v there puts) did
 
-  -- deleting the row of a number that the map lacks rewrites it
+  -- inside a transaction, deleting the row of a number that the map lacks rewrites the row of the number
   pub drop_done : get values n ≡ None → (old new : State) → Inside HasTables (Drops table 1 (int n ∷ [])) old new
       → Inside HasTables (RewritesNumber table line values n) old new
   drop_done none old new did = inside_weaker HasTables (Drops table 1 (int n ∷ [])) (RewritesNumber table line values n) old new (λ has drops. drop_rewrites old.now new.now none drops) did

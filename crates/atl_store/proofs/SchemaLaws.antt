@@ -16,7 +16,7 @@ use Rattle.sqlite_rules.proofs.ListLemmas.{all_has, all_from, has_left, has_eith
 use Rattle.sqlite_trees.proofs.ListLemmas.{all-append}
 use Rattle.atl_store.specs.Tables.{all_tables, all_indexes, all_trees, IsHarmless, AreTables, AreIndexes, Begins}
 
--- a list of one element has just this one
+-- a list with one element, which is `x` by its index, is the list of `x` alone
 pub only_one : {A : Type 0} (xs : List A) (x d : A) → 1 ≤ length xs → length xs < 2 → d ≡ get_or xs 0 d → d ≡ x → xs ≡ x ∷ []
 only_one [] x d least most is same = absurd (omega (arith, least))
 only_one (y ∷ []) x d least most is same = ap (λ z. z ∷ []) (sym is ∙ same)
@@ -29,7 +29,7 @@ pub named : (name : List ℕ) (tree table : ℕ) (key : List ℕ) (found : Index
 named name tree table key found r decides =
     subst (λ (d : List ℕ). Decides r (found ≡ record { name = codes "sqlite_autoindex_" ++ (name ++ (codes "_" ++ d)); tree = tree; table = table; columns = key; order = plain; is_unique = true })) (sym (decimal_digit 1 (omega arith))) decides
 
--- a unique index that is harmless is of none of these tables
+-- a unique index that makes nothing unique in these tables is an index of none of them
 pub spares : (i : Index) (tables : List Table) → i.is_unique ≡ true → ((t : Table) → Has tables t → guards i t ≡ false)
     → list_any (λ t. i.table == t.tree) tables ≡ false
 spares i [] unique spared = refl
@@ -38,7 +38,7 @@ spares i (t ∷ tables) unique spared =
     let rest = spares i tables unique (λ u there. spared u (inr there)) in
     rw (first, rest) refl
 
--- an index of another table makes nothing of these unique
+-- an index of another table makes nothing unique in these tables
 pub guards_not : (i : Index) (tables : List Table) → list_any (λ t. i.table == t.tree) tables ≡ false → (t : Table) → Has tables t
     → guards i t ≡ false
 guards_not i [] none t there = absurd there
@@ -47,6 +47,7 @@ guards_not i (x ∷ tables) none t (inr later) = guards_not i tables (or_parts _
 
 -- ---- the trees of the first tables
 
+-- some element of a mapped list passes a test exactly if some element's image does
 any_mapped : {A B : Type 0} (f : A → B) (p : B → Bool) (xs : List A) → list_any p (map f xs) ≡ list_any (λ x. p (f x)) xs
 any_mapped f p [] = refl
 any_mapped f p (x ∷ xs) = ap (λ b. p (f x) || b) (any_mapped f p xs)
@@ -62,7 +63,7 @@ our_trees tree_of xs same tree count =
 -- ---- the whole schema
 
 module _ (count keys : ℕ) (schema : Schema) where
-  -- tested tables, indexes and views make the schema begin with them
+  -- a schema whose tables, indexes and views pass the tests begins with the first tables and indexes
   pub begins_made : AreTables count schema.tables → AreIndexes count keys schema.indexes → schema.views ≡ [] → Begins count keys schema
   begins_made tables indexes none = record {
     tables = tables.others;
@@ -75,19 +76,20 @@ module _ (count keys : ℕ) (schema : Schema) where
     plain = λ i there. all_has (IsHarmless count) indexes.others i indexes.plain there;
   }
 
-  -- a schema that begins so has these tables
+  -- a schema that begins with the first tables and indexes has the first tables, and then others without a foreign key
   pub its_tables : Begins count keys schema → AreTables count schema.tables
   its_tables begins = record { others = begins.tables; is = ap (λ (s : Schema). s.tables) begins.is; free = begins.free }
 
-  -- a schema that begins so has these indexes
+  -- a schema that begins with the first tables and indexes has the first indexes, and then harmless ones
   pub its_indexes : Begins count keys schema → AreIndexes count keys schema.indexes
   its_indexes begins = record { others = begins.indexes; is = ap (λ (s : Schema). s.indexes) begins.is; plain = all_from (IsHarmless count) begins.indexes begins.plain }
 
-  -- a schema that begins so has no views
+  -- a schema that begins with the first tables and indexes has no views
   pub no_views : Begins count keys schema → schema.views ≡ []
   no_views begins = ap (λ (s : Schema). s.views) begins.is
 
-  -- It begins with fewer of them too, if the tables between have no foreign key and the indexes between make nothing of the fewer unique.
+  -- A schema that begins with some tables and indexes begins with fewer of them too.
+  -- Premises: the tables between have no foreign key, and the indexes between make nothing unique in the fewer tables.
   pub begins_with_fewer : (fewer fewer_keys : ℕ) (tables : List Table) (indexes : List Index)
       → take count all_tables ≡ take fewer all_tables ++ tables → take keys all_indexes ≡ take fewer_keys all_indexes ++ indexes
       → AllByRecursion (λ t. t.references ≡ []) tables → AllByRecursion (IsHarmless fewer) indexes → Begins count keys schema → Begins fewer fewer_keys schema

@@ -1,4 +1,4 @@
--- Laws on the SELECTs of the ten tables: each shows all rows of its table, each once, if the schema begins with these tables.
+-- Laws on the SELECTs of the ten tables: each shows each row of its table once, if the schema begins with the tables.
 use Rattle.std.proofs.Common.{◌≡◌, ◌++◌, ℕ, false, List, [], ◌∷◌, IsPermutation, length, map, take, refl, sym, subst}
 use Rattle.std.specs.List.{range_with_len}
 use Rattle.sqlite_tied.specs.Compute.{everything}
@@ -67,7 +67,8 @@ key_of part = 1
 
 -- ---- a SELECT of all rows
 
--- The SELECT of a part means, whatever other tables follow: these columns of all rows, in the order of the key; and the listing shows that.
+-- The SELECT of a part means, whatever other tables follow: these columns of all rows, in the order of the key.
+-- The rows of its listing are just these.
 record IsMeant (part : Part) : Type 0 where
   command : (more : List Table) (indexes : List Index)
       → command_of (understood (first_and (table_count_in (listing_of part).since) (index_count_in (listing_of part).since) more indexes) (listing_of part).select)
@@ -78,7 +79,7 @@ record IsMeant (part : Part) : Type 0 where
   rows : (db : Trees) → map (λ r. eval_all (columns_of part) ([] ∷ r ∷ [])) (db (table_of part).tree) ≡ (listing_of part).in_table db
   whole : (r : Row) → first_columns (length (listing_of part).names) (eval_all (columns_of part) ([] ∷ r ∷ [])) ≡ eval_all (columns_of part) ([] ∷ r ∷ [])
 
--- the SELECT of each part means this
+-- the SELECT of each part means the columns of all rows, in the order of the key (`IsMeant`)
 meant : (part : Part) → IsMeant part
 unfolding understood everything
 meant Own = record { command = λ more indexes. refl; plain = λ more indexes. (refl, refl); unlisted = λ more indexes. refl; same = λ db. refl; rows = λ db. refl; whole = λ r. refl }
@@ -96,6 +97,6 @@ reads_part part count same old new rows h has =
     let told : IsPermutation (listing.in_table old.now.trees) (map cut rows) = subst (λ was. IsPermutation was (map cut rows)) (is.rows old.now.trees) (whole_shown shown cut is.whole (old.now.trees (table_of part).tree) rows all) in
     subst (λ n. IsPermutation (listing.in_table old.now.trees) (map (first_columns n) rows)) (sym same) told
 
--- it is a query, which can commit nothing
+-- the SELECT of each part is a query that can commit nothing (`IsPlain`)
 pub part_plain : (part : Part) (schema : Schema) → HasTablesOf (listing_of part).since schema → IsPlain (understood schema (listing_of part).select)
 part_plain part schema has = subst (λ s. IsPlain (understood s (listing_of part).select)) (sym has.is) ((meant part).plain has.tables has.indexes)

@@ -20,6 +20,7 @@ module _ (old new : State) (inside : IsTrue old.in_transaction) (sql : List ℕ)
   writes_keep : (what : Option Returning) (command : _) (text : List ℕ) (row : Row) (count : ℕ) → Writes old new what command text row count → KeepsCommit old new
   writes_keep what command text row count w = record { was_open = λ _. w.shown.was_open; committed = λ _. w.shown.committed_is ∙ ap (λ b. cond b old.committed new.now) inside }
 
+  -- a SELECT that shows rows one by one commits nothing
   shows_keep : (c : _) (row : Row) (rows : List Row) (what : Option Returning) → ShowsRows old new sql c row rows what → KeepsCommit old new
   shows_keep c row rows None h = unchanged_keeps old new (inl h.3)
   shows_keep c row rows (Some what) h = writes_keep (Some what) _ _ row h.0 h.1
@@ -29,6 +30,7 @@ module _ (old new : State) (inside : IsTrue old.in_transaction) (sql : List ℕ)
   unfolding Shown
   shown_keeps rows h = shows_keep h.0 _ rows h.0.returning h.2
 
+  -- a SELECT that fails while it shows rows commits nothing
   fails_keep : (c : _) (row : Row) (e : Error) (what : Option Returning) → FailsToShow old new sql c row e what → KeepsCommit old new
   fails_keep c row e None h = unchanged_keeps old new (inl h.3)
   fails_keep c row e (Some what) (inl h) = unchanged_keeps old new (inl h.1)
@@ -53,10 +55,11 @@ module _ {S : Type 0} (g : Ghosts S) (sql : List ℕ) (old begun mid end : Held 
   begun_inside : IsTrue (state g begun).in_transaction
   begun_inside = ap (λ (h : Held S). h.in_transaction) begins
 
+  -- BEGIN, the SELECT and the rollback together commit nothing
   survived : Survives (state g old) (state g end) (λ _. ⊥)
   survived = survives_begin g old (state g end) _ (subst (λ h. Survives (state g h) (state g end) (λ _. ⊥)) begins (survives_more (state g begun) (state g mid) (state g end) one two))
 
-  -- after the rollback the tables are those of the last commit
+  -- after the rollback the connection is at rest (`Rests`): its tables are those of the last commit
   rests : (HasCleanDisk (state g mid) → KeepsCommit (state g begun) (state g mid)) → HasCleanDisk (state g end) → Rests (state g old) (state g end)
   rests keeps clean =
       let kept = subst (λ h. KeepsCommit (state g h) (state g mid)) begins (keeps (omega (arith, two.clean))) in
@@ -70,7 +73,7 @@ module _ {S : Type 0} (g : Ghosts S) (sql : List ℕ) (old begun mid end : Held 
   select_of : IsAsked (state g old) (state g begun)
   select_of = subst (λ h. IsAsked (state g old) (state g h)) (sym begins) (record { was_open = λ up. up; is_open = λ up. up; same = refl; limit = refl; faults = no_fewer (state g old).faults })
 
-  -- the SELECT showed rows
+  -- if the SELECT showed rows before the rollback, these are the result of asking it (`Asks`)
   pub showed : {Z : Type 0} (rows : Vec Row Z) → (HasCleanDisk (state g mid) → Shown sql [] (state g begun) (state g mid) rows.items) → Asks g sql old {Z = Z} (Ok rows) end
   showed rows ok = record {
     rows = λ clean. (begun, mid, select_of, ok (omega (arith, two.clean)));
@@ -84,7 +87,7 @@ module _ {S : Type 0} (g : Ghosts S) (sql : List ℕ) (old begun mid end : Held 
   not_late e (inl failed) = failed
   not_late e (inr late) = absurd (let no = sym begun_inside ∙ late.3 in cc)
 
-  -- the SELECT was refused
+  -- if the SELECT was refused, its error's fault is the result of asking it (`Asks`)
   was_refused : {Z : Type 0} (e : Error) (fault : ReadFault) → fault ≡ read_fault e → (HasCleanDisk (state g mid) → FailsToQuery sql [] (state g begun) (state g mid) e ⊎ IsTooLate sql [] (state g begun) (state g mid) e) → Asks g sql old {Z = Z} (Err fault) end
   was_refused e fault is err = record {
     rows = λ _. tt;
@@ -94,14 +97,14 @@ module _ {S : Type 0} (g : Ghosts S) (sql : List ℕ) (old begun mid end : Held 
     idle = ended;
   }
 
-  -- the error of a refused SELECT is the fault that is returned
+  -- a result with the fault of the refused SELECT's error is a result of asking it (`Asks`)
   pub told : {Z : Type 0} (e : Error) (r : Result (Vec Row Z) ReadFault) → IsErrAnd r (λ fault. fault ≡ read_fault e) → (HasCleanDisk (state g mid) → FailsToQuery sql [] (state g begun) (state g mid) e ⊎ IsTooLate sql [] (state g begun) (state g mid) e) → Asks g sql old {Z = Z} r end
   told e (Ok rows) is err = absurd is
   told e (Err fault) is err = was_refused e fault is err
 
 -- ---- each row read
 
--- a SELECT that is refused never gives OtherType
+-- the fault of a SELECT's error is never OtherType
 not_other : (e : Error) → read_fault e ≡ OtherType → ⊥
 not_other e same = by_memory (is_memory e) (is_failure e) same
   where
@@ -110,10 +113,11 @@ not_other e same = by_memory (is_memory e) (is_failure e) same
     by_memory false true is = cc
     by_memory false false is = cc
 
--- the same for the fault of a read
+-- the fault of a SELECT that is refused is never OtherType
 pub never_other : {S : Type 0} (g : Ghosts S) (sql : List ℕ) (old : Held S) (fault : ReadFault) → RefusesToSelect g sql old fault → fault ≡ OtherType → ⊥
 never_other g sql old fault told same = not_other told.2 (sym told.5 ∙ same)
 
+-- if Ok has each of two properties, it has both
 if_both : {A E : Type 0} (P Q : A → Type 0) (r : Result A E) → IfOk r P → IfOk r Q → IfOk r (λ a. P a × Q a)
 if_both P Q (Ok a) p q = (p, q)
 if_both P Q (Err e) p q = tt
@@ -132,7 +136,7 @@ module _ {S A Z : Type 0} (g : Ghosts S) (sql : List ℕ) (old new : Held S) (fo
     idle = asks.idle;
   }
 
-  -- if it was answered, the read returns its rows or the fault of one of them
+  -- if the SELECT was answered, the read returns its rows or the fault of one of them
   pub parsed : {Y : Type 0} (rows : Vec Row Y) (lent : List Row) (r : Result (Vec A Z) ReadFault) → Asks g sql old (Ok rows) new → lent ≡ rows.items
       → IfOk r (λ all. map shown all.items ≡ map (first_columns (length forms)) lent) → IfOk r (λ _. AreTyped forms lent) → IfErr r (λ fault. fault ≡ OtherType → ¬ AreTyped forms lent) → IfErr r (λ fault. fault ≢ OtherType → fault ≡ Memory) → ReadsRows g sql old forms shown r new
   parsed rows lent r asks same ok typed other which = record {

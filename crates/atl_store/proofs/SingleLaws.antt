@@ -1,4 +1,4 @@
--- Laws on writing single amounts that are dirty: one after another, and one owner after another, until all are written.
+-- Laws on writing single dirty amounts, of items, skills or stocks: writing each of them writes all of them.
 use Rattle.std.proofs.Common.{◌≡◌, ◌&&◌, ◌||◌, ℕ, Bool, true, false, cond, List, [], ◌∷◌, map, is_some, unwrap_or, Some, Less, Equal, Greater, refl, sym, ap, ◌∙◌, inl, inr, true≢false}
 use Rattle.std.specs.List.{list_any}
 use Rattle.std.specs.Ordering.{nat_cmp, is_eq, is_lt, eq_by_cmp}
@@ -25,7 +25,7 @@ listed_key : {V : Type 0} (es : List (ℕ × V)) (t : ℕ) → is_among (map (λ
 listed_key [] t = refl
 listed_key (e ∷ es) t = elim (eq_by_cmp nat_cmp t e.0) as (λ b. (b || is_among (map (λ x. x.0) es) t) ≡ is_some (cond b (Some e.1) (find nat_cmp t es))) [ true ↦ refl | false ↦ listed_key es t ]
 
--- a smaller number is another
+-- a number that is less than another is not that number
 differs : (k n : ℕ) → is_lt (nat_cmp k n) ≡ true → is_number n k ≡ false
 differs k n less = elim (nat_cmp k n) as (λ o. is_lt o ≡ true → is_eq o ≡ false) [
   | Less ↦ λ _. refl
@@ -60,7 +60,7 @@ module _ {V : Type 0} where
 -- ---- one amount after another, and one owner after another
 
 module _ (table : Table) (Wanted : Set) (finds : (ℕ → ℕ → Bool) → Row → Bool) where
-  -- once the rest of these amounts is rewritten too, all are
+  -- some single amounts are rewritten: once the `rest` is rewritten too, all are
   abbrev pub NearingSingles : (ℕ → ℕ → Bool) → (ℕ → ℕ → Bool) → Database → Database → Type 0
   NearingSingles rest all = Nearing table Wanted (λ r. finds rest r) (λ r. finds all r)
 
@@ -77,39 +77,39 @@ module _ (table : Table) (Wanted : Set) (finds : (ℕ → ℕ → Bool) → Row 
     finds_none : (f : ℕ → ℕ → Bool) → ((n t : ℕ) → f n t ≡ false) → (r : Row) → finds f r ≡ false
     finds_none f never r = finds_same f (λ n t. false) never r ∙ by_numbers.none r
 
-    -- one step more is rewritten
+    -- a step that rewrites some of the remaining amounts leaves the others to rewrite
     nearer : (step rest next all : ℕ → ℕ → Bool) → ((n t : ℕ) → rest n t ≡ (step n t || next n t)) → (old mid new : State)
         → Inside HasTables (NearingSingles rest all) old mid → Inside HasTables (RewritesFound step) mid new → Inside HasTables (NearingSingles next all) old new
     nearer step rest next all parts = one_nearer table Wanted (λ r. finds step r) (λ r. finds rest r) (λ r. finds next r) (λ r. finds all r)
         (λ r. finds_same rest (λ n t. step n t || next n t) parts r ∙ by_numbers.either step next r)
 
-    -- with no number left, all are rewritten
+    -- when no amount is left to rewrite, all are rewritten
     nearest : (rest all goal : ℕ → ℕ → Bool) → ((n t : ℕ) → rest n t ≡ false) → ((n t : ℕ) → all n t ≡ goal n t) → (old new : State)
         → Inside HasTables (NearingSingles rest all) old new → Inside HasTables (RewritesFound goal) old new
     nearest rest all goal none same = all_rewritten table Wanted (λ r. finds rest r) (λ r. finds all r) (λ r. finds goal r) (finds_none rest none) (finds_same all goal same)
 
     module _ {V : Type 0} where
-      -- one amount more of an owner is rewritten
+      -- rewriting one more amount of an owner leaves one amount fewer to rewrite
       pub single_nearer : (owner : ℕ) (x : ℕ × V) (now rest all : List (ℕ × V)) → now ≡ x ∷ rest → (old mid new : State)
           → Inside HasTables (NearingSingles (is_key owner now) (is_key owner all)) old mid → Inside HasTables (RewritesFound (is_thing owner x.0)) mid new
           → Inside HasTables (NearingSingles (is_key owner rest) (is_key owner all)) old new
       single_nearer owner x now rest all is = nearer (is_thing owner x.0) (is_key owner now) (is_key owner rest) (is_key owner all)
           (λ n t. ap (λ es. is_key owner es n t) is ∙ and-or_distrib_left (is_number owner n) (is_number x.0 t) (is_among (map (λ e. e.0) rest) t))
 
-      -- with none left, all amounts of the owner are rewritten
+      -- when no amount is left, all listed amounts of the owner are rewritten
       pub singles_rewritten : (owner : ℕ) (numbers : FinMap nat_cmp V) (rest all : List (ℕ × V)) → rest ≡ [] → all ≡ entries numbers → (old new : State)
           → Inside HasTables (NearingSingles (is_key owner rest) (is_key owner all)) old new → Inside HasTables (RewritesFound (is_of owner numbers)) old new
       singles_rewritten owner numbers rest all none is = nearest (is_key owner rest) (is_key owner all) (is_of owner numbers)
           (λ n t. ap (λ es. is_key owner es n t) none ∙ and-false (is_number owner n))
           (λ n t. ap (λ es. is_key owner es n t) is ∙ ap (λ b. is_number owner n && b) (listed_key (entries numbers) t ∙ ap is_some (sym (get-entries numbers t))))
 
-      -- the amounts of one owner more are rewritten
+      -- rewriting the amounts of one more owner leaves one owner fewer to rewrite
       pub owner_nearer : (x : ℕ × FinMap nat_cmp V) (now rest all : List (ℕ × FinMap nat_cmp V)) → now ≡ x ∷ rest → (old mid new : State)
           → Inside HasTables (NearingSingles (is_listed now) (is_listed all)) old mid → Inside HasTables (RewritesFound (is_of x.0 x.1)) mid new
           → Inside HasTables (NearingSingles (is_listed rest) (is_listed all)) old new
       owner_nearer x now rest all is = nearer (is_of x.0 x.1) (is_listed now) (is_listed rest) (is_listed all) (λ n t. ap (λ es. is_listed es n t) is)
 
-    -- with no owner left, all dirty amounts are rewritten
+    -- when no owner is left, all single dirty amounts are rewritten
     pub owners_rewritten : (things : Things) (rest all : List (ℕ × FinMap nat_cmp (Unit {0}))) → rest ≡ [] → all ≡ entries things → (old new : State)
         → Inside HasTables (NearingSingles (is_listed rest) (is_listed all)) old new → Inside HasTables (RewritesFound (has_thing things)) old new
     owners_rewritten things rest all none is = nearest (is_listed rest) (is_listed all) (has_thing things)

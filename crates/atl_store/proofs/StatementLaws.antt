@@ -50,7 +50,7 @@ module _ (schema : Schema) (tree : ℕ) (name : List ℕ) (columns : List Column
   abbrev t : Table
   t = table tree name columns key primary uniques checks
 
-  -- the row as INSERT OR REPLACE makes it of the values it is given
+  -- the row that INSERT OR REPLACE makes of the values that are given
   abbrev pub made : Trees → Row → Row
   made db src = with_rowid Chosen (db tree) (cast_row t (mended Replace t src))
 
@@ -82,7 +82,7 @@ module _ (schema : Schema) (tree : ℕ) (name : List ℕ) (columns : List Column
 
   -- ---- INSERT .. ON CONFLICT DO UPDATE
 
-  -- the row as the upsert makes it of the values it is given
+  -- the row that the upsert makes of the values that are given
   abbrev pub made_up : Trees → Row → Row
   made_up db src = with_rowid Chosen (db tree) (cast_row t src)
 

@@ -1,4 +1,4 @@
--- Laws from what a transaction did to what the store promises: committed, left off, refused; and what it left alone.
+-- Laws on what a connection keeps after a transaction: the campaign after a commit or before a fault, and other tables.
 use Rattle.std.proofs.Common.{◌≡◌, ◌≢◌, ℕ, Bool, true, false, cond, List, IsTrue, Result, Ok, Err, OnErr, IfErr, IsErrAnd, refl, sym, ap, ◌∙◌, subst, inl, inr, arith}
 use Rattle.sqlite_trees.specs.Tree.{Trees}
 use Rattle.sqlite_trees.specs.declared.store.Store.{Ghosts}
@@ -19,12 +19,12 @@ use Rattle.atl_store.specs.declared.fault.CreateFault.{CreateFault}
 use Rattle.atl_store.specs.declared.fault.CreateFault.TheVariants as create
 use Rattle.atl_store.proofs.CarryLaws.{carries_none}
 
--- a database whose tables hold the campaign is one that a file may store
+-- the trees of a database whose tables hold the campaign store it (`Stores`)
 stored : (db : Database) (text : List ℕ) (c : CampaignValue) → HasTables db → Holds db.trees text c → Stores db.trees text c
 stored db text c has rows = record { schema = db.schema; begins = has.begins; sound = has.sound; rows = rows }
 
 module _ (old new : State) (text : List ℕ) (settled : (db : Trees) → IsTrue new.is_open → new.may_leave db → db ≡ new.committed.trees) where
-  -- after a commit the connection keeps the campaign after it
+  -- after a commit the connection keeps the campaign that the transaction wrote
   pub commits_keeps : (Before : Database → Type 0) (Does : Database → Database → Type 0) (after : CampaignValue) → Commits Before Does old new → Before old.now → (Does old.now new.now → Holds new.now.trees text after) → Keeps new text after
   commits_keeps Before Does after done was holds =
       let did = done.does was in
@@ -38,7 +38,7 @@ module _ (old new : State) (text : List ℕ) (settled : (db : Trees) → IsTrue 
         crash = λ db may. subst (λ t. Stores t text after) (sym (settled db done.is_open may ∙ ap (λ (d : Database). d.trees) done.committed)) (stored new.now text after did.tables rows);
       }
 
-  -- a transaction that was left off leaves the campaign before; a crash leaves that or the one after
+  -- if the disk is clean, a transaction that failed leaves the campaign before, and a crash the one before or after
   pub leaves_stops : (Does : Database → Database → Type 0) (before after : CampaignValue) → HasCleanDisk new → LeavesOff old new → Survives old new (MayLeave HasTables Does old) → Keeps old text before
       → ((db : Database) → Does old.now db → Holds db.trees text after) → LeavesAfterFault old.faults new text before after
   leaves_stops Does before after clean off survives keeps holds = record {
@@ -60,7 +60,7 @@ module _ (old new : State) (text : List ℕ) (settled : (db : Trees) → IsTrue 
     ];
   }
 
--- a crash after a transaction that writes a campaign leaves what it left before, or that campaign
+-- a crash after a transaction that writes a campaign leaves what it could have left before, or the campaign
 pub may_found : (old new : State) (text : List ℕ) (c : CampaignValue) (Before : Database → Type 0) (Does : Database → Database → Type 0) → Before old.now → ((db : Database) → Does old.now db → Holds db.trees text c) → HasCleanDisk new
     → Survives old new (MayLeave Before Does old) → MayFound old text c new
 may_found old new text c Before Does before holds clean survives db may = elim (survives.crash clean db may) [
@@ -68,7 +68,7 @@ may_found old new text c Before Does before holds clean survives db may = elim (
   | inr made ↦ let did = made.1 before in inr (subst (λ t. Stores t text c) (sym made.2) (stored made.0 text c did.tables (holds made.0 did.does)))
 ]
 
--- a founding that was left off leaves the tables as they were, if the connection was in no transaction
+-- a transaction that failed changes nothing, if the connection was in no transaction and all was committed
 pub leaves_spares : (old new : State) (Commits : Trees → Type 0) → HasCleanDisk new → LeavesOff old new → Survives old new Commits → old.in_transaction ≡ false → (IsTrue old.is_open → old.now ≡ old.committed) → ChangesNothing old new
 leaves_spares old new Commits clean off survives idle settled = record {
   same = λ up.
@@ -85,6 +85,7 @@ module _ {S : Type 0} (g : Ghosts S) (text : List ℕ) (c : CampaignValue) (old 
   refused_as create.Store other breaks = (fails, inr breaks)
   refused_as create.Memory other breaks = (fails, breaks)
 
+  -- the fault of an error is never NotEmpty
   tells_more : (e : Error) → create_fault e ≢ create.NotEmpty
   tells_more e = go (is_memory e)
     where
@@ -97,7 +98,7 @@ module _ {S : Type 0} (g : Ghosts S) (text : List ℕ) (c : CampaignValue) (old 
   refused_with e (Ok a) told gave = tt
   refused_with e (Err f) told gave = refused_as f (λ none. tells_more e (sym told ∙ none)) (record { ready = ready; told = λ clean. (e, told, gave clean) })
 
--- the fault of a write is that of the database's error that ended it
+-- the fault of a write is that of the error with which the database ended the write
 pub told_by : {S F A : Type 0} (g : Ghosts S) (own : Statements) (fault_of : Error → F) (old new : Held S) (e : Error) (r : Result A F) → IsErrAnd r (λ f. f ≡ fault_of e) → Gives g own e old new → IfErr r (IsTold g own fault_of old new)
 told_by g own fault_of old new e (Ok a) told gave = tt
 told_by g own fault_of old new e (Err f) told gave = (e, told, gave)
@@ -120,11 +121,11 @@ later old new Commits survives = record { clean = λ clean. omega (arith, surviv
 pub commits_spares : (old new : State) (Before : Database → Type 0) (Does : Database → Database → Type 0) → Commits Before Does old new → (HasTables old.now → Before old.now) → LeavesOthersAlone old new
 commits_spares old new Before Does done before up has settled = (done.does (before has)).carries
 
--- a transaction that was left off leaves the other tables as they are
+-- a transaction that failed leaves the other tables as they are
 pub leaves_others : (old new : State) → LeavesOff old new → LeavesOthersAlone old new
 leaves_others old new off up has settled = subst (Carries old.now) (sym ((off.undone up).0 ∙ settled)) (carries_none old.now)
 
--- what is true is true in the case of an error
+-- a statement that holds also holds if a result is an error
 pub on_err : {A E : Type 0} (r : Result A E) (P : Type 0) → P → OnErr r P
 on_err (Ok a) P p = tt
 on_err (Err e) P p = p

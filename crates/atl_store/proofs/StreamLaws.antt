@@ -69,7 +69,7 @@ unchanged_then old mid new a b = (
   b.2 ∙ a.2,
 )
 
--- mapping a list with one element more at its end
+-- mapping a list with one more element at its end maps the list and the element
 map_behind : {A B : Type 0} (f : A → B) (xs : List A) (x : A) → map f (xs ++ x ∷ []) ≡ map f xs ++ f x ∷ []
 map_behind f [] x = refl
 map_behind f (y ∷ xs) x = ap (λ ys. f y ∷ ys) (map_behind f xs x)
@@ -82,7 +82,7 @@ pub record IsGiving {S : Type 0} (g : Ghosts S) (sql : List ℕ) (old : Held S) 
 
 module _ {S : Type 0} (g : Ghosts S) (sql : List ℕ) (old : Held S) where
   module _ {A : Type 0} (forms : List Form) (shown : A → Row) where
-    -- the query did not begin
+    -- if the query is refused, the stream returns its fault
     pub not_begun : {Z : Type 0} (now : Held S) (e : Error) (r : Result (Option (Vec A Z)) ReadFault) → IsPlain (understood old.schema sql) → IsErrAnd r (λ fault. fault ≡ read_fault e) → (HasCleanDisk (state g now) → FailsToQuery sql [] (state g old) (state g now) e)
         → now.in_transaction ≡ false → Survives (state g old) (state g now) (CommitsShowing sql [] (state g old)) → Streams g sql old forms shown r now
     not_begun now e (Ok read) plain told err idle survives = absurd told
@@ -117,7 +117,7 @@ module _ {S : Type 0} (g : Ghosts S) (sql : List ℕ) (old : Held S) where
     same_before clean = (giving.given_so (clean_before clean)).1
 
     module _ {A : Type 0} (forms : List Form) (shown : A → Row) where
-      -- the next row could not be fetched
+      -- if the next row can't be fetched, the stream returns the fault of the error
       pub not_advanced : {Z : Type 0} (e : Error) (r : Result (Option (Vec A Z)) ReadFault) → IsPlain (understood old.schema sql) → IsErrAnd r (λ fault. fault ≡ read_fault e) → (HasCleanDisk (state g now) → FailsToAdvance g mid now e) → Streams g sql old forms shown r now
       not_advanced e (Ok read) plain told err = absurd told
       not_advanced e (Err fault) plain told err = record {
@@ -132,7 +132,7 @@ module _ {S : Type 0} (g : Ghosts S) (sql : List ℕ) (old : Held S) where
         idle = idle giving.idle;
       }
 
-      -- no row is left
+      -- if no row is left, the stream returns all rows that were given
       pub ended : {Z : Type 0} (all : Vec A Z) → map shown all.items ≡ map (first_columns (length forms)) given → AreTyped forms given → (HasCleanDisk (state g now) → Advances g mid now None) → (HasCleanDisk (state g now) → IsUnchanged (state g mid) (state g now))
           → Streams g sql old forms shown (Ok (Some all)) now
       ended all read typed done same = record {
@@ -144,12 +144,12 @@ module _ {S : Type 0} (g : Ghosts S) (sql : List ℕ) (old : Held S) where
         idle = idle giving.idle;
       }
 
-      -- one row more is read
+      -- the values read, with that of the next row, are those of the rows given, with the next row
       pub read_more : (old_items new_items : List A) (row : Row) → map shown old_items ≡ map (first_columns (length forms)) given → AddsRow forms shown old_items row new_items → map shown new_items ≡ map (first_columns (length forms)) (given ++ row ∷ [])
       read_more old_items new_items row read adds =
           ap (map shown) adds.1 ∙ map_behind shown old_items adds.0 ∙ ap (λ rs. rs ++ shown adds.0 ∷ []) read ∙ ap (λ r. map (first_columns (length forms)) given ++ r ∷ []) adds.2 ∙ sym (map_behind (first_columns (length forms)) given row)
 
-      -- the rows read so far are typed, and the next one is
+      -- the rows given are typed with the next row too, if this one could be parsed
       pub typed_more : (old_items new_items : List A) (row : Row) → AreTyped forms given → AddsRow forms shown old_items row new_items → AreTyped forms (given ++ row ∷ [])
       typed_more old_items new_items row typed adds one there = elim (has_either given (row ∷ []) one there) [
         | inl before ↦ typed one before
@@ -157,7 +157,7 @@ module _ {S : Type 0} (g : Ghosts S) (sql : List ℕ) (old : Held S) where
         | inr (inr none) ↦ absurd none
       ]
 
-    -- one row more was given
+    -- a query that is running gives one row more and still changes nothing
     pub giving_more : (row : Row) → (HasCleanDisk (state g now) → Advances g mid now (Some row)) → (HasCleanDisk (state g now) → IsUnchanged (state g mid) (state g now)) → IsGiving g sql old (given ++ row ∷ []) now
     giving_more row more same = record {
       idle = idle giving.idle;
@@ -168,7 +168,7 @@ module _ {S : Type 0} (g : Ghosts S) (sql : List ℕ) (old : Held S) where
 -- ---- what was streamed, as rows that are read
 
 module _ {S A Z : Type 0} (g : Ghosts S) (sql : List ℕ) (old : Held S) (forms : List Form) (shown : A → Row) where
-  -- rows that were streamed are rows that are read
+  -- if the stream returns all rows, they are the result of the read (`ReadsRows`)
   pub streamed : (all : Vec A Z) (new : Held S) → Streams g sql old {Z = Z} forms shown (Ok (Some all)) new → ReadsRows g sql old {Z = Z} forms shown (Ok all) new
   streamed all new streams = record {
     rows = streams.rows;
@@ -193,7 +193,7 @@ module _ {S A Z : Type 0} (g : Ghosts S) (sql : List ℕ) (old : Held S) (forms 
     idle = streams.idle;
   }
 
-  -- if nothing is kept of what was streamed, all is read once more
+  -- if the stream returns None, the rows that are read afterwards are the result of the read
   pub read_again : (mid new : Held S) (r : Result (Vec A Z) ReadFault) → Streams g sql old {Z = Z} forms shown (Ok None) mid → ReadsRows g sql mid forms shown r new → ReadsRows g sql old forms shown r new
   read_again mid new r streams reads = record {
     rows = λ clean. if_ok r (λ all told. (told.0, selects clean told.0 told.1, told.2, told.3)) (reads.rows clean);

@@ -29,7 +29,7 @@ pub cast_int : (n : _) → cast Integer (Int n) ≡ Int n
 unfolding unary
 cast_int n = either _ (Int n)
 
--- the test of the key alone, if no other index tests anything
+-- a test "(`b` and true) or `rest`" is `b`, if `rest` is false
 pub bare : (b rest : Bool) → rest ≡ false → ((b && true) || rest) ≡ b
 bare true rest none = refl
 bare false rest none = none
@@ -45,7 +45,7 @@ by_number a n rest none integer = (
   λ same. bare _ rest none ∙ ap (λ v. equal Binary v (int n)) (head_is _ _ _ _ same) ∙ is_equal (int n) refl,
 )
 
--- the same for the test of a DELETE
+-- a DELETE's test of a key that is the row's number finds the rows with this number
 pub at_number : (a : Value) (n : ℕ) → is_int a ≡ true → ((equal Binary a (int n) && true) ≡ true → ◌≡◌ {A = Row} (a ∷ []) (int n ∷ [])) × (◌≡◌ {A = Row} (a ∷ []) (int n ∷ []) → (equal Binary a (int n) && true) ≡ true)
 at_number a n integer = (
   λ hit. ap (λ v. v ∷ []) (equal_is a (int n) integer refl (sym (whole _) ∙ hit)),
@@ -56,6 +56,6 @@ at_number a n integer = (
     whole true = refl
     whole false = refl
 
--- two rows with one number have one rowid
+-- two rows with the same number as their key have the same rowid
 pub one_number : (a b : Value) → ◌≡◌ {A = Row} (a ∷ []) (b ∷ []) → is_eq (value_cmp a b) ≡ true
 one_number a b same = ap (λ v. is_eq (value_cmp v b)) (head_is _ _ _ _ same) ∙ ap is_eq (tied_itself value_cmp_total b)

@@ -20,7 +20,7 @@ use Rattle.atl_store.proofs.GoodsLaws.{three_same, had_of, of_had}
 use Rattle.atl_store.proofs.RewriteLaws.{tied, is_itself, rewrites_key, kept_only}
 use Rattle.atl_store.proofs.WholeLaws.{inside_weaker}
 
--- rows of a unit, the number of a sort and a thing are found by the unit and the thing
+-- `of_kind` finds the rows of one kind by their unit and their thing
 pub finds_things : (sort : ThingKind) → FindsByNumbers (of_kind sort)
 finds_things sort = record { either = either; none = none }
   where
@@ -28,11 +28,12 @@ finds_things sort = record { either = either; none = none }
     either f g (Int (pos unit) ∷ Int (pos number) ∷ Int (pos thing) ∷ row) = and-or_distrib_left (number == sort_number sort) (f unit thing) (g unit thing)
     either f g row = refl
 
+    -- a test that is always false finds no row
     none : (r : Row) → of_kind sort (λ n t. false) r ≡ false
     none (Int (pos unit) ∷ Int (pos number) ∷ Int (pos thing) ∷ row) = and-false (number == sort_number sort)
     none row = refl
 
--- kinds of things with one number are one kind
+-- two kinds of things with the same number are equal
 pub same_sort : (a b : ThingKind) → sort_number a ≡ sort_number b → a ≡ b
 same_sort Item Item same = refl
 same_sort Item Skill same = absurd (omega (arith, same))
@@ -44,6 +45,7 @@ module _ (unit : ℕ) (sort : ThingKind) (thing : ℕ) where
   abbrev is_here : Row → Bool
   is_here r = of_kind sort (is_thing unit thing) r
 
+  -- a row of this unit, kind and thing has their key
   key_of : (r : Row) → is_here r ≡ true → take 3 r ≡ has_key unit (sort_number sort) thing
   key_of (Int (pos n) ∷ Int (pos number) ∷ Int (pos t) ∷ row) is =
       let one = and_parts _ _ is in
@@ -54,6 +56,7 @@ module _ (unit : ℕ) (sort : ThingKind) (thing : ℕ) where
       equals a b is = grind (arith, nat_tests)
   key_of row is = absurd (true≢false (sym is))
 
+  -- a row with the key of unit, kind and thing is the row of these
   of_key : (r : Row) → take 3 r ≡ has_key unit (sort_number sort) thing → is_here r ≡ true
   of_key [] key = absurd cc
   of_key (u ∷ []) key = absurd cc
@@ -73,7 +76,7 @@ module _ (unit : ℕ) (sort : ThingKind) (thing : ℕ) where
     abbrev row : Row
     row = has_row unit (sort_number sort) thing amount
 
-    -- a wanted row of the thing has its amount
+    -- a row of the campaign for this unit, kind and thing has the unit's amount, which is not 0
     wanted_here : (r : Row) → is_here r ≡ true → HasRowsOf c.units r → (amount ≢ 0) × (r ≡ row)
     wanted_here r here of =
         let had = had_of c.units r of in
@@ -82,11 +85,11 @@ module _ (unit : ℕ) (sort : ThingKind) (thing : ℕ) where
         let told : Tells unit sort thing = subst (λ n. Tells n sort thing) keys.0 (subst (λ s. Tells had.0 s thing) (same_sort had.1 sort keys.1) (subst (Tells had.0 had.1) keys.2 (had.3, had.4))) in
         (λ none. told.0 (sym is ∙ none), told.1 ∙ ap (has_row unit (sort_number sort) thing) (sym is))
 
-    -- if its amount is 0, no wanted row has its key
+    -- if the unit's amount of the thing is 0, no row of the campaign has the key of unit, kind and thing
     pub no_thing : amount ≡ 0 → (r : Row) → HasRowsOf c.units r → take 3 r ≢ has_key unit (sort_number sort) thing
     no_thing none r of key = (wanted_here r (of_key r key) of).0 none
 
-    -- putting the row of an amount that is not 0 rewrites the thing
+    -- putting the row of an amount that is not 0 rewrites this unit's item or skill
     pub thing_put : amount ≢ 0 → (old new : State) → Inside HasTables (Puts has_table 3 row) old new → Inside HasTables (RewritesThings c sort (is_thing unit thing)) old new
     thing_put some old new did = inside_weaker HasTables (Puts has_table 3 row) (RewritesThings c sort (is_thing unit thing)) old new
         (λ has puts. rewrites_key is_here (λ r. take 3 r ≡ has_key unit (sort_number sort) thing) (λ r. r ≡ row) (HasRowsOf c.units) key_of of_key
@@ -95,7 +98,7 @@ module _ (unit : ℕ) (sort : ThingKind) (thing : ℕ) where
         has_table old.now new.now puts.rows puts.others)
         did
 
-    -- deleting the row of an amount that is 0 rewrites the thing
+    -- deleting the row of an amount that is 0 rewrites this unit's item or skill
     pub thing_dropped : amount ≡ 0 → (old new : State) → Inside HasTables (Drops has_table 3 (has_key unit (sort_number sort) thing)) old new
         → Inside HasTables (RewritesThings c sort (is_thing unit thing)) old new
     thing_dropped none old new did = inside_weaker HasTables (Drops has_table 3 (has_key unit (sort_number sort) thing)) (RewritesThings c sort (is_thing unit thing)) old new

@@ -35,10 +35,11 @@ new_schema = first_tables 10 4
 
 -- ---- the table of markets
 
+-- the rowids of a table without rows are different integers
 no_rows : IsKeyed []
 no_rows = record { apart = tt; ints = tt }
 
--- behind just the tables of the first format
+-- the table `market` is made after just the tables of the first format
 module _ (old new : Database) (is : IsFirstFormat old) (made : Creates old_schema new_schema market_table.tree old new) where
   has_all : HasTables new
   has_all = record {
@@ -53,6 +54,7 @@ module _ (old new : Database) (is : IsFirstFormat old) (made : Creates old_schem
     };
   }
 
+  -- adding the table `market` carries all other tables along (`Carries`)
   carries_all : Carries old new
   carries_all = record {
     tables = λ t there. subst (λ (s : Schema). Has s.tables t) (sym made.schema_is) (has_left old_schema.tables (market_table ∷ []) t (subst (λ (s : Schema). Has s.tables t) is.just there));
@@ -77,7 +79,7 @@ adds_markets old new ran = (
 
 -- ---- the whole
 
--- each part but the markets has a table in the first format
+-- the first format has each part but the markets
 in_first : (part : Part) → part ≢ Markets → Has (parts_in First) part
 in_first part other = elim (all_among (Markets ∷ parts_in First) refl part) [ inl same ↦ absurd (other same) | inr there ↦ there ]
 
@@ -87,7 +89,7 @@ no_stocks c bare r of =
     let e = sym (get-empty {X = ℕ} nat_cmp of.3) ∙ ap (λ (m : FinMap nat_cmp ℕ). get m of.3) (sym (bare of.0 of.1 of.2)) ∙ of.5 in
     absurd cc
 
--- the one row is the new one
+-- putting a row with the key of a table's only row leaves the new row alone
 own_row : (rows old : List Row) (was row : Row) → take 1 was ≡ take 1 row → Is old (λ r. r ≡ was) → Is rows (put 1 row (Has old)) → Is rows (λ r. r ≡ row)
 own_row rows old was row key one made r = (
   λ there. elim ((made r).0 there) [ inl same ↦ same | inr (there, other) ↦ absurd (other (ap (take 1) ((one r).0 there) ∙ key)) ],
@@ -95,21 +97,23 @@ own_row rows old was row key one made r = (
 )
 
 module _ (text : List ℕ) (c : CampaignValue) (old mid new : Database) (first : AddsMarkets old mid) (second : UpgradesCampaignRow (campaign_row_of c) text mid new) (before : List ℕ) (held : HoldsIn First old.trees before c) (bare : HasNoStocks c) where
-  -- the rows of a table that was there are those of the campaign after the first step
+  -- after the table `market` is added, the other tables have the campaign's rows of the first format
   was : (part : Part) → Has (parts_in First) part → Is (rows_in (table_of part) mid.trees) (rows_for (campaign_row_in First (campaign_row_of c) before) c part)
   was part there = subst (λ rows. Is rows (rows_for (campaign_row_in First (campaign_row_of c) before) c part)) (sym (ap (map (visible (table_of part))) (first.others (table_of part) (has_map table_of (parts_in First) part there)))) (held.rows part there)
 
+  -- the campaign row of the second format, with the new text, was put
   did : Puts campaign_table 1 (campaign_row (campaign_row_of c) text) mid new
   did = second before (was Own (inl refl))
 
-  -- each table but `campaign` is as the first step left it
+  -- each table but `campaign` has the rows that it had after the table `market` was added
   rest : (part : Part) → part ≢ Own → rows_in (table_of part) new.trees ≡ rows_in (table_of part) mid.trees
   rest part other = ap (map (visible (table_of part))) (did.others (table_of part) (listed part) (λ same. other (same_part part Own same)))
 
+  -- each table of the first format but `campaign` still has the campaign's rows after the campaign row is changed
   kept : (part : Part) → part ≢ Own → Has (parts_in First) part → Is (rows_in (table_of part) new.trees) (rows_for (campaign_row_in First (campaign_row_of c) before) c part)
   kept part other there = subst (λ rows. Is rows (rows_for (campaign_row_in First (campaign_row_of c) before) c part)) (sym (rest part other)) (was part there)
 
-  -- the tables of the second format hold the campaign
+  -- after the campaign row is changed, the tables of the second format hold the campaign
   pub upgrade_held : Holds new.trees text c
   upgrade_held = record { rows = rows }
     where

@@ -16,14 +16,16 @@ use Rattle.atl_store.proofs.OwnRowLaws.{MeansOwn, changed_to, puts_own}
 use Rattle.atl_store.proofs.StatementLaws.{DoneBy, done_by}
 use Rattle.atl_store.proofs.Terms.{cast_int}
 
--- the values of the update: format and world text are set, the rest stays
+-- the terms of the UPDATE: format and world text are set, the other columns stay
 abbrev project : List Term
 project = col 1 0 ∷ lit Null ∷ lit (Int (pos 2)) ∷ col 1 3 ∷ col 1 4 ∷ col 1 5 ∷ col 1 6 ∷ col 1 7 ∷ col 0 5 ∷ []
 
+-- the text of the statement means an upsert of the campaign row with this UPDATE
 upgrades_own : MeansOwn upgrading_upsert project
 unfolding understood everything
 upgrades_own = record { is = λ more indexes. refl; plain = λ more indexes. (refl, refl) }
 
+-- the UPDATE makes of a campaign row of the first format that of the second, with the new world text
 upgraded : (head : CampaignRowValue) (text before : List ℕ) (r : Row) → visible campaign_table r ≡ campaign_row_in First head before → changed_to project head text r ≡ campaign_row head text
 upgraded head text before r shows =
     let id : rowid r ≡ int 1 = ap (λ row. column row 0) shows in
@@ -34,7 +36,7 @@ upgraded head text before r shows =
     let pass : column r 7 ≡ Text head.pass = ap (λ row. column row 6) shows in
     rw (pass, structure, unit, faction, month, id, cast_int (pos 1), cast_int (pos 2), cast_int (pos head.month), cast_int (pos head.next_faction), cast_int (pos head.next_unit), cast_int (pos head.next_structure)) refl
 
--- the statement upgrades the campaign row
+-- the statement that ran gave the campaign row the second format and the new world text
 pub puts_upgraded : (head : CampaignRowValue) (text : List ℕ) → DoneBy upgrading_upsert (campaign_row_values head text) (UpgradesCampaignRow head text)
 puts_upgraded head text = done_by upgrading_upsert (campaign_row_values head text) (UpgradesCampaignRow head text) (λ old new count inside ran. (
   ran.1.mode ∙ sym inside,

@@ -1,4 +1,4 @@
--- Laws on `upgrade`: from its reads and its transaction to what it returns and leaves.
+-- Laws on `upgrade`: what it returns and leaves after its reads and after its transaction.
 use Rattle.std.proofs.Common.{◌≡◌, ◌≤◌, ℕ, Bool, true, false, cond, List, IsTrue, Result, Ok, Err, IsErrAnd, IfErr, refl, sym, ap, ◌∙◌, subst, inl, inr, arith}
 use Rattle.sqlite_trees.specs.Tree.{Trees}
 use Rattle.sqlite_trees.specs.declared.store.Store.{Ghosts}
@@ -61,7 +61,7 @@ module _ {S : Type 0} (g : Ghosts S) (text : List ℕ) (old mid : Held S) (alone
         good = loads.good;
       }
 
-  -- the old world had no markets
+  -- the world of a file of the first format has no markets
   bare_before : (w : WorldValue) (c : MarkedCampaign) → LoadsIn First g old mid w c → without_markets w ≡ w
   bare_before w c loads = old_has_no_markets (world_text (state g mid)) w (loads.world clean)
 
@@ -72,7 +72,7 @@ module _ {S : Type 0} (g : Ghosts S) (text : List ℕ) (old mid : Held S) (alone
     was = subst (λ v. HoldsOld (state g old) v c.value) (sym (bare_before ready.before c ready.loads) ∙ sym ready.same) (loaded_old ready.before c ready.loads);
   }
 
-  -- a new world that differs in more is refused with Differs
+  -- a new world that differs from the old one in more than markets is refused with Differs
   pub other_world : (before w : WorldValue) (c : MarkedCampaign) → LoadsIn First g old mid before c → world_of text ≡ Ok w → ¬ (without_markets w ≡ without_markets before) → HasOtherWorld g text old mid
   other_world before w c loads is differs = record {
     world = w;
@@ -83,7 +83,7 @@ module _ {S : Type 0} (g : Ghosts S) (text : List ℕ) (old mid : Held S) (alone
     differs = λ same. differs (same ∙ sym (bare_before before c loads));
   }
 
-  -- other tables than those of the first format refuse the upgrade
+  -- the upgrade is refused if there are more tables or indexes than those of the first format (`HasMore`)
   pub has_more : (w : WorldValue) (c : MarkedCampaign) → IsReadyToUpgrade g text old mid w c → ¬ IsJustOld mid.schema → HasMore g text old mid
   has_more w c ready more =
       let stands = ready.loads.stands clean in
@@ -103,7 +103,7 @@ later_both old mid new FirstFormatRows SecondFormatRows one two = record { clean
 -- ---- before the transaction
 
 module _ {S : Type 0} (g : Ghosts S) (text : List ℕ) (old new : Held S) where
-  -- a fault of loading is a failed check
+  -- a fault of loading in the first format is a check that failed (`FailsCheck`)
   pub fails_to_load : (fault : LoadFault) → RefusesToLoadIn First g old fault → FailsCheck g text old new (first_fault fault)
   fails_to_load load.Store refused = inl refused
   fails_to_load (load.Damaged rule) refused = refused
@@ -111,7 +111,7 @@ module _ {S : Type 0} (g : Ghosts S) (text : List ℕ) (old new : Held S) where
   fails_to_load load.OtherFormat refused = refused
   fails_to_load load.Memory refused = inl refused
 
-  -- a fault of the new world text is a failed check
+  -- a fault of the new world text is a check that failed, if the tables held a campaign in the first format
   pub fails_to_read : (fault : WorldFault) → Reads (λ (w : WorldValue). w) (Err fault) (world_of text) → HasOld g text old new → FailsCheck g text old new (new_world_fault fault)
   fails_to_read world.NotToml reads was = (was, reads, λ e. absurd cc)
   fails_to_read (world.Missing path) reads was = (was, reads, λ e. absurd cc)
@@ -146,6 +146,7 @@ module _ {S : Type 0} (g : Ghosts S) (text : List ℕ) (old mid new : Held S) (w
   did : (db : Database) → HasCleanDisk (state g mid) → WritesUpgrade text c.value (state g mid).now db → Holds db.trees text c.value
   did db clean wrote = wrote (world_text (state g mid)) (ready.loads.stands clean).rows ready.loads.fits.stocks
 
+  -- the disk was clean before the transaction, if it is clean after it
   before : Survives (state g mid) (state g new) (MayLeave IsFirstFormat (WritesUpgrade text c.value) (state g mid)) → HasCleanDisk (state g new) → HasCleanDisk (state g mid)
   before survives clean = omega (arith, survives.clean, clean)
 
@@ -167,7 +168,7 @@ module _ {S : Type 0} (g : Ghosts S) (text : List ℕ) (old mid new : Held S) (w
       new_now : Database
       new_now = (state g new).now
 
-  -- two calls that leave the tables as they were leave them so together
+  -- two calls that change nothing (`ChangesNothing`) together change nothing
   spares_both : (was_open : IsTrue (state g new).is_open → IsTrue (state g mid).is_open) → (state g old).faults ≤ (state g mid).faults → (state g mid).faults ≤ (state g new).faults → ChangesNothing (state g old) (state g mid) → ChangesNothing (state g mid) (state g new) → ChangesNothing (state g old) (state g new)
   spares_both was_open early late first second = record {
     same = λ up.
@@ -181,14 +182,14 @@ module _ {S : Type 0} (g : Ghosts S) (text : List ℕ) (old mid new : Held S) (w
   }
 
   module _ (just : IsJustOld mid.schema) (idle : mid.in_transaction ≡ false) (off : HasCleanDisk (state g new) → LeavesOff (state g mid) (state g new)) (survives : Survives (state g mid) (state g new) (MayLeave IsFirstFormat (WritesUpgrade text c.value) (state g mid))) where
-    -- the tables are as they were, if the upgrade failed
+    -- if the transaction of the upgrade failed and the disk is clean, nothing is changed (`ChangesNothing`)
     spared : HasCleanDisk (state g new) → ChangesNothing (state g old) (state g new)
     spared clean =
         let clean_mid = before survives clean in
         let stands = ready.loads.stands clean_mid in
         spares_both (off clean).was_open alone.survives.counts survives.counts (alone.spares clean_mid) (leaves_spares (state g mid) (state g new) _ clean (off clean) survives idle (λ up. sym stands.settled))
 
-    -- a crash leaves what it left before, or the upgraded campaign
+    -- a crash leaves what it could have left before, or the upgraded campaign, if the disk is clean
     may_upgrade : HasCleanDisk (state g new) → MayUpgrade (state g old) text (state g new)
     may_upgrade clean db may =
         let clean_mid = before survives clean in
@@ -201,7 +202,7 @@ module _ {S : Type 0} (g : Ghosts S) (text : List ℕ) (old mid new : Held S) (w
     broken_off : (e : Error) (memory : Bool) → is_memory e ≡ memory → Gives g (OfUpgrade text c.value) e mid new → HasCleanDisk (state g mid) → BreaksOffUpgrade g text old new memory
     broken_off e memory is gave clean_mid = record { world = w; campaign = c.value; matches = matched g text old mid alone clean_mid w c ready; before = mid; alone = alone; error = e; memory_is = is; given = gave }
 
-    -- the fault of the upgrade is that of this error
+    -- the fault of the upgrade is Memory if the transaction's error is lack of memory, else Store
     fails_to_write : (e : Error) (memory : Bool) → is_memory e ≡ memory → Gives g (OfUpgrade text c.value) e mid new → HasCleanDisk (state g mid) → FailsInTransaction g text old new (cond memory upgrade.Memory upgrade.Store)
     fails_to_write e true is gave clean_mid = broken_off e true is gave clean_mid
     fails_to_write e false is gave clean_mid = broken_off e false is gave clean_mid

@@ -63,6 +63,7 @@ equal_ints (Real x) b p q = absurd (true≢false (sym p))
 equal_ints (Text x) b p q = absurd (true≢false (sym p))
 equal_ints (Blob x) b p q = absurd (true≢false (sym p))
 
+-- two integers that are equal by the order of values are equal
 same_int : (m n : ℤ) → is_eq (value_cmp (Int m) (Int n)) ≡ true → m ≡ n
 same_int m n h = let k = rw (value_cmp-Int m n) at h in grind (arith, ints, nat_tests)
 
@@ -86,6 +87,7 @@ equal_is a b p q h = same_ints a b p q (sym (equal_ints a b p q) ∙ h)
 pub is_equal : (a : Value) → is_int a ≡ true → equal Binary a a ≡ true
 is_equal a p = equal_ints a a p p ∙ ap is_eq (tied_itself value_cmp_total a)
 
+-- an ordering that is not "different" is "equal"
 ne_or_eq : (o : Ordering) → is_ne o ≡ false → is_eq o ≡ true
 ne_or_eq Less h = absurd (true≢false h)
 ne_or_eq Equal h = refl
@@ -106,7 +108,7 @@ differ_not (Blob x) b p q h = absurd (true≢false (sym p))
 
 -- ---- the query of the update: the one row that has the rowid
 
--- the query of the update: the one row with the rowid of this parameter, and the values to set
+-- the query of the UPDATE: the one row with the rowid of this parameter, and the values to set
 abbrev pub update_query : ℕ → ℕ → List Term → Query
 update_query tree place project = record (delete_query tree (op2 (Compare Eq Binary) (col 1 0) (col 0 place) ∷ [])) { project = col 1 0 ∷ project }
 
@@ -114,10 +116,12 @@ module _ (p : Row → Bool) (f : Row → Env) where
   abbrev chosen : List Row → List Env
   chosen rows = flat_map (λ r. cond (p r) (f r ∷ []) []) rows
 
+  -- a query whose test no row passes chooses no row
   none_chosen : (rows : List Row) → ((r : Row) → Has rows r → p r ≡ false) → chosen rows ≡ []
   none_chosen [] none = refl
   none_chosen (r ∷ rows) none = rw (none r (inl refl), none_chosen rows (λ x h. none x (inr h)))
 
+  -- a query for one rowid chooses the row with this rowid alone
   one_chosen : (rows : List Row) → IsAscending (λ a b. is_eq (value_cmp (rowid a) (rowid b)) ≡ false) rows → (r : Row) → Has rows r
       → ((x : Row) → Has rows x → p x ≡ is_eq (value_cmp (rowid x) (rowid r))) → chosen rows ≡ f r ∷ []
   one_chosen [] apart r h is = absurd h
@@ -134,7 +138,7 @@ module _ (p : Row → Bool) (f : Row → Env) where
   one_chosen (x ∷ rows) apart r (inr h) is =
       rw (is x (inl refl) ∙ all_has _ rows r apart.0 h, one_chosen rows apart.1 r h (λ y k. is y (inr k)))
 
--- it answers that row alone
+-- the query of the UPDATE answers the row with the rowid alone
 pub row_by : (tree place : ℕ) (project : List Term) (db db' : Trees) (given : Row) (rows : List Row) (r : Row) → IsKeyed (db tree) → Has (db tree) r → column given place ≡ rowid r → db' tree ≡ db tree
     → IsAnswer (update_query tree place project) db' given rows → rows ≡ (rowid r ∷ eval_all project (given ∷ r ∷ [])) ∷ []
 row_by tree place project db db' given rows r keyed there aimed same a =
@@ -237,7 +241,7 @@ module _ (schema : Schema) (t : Table) (unlinked : (olds news : List Row) → wo
       let hit = are.sound x (inl refl) in
       inr (hit.0, hit.1, hit.2, updates new db hit.0 x w keyed hit.1 hit.3 (aimed hit.0 hit.1) h)
 
-  -- an upsert that ran did so
+  -- an upsert that ran put the new row, or changed the row with its key (`Upserted`)
   pub upserts : (new : Row) (db : Trees) (w : Written) → IsKeyed (db t.tree) → ((r : Row) → Has (db t.tree) r → column (given new r) place ≡ rowid r)
       → Tries upsert_task Abort (clause_on target q ∷ []) new db (Ok w) → Upserted new db w.trees
   upserts new db w keyed aimed (inl refused) = absurd (let e = refused.1 in cc)

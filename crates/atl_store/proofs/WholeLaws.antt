@@ -17,7 +17,7 @@ use Rattle.atl_store.proofs.CauseLaws.{gives, gives_after, gives_until, gives_be
 use Rattle.atl_store.proofs.CarryLaws.{carries_then}
 use Rattle.atl_store.proofs.WriteLaws.{not_ok, HandsOn, weaker, two_steps}
 
--- one step inside a transaction and then another
+-- a step inside a transaction and then another do both, one after the other
 pub inside_then : (Before : Database → Type 0) (First Second : Database → Database → Type 0) (a b c : State) → Inside Before First a b → Inside HasTables Second b c → Inside Before (Both First Second) a c
 inside_then Before First Second a b c one two = (
   two.0 ∙ one.0,
@@ -31,20 +31,20 @@ inside_then Before First Second a b c one two = (
 pub inside_weaker : (Before : Database → Type 0) (Does Less : Database → Database → Type 0) (a b : State) → (Before a.now → Does a.now b.now → Less a.now b.now) → Inside Before Does a b → Inside Before Less a b
 inside_weaker Before Does Less a b weaker h = (h.0, λ has. let did = h.1 has in record { does = weaker has did.does; tables = did.tables; carries = did.carries })
 
--- what is done to the tables, said otherwise, and one after the other
+-- the effect of a write on the tables, weakened, and of two writes
 module _ {S : Type 0} (g : Ghosts S) {own : Statements} {A : Type 0} {r : Result A Error} where
-  -- what is done to the tables, in other words
+  -- a write that does `First` does `Does`, if `Does` follows from `First`
   pub done_as : {First Does : Database → Database → Type 0} {a b : MutBor (Held S)} → ((old new : Database) → First old new → Does old new) → Writes g own (Inside HasTables First) r a b → Writes g own (Inside HasTables Does) r a b
   done_as {First = First} {Does = Does} said one = weaker g (λ old new did. inside_weaker HasTables First Does old new (λ has. said old.now new.now) did) one
 
-  -- one thing done to the tables and then another
+  -- a write that does `First` and then one that does `Second` do `Does`, if `Does` follows from both
   pub then_done : {First Second Does : Database → Database → Type 0} {X : Type 0} {x : X} {a b d : MutBor (Held S)}
       → ((old mid new : Database) → First old mid → Second mid new → Does old new) → Writes g own (Inside HasTables First) (Ok x) a b → Writes g own (Inside HasTables Second) r b d → Writes g own (Inside HasTables Does) r a d
   then_done {First = First} {Second = Second} {Does = Does} both one two =
       two_steps g (λ old mid new first second. inside_weaker HasTables (Both First Second) Does old new (λ has did. both old.now did.0 new.now did.1 did.2) (inside_then HasTables First Second old mid new first second)) one two
 
 module _ {S : Type 0} (g : Ghosts S) (old begun mid end : Held S) (begins : begun ≡ record old { in_transaction = true }) (Before : Database → Type 0) (Does : Database → Database → Type 0) where
-  -- after BEGIN, the step and the end, a crash leaves what it may (`MayLeave`): the tables before, or those that the step made
+  -- after BEGIN, the step and the end, a crash leaves what it could before, or what the step made (`MayLeave`)
   pub crash_after : Survives (state g begun) (state g mid) (λ _. ⊥) → (HasCleanDisk (state g mid) → Inside Before Does (state g begun) (state g mid)) → Survives (state g mid) (state g end) (λ db. db ≡ (state g mid).now.trees)
       → Survives (state g old) (state g end) (MayLeave Before Does (state g old))
   crash_after one inside two =
@@ -57,7 +57,7 @@ module _ {S : Type 0} (g : Ghosts S) (old begun mid end : Held S) (begins : begu
       ))
       (survives_begin g old (state g mid) _ (rw begins at one)) two
 
-  -- after the commit the tables are those that the step made
+  -- after the commit the tables are those that the step made, and the connection is in no transaction (`Commits`)
   pub committed_after : (HasCleanDisk (state g mid) → Inside Before Does (state g begun) (state g mid)) → Survives (state g mid) (state g end) (λ db. db ≡ (state g mid).now.trees)
       → (HasCleanDisk (state g end) → IsTrue (state g mid).in_transaction × Shows (state g mid) (state g end) (state g mid).now (state g mid).now false × KeepsCounts (state g mid) (state g end) × ((state g end).marks ≡ []))
       → HasCleanDisk (state g end) → Commits Before Does (state g old) (state g end)
@@ -73,12 +73,13 @@ module _ {S : Type 0} (g : Ghosts S) (old begun mid end : Held S) (begins : begu
         is_open = shows.is_open;
       }
 
+-- a statement that holds also holds if a result is an error
 given_err : {A E P : Type 0} (r : Result A E) → P → OnErr r P
 given_err (Ok a) p = tt
 given_err (Err e) p = p
 
 module _ {S : Type 0} (g : Ghosts S) (old : Held S) (begun mid : MutBor (Held S)) (begins : begun.now ≡ record old { in_transaction = true }) (Before : Database → Type 0) (Does : Database → Database → Type 0) (end : Held S) (over : end.in_transaction ≡ false) where
-  -- a rollback leaves the connection as before the transaction
+  -- a rollback leaves the tables of the last commit before the transaction (`LeavesOff`)
   rolled_back : KeepsCommit (state g begun.now) (state g mid.now) → IsRolledBack (state g mid.now) (state g end) → LeavesOff (state g old) (state g end)
   rolled_back kept back = record {
     was_open = λ up. subst IsTrue (ap (λ (h : Held S). (state g h).is_open) begins) (kept.was_open (back.was_open up));

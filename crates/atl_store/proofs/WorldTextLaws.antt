@@ -1,4 +1,4 @@
--- Laws on the world text: what the tables hold as world text is the text of the campaign that they keep.
+-- Laws on the world text: the text in the tables is the text with which they keep or hold a campaign.
 use Rattle.std.proofs.Common.{◌≡◌, ℕ, List, [], ◌∷◌, refl, ap, inl}
 use Rattle.sqlite.specs.Order.{Row}
 use Rattle.sqlite.specs.State.{State}
@@ -19,6 +19,7 @@ has_own : (f : Format) → Has (parts_in f) Own
 has_own First = inl refl
 has_own Second = inl refl
 
+-- if the table `campaign` has just the campaign row with this text, the world text of the tables is this one
 text_held : (f : Format) (s : State) (text : List ℕ) (c : CampaignValue) → Is (rows_in campaign_table s.now.trees) (λ r. r ≡ campaign_row_in f (campaign_row_of c) text) → world_text s ≡ text
 text_held f s text c holds = of (rows_in campaign_table s.now.trees) holds
   where
@@ -30,6 +31,6 @@ text_held f s text c holds = of (rows_in campaign_table s.now.trees) holds
 pub world_text_is : (s : State) (text : List ℕ) (c : CampaignValue) → Keeps s text c → world_text s ≡ text
 world_text_is s text c keeps = text_held Second s text c (keeps.rows.rows Own)
 
--- the same for tables that hold a campaign in a format
+-- if tables hold a campaign in a format with this text (`StandsIn`), their world text is this one
 pub standing_text_is : (f : Format) (s : State) (text : List ℕ) (c : CampaignValue) → StandsIn f s text c → world_text s ≡ text
 standing_text_is f s text c stands = text_held f s text c (stands.rows.rows Own (has_own f))

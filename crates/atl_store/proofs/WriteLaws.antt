@@ -1,4 +1,4 @@
--- Laws on writes inside a transaction: one statement, and one step after another, with the result and what it did.
+-- Laws on writes inside a transaction: what one statement, or several steps together, do, and which error they give.
 use Rattle.std.proofs.Common.{◌≡◌, ℕ, List, false, IsTrue, Result, Ok, Err, IsErr, IsErrAnd, OnOk, refl, sym, ◌∙◌, subst, inl, inr, arith}
 use Rattle.std.specs.Borrow.{MutBor}
 use Rattle.std.proofs.lemmas.Bool.{cases_Bool}
@@ -16,7 +16,7 @@ use Rattle.atl_store.specs.OwnStatements.{Statements, Only, Each}
 use Rattle.atl_store.proofs.CauseLaws.{gives, gives_after, gives_among, reached_then, reached_among, errs_as}
 use Rattle.atl_store.proofs.KeepLaws.{survives_more, keeps_more, on_ok, if_err}
 
--- with an error nothing is said of the Ok case
+-- whatever is said of Ok holds of a result that is an error
 pub not_ok : {A E : Type 0} (r : Result A E) (P : Type 0) → IsErr r → OnOk r P
 not_ok (Ok a) P failed = absurd cc
 not_ok (Err e) P failed = tt
@@ -25,15 +25,15 @@ not_ok (Err e) P failed = tt
 abbrev pub HandsOn : {A : Type 0} → Error → Result A Error → Type 0
 HandsOn e r = IsErr r × IsErrAnd r (λ f. f ≡ e)
 
--- These statements have done this so far, without an error.
+-- Statements of `own` have done `Does` without an error.
 abbrev pub SoFar : {S : Type 0} → Ghosts S → Statements → (State → State → Type 0) → MutBor (Held S) → MutBor (Held S) → Type 0
 SoFar g own Does old new = Writes g own Does {A = Unit {0}} (Ok (tt {0})) old new
 
--- before any call nothing is committed
+-- doing nothing commits nothing
 survives_start : (s : State) → Survives s s (λ _. ⊥)
 survives_start s = record { clean = omega arith; shield = λ h. h; counts = omega arith; limit = refl; closes = λ clean up. inl up; crash = λ clean db may. inl may }
 
--- Nothing is said of what a step does.
+-- A step that may do anything.
 abbrev Any : State → State → Type 0
 Any old new = Unit {0}
 
@@ -165,10 +165,10 @@ module _ {S : Type 0} (g : Ghosts S) where
         survives = whole.survives;
       }
 
-  -- one step more is done
+  -- a step done after others does what they do together, without an error
   pub goes_on : {own : Statements} {First Second Does : State → State → Type 0} {u : Unit {0}} {a b c : MutBor (Held S)} → ((old mid new : State) → First old mid → Second mid new → Does old new) → SoFar g own First a b → Writes g own Second (Ok u) b c → SoFar g own Does a c
   goes_on both so_far more = two_steps both so_far more
 
-  -- nothing is done yet
+  -- doing nothing is a write, if what is to be done is done already
   pub begins : {own : Statements} {Does : State → State → Type 0} {A : Type 0} {a : A} {b : MutBor (Held S)} → ((s : State) → Does s s) → Writes g own Does (Ok a) b b
   begins none = record { same_reference = refl; does = λ _. none _; goes_on = λ _. refl; reaches = λ clean inside. (0, refl); told = λ clean inside. tt; kept = λ _. record { was_open = λ up. up; committed = λ _. refl }; survives = survives_start _ }

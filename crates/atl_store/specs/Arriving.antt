@@ -20,7 +20,8 @@ use Rattle.atl_store.specs.Shown.{CampaignRowValue, campaign_row, mail_row, repo
 use Rattle.atl_store.specs.Lines.{amount_lines}
 use Rattle.atl_store.specs.Rows.{campaign_line, faction_line, unit_line}
 
--- the campaign has the faction and its report, a unit came last (`next_unit - 1`), and the books have money and people among their things
+-- The campaign has the faction, its report, and the unit of the last number, `next_unit - 1`.
+-- The books have money and people among their things.
 pub record HasArrival (c : CampaignValue) (number : ℕ) : Type 0 where
   pub next : 1 ≤ c.next_unit
   pub things : 2 ≤ c.books.things

@@ -26,7 +26,8 @@ abbrev pub begins : (ℕ → Bool) → Row → Bool
 begins is_so (Int (pos n) ∷ row) = is_so n
 begins is_so row = false
 
--- whether `is_so` holds of a row of `books`: of its entry's index (the first column less 1) and its thing's number (the second)
+-- Whether `is_so` holds of the entry and the thing of a row of `books`.
+-- The entry is given by its index, the first column less 1; the thing by its number, the second column.
 abbrev pub accounts : (ℕ → ℕ → Bool) → Row → Bool
 accounts is_so (Int (pos (suc entry)) ∷ Int (pos thing) ∷ row) = is_so entry thing
 accounts is_so row = false
@@ -36,7 +37,7 @@ abbrev pub of_kind : ThingKind → (ℕ → ℕ → Bool) → Row → Bool
 of_kind sort is_so (Int (pos unit) ∷ Int (pos number) ∷ Int (pos thing) ∷ row) = number == sort_number sort && is_so unit thing
 of_kind sort is_so row = false
 
--- whether this is so of the region and the item of a row of the table of stocks
+-- whether `is_so` holds of the region and the item of a row of `market`
 abbrev pub of_stock : (ℕ → ℕ → Bool) → Row → Bool
 of_stock is_so (Int (pos region) ∷ Int (pos item) ∷ row) = is_so region item
 of_stock is_so row = false
@@ -53,11 +54,12 @@ has_thing things unit thing = is_some (get (group_of things unit) thing)
 abbrev pub goods_marked : Marks → Row → Bool
 goods_marked marks r = begins_marked marks.goods r || of_kind Item (has_thing marks.items) r || of_kind Skill (has_thing marks.skills) r
 
--- whether all stocks of a row's region are marked, or the row's alone
+-- whether a row of `market` is marked: with all stocks of its region, or as a single stock
 abbrev pub stocks_marked : Marks → Row → Bool
 stocks_marked marks r = begins_marked marks.stocks r || of_stock (has_thing marks.stock_items) r
 
--- whether the amount of an entry and a thing is marked; the entry is given by its index, which has to be below `entry_count`
+-- Whether the amount of an entry and a thing is marked.
+-- The entry is given by its index, which has to be below `entry_count`.
 abbrev pub is_marked_amount : FinSet nat_cmp → ℕ → ℕ → Bool
 is_marked_amount marks entry thing = nat_le (suc entry) entry_count && contains marks (entry_count * thing + entry)
 
@@ -78,7 +80,7 @@ rows_after_rewrite is_marked Wanted Were r = Chosen (is_marked r) (Wanted r) (We
 abbrev pub AreRewritten : Table → (Row → Bool) → Set → Database → Database → Type 0
 AreRewritten table is_marked Wanted old new = Is (rows_in table new.trees) (rows_after_rewrite is_marked Wanted (Has (rows_in table old.trees)))
 
--- what the campaign row says after a write: what the campaign says if that row is marked (true), else what the row said before
+-- what the campaign row says after a write: if it is marked (true) what the campaign says, else what it said before
 abbrev pub campaign_row_after : Bool → CampaignValue → CampaignRowValue → CampaignRowValue
 campaign_row_after true c before = campaign_row_of c
 campaign_row_after false c before = before
@@ -87,7 +89,8 @@ campaign_row_after false c before = before
 abbrev pub own_after : MarkedCampaign → CampaignRowValue → List ℕ → Row
 own_after c before text = campaign_row (campaign_row_after c.marks.row c.value before) text
 
--- whether a row of a part's table has a marked key; the campaign row always counts as marked, since `own_after` looks at its mark
+-- whether a row of a part's table has a marked key
+-- The campaign row always counts as marked, since `own_after` looks at its mark.
 abbrev pub is_marked : Marks → Part → Row → Bool
 is_marked marks Own = λ r. true
 is_marked marks Factions = begins_marked marks.factions
@@ -100,11 +103,12 @@ is_marked marks Reports = begins_marked marks.reports
 is_marked marks Books = amount_marked marks.books
 is_marked marks Markets = stocks_marked marks
 
--- In each table the rows with a marked key become the campaign's, and others stay; the campaign row said `before` and keeps this world text.
+-- In each table the rows with a marked key become the campaign's, and all others stay.
+-- The campaign row said `before`; it keeps this world text.
 pub record WritesMarked (c : MarkedCampaign) (before : CampaignRowValue) (text : List ℕ) (old new : Database) : Type 0 where
   pub rows : (part : Part) → AreRewritten (table_of part) (is_marked c.marks part) (rows_for (own_after c before text) c.value part) old new
 
--- What is marked is written (`WritesMarked`), whatever the campaign row said, if the table `campaign` held one such row.
+-- What is marked is written (`WritesMarked`), if the table `campaign` held one row, whatever this row said.
 abbrev pub WritesChanges : MarkedCampaign → Database → Database → Type 0
 WritesChanges c old new = (before : CampaignRowValue) (text : List ℕ) → Is (rows_in campaign_table old.trees) (λ r. r ≡ campaign_row before text) → WritesMarked c before text old new
 

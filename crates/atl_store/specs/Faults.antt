@@ -1,4 +1,4 @@
--- Which fault an error becomes: of a database, of a check of the rows, or of a world text; and the numbers of the faults.
+-- Which fault is returned for an error of the database, of the rows' check or of a world text; and the faults' numbers.
 use Rattle.std.specs.Prelude.{ℕ, Option, Some, None, Bool, true, false, if◌then◌else◌}
 use Rattle.sqlite.specs.declared.error.Error.{Error}
 use Rattle.sqlite.specs.declared.error.Error.TheVariants.{SqliteFailure}
@@ -27,7 +27,8 @@ abbrev pub is_memory : Error → Bool
 is_memory (SqliteFailure code.OutOfMemory) = true
 is_memory _ = false
 
--- whether the database could not go on: a failed, full or damaged disk, a shut connection, something too big, or too many steps
+-- Whether the database could not run the statement to its end.
+-- The disk failed, is full or is damaged, the connection is shut, something is too big, or it takes too many steps.
 abbrev pub is_failure : Error → Bool
 is_failure (SqliteFailure code.SystemIoFailure) = true
 is_failure (SqliteFailure code.DatabaseCorrupt) = true
@@ -59,7 +60,7 @@ abbrev pub fault_of_check : CheckFault → LoadFault
 fault_of_check (check.Damaged rule) = load.Damaged rule
 fault_of_check check.Memory = load.Memory
 
--- the fault of `load`, which loads in the second format
+-- the fault of `load` for a fault of loading in the second format
 abbrev pub second_fault : LoadFault → StoreFault
 second_fault load.Store = store.Store
 second_fault (load.Damaged rule) = store.Damaged rule

@@ -8,19 +8,19 @@ use Rattle.atl_store.specs.Tables.{Part, campaign_table}
 use Rattle.atl_store.specs.Inside.{Changes}
 use Rattle.atl_store.specs.Rows.{campaign_line, rows_for, Holds}
 
--- if the part's table had no row, its rows are those of the campaign, whose campaign row is `own`
+-- if the part's table had no row, it has exactly the campaign's rows afterwards; `own` is the campaign row
 abbrev pub Fills : CampaignValue → Row → Part → List Row → List Row → Type 0
 Fills c own part before after = before ≡ [] → Is after (rows_for own c part)
 
--- the tables of these parts, of which the campaign row is none, are filled
+-- the tables of these parts, which don't include the campaign row, are filled if they were empty; all other tables stay
 abbrev pub FillsParts : CampaignValue → List Part → Database → Database → Type 0
 FillsParts c parts old new = (own : Row) → Changes (Fills c own) parts old new
 
--- the table of one part, which isn't the campaign row, is filled
+-- the table of one part, which isn't the campaign row, is filled if it was empty; all other tables stay
 abbrev pub FillsPart : CampaignValue → Part → Database → Database → Type 0
 FillsPart c part = FillsParts c (part ∷ [])
 
--- the tables of these parts, of which the campaign row is one, are filled, if there was no campaign row
+-- the tables of these parts, which include the campaign row, are filled, if there was no campaign row
 abbrev pub FillsWithOwn : List ℕ → CampaignValue → List Part → Database → Database → Type 0
 FillsWithOwn text c parts old new = rows_in campaign_table old.trees ≡ [] → Changes (Fills c (campaign_line text c)) parts old new
 

@@ -61,7 +61,7 @@ kept_of (Err read.Refused) = Err Store
 kept_of (Err read.Memory) = Err Memory
 kept_of (Err read.OtherType) = Ok None
 
--- when a step that needs `P` may return each fault: Store if `P` isn't so, and Memory at any time
+-- when a step that needs `P` may return each fault: Store if `P` doesn't hold, and Memory at any time
 abbrev pub Lacks : Type 0 → LoadFault → Type 0
 Lacks P Store = ¬ P
 Lacks P (Damaged rule) = ⊥
@@ -84,7 +84,7 @@ pub record IsOwn (f : Format) (rows : List StoredCampaign) (own : StoredCampaign
   pub format : own.head.format ≡ pos (format_number f)
   pub world : world_by f (string_bytes own.world) ≡ Ok w
 
--- Ok has what is as `Is` says; the fault is Memory, or Damaged with the first rule, and then `Nothing` is so
+-- a judged result: Ok of a value for which `Is` holds; Damaged by the first rule, where `Nothing` holds; or Memory
 abbrev pub Judges : {A : Type 0} → (A → Type 0) → Type 0 → Result A LoadFault → Type 0
 Judges Is Nothing (Ok a) = Is a
 Judges Is Nothing (Err Memory) = ⊤
@@ -99,7 +99,7 @@ ReadsWorld f text r = Judges (λ w. world_by f text ≡ Ok w) ((w : WorldValue) 
 abbrev pub JudgesOwn : Format → List StoredCampaign → Result (StoredCampaign × WorldValue) LoadFault → Type 0
 JudgesOwn f rows r = Judges (λ both. IsOwn f rows both.0 both.1) ((own : StoredCampaign) (w : WorldValue) → ¬ IsOwn f rows own w) r
 
--- the result of judging the rows that SQL showed of `campaign`: the one row and its world (`AreOwnRow`), Damaged, or Memory
+-- the result of judging the rows that SQL shows of `campaign`: the row and its world (`AreOwnRow`), Damaged, or Memory
 abbrev pub JudgesRows : Format → List Row → Result (StoredCampaign × WorldValue) LoadFault → Type 0
 JudgesRows f rows r = Judges (λ both. AreOwnRow f rows both.0.head (string_bytes both.0.world) both.1) ((h : StoredCampaignRow) (text : List ℕ) (w : WorldValue) → ¬ AreOwnRow f rows h text w) r
 
@@ -117,11 +117,11 @@ ReadRows = List (Part × List Row)
 abbrev pub AreRows : Database → Part → List Row → Type 0
 AreRows db part rows = HasTablesOf (listing_of part).since db.schema → IsPermutation ((listing_of part).in_table db.trees) rows
 
--- of each part that was read these are all rows (`AreRows`)
+-- for each part that was read, the rows are all rows of the part's table (`AreRows`)
 abbrev pub AreAllRows : Database → ReadRows → Type 0
 AreAllRows db reads = (read : Part × List Row) → Has reads read → AreRows db read.0 read.1
 
--- of each part that was read these are all rows, if the format has it, and else there is none
+-- for each part that was read: all rows of its table (`AreRows`) if the format has the part, else no row
 pub record AreOfFormat (f : Format) (db : Database) (reads : ReadRows) : Type 0 where
   pub each : (read : Part × List Row) → Has reads read → (Has (parts_in f) read.0 × AreRows db read.0 read.1) ⊎ ((¬ Has (parts_in f) read.0) × (read.1 ≡ []))
 
@@ -139,7 +139,8 @@ selects_by First some others = some
 selects_by Second some others = some ++ others
 
 module _ {S : Type 0} (g : Ghosts S) (old : Held S) where
-  -- the SELECT of `campaign` showed one row, which keeps the first rule (`AreOwnRow`), and it is the only row of the table
+  -- The SELECT of `campaign` showed one row, which keeps the first rule (`AreOwnRow`).
+  -- If the schema begins with the tables of the first format, this is the only row of the table.
   pub record OwnRead (f : Format) (own : StoredCampaign) (w : WorldValue) : Type 0 where
     pub rows : List Row
     pub selects : Selects g (selection campaign_table 1) old rows
@@ -148,8 +149,8 @@ module _ {S : Type 0} (g : Ghosts S) (old : Held S) where
 
   -- ---- the other tables
 
-  -- each of these SELECTs showed some rows: with all values of their types, and `P` holds of what was read
-  -- or, for None, with a value of another type
+  -- Each of these SELECTs showed rows. Some: each value is of its column's form, and `P` holds of what was read.
+  -- None: a value of one of them is of another form than its column.
   abbrev pub Found : {A : Type 0} → List (List ℕ × List Form) → (A → Type 0) → Option A → Type 0
   Found selects P None = HasOtherType g old selects
   Found selects P (Some a) = AreToldTyped g old selects × P a
@@ -172,7 +173,8 @@ module _ {S : Type 0} (g : Ghosts S) (old : Held S) where
   FailsToRead selects OtherFormat = ⊥
   FailsToRead selects Memory = RefusesOne g old selects read.Memory ⊎ AnswersOne selects
 
-  -- Reading these tables gives what `Found` says, or a fault (`FailsToRead`), if the disk is clean; the tables are as they were.
+  -- Reading these tables gives what `Found` says, or a fault (`FailsToRead`), if the disk is clean.
+  -- The connection is as after reads: the tables are as they were (`AfterReads`).
   pub record ReadsSome {A : Type 0} (selects : List (List ℕ × List Form)) (P : A → Type 0) (result : Result (Option A) LoadFault) (new : Held S) : Type 0 where
     pub was_open : HasCleanDisk (state g new) → IfOk result (λ _. IsTrue (state g old).is_open)
     pub found : HasCleanDisk (state g new) → IfOk result (Found selects P)
@@ -204,12 +206,12 @@ AreApart placed = IsDistinct (eq_by_cmp int_cmp) (map (λ s. s.rowid) placed)
 abbrev pub width : Part → ℕ
 width part = length (table_of part).columns
 
--- the values of this column are integers, no two alike
+-- the values of the column at index `at` are integers, no two alike
 pub record HaveKeys (at : ℕ) (rows : List Row) : Type 0 where
   pub apart : IsDistinct (λ a b. is_eq (value_cmp (column a at) (column b at))) rows
   pub ints : AllByRecursion (λ r. is_int (column r at) ≡ true) rows
 
--- no two rows of a part that is shown with rowids have the same one
+-- in each part that is shown with rowids, the rowids are integers, no two alike
 pub record AreAllApart (reads : ReadRows) : Type 0 where
   pub each : (read : Part × List Row) → Has reads read → shows_rowids read.0 ≡ true → HaveKeys (width read.0) read.1
 
@@ -238,13 +240,14 @@ pub record Gathered (f : Format) {S : Type 0} (g : Ghosts S) (old : Held S) (w :
   pub rows : HasTablesOf f old.schema → HaveRows f (state g old).now.trees text p
   pub keyed : HasTablesOf f old.schema → (table : Table) → Has (tables_with_rowids f) table → IsKeyed ((state g old).now.trees table.tree)
 
--- the old tables are made as the format has them and fit their schema, and the new connection is open
+-- the old schema begins with the format's tables, the trees list and obey it (`IsSound`), and `new` is open
 pub record IsConfirmed (f : Format) (old new : State) : Type 0 where
   pub begins : HasTablesOf f old.now.schema
   pub is_open : IsTrue new.is_open
   pub sound : IsSound old.now.schema old.now.trees
 
--- if the disk is clean, all rows were read (`Gathered`) and the schema confirmed; and the rows, which keep all rules, are those of `c`
+-- The campaign `c` is loaded: it is made of rows that were read and keep all rules (`IsChecked`).
+-- If the disk is clean, these are the rows of all tables (`Gathered`), and the schema is confirmed.
 pub record IsLoaded (f : Format) {S : Type 0} (g : Ghosts S) (old new : Held S) (w : WorldValue) (c : MarkedCampaign) : Type 0 where
   pub parts : Parts
   pub gathered : HasCleanDisk (state g new) → Gathered f g old w parts

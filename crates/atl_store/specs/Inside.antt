@@ -31,7 +31,8 @@ pub record Done (Does : Database → Database → Type 0) (old new : Database) :
   pub tables : HasTables new
   pub carries : Carries old new
 
--- `Does` is done to the tables, if they were as `Before` says; and a transaction that was going on goes on
+-- `Does` is done to the tables, if they were as `Before` says.
+-- The connection is in a transaction exactly if it was in one.
 abbrev pub Inside : (Database → Type 0) → (Database → Database → Type 0) → State → State → Type 0
 Inside Before Does old new = (new.in_transaction ≡ old.in_transaction) × (Before old.now → Done Does old.now new.now)
 
@@ -54,7 +55,7 @@ abbrev pub InTurn : (Part → Database → Database → Type 0) → List Part �
 InTurn Does [] old new = new ≡ old
 InTurn Does (part ∷ parts) old new = (mid : Database) × Does part old mid × InTurn Does parts mid new
 
--- the row replaces the one with its key, the first `key` columns, or is added; all other rows and tables are as they were
+-- the row replaces the one with the same first `key` columns, or is added; all other rows and tables are as they were
 abbrev pub Puts : Table → ℕ → Row → Database → Database → Type 0
 Puts table key row old new = Alters table (put key row (Has (rows_in table old.trees))) old new
 
@@ -66,14 +67,16 @@ Drops table key k old new = Alters table (drop_key key k (Has (rows_in table old
 abbrev pub PutsRows : Table → ℕ → List Row → Database → Database → Type 0
 PutsRows table key news old new = Alters table (puts key news (Has (rows_in table old.trees))) old new
 
--- a transaction that succeeded: `Does` is done, if the tables were as `Before` says, and committed; the connection is open and in no transaction
+-- A transaction that succeeded: `Does` is done, if the tables were as `Before` says, and all is committed.
+-- The connection is open and in no transaction.
 pub record Commits (Before : Database → Type 0) (Does : Database → Database → Type 0) (old new : State) : Type 0 where
   pub does : Before old.now → Done Does old.now new.now
   pub committed : new.committed ≡ new.now
   pub idle : new.in_transaction ≡ false
   pub is_open : IsTrue new.is_open
 
--- a transaction that failed: while the connection is open, its tables are those of the last commit before; it is in no transaction
+-- A transaction that failed: while the connection is open, its tables are those of the last commit before.
+-- The connection is in no transaction.
 pub record LeavesOff (old new : State) : Type 0 where
   pub was_open : IsTrue new.is_open → IsTrue old.is_open
   pub undone : IsTrue new.is_open → (new.now ≡ old.committed) × (new.committed ≡ old.committed)

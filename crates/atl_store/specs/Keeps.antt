@@ -20,7 +20,7 @@ use Rattle.atl_store.specs.OwnStatements.{OfFounding}
 use Rattle.atl_store.specs.declared.fault.CreateFault.{CreateFault}
 use Rattle.atl_store.specs.declared.fault.CreateFault.TheVariants.{NotEmpty, Store, Memory}
 
--- What a file holds: the tables of a campaign, as its catalog lists them, with exactly the rows of the text and the campaign.
+-- What a file holds: a campaign's tables, listed in its catalog, with exactly the rows of the text and the campaign.
 pub record Stores (db : Trees) (text : List ℕ) (c : CampaignValue) : Type 0 where
   pub schema : Schema
   pub begins : HasAll schema
@@ -37,12 +37,14 @@ pub record Keeps (s : State) (text : List ℕ) (c : CampaignValue) : Type 0 wher
   pub rows : Holds s.now.trees text c
   pub crash : (db : Trees) → s.may_leave db → Stores db text c
 
--- If the disk is clean so far, the connection keeps this world text and this campaign (`Keeps`). Of a disk that isn't clean nothing is said.
+-- If the disk is clean so far, the connection keeps this world text and this campaign (`Keeps`).
+-- Of a disk that isn't clean nothing is said.
 abbrev pub HoldsCampaign : {S : Type 0} → Ghosts S → Held S → List ℕ → CampaignValue → Type 0
 HoldsCampaign g conn text c = HasCleanDisk (state g conn) → Keeps (state g conn) text c
 
--- After a fault: the connection, while it is open, keeps the campaign `before`, and is shut only if the disk failed again.
--- A crash leaves the campaign `before` or `after`, never a part. `faults` counts the failures of the disk before the call.
+-- After a fault the connection, while it is open, keeps the campaign `before`.
+-- It is shut only if the disk failed again. A crash leaves the campaign `before` or `after`, never a part.
+-- `faults` counts the failures of the disk before the call.
 pub record LeavesAfterFault (faults : ℕ) (s : State) (text : List ℕ) (before after : CampaignValue) : Type 0 where
   pub still : IsTrue s.is_open → Keeps s text before
   pub shuts : IsTrue s.is_open ⊎ MoreFaults faults s.faults

@@ -25,7 +25,7 @@ abbrev pub DifferInKey : ℕ → List Row → Type 0
 DifferInKey key [] = ⊤
 DifferInKey key (x ∷ xs) = ((y : Row) → Has xs y → take key x ≢ take key y) × DifferInKey key xs
 
--- the rows of all entries, one entry after another
+-- the rows that `lines` gives for each entry of a map, one entry after another
 abbrev pub groups_of : {V : Type 0} → (ℕ → V → List Row) → List (ℕ × V) → List Row
 groups_of lines entries = flat_map (λ e. lines e.0 e.1) entries
 
@@ -39,7 +39,7 @@ pub record AreGroups {V : Type 0} (lines : ℕ → V → List Row) (key : ℕ) (
 
 -- ---- amounts of things
 
--- one row if the amount isn't 0, else none
+-- the row of one thing, or none if its amount is 0
 abbrev pub thing_rows : (ℕ → ℕ → Row) → ℕ → ℕ → List Row
 thing_rows row thing amount = if amount == 0 then [] else row thing amount ∷ []
 

@@ -96,7 +96,7 @@ abbrev pub other_format : Format → Format
 other_format First = Second
 other_format Second = First
 
--- there is one row, whose format is the other one, whatever else it says
+-- there is just one row, and its format is the other one, whatever else the row says
 abbrev pub IsOther : Format → List Row → Type 0
 IsOther f rows = (row : Row) × (rows ≡ row ∷ []) × (column row 1 ≡ int (format_number (other_format f)))
 
@@ -202,7 +202,8 @@ module _ {S : Type 0} (g : Ghosts S) (old : Held S) where
 -- ---- by format
 
 module _ (f : Format) {S : Type 0} (g : Ghosts S) (old : Held S) where
-  -- The schema begins with the tables of the format; in those without an INTEGER PRIMARY KEY the rowids are integers, no two alike.
+  -- The schema begins with the tables of the format.
+  -- In its tables without an INTEGER PRIMARY KEY the rowids are integers, no two alike.
   pub record AreMade : Type 0 where
     pub begins : HasTablesOf f old.schema
     pub keyed : (table : Table) → Has (tables_with_rowids f) table → IsKeyed ((state g old).now.trees table.tree)
@@ -256,8 +257,9 @@ module _ (f : Format) {S : Type 0} (g : Ghosts S) (old : Held S) where
   abbrev pub CannotRead : Type 0
   CannotRead = RefusesOne g old (other_selects f) read.Store ⊎ RefusesOne g old (other_selects f) read.Refused
 
-  -- all other tables are read with values of their types, but the tables can't be confirmed
-  -- They are made otherwise, or the disk failed, or the campaign row, asked for again, is refused, not for memory.
+  -- All tables but `campaign` are read, each value of its column's form, but the tables can't be confirmed.
+  -- They aren't made as the format has them (`AreMade`), or the disk failed meanwhile.
+  -- Or the SELECT of the campaign row, asked again, is refused for another cause than memory.
   abbrev pub CannotConfirm : Type 0
   CannotConfirm = AreToldTyped g old (other_selects f) × ((¬ AreMade) ⊎ (FailedMeanwhile g old ⊎ RefusesAgain g old false))
 
@@ -278,7 +280,8 @@ module _ (f : Format) {S : Type 0} (g : Ghosts S) (old : Held S) where
   RefusesToLoadIn OtherFormat = HasOtherFormat
   RefusesToLoadIn Memory = MayReturnMemory g old
 
--- The connection is open and in no transaction, and the tables of the format hold exactly the rows of the text and the campaign.
+-- The connection is open and in no transaction.
+-- The tables of the format hold exactly the rows of the text and the campaign.
 -- All is committed, the trees list and obey the schema, and the rowids of each table are integers, no two alike.
 pub record StandsIn (f : Format) (s : State) (text : List ℕ) (c : CampaignValue) : Type 0 where
   pub idle : s.in_transaction ≡ false
@@ -289,8 +292,8 @@ pub record StandsIn (f : Format) (s : State) (text : List ℕ) (c : CampaignValu
   pub keyed : (table : Table) → Has (map table_of (parts_in f)) table → IsKeyed (s.now.trees table.tree)
   pub rows : HoldsIn f s.now.trees text c
 
--- With Ok, on a clean disk, the tables of the format hold the campaign and a text of the world.
--- The campaign is good and fits the format, and nothing of it is marked.
+-- If the disk is clean, Ok says: the tables of the format hold the campaign and a text of the world.
+-- The campaign is good, and in the first format without markets (`Fits`); nothing of it is marked.
 pub record LoadsIn (f : Format) {S : Type 0} (g : Ghosts S) (old new : Held S) (w : WorldValue) (c : MarkedCampaign) : Type 0 where
   pub world : HasCleanDisk (state g new) → world_by f (world_text (state g new)) ≡ Ok w
   pub stands : HasCleanDisk (state g new) → StandsIn f (state g new) (world_text (state g new)) c.value
@@ -309,7 +312,7 @@ module _ {S : Type 0} (g : Ghosts S) (old : Held S) where
   RefusesToLoad store.OldFormat = RefusesToLoadIn Second g old OtherFormat
   RefusesToLoad store.Memory = RefusesToLoadIn Second g old Memory
 
-  -- With Ok, on a clean disk, the connection keeps the campaign and a text of the world.
+  -- If the disk is clean, Ok of `load` says: the connection keeps the campaign and a text of the world.
   -- The campaign is good, and nothing of it is marked.
   pub record Loads (new : Held S) (w : WorldValue) (c : MarkedCampaign) : Type 0 where
     pub world : HasCleanDisk (state g new) → world_of (world_text (state g new)) ≡ Ok w

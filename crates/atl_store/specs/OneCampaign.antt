@@ -6,6 +6,6 @@ use Rattle.atl_state.specs.Good.{IsGood}
 use Rattle.atl_state.specs.Campaign.{CampaignValue}
 use Rattle.atl_store.specs.Rows.{Holds}
 
--- If the tables hold two world texts with two good campaigns of one world, the texts are equal and the campaigns are equal.
+-- If the tables hold two world texts with two good campaigns of one world, the texts and the campaigns are equal.
 abbrev pub HoldsOne : Type 0
 HoldsOne = (w : WorldValue) (db : Trees) (one other : List ℕ) (c d : CampaignValue) → IsGood w c → IsGood w d → Holds db one c → Holds db other d → (one ≡ other) × (c ≡ d)

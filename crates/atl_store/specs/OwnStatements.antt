@@ -33,12 +33,12 @@ Only text values = Each text (λ row. row ≡ values)
 abbrev pub Creations : Statements
 Creations sql params = Has (map creation_of all_parts) sql × (params ≡ [])
 
--- the statement of an amount of the books: it puts its row, or deletes it if the amount is 0
+-- the statement that writes an amount of the books: puts the amount's row, or deletes the row if the amount is 0
 pub data OfAmount (c : CampaignValue) (entry : Entry) (thing : Thing) : List ℕ → Row → Type 0 where
   puts_amount : amount_in c.books entry thing ≢ pos 0 → OfAmount c entry thing (upsert books_table 2) (books_row (entry_index entry + 1) (thing_index thing) (amount_in c.books entry thing))
   drops_amount : amount_in c.books entry thing ≡ pos 0 → OfAmount c entry thing (deletion books_table 2) (books_key (entry_index entry + 1) (thing_index thing))
 
--- a row of a part of the campaign, whatever the campaign row is; so never that row itself
+-- the row is one of this part's rows, whatever the campaign row is; so it is never the campaign row itself
 abbrev pub IsRowOf : CampaignValue → Part → Row → Type 0
 IsRowOf c part row = (own : Row) → rows_for own c part row
 
@@ -71,7 +71,8 @@ pub data OfUpgrade (text : List ℕ) (c : CampaignValue) : List ℕ → Row → 
   upgrades_tables : OfUpgrade text c (creation_of Markets) []
   upgrades_head : OfUpgrade text c upgrading_upsert (campaign_row_values (campaign_row_of c) text)
 
--- the statements of a join: put the campaign row, the faction, its unit, which came last, its report, and the two amounts booked under joining
+-- The statements of a join: put the campaign row, the faction, its unit, its report, and two amounts of the books.
+-- The unit is the one that came last; the amounts are those of money and people under joining.
 pub data OfJoining (faction : ℕ) (c : CampaignValue) : List ℕ → Row → Type 0 where
   joins_head : OfJoining faction c campaign_upsert (campaign_row_values (campaign_row_of c) [])
   joins_faction : {f : Faction} → get c.factions faction ≡ Some f → OfJoining faction c (upsert faction_table 1) (faction_line faction f)

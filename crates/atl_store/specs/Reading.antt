@@ -18,7 +18,7 @@ use Rattle.atl_store.specs.Stored.{Form, first_columns, AreTyped, IsTyped}
 use Rattle.atl_store.specs.declared.fault.ReadFault.{ReadFault}
 use Rattle.atl_store.specs.declared.fault.ReadFault.TheVariants.{OtherType, Memory}
 
--- Nothing is changed: if the connection is open it was open before, and its tables are as they were or as last committed.
+-- Nothing is changed: an open connection was open before, and its tables are as they were or as last committed.
 pub record Rests (old new : State) : Type 0 where
   pub was_open : IsTrue new.is_open → IsTrue old.is_open
   pub same : IsTrue new.is_open → ((new.now ≡ old.committed) ⊎ (new.now ≡ old.now)) × (new.committed ≡ old.committed)
@@ -33,11 +33,11 @@ pub record IsAsked (old before : State) : Type 0 where
   pub faults : old.faults ≤ before.faults
 
 module _ {S : Type 0} (g : Ghosts S) (sql : List ℕ) (old : Held S) where
-  -- the SELECT, asked on such a connection, shows these rows
+  -- the SELECT, asked on a connection with the tables of `old` (`IsAsked`), shows these rows
   abbrev pub Selects : List Row → Type 0
   Selects rows = (before during : Held S) × IsAsked (state g old) (state g before) × Shown sql [] (state g before) (state g during) rows
 
-  -- the SELECT, asked on such a connection, is refused, and this is the fault of its error
+  -- the SELECT, asked on a connection with the tables of `old` (`IsAsked`), is refused, and this is its error's fault
   abbrev pub RefusesToSelect : ReadFault → Type 0
   RefusesToSelect fault = (before during : Held S) × (e : Error) × IsAsked (state g old) (state g before) × FailsToQuery sql [] (state g before) (state g during) e × (fault ≡ read_fault e)
 
@@ -47,18 +47,20 @@ module _ {S : Type 0} (g : Ghosts S) (sql : List ℕ) (old : Held S) where
     pub rows : HasCleanDisk (state g new) → IfOk result (λ rows. Selects rows.items)
     pub refused : HasCleanDisk (state g new) → IfErr result RefusesToSelect
     pub rests : HasCleanDisk (state g new) → Rests (state g old) (state g new)
-    -- A crash leaves only what it could have left before, and no transaction goes on.
+    -- A crash leaves only what it could have left before, and the connection is in no transaction.
     pub survives : Survives (state g old) (state g new) (λ _. ⊥)
     pub idle : new.in_transaction ≡ false
 
-  -- All rows that the SELECT shows are read, each value in the form of its column. Nothing is changed.
+  -- All rows that the SELECT shows are read, each value in the form of its column, if the disk is clean.
+  -- Nothing is changed.
   pub record ReadsRows {A Z : Type 0} (forms : List Form) (shown : A → Row) (result : Result (Vec A Z) ReadFault) (new : Held S) : Type 0 where
     -- With Ok it has all rows that the SELECT shows, in their order, and each value is of its column's form.
     pub rows : HasCleanDisk (state g new) → IfOk result (λ all. (rows : List Row) × Selects rows × (map shown all.items ≡ map (first_columns (length forms)) rows) × AreTyped forms rows)
-    -- OtherType is returned only if a value is of another form; another fault but Memory is that of the SELECT's refusal.
+    -- OtherType is returned only if a value is of another form than its column.
+    -- Another fault but Memory is that of the SELECT's refusal.
     pub other : HasCleanDisk (state g new) → IfErr result (λ fault. fault ≡ OtherType → (rows : List Row) × Selects rows × ¬ AreTyped forms rows)
     pub refused : HasCleanDisk (state g new) → IfErr result (λ fault. fault ≢ OtherType → fault ≢ Memory → RefusesToSelect fault)
-    -- Memory is returned only if the SELECT is refused for lack of it, or is answered: then there may be no room for its rows.
+    -- Memory is returned only if the SELECT is refused for lack of memory, or is answered and its rows may lack memory.
     pub memory : HasCleanDisk (state g new) → IfErr result (λ fault. fault ≡ Memory → RefusesToSelect Memory ⊎ ((rows : List Row) × Selects rows))
     pub rests : HasCleanDisk (state g new) → Rests (state g old) (state g new)
     pub survives : Survives (state g old) (state g new) (λ _. ⊥)
@@ -100,7 +102,7 @@ pub record PartSelect : Type 0 where
 abbrev pub whole : Format → Table → ℕ → PartSelect
 whole since t key = record { since = since; names = column_names t; select = selection t key; in_table = rows_in t }
 
--- the same, and each row's rowid as a last column
+-- reads all columns of a table whose key is its first `key` columns, and each row's rowid as a last column
 abbrev pub whole_with_ids : Format → Table → ℕ → PartSelect
 whole_with_ids since t key = record { since = since; names = column_names t ++ codes "rowid" ∷ []; select = selection_with_ids t key; in_table = rows_with_ids_in t }
 

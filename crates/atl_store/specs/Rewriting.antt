@@ -20,7 +20,7 @@ use Rattle.atl_store.specs.Shown.{CampaignRowValue, campaign_row}
 use Rattle.atl_store.specs.Rows.{RowsOf, HasRowsOf, BooksRowsOf, MarketRowsOf, rows_for}
 use Rattle.atl_store.specs.Changing.{begins, accounts, of_kind, of_stock, begins_marked, goods_marked, stocks_marked, amount_marked, is_marked, rows_after_rewrite, own_after}
 
--- the table's rows with a chosen key are those that are wanted, its other rows are as they were, and so is every other table
+-- the table's rows with a chosen key become those that are wanted; its other rows and all other tables are as they were
 abbrev pub Rewrites : Table → (Row → Bool) → Set → Database → Database → Type 0
 Rewrites table is_chosen Wanted old new = Alters table (rows_after_rewrite is_chosen Wanted (Has (rows_in table old.trees))) old new
 
@@ -34,7 +34,7 @@ is_number n k = eq_by_cmp nat_cmp k n
 abbrev pub is_among : List ℕ → ℕ → Bool
 is_among ns k = list_any (eq_by_cmp nat_cmp k) ns
 
--- whether a row of `books` is of a marked amount, and its entry (by its index) and its thing are as asked
+-- whether a row of `books` is of a marked amount, and `entries` holds of its entry's index and `things` of its thing
 abbrev pub of_amounts : FinSet nat_cmp → (ℕ → Bool) → (ℕ → Bool) → Row → Bool
 of_amounts marks entries things r = accounts (λ entry thing. entries entry && (things thing && contains marks (entry_count * thing + entry))) r
 
@@ -46,7 +46,8 @@ is_thing owner thing n t = is_number owner n && is_number thing t
 abbrev pub is_of : {V : Type 0} → (owner : ℕ) → FinMap nat_cmp V → ℕ → ℕ → Bool
 is_of owner things n t = is_number owner n && is_some (get things t)
 
--- A test of rows by two of their numbers finds by one of two what it finds by either, and nothing by none.
+-- `finds` tests rows by two of their numbers: by "`f` or `g`" it finds what it finds by `f` and what it finds by `g`.
+-- By a test that is always false it finds nothing.
 pub record FindsByNumbers (finds : (ℕ → ℕ → Bool) → Row → Bool) : Type 0 where
   pub either : (f g : ℕ → ℕ → Bool) (r : Row) → finds (λ n t. f n t || g n t) r ≡ (finds f r || finds g r)
   pub none : (r : Row) → finds (λ n t. false) r ≡ false
@@ -67,15 +68,15 @@ RewritesGroup table Wanted n old new = Rewrites table (begins (is_number n)) Wan
 abbrev pub RewritesGroups : Table → Set → FinSet nat_cmp → Database → Database → Type 0
 RewritesGroups table Wanted marks old new = Rewrites table (begins_marked marks) Wanted old new
 
--- the rows of the stocks of these regions and items
+-- the rows of `market` of the regions and items that `stocks` chooses become the campaign's
 abbrev pub RewritesStock : CampaignValue → (ℕ → ℕ → Bool) → Database → Database → Type 0
 RewritesStock c stocks old new = Rewrites market_table (of_stock stocks) (MarketRowsOf c.regions) old new
 
--- the rows of all stocks that are marked
+-- all marked rows of `market` become the campaign's
 abbrev pub RewritesStocks : MarkedCampaign → Database → Database → Type 0
 RewritesStocks c old new = Rewrites market_table (stocks_marked c.marks) (MarketRowsOf c.value.regions) old new
 
--- the rows of `has` of this kind, and of the units and things that are asked for, become the campaign's
+-- the rows of `has` of this kind, and of the units and things that `things` chooses, become the campaign's
 abbrev pub RewritesThings : CampaignValue → ThingKind → (ℕ → ℕ → Bool) → Database → Database → Type 0
 RewritesThings c sort things old new = Rewrites has_table (of_kind sort things) (HasRowsOf c.units) old new
 
@@ -96,7 +97,7 @@ RewritesAmounts c entries things old new = Rewrites books_table (of_amounts c.ma
 abbrev pub RewritesBooks : MarkedCampaign → Database → Database → Type 0
 RewritesBooks c old new = Rewrites books_table (amount_marked c.marks.books) (BooksRowsOf c.value.books) old new
 
--- the campaign row says what the campaign says if it is marked, else what it said before; it keeps its world text
+-- If the campaign row is marked it becomes the campaign's, else it says what it said before; its world text stays.
 -- Every other table is as it was.
 abbrev pub RewritesCampaignRow : MarkedCampaign → Database → Database → Type 0
 RewritesCampaignRow c old new = (before : CampaignRowValue) (text : List ℕ) → Is (rows_in campaign_table old.trees) (λ r. r ≡ campaign_row before text) → Alters campaign_table (λ r. r ≡ own_after c before text) old new

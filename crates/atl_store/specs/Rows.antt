@@ -1,4 +1,4 @@
--- The rows of a world text and a campaign: the set of rows of each table, computed from the whole campaign. See docs/FORMATS.md, "Tables".
+-- The set of rows of each table, computed from a world text and a whole campaign. See docs/FORMATS.md, "Tables".
 use Rattle.std.specs.Prelude.{◌≡◌, ◌≢◌, ◌+◌, ℕ, pos, List, map, Option, Some}
 use Rattle.std.specs.Ordering.{nat_cmp}
 use Rattle.std.specs.FinMap.{FinMap, get}

@@ -1,4 +1,4 @@
--- The rows of each table as SQL shows them, written and read, with the forms of their columns. See docs/FORMATS.md, "Tables".
+-- The rows of each table as SQL shows them, and the forms of the columns. See docs/FORMATS.md, "Tables".
 use Rattle.std.specs.Prelude.{ℕ, ℤ, pos, Bool, if◌then◌else◌, List, [], ◌∷◌, ◌++◌, string_bytes}
 use Rattle.sqlite.specs.declared.types.Value.{Value}
 use Rattle.sqlite.specs.declared.types.Value.TheVariants.{Int, Text, Blob}
@@ -102,7 +102,7 @@ market_row region item stock = int region ∷ int item ∷ int stock ∷ []
 abbrev pub campaign_row_stored : StoredCampaignRow → Row
 campaign_row_stored s = Int s.id ∷ Int s.format ∷ Int s.month ∷ Int s.next_faction ∷ Int s.next_unit ∷ Int s.next_structure ∷ Text s.pass ∷ []
 
--- the forms of its columns
+-- the forms of the columns of `campaign`, without the world text
 abbrev pub campaign_row_forms : List Form
 campaign_row_forms = Number ∷ Number ∷ Number ∷ Number ∷ Number ∷ Number ∷ TextBytes ∷ []
 
@@ -110,7 +110,7 @@ campaign_row_forms = Number ∷ Number ∷ Number ∷ Number ∷ Number ∷ Numb
 abbrev pub campaign_stored : StoredCampaign → Row
 campaign_stored s = campaign_row_stored s.head ++ Text (string_bytes s.world) ∷ []
 
--- the forms of its columns
+-- the forms of the columns of `campaign`, with the world text
 abbrev pub campaign_forms : List Form
 campaign_forms = campaign_row_forms ++ Utf8Text ∷ []
 

@@ -1,4 +1,5 @@
--- The texts of the statements, made of the names of a table and of its columns. A number `key` says how many columns, the first ones, are the key.
+-- The texts of the statements, made of the names of a table and of its columns.
+-- A number `key` says how many columns, the first ones, are the key.
 use Rattle.std.specs.Prelude.{◌+◌, ◌++◌, ℕ, List, [], ◌∷◌, codes, drop, length, map, take}
 use Rattle.std.specs.List.{range_with_len}
 use Rattle.sqlite.specs.Table.{Table}
@@ -17,7 +18,7 @@ separated between (x ∷ y ∷ more) = x ++ between ++ separated between (y ∷ 
 abbrev pub comma_list : List (List ℕ) → List ℕ
 comma_list = separated (codes ", ")
 
--- the parameter with this number, from 1 to 9, such as `?1`
+-- the text of the parameter with this number, from 1 to 9, such as `?1`
 abbrev pub parameter : ℕ → List ℕ
 parameter n = codes "?" ++ (48 + n) ∷ []
 
@@ -32,7 +33,7 @@ upsert t key =
     codes "INSERT INTO " ++ t.name ++ codes " (" ++ comma_list (column_names t) ++ codes ") VALUES (" ++ comma_list (map parameter (range_with_len 1 (length t.columns)))
     ++ codes ") ON CONFLICT (" ++ comma_list (take key (column_names t)) ++ codes ") DO UPDATE SET " ++ comma_list (equations (key + 1) (drop key (column_names t)))
 
--- deletes the rows with a key
+-- deletes the rows whose key, the first `key` columns, is given by the parameters
 abbrev pub deletion : Table → ℕ → List ℕ
 deletion t key = codes "DELETE FROM " ++ t.name ++ codes " WHERE " ++ separated (codes " AND ") (equations 1 (take key (column_names t)))
 
@@ -44,7 +45,7 @@ selection_of names t key = codes "SELECT " ++ comma_list names ++ codes " FROM "
 abbrev pub selection : Table → ℕ → List ℕ
 selection t key = selection_of (column_names t) t key
 
--- the same, and each row's rowid as a last column
+-- shows all columns of all rows of a table, and each row's rowid as a last column, in the order of the key
 abbrev pub selection_with_ids : Table → ℕ → List ℕ
 selection_with_ids t key = selection_of (column_names t ++ codes "rowid" ∷ []) t key
 

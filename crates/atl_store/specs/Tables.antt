@@ -1,4 +1,4 @@
--- The tables of a campaign: columns, keys, checks, the texts that make them, and their schema. See docs/FORMATS.md, "Tables".
+-- The tables of a campaign: columns, keys, checks, CREATE TABLE texts, and schema. See docs/FORMATS.md, "Tables".
 use Rattle.std.specs.Prelude.{◌≡◌, false, [], ◌∷◌, ◌++◌, Some, None, codes, pos, take, map, length, List, ℕ, ⊤}
 use Rattle.std.specs.List.{AllByRecursion}
 use Rattle.sqlite.specs.declared.types.Value.TheVariants.{Int}
@@ -28,7 +28,7 @@ number name = field name Integer
 abbrev pub text : List ℕ → Column
 text name = field name Text
 
--- ---- the unique key of a table, besides the row's number, by the indexes of its columns in a stored row (0 is the rowid)
+-- ---- the unique key of a table, besides the row's number, by its columns' indexes in a stored row (0 is the rowid)
 
 -- a faction's joined_as
 abbrev pub faction_unique : List ℕ
@@ -54,14 +54,17 @@ campaign_table = table 0 (codes "campaign")
     (number (codes "id") ∷ number (codes "format") ∷ number (codes "month") ∷ number (codes "next_faction") ∷ number (codes "next_unit") ∷ number (codes "next_structure") ∷ text (codes "pass") ∷ text (codes "world") ∷ [])
     (Some 0) (0 ∷ []) [] (op2 (Compare Eq Binary) (col 1 0) (lit (Int (pos 1))) ∷ [])
 
+-- a row for each faction, gone or not; `joined_as` is unique
 abbrev pub faction_table : Table
 faction_table = table 1 (codes "faction")
     (number (codes "number") ∷ text (codes "joined_as") ∷ text (codes "name") ∷ text (codes "pass") ∷ number (codes "gone") ∷ [])
     (Some 0) (0 ∷ []) (faction_unique ∷ []) []
 
+-- a row for each region
 abbrev pub region_table : Table
 region_table = table 3 (codes "region") (number (codes "number") ∷ number (codes "peasants") ∷ number (codes "money") ∷ []) (Some 0) (0 ∷ []) [] []
 
+-- a row for each unit
 abbrev pub unit_table : Table
 unit_table = table 4 (codes "unit")
     (number (codes "number") ∷ number (codes "faction") ∷ text (codes "name") ∷ number (codes "region") ∷ number (codes "structure") ∷ number (codes "men") ∷ number (codes "money") ∷ number (codes "guard") ∷ [])
@@ -71,6 +74,7 @@ unit_table = table 4 (codes "unit")
 abbrev pub has_table : Table
 has_table = table 5 (codes "has") (number (codes "unit") ∷ number (codes "sort") ∷ number (codes "thing") ∷ number (codes "amount") ∷ []) None has_unique (has_unique ∷ []) []
 
+-- a row for each structure
 abbrev pub structure_table : Table
 structure_table = table 7 (codes "structure")
     (number (codes "number") ∷ number (codes "kind") ∷ text (codes "name") ∷ number (codes "region") ∷ number (codes "done") ∷ number (codes "owner") ∷ [])
@@ -80,6 +84,7 @@ structure_table = table 7 (codes "structure")
 abbrev pub mail_table : Table
 mail_table = table 8 (codes "mail") (number (codes "faction") ∷ field (codes "text") Blob ∷ []) (Some 0) (0 ∷ []) [] []
 
+-- a row for each faction that has a report
 abbrev pub report_table : Table
 report_table = table 9 (codes "report") (number (codes "faction") ∷ text (codes "text") ∷ []) (Some 0) (0 ∷ []) [] []
 
@@ -144,7 +149,7 @@ IsGroupedPart Goods = ⊤
 IsGroupedPart Markets = ⊤
 IsGroupedPart part = ⊥
 
--- each row of the part has a number of its own as its key; the campaign row, which is always 1, isn't counted among these
+-- each row of the part has a number of its own as its key; the campaign row, whose id is always 1, doesn't count
 abbrev pub IsNumberedPart : Part → Type 0
 IsNumberedPart Own = ⊥
 IsNumberedPart Goods = ⊥
@@ -172,7 +177,8 @@ first_tables tables indexes = record { tables = take tables all_tables; indexes 
 abbrev pub no_tables : Schema
 no_tables = first_tables 0 0
 
--- the schema of the first `count` tables, then the other `tables`, and of the first `keys` indexes, then the other `indexes`, without a view
+-- The schema of the first `count` of the ten tables and the first `keys` of their indexes, without a view.
+-- After these tables come the other `tables`, after these indexes the other `indexes`.
 abbrev pub first_and : ℕ → ℕ → List Table → List Index → Schema
 first_and count keys tables indexes = record { tables = take count all_tables ++ tables; indexes = take keys all_indexes ++ indexes; views = [] }
 
@@ -186,14 +192,15 @@ pub record AreTables (count : ℕ) (all : List Table) : Type 0 where
   pub is : all ≡ take count all_tables ++ others
   pub free : AllByRecursion (λ t. t.references ≡ []) others
 
--- The list `all` is the first `keys` indexes and then others, of which none makes anything unique in the first `count` tables.
+-- The list `all` is the first `keys` indexes and then others.
+-- None of the others makes anything unique in the first `count` tables.
 pub record AreIndexes (count keys : ℕ) (all : List Index) : Type 0 where
   pub others : List Index
   pub is : all ≡ take keys all_indexes ++ others
   pub plain : AllByRecursion (IsHarmless count) others
 
 -- The schema begins with the first `count` tables and the first `keys` indexes; and there is no view.
--- None of its other tables has a foreign key, and none of its other indexes makes anything unique in those first tables.
+-- No other table has a foreign key, and no other index makes anything unique in the first `count` tables.
 pub record Begins (count keys : ℕ) (schema : Schema) : Type 0 where
   pub tables : List Table
   pub indexes : List Index
@@ -242,7 +249,7 @@ HasAll = Begins table_count index_count
 abbrev pub all_trees : List ℕ
 all_trees = map (λ t. t.tree) all_tables
 
--- The trees list the schema and obey it (`IsSound`), and in each of the ten tables the rowids are integers, no two alike.
+-- The trees list the schema and obey it (`IsSound`). In each of the ten tables the rowids are integers, no two alike.
 pub record IsSoundDatabase (schema : Schema) (db : Trees) : Type 0 where
   pub keyed : (table : Table) → Has all_tables table → IsKeyed (db table.tree)
   pub listed : IsSound schema db

@@ -1,4 +1,4 @@
--- What the transaction of an upgrade does (for proofs and private functions), and which schema is of the first format (for all).
+-- Which schema is of the first format; and, for proofs and private functions, what the transaction of an upgrade does.
 use Rattle.std.specs.Prelude.{◌≡◌, [], List, ℕ, map}
 use Rattle.sqlite.specs.Effect.{Database}
 use Rattle.sqlite.specs.Schema.{Schema}
@@ -30,10 +30,10 @@ pub record AddsMarkets (old new : Database) : Type 0 where
   pub empty : new.trees market_table.tree ≡ []
   pub others : (table : Table) → Has (map table_of (parts_in First)) table → new.trees table.tree ≡ old.trees table.tree
 
--- if the campaign row was that of the first format, with any world text, it becomes that of the second format with this text
+-- If the campaign row was that of the first format, with any world text, it becomes that of the second with this text.
 abbrev pub UpgradesCampaignRow : CampaignRowValue → List ℕ → Database → Database → Type 0
 UpgradesCampaignRow head text old new = (before : List ℕ) → Is (rows_in campaign_table old.trees) (λ r. r ≡ campaign_row_in First head before) → Puts campaign_table 1 (campaign_row head text) old new
 
--- if the tables held the campaign in the first format and nothing is in stock, they hold it in the second with this text
+-- If the tables held a campaign without stocks in the first format, they hold it in the second, with this text.
 abbrev pub WritesUpgrade : List ℕ → CampaignValue → Database → Database → Type 0
 WritesUpgrade text c old new = (before : List ℕ) → HoldsIn First old.trees before c → HasNoStocks c → Holds new.trees text c

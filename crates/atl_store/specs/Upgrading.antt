@@ -31,7 +31,8 @@ pub record HoldsOld (s : State) (w : WorldValue) (c : CampaignValue) : Type 0 wh
   pub rows : HoldsIn First s.now.trees text c
   pub good : IsGood w c
 
--- the new text is of the world `w`, and the tables hold the campaign in the first format with a text of `w` without markets
+-- The new text is of the world `w`, and the tables hold the campaign in the first format.
+-- Their text is of `w` without markets (`HoldsOld`).
 pub record Matches (s : State) (text : List ℕ) (w : WorldValue) (c : CampaignValue) : Type 0 where
   pub world : world_of text ≡ Ok w
   pub was : HoldsOld s (without_markets w) c
@@ -41,8 +42,8 @@ abbrev pub MayUpgrade : State → List ℕ → State → Type 0
 MayUpgrade old text new = (db : Trees) → new.may_leave db → old.may_leave db ⊎ ((w : WorldValue) × (c : CampaignValue) × Matches old text w c × Stores db text c)
 
 module _ {S : Type 0} (g : Ghosts S) (text : List ℕ) (old new : Held S) where
-  -- With Ok, on a clean disk, the connection keeps the campaign that the tables held in the first format, with the new text.
-  -- It is in no transaction; the campaign is good, nothing is in stock, and nothing is marked.
+  -- If the disk is clean, Ok of `upgrade` says: the connection keeps the first format's campaign, with the new text.
+  -- The connection is in no transaction; the campaign is good, nothing is in stock, and nothing is marked.
   pub record Upgrades (w : WorldValue) (c : MarkedCampaign) : Type 0 where
     pub world : world_of text ≡ Ok w
     pub was : HasCleanDisk (state g new) → HoldsOld (state g old) (without_markets w) c.value
@@ -64,7 +65,7 @@ module _ {S : Type 0} (g : Ghosts S) (text : List ℕ) (old new : Held S) where
     pub memory_is : is_memory error ≡ memory
     pub given : Gives g (OfUpgrade text campaign) error before new
 
-  -- everything matches, but there are more tables or indexes than those of the first format
+  -- the campaign matches the new text (`Matches`), but there are more tables or indexes than those of the first format
   pub record HasMore : Type 0 where
     pub world : WorldValue
     pub campaign : CampaignValue
@@ -101,8 +102,10 @@ module _ {S : Type 0} (g : Ghosts S) (text : List ℕ) (old new : Held S) where
   FailsInTransaction Memory = BreaksOffUpgrade true
   FailsInTransaction fault = ⊥
 
-  -- If the disk is clean, a check failed and nothing is changed, or the transaction broke off.
-  -- While the connection is open its tables are as they were; a crash leaves what it could before, or the upgraded campaign.
+  -- What a refused upgrade leaves, if the disk is clean.
+  -- A check failed and nothing is changed, or the transaction broke off.
+  -- While the connection is open its tables are as they were.
+  -- A crash leaves what it could have left before, or the upgraded campaign.
   pub record RefusesToUpgrade (fault : UpgradeFault) : Type 0 where
     pub cause : HasCleanDisk (state g new) → (FailsCheck fault × LeavesAlone g old new) ⊎ FailsInTransaction fault
     pub spares : HasCleanDisk (state g new) → ChangesNothing (state g old) (state g new)
@@ -110,7 +113,7 @@ module _ {S : Type 0} (g : Ghosts S) (text : List ℕ) (old new : Held S) where
 
 -- ---- For proofs and for private functions.
 
--- the campaign is loaded in the first format, and the new text is of a world that differs from its world in markets alone
+-- the campaign is loaded in the first format, and the new text's world differs from the campaign's in markets alone
 pub record IsReadyToUpgrade {S : Type 0} (g : Ghosts S) (text : List ℕ) (old mid : Held S) (w : WorldValue) (c : MarkedCampaign) : Type 0 where
   pub world : world_of text ≡ Ok w
   pub before : WorldValue

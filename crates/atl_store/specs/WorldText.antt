@@ -15,7 +15,7 @@ text_of (Int n) = []
 text_of (Real x) = []
 text_of (Blob b) = []
 
--- the eighth column, which is the world text, of the first row
+-- the world text in rows of `campaign`: the eighth column of the first row
 abbrev pub world_in : List Row → List ℕ
 world_in [] = []
 world_in (r ∷ rows) = text_of (column r 7)

@@ -12,12 +12,12 @@ use sqlite::{Alter, Error, Transaction};
 pub(crate) trait AmountWriter: Copy {
     ghost table: { Table };
 
-    // How many columns the table's key has, and the row of an amount of a thing.
+    // How many columns the table's key has; then the row of an amount of a thing.
     ghost key: { ℕ };
 
     ghost line: { Self → ℕ → ℕ → SqlRow };
 
-    /// Inserts the row of an amount of a thing, or changes the one that has its key.
+    /// Inserts the row of an amount of a thing, or changes the row with the same key.
     fn put<S: Alter>(
         self,
         tx: &mut Transaction<'_, S>,
@@ -28,7 +28,7 @@ pub(crate) trait AmountWriter: Copy {
             tx.new.conn };
 }
 
-/// Puts the row of an amount, if it is not 0.
+/// Puts the row of an owner's amount of a thing, if the amount is not 0.
 fn put_some<O: AmountWriter, S: Alter>(
     tx: &mut Transaction<'_, S>,
     owner: O,

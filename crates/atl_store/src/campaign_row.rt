@@ -15,7 +15,7 @@ use crate::rows::campaign::{CampaignRow, put_campaign, put_upgraded};
 use atl_state::Campaign;
 use sqlite::{Alter, Error, Transaction};
 
-/// The content of the campaign row, of a campaign.
+/// The content of the campaign row for a campaign, without the world text.
 fn own_row(campaign: &Campaign) -> CampaignRow<'_>
     ensures { head_shown result ≡ campaign_row_of campaign.now.value }
 {

@@ -43,11 +43,11 @@ fn write_marked<S: Alter>(conn: &mut Connection<S>, campaign: &Campaign) -> Resu
 }
 
 /// Writes what is marked of a campaign, in one transaction, into a store that holds the rest of it.
-/// Whatever the store has under marked keys, rows of what is there are put, those of what is gone
+/// Whatever the store has under marked keys, the campaign's rows are put, the rows that it lacks
 /// are deleted, and no other row is touched. With Ok the store holds the campaign, and nothing of
-/// it is marked. Memory where the database says that it has none, Store where it gives another
-/// error; then the tables are as before while the connection is open, a crash leaves them so or
-/// with the campaign, and the marks stay. See docs/FORMATS.md, "Tables".
+/// it is marked. Memory: the database says that it has none. Store: it gives another error. After
+/// both the tables are as before while the connection is open, a crash leaves them so or with the
+/// campaign, and the marks stay. See docs/FORMATS.md, "Tables".
 pub fn write_changes<S: Alter>(
     conn: &mut Connection<S>,
     campaign: &mut Campaign,

@@ -9,7 +9,8 @@ use sqlite_trees::error::StoreError;
 use std::alloc::{AllocError, AllocFailed};
 use std::fmt;
 
-/// Why nothing was written. While the connection is open the tables are as they were; a crash leaves them so, or written.
+/// Why nothing was written. While the connection is open the tables are as they were; a crash
+/// leaves them so, or written.
 #[derive(Drop, Clone, Copy, Debug, PartialEq, Eq)]
 pub enum WriteFault {
     /// The database refuses for another cause than memory.
@@ -18,13 +19,14 @@ pub enum WriteFault {
     Memory,
 }
 
-/// Why no campaign was created. While the connection is open the tables are as they were; a crash leaves them so, or, but
-/// after NotEmpty, with the campaign.
+/// Why no campaign was created. While the connection is open the tables are as they were. A crash
+/// leaves them so or, except after NotEmpty, with the campaign.
 #[derive(Drop, Clone, Copy, Debug, PartialEq, Eq)]
 pub enum CreateFault {
     /// A table `campaign` is there already. Nothing at all is changed.
     NotEmpty,
-    /// The database refuses for another cause than memory, has other tables, or is in a transaction.
+    /// The database refuses for another cause than memory, has other tables, or is in a
+    /// transaction.
     Store,
     /// There is no memory for it.
     Memory,
@@ -39,15 +41,16 @@ pub enum ReadFault {
     Refused,
     /// There is no memory for them.
     Memory,
-    /// A value is of another type than its column, or is a text that is not UTF-8 where it has to be.
+    /// A value is of another type than its column, or is a text that is not UTF-8 where it has
+    /// to be.
     OtherType,
 }
 
 /// Why no campaign is loaded, or no database is opened again. Nothing is changed.
 #[derive(Drop, Clone, Copy, Debug, PartialEq, Eq)]
 pub enum StoreFault {
-    /// The database refuses for another cause than memory, is in a transaction, or has tables that are not made as those of a
-    /// campaign.
+    /// The database refuses for another cause than memory, is in a transaction, or has tables that
+    /// are not made as those of a campaign.
     Store,
     /// The rows of the tables break this rule, and none before it.
     Damaged(Rule),
@@ -62,8 +65,8 @@ pub enum StoreFault {
 /// Why no campaign of a format is loaded. Nothing is changed.
 #[derive(Drop, Clone, Copy, Debug, PartialEq, Eq)]
 pub enum LoadFault {
-    /// The database refuses for another cause than memory, is in a transaction, or has tables that are not made as those of the
-    /// format.
+    /// The database refuses for another cause than memory, is in a transaction, or has tables that
+    /// are not made as those of the format.
     Store,
     /// The rows of the tables break this rule, and none before it.
     Damaged(Rule),
@@ -75,11 +78,12 @@ pub enum LoadFault {
     Memory,
 }
 
-/// Why no file is upgraded. While the connection is open the tables are as they were; a crash leaves them so, or upgraded.
-/// See docs/FORMATS.md, "Tables".
+/// Why no file is upgraded. While the connection is open the tables are as they were; a crash
+/// leaves them so, or upgraded. See docs/FORMATS.md, "Tables".
 #[derive(Drop, Debug)]
 pub enum UpgradeFault {
-    /// The database refuses for another cause than memory, is in a transaction, or has other tables than those of the first format.
+    /// The database refuses for another cause than memory, is in a transaction, or has other tables
+    /// than those of the first format.
     Store,
     /// The rows of the tables break this rule of the first format, and none before it.
     Damaged(Rule),

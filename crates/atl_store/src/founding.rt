@@ -51,7 +51,7 @@ fn write_founding<S: Alter>(
     tx.commit()
 }
 
-/// Whether there is a table `campaign`.
+/// Whether the schema has a table `campaign`.
 fn is_there(schema: &Schema) -> bool
     ensures { result ≡ has_campaign schema.now }
 {
@@ -59,7 +59,7 @@ fn is_there(schema: &Schema) -> bool
     tables.any(|table| table.name.as_slice() == b"campaign".as_slice())
 }
 
-/// Whether there is no table, index or view at all.
+/// Whether the schema has no table, index or view.
 fn is_blank(schema: &Schema) -> bool
     ensures { IsTrue result ↔ (schema.now ≡ no_tables) }
 {
@@ -77,12 +77,14 @@ fn is_ready<S: Alter>(conn: &Connection<S>) -> bool
     is_blank(conn.schema()) && conn.is_autocommit()
 }
 
-/// Makes the tables and writes the whole campaign with its world text, in one transaction. With Ok the connection
-/// holds the campaign, of which nothing is marked any more, and no table `campaign` was there. NotEmpty: a table
-/// `campaign` is there, and nothing is changed. Store: the connection is in a transaction or the database has other
-/// tables, and nothing is changed; or the database gives an error that is not lack of memory. Memory: it says that it
-/// has none. After both the tables are as they were while the connection is open, and a crash leaves what it left
-/// before or the campaign. After any fault the marks are as they were. See docs/FORMATS.md, "Tables".
+/// Makes the tables and writes the whole campaign with its world text, in one transaction. With Ok
+/// the connection holds the campaign, of which nothing is marked any more, and no table `campaign`
+/// was there. NotEmpty: a table `campaign` is there, and nothing is changed. Store: the connection
+/// is in a transaction or the database has other tables, and nothing is changed; or the database
+/// gives an error that is not lack of memory. Memory: the database says that it has none. After
+/// Store and Memory the tables are as they were while the connection is open, and a crash leaves
+/// what it left before or the campaign. After any fault the marks are as they were. See
+/// docs/FORMATS.md, "Tables".
 pub fn create<S: Alter>(
     conn: &mut Connection<S>,
     world_text: &str,

@@ -1,4 +1,4 @@
-//! Things with several rows in a table: to rewrite one, its rows are deleted and put again.
+//! Things with several rows in a table: to rewrite a thing, its rows are deleted and put again.
 ghost use Rattle.std.specs.Prelude.{◌≡◌, ℕ, suc, List, [], ◌∷◌};
 ghost use Rattle.std.specs.Ordering.{nat_cmp};
 ghost use Rattle.std.specs.FinSet.{FinSet};
@@ -43,12 +43,12 @@ pub(crate) trait Grouped: NumberedRow {
     fn marked_groups(campaign: &Campaign) -> MarkedNumbers<'_>
         ensures { Lists (marks campaign.now.marks) result };
 
-    /// Inserts its rows, or changes those that have their keys.
+    /// Inserts the thing's rows of the other table, or changes the rows with the same keys.
     fn put_rows<S: Alter>(&self, tx: &mut Transaction<'_, S>, number: u32) -> Result<(), Error>
         ensures { WritesRows S.Store (table_of part) (suc more) (lines number self.now) result
             tx.old.conn tx.new.conn };
 
-    /// Deletes all rows that have the number.
+    /// Deletes all rows of the other table whose key begins with the number.
     fn drop_rows<S: Alter>(tx: &mut Transaction<'_, S>, number: u32) -> Result<(), Error>
         ensures { TakesOut S.Store (table_of part) 1 (int number ∷ []) result tx.old.conn
             tx.new.conn };
@@ -73,7 +73,7 @@ fn rewrite_group<V: Grouped + Drop, S: Alter>(
     }
 }
 
-/// Deletes and puts the rows of all numbers whose rows are marked.
+/// Deletes the rows of all marked numbers, and puts the rows of those that have a thing.
 pub(crate) fn rewrite_marked_groups<V: Grouped + Drop, S: Alter>(
     tx: &mut Transaction<'_, S>,
     campaign: &Campaign,

@@ -15,7 +15,7 @@ use crate::rows::books::{BooksRow, drop_books, put_books};
 use atl_state::{Campaign, Entry, Thing};
 use sqlite::{Alter, Error, Transaction};
 
-/// Puts the row of an amount of the books, if it is not 0.
+/// Puts the row of an amount of the books, if the amount is not 0.
 fn put_amount<S: Alter>(
     tx: &mut Transaction<'_, S>,
     campaign: &Campaign,
@@ -61,7 +61,7 @@ pub(crate) fn settle_amount<S: Alter>(
     put_books(tx, &row)
 }
 
-/// Puts the rows of a thing's amounts under these entries that are not 0.
+/// Puts the rows of those amounts of a thing under these entries that are not 0.
 fn put_entries<S: Alter>(
     tx: &mut Transaction<'_, S>,
     campaign: &Campaign,
@@ -95,7 +95,7 @@ pub(crate) fn put_all_books<S: Alter>(
     Ok(())
 }
 
-/// If an amount of the books is marked, puts its row, or deletes it if the amount is 0.
+/// If an amount of the books is marked, puts its row, or deletes the row if the amount is 0.
 fn rewrite_amount<S: Alter>(
     tx: &mut Transaction<'_, S>,
     campaign: &Campaign,
@@ -113,7 +113,7 @@ fn rewrite_amount<S: Alter>(
     Ok(())
 }
 
-/// Puts or deletes the rows of a thing's marked amounts under these entries.
+/// Puts the rows of a thing's marked amounts under these entries, and deletes those of amounts 0.
 fn rewrite_entries<S: Alter>(
     tx: &mut Transaction<'_, S>,
     campaign: &Campaign,
@@ -131,7 +131,7 @@ fn rewrite_entries<S: Alter>(
     Ok(())
 }
 
-/// Puts or deletes the rows of all marked amounts of the books.
+/// Puts the rows of all marked amounts of the books, and deletes the rows of amounts that are 0.
 pub(crate) fn rewrite_books<S: Alter>(
     tx: &mut Transaction<'_, S>,
     campaign: &Campaign,

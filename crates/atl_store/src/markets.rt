@@ -97,7 +97,7 @@ impl Grouped for Region {
     }
 }
 
-/// The stocks of regions, each under its region and item.
+/// The single stocks that can be marked, each under its region and item.
 #[derive(Clone, Copy)]
 struct SingleStocks;
 
@@ -129,7 +129,7 @@ impl SingleAmounts for SingleStocks {
     }
 }
 
-/// Writes what is marked of stocks: all those of a region, and single ones.
+/// Writes the marked rows of `market`: first all stocks of regions, then single stocks.
 pub(crate) fn rewrite_stocks<S: Alter>(
     tx: &mut Transaction<'_, S>,
     campaign: &Campaign,

@@ -49,11 +49,11 @@ pub(crate) trait NumberedRow: Sized {
     fn marked(campaign: &Campaign) -> MarkedNumbers<'_>
         ensures { Lists (marks campaign.now.marks) result };
 
-    /// The text that deletes the row of a number.
+    /// The text of the DELETE of the row of a number.
     fn removal() -> &'static str
         ensures { result.now ≡ deletion (table_of part) 1 };
 
-    /// Inserts its row, or changes the one that has the number.
+    /// Inserts the thing's row, or changes the row that has its number.
     fn put<S: Alter>(&self, tx: &mut Transaction<'_, S>, number: u32) -> Result<(), Error>
         ensures { WritesRow S.Store (table_of part) 1 (line number self.now) result tx.old.conn
             tx.new.conn };
@@ -104,7 +104,7 @@ fn rewrite<V: NumberedRow + Drop, S: Alter>(
     }
 }
 
-/// Puts or deletes the rows of all marked numbers.
+/// Puts the rows of all marked numbers, and deletes those of numbers that have no thing.
 pub(crate) fn rewrite_marked<V: NumberedRow + Drop, S: Alter>(
     tx: &mut Transaction<'_, S>,
     campaign: &Campaign,

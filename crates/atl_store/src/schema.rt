@@ -1,4 +1,4 @@
-//! Whether the schema of a file begins with the tables of a campaign. See docs/FORMATS.md, "Tables".
+//! Tests whether a schema begins with the tables of a campaign. See docs/FORMATS.md, "Tables".
 ghost use Rattle.std.specs.Prelude.{◌≡◌, ◌≤◌, [], length, ◌↔◌, IsTrue};
 ghost use Rattle.std.specs.List.{AllByRecursion};
 ghost use Rattle.atl_store.specs.UpgradeSteps.{IsJustOld};
@@ -42,8 +42,9 @@ fn are_tables(tables: &[Table], count: usize) -> bool
     tables.len() >= count && are_first_tables(tables, count) && are_free(&tables[count..])
 }
 
-/// Whether the schema begins with the first `tables` tables and `keys` indexes of a campaign,
-/// allows what comes after them (`has_all_tables` says what), and has no view.
+/// Whether the schema begins with the first `tables` tables and `keys` indexes of a campaign and
+/// has no view. Only other tables without a foreign key, and indexes that make nothing unique in
+/// the first, may come after them.
 fn begins(schema: &Schema, tables: usize, keys: usize) -> bool
     requires tables { tables ≤ length all_tables }
     requires keys { keys ≤ length all_indexes }
@@ -58,7 +59,8 @@ fn begins(schema: &Schema, tables: usize, keys: usize) -> bool
     schema.views.is_empty()
 }
 
-/// Whether the schema begins with a format's tables; `has_all_tables` says what may follow them.
+/// Whether the schema begins with a format's tables and has no view. Only other tables without a
+/// foreign key, and indexes that make nothing unique in the first, may come after them.
 pub(crate) fn has_tables_of(schema: &Schema, format: Format) -> bool
     ensures { IsTrue result ↔ (HasTablesOf format schema.now) }
 {

@@ -15,23 +15,23 @@ use atl_state::Campaign;
 use atl_tables::{Entries, Numbered};
 use sqlite::{Alter, Error, Transaction};
 
-/// A kind of amounts, each under the number of its owner and its own: of items or days of units, of stocks of regions. Each
-/// has a row where it is not 0, and can be marked alone.
+/// Amounts of one kind, each under the numbers of an owner and a thing, such as a unit's items or a
+/// region's stocks. Each amount has a row if it is not 0, and can be marked alone.
 pub(crate) trait SingleAmounts: Copy {
     ghost table: { Table };
 
     ghost wanted: { CampaignValue → SqlRow → Type 0 };
 
-    // The rows of which this is so by the two numbers.
+    // Whether a test of owner and thing holds of a row.
     ghost finds: { Self → (ℕ → ℕ → Bool) → SqlRow → Bool };
 
     ghost marks: { Self → Marks → Things };
 
-    /// The single amounts that are marked, by owner and number, in rising order.
+    /// The single amounts that are marked, by the numbers of owner and thing, in rising order.
     fn marked_singles(self, campaign: &Campaign) -> Entries<'_, Numbered<()>>
         ensures { result ≡ entries (marks self campaign.now.marks) };
 
-    /// Puts the row of an amount, or deletes it where the amount is 0.
+    /// Puts the row of an amount of the campaign, or deletes the row if the amount is 0.
     fn rewrite_single<S: Alter>(
         self,
         tx: &mut Transaction<'_, S>,
@@ -44,7 +44,7 @@ pub(crate) trait SingleAmounts: Copy {
             (wanted campaign.now.value))) result tx.old.conn tx.new.conn };
 }
 
-/// Puts or deletes the rows of these amounts of an owner.
+/// Puts the rows of an owner's amounts, and deletes the rows of those that are 0.
 fn rewrite_under<A: SingleAmounts, S: Alter>(
     tx: &mut Transaction<'_, S>,
     campaign: &Campaign,
@@ -64,7 +64,7 @@ fn rewrite_under<A: SingleAmounts, S: Alter>(
     Ok(())
 }
 
-/// Puts or deletes the rows of the single amounts of a kind that are marked.
+/// Puts the rows of the marked single amounts of a kind, and deletes the rows of those that are 0.
 pub(crate) fn rewrite_singles<A: SingleAmounts, S: Alter>(
     tx: &mut Transaction<'_, S>,
     campaign: &Campaign,

@@ -1,4 +1,4 @@
-//! Makes the tables of a campaign, and knows them again in a schema. See docs/FORMATS.md, "Tables".
+//! Makes the tables of a campaign, and tests a schema for them. See docs/FORMATS.md, "Tables".
 ghost use Rattle.std.specs.Prelude.{◌≡◌, ◌≤◌, [], length, map, slice_get, take, ◌↔◌, IsTrue};
 ghost use Rattle.atl_store.specs.Tables.{Markets, all_parts, all_tables, campaign_table, creation_of, faction_table};
 ghost use Rattle.atl_store.specs.OwnStatements.{Only, Creations};
@@ -44,6 +44,7 @@ const CAMPAIGN: TableDefinition = TableDefinition {
     ),
 };
 
+/// The factions: a row for each faction, gone or not.
 pub(crate) const FACTION: TableDefinition = TableDefinition {
     text: "CREATE TABLE faction (number INTEGER NOT NULL PRIMARY KEY, joined_as TEXT NOT NULL UNIQUE, name TEXT NOT NULL, pass TEXT NOT NULL, gone INTEGER NOT NULL) STRICT",
     tree: 1,
@@ -54,9 +55,10 @@ pub(crate) const FACTION: TableDefinition = TableDefinition {
 /// The unique key of `faction`: `joined_as`.
 pub(crate) const FACTION_UNIQUE: [usize; 1] = [2];
 
-/// The tree of that key's index.
+/// The tree of the index of the unique key of `faction`.
 pub(crate) const FACTION_INDEX: u32 = 2;
 
+/// The regions: a row for each region.
 const REGION: TableDefinition = TableDefinition {
     text: "CREATE TABLE region (number INTEGER NOT NULL PRIMARY KEY, peasants INTEGER NOT NULL, money INTEGER NOT NULL) STRICT",
     tree: 3,
@@ -64,6 +66,7 @@ const REGION: TableDefinition = TableDefinition {
     columns: columns!(Integer: b"number" b"peasants" b"money"),
 };
 
+/// The units: a row for each unit.
 const UNIT: TableDefinition = TableDefinition {
     text: "CREATE TABLE unit (number INTEGER NOT NULL PRIMARY KEY, faction INTEGER NOT NULL, name TEXT NOT NULL, region INTEGER NOT NULL, structure INTEGER NOT NULL, men INTEGER NOT NULL, money INTEGER NOT NULL, guard INTEGER NOT NULL) STRICT",
     tree: 4,
@@ -84,9 +87,10 @@ pub(crate) const HAS: TableDefinition = TableDefinition {
 /// The unique key of `has`: `unit`, `sort` and `thing`.
 pub(crate) const HAS_UNIQUE: [usize; 3] = [1, 2, 3];
 
-/// The tree of that key's index.
+/// The tree of the index of the unique key of `has`.
 pub(crate) const HAS_INDEX: u32 = 6;
 
+/// The structures: a row for each structure.
 const STRUCTURE: TableDefinition = TableDefinition {
     text: "CREATE TABLE structure (number INTEGER NOT NULL PRIMARY KEY, kind INTEGER NOT NULL, name TEXT NOT NULL, region INTEGER NOT NULL, done INTEGER NOT NULL, owner INTEGER NOT NULL) STRICT",
     tree: 7,
@@ -94,6 +98,7 @@ const STRUCTURE: TableDefinition = TableDefinition {
     columns: columns!(Integer: b"number" b"kind"; Text: b"name"; Integer: b"region" b"done" b"owner"),
 };
 
+/// The mailings: a row for each faction that sent one.
 const MAIL: TableDefinition = TableDefinition {
     text: "CREATE TABLE mail (faction INTEGER NOT NULL PRIMARY KEY, text BLOB NOT NULL) STRICT",
     tree: 8,
@@ -101,6 +106,7 @@ const MAIL: TableDefinition = TableDefinition {
     columns: columns!(Integer: b"faction"; Blob: b"text"),
 };
 
+/// The last reports: a row for each faction that has one.
 const REPORT: TableDefinition = TableDefinition {
     text: "CREATE TABLE report (faction INTEGER NOT NULL PRIMARY KEY, text TEXT NOT NULL) STRICT",
     tree: 9,
@@ -119,7 +125,7 @@ pub(crate) const BOOKS: TableDefinition = TableDefinition {
 /// The unique key of `books`: `entry` and `thing`.
 pub(crate) const BOOKS_UNIQUE: [usize; 2] = [1, 2];
 
-/// The tree of that key's index.
+/// The tree of the index of the unique key of `books`.
 pub(crate) const BOOKS_INDEX: u32 = 11;
 
 /// The stocks of markets, a table that the first format doesn't have.
@@ -133,7 +139,7 @@ pub(crate) const MARKET: TableDefinition = TableDefinition {
 /// The unique key of `market`: `region` and `item`.
 pub(crate) const MARKET_UNIQUE: [usize; 2] = [1, 2];
 
-/// The tree of that key's index.
+/// The tree of the index of the unique key of `market`.
 pub(crate) const MARKET_INDEX: u32 = 13;
 
 /// The ten tables, in the order in which they are made.
@@ -175,7 +181,7 @@ fn is_faction(found: &Table) -> bool
         && found.checks.roots.is_empty()
 }
 
-/// Whether this is the `place`th table of a campaign, from 0, in the order in which they are made.
+/// Whether this is the table of a campaign at index `place`, from 0, in the order of making.
 fn is_table(found: &Table, place: usize) -> bool
     ensures { IsTrue result ↔ (slice_get all_tables place ≡ Some found.now) }
 {

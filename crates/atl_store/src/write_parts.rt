@@ -59,7 +59,7 @@ pub(crate) trait WrittenPart {
             (Inside HasTables (InTurn (FillsPart campaign.now.value) parts)) result tx.old.conn
             tx.new.conn };
 
-    /// Puts the marked rows of these parts, and deletes those of what is gone.
+    /// Puts the marked rows of these parts, and deletes the marked rows that the campaign lacks.
     fn rewrite<S: Alter>(tx: &mut Transaction<'_, S>, campaign: &Campaign) -> Result<(), Error>
         requires { campaign.now.value.books.things ≤ most_things }
         ensures { Writes S.Store (OfChange campaign.now.value)

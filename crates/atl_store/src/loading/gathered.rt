@@ -105,8 +105,8 @@ impl<X: AllRows, Y: AllRows> AllRows for (X, Y) {
     }
 }
 
-/// Reads all rows of the tables `X`, and in the second format of `Y`, which the first doesn't have.
-/// The result is None if a value is of another type than its column.
+/// Reads all rows of the tables `X` and, in the second format, of `Y`, which the first lacks. The
+/// result is None if a value is of another type than its column.
 pub(crate) fn read_by<X: AllRows, Y: AllRows, S: Alter>(
     alloc: Global,
     conn: &mut Connection<S>,
@@ -170,7 +170,7 @@ fn check_apart(are_apart: bool) -> Result<(), LoadFault>
     }
 }
 
-/// These rows without their rowids; Store if two of them have the same.
+/// These rows without their rowids; Store if two rows have the same rowid.
 pub(crate) fn rows_apart<T: Drop>(
     alloc: Global,
     placed: Vec<RowWithId<T>>,

@@ -15,7 +15,7 @@ use atl_tables::{Format, Sequence};
 use sqlite::{Alter, Connection};
 use std::alloc::Global;
 
-/// The rows of factions, regions, units and what these have.
+/// The rows of factions, regions, units, and the items and skills of units.
 type People = (
     Vec<StoredFaction>,
     (

@@ -48,7 +48,7 @@ fn is_own(head: &StoredCampaignRow, format: Format) -> bool
     head.id == 1 && head.format == i64::from(format.number())
 }
 
-/// The world that a text describes in a format.
+/// The world that a world text of this format describes.
 fn world_by(alloc: Global, text: &str, format: Format) -> Result<World, WorldFault>
     ensures { Reads (λ w. w) result (world_by format text.now) }
 {
@@ -88,7 +88,8 @@ fn check_own_rows(
     Ok((own, world))
 }
 
-/// The campaign row and its world, from the rows that SQL shows of `campaign`.
+/// The campaign row and its world, from the rows that SQL shows of `campaign`; Damaged by the first
+/// rule if a value is of another type, or there isn't just one row that keeps the rule.
 fn own_of(alloc: Global, rows: &[Row], format: Format) -> Result<(StoredCampaign, World), LoadFault>
     ensures { JudgesRows format rows.now result }
 {
@@ -125,8 +126,8 @@ fn is_other(rows: &[Row], format: Format) -> bool
     rows.len() == 1 && says(&rows[0], other(format))
 }
 
-/// The campaign row and its world, from the rows that SQL shows of `campaign`; OtherFormat if they
-/// are one row of the other format.
+/// The campaign row and its world, from the rows that SQL shows of `campaign`. OtherFormat if there
+/// is just one row, and of the other format; else Damaged by the first rule if the rows break it.
 fn own_in(alloc: Global, rows: &[Row], format: Format) -> Result<(StoredCampaign, World), LoadFault>
     ensures { JudgesFormat format rows.now result }
 {
@@ -136,7 +137,8 @@ fn own_in(alloc: Global, rows: &[Row], format: Format) -> Result<(StoredCampaign
     own_of(alloc, rows, format)
 }
 
-/// Reads the campaign row and its world; its format is judged before its values are typed.
+/// Reads the campaign row and its world. Whether it is of the other format is tested before the
+/// types of its values.
 pub(crate) fn read_own<S: Alter>(
     alloc: Global,
     conn: &mut Connection<S>,

@@ -18,13 +18,13 @@ use std::alloc::Global;
 pub struct BooksRow {
     /// The number of the entry, from 1 to 16.
     pub entry: u32,
-    /// 0 for money, 1 for people, and 2 more than its number for an item.
+    /// The thing: 0 is money, 1 is people, and an item is 2 more than the world's number of it.
     pub thing: u32,
     /// Money, men or pieces of the item.
     pub amount: i64,
 }
 
-/// Inserts the row, or changes the one that has its entry and thing.
+/// Inserts a row of `books`, or changes the row with the same entry and thing.
 pub(crate) fn put_books<S: Alter>(tx: &mut Transaction<'_, S>, row: &BooksRow) -> Result<(), Error>
     ensures { WritesRow S.Store books_table 2 (books_shown row.now) result tx.old.conn tx.new.conn }
 {
@@ -35,7 +35,7 @@ pub(crate) fn put_books<S: Alter>(tx: &mut Transaction<'_, S>, row: &BooksRow) -
     )
 }
 
-/// Deletes the row of this entry and thing, where there is one.
+/// Deletes the row of this entry and thing from `books`, if there is one.
 pub(crate) fn drop_books<S: Alter>(
     tx: &mut Transaction<'_, S>,
     entry: u32,

@@ -27,11 +27,11 @@ use std::alloc::Global;
 pub struct CampaignRow<'a> {
     /// The month last closed, 0 before the first.
     pub month: u32,
-    /// The number that the next faction gets,
+    /// The number that the next faction gets.
     pub next_faction: u32,
-    /// the next unit,
+    /// The number that the next unit gets.
     pub next_unit: u32,
-    /// and the next structure.
+    /// The number that the next structure gets.
     pub next_structure: u32,
     /// The moderator's pass text.
     pub pass: &'a str,
@@ -90,7 +90,7 @@ pub(crate) fn put_upgraded<S: Alter>(
 /// A row of `campaign` as it is in the table, whoever wrote it, with its world text.
 #[derive(Debug)]
 pub struct StoredCampaign {
-    /// All of the row but the world text.
+    /// All columns of the row but the world text.
     pub head: StoredCampaignRow,
     /// The text of a world file, byte for byte as it was handed in.
     pub world: String,
@@ -103,7 +103,7 @@ impl Drop for StoredCampaign {
 }
 
 impl StoredCampaign {
-    /// The row but for its world text.
+    /// The row without its world text.
     pub(crate) fn into_campaign_row(self) -> StoredCampaignRow
         ensures { result ≡ self.head }
     {
@@ -112,7 +112,7 @@ impl StoredCampaign {
     }
 }
 
-/// Reads the columns of a row of `campaign` but its world text.
+/// Reads all columns of a row of `campaign` but the world text.
 fn head(alloc: Global, row: &Row) -> Result<StoredCampaignRow, Error>
     ensures ok { IfOk result (λ head. campaign_row_stored head ≡ first_columns 7 row.now) }
     ensures typed { IfOk result (λ _. IsTyped campaign_row_forms row.now) }
@@ -148,9 +148,8 @@ impl Stored for StoredCampaign {
 const ALL: &str =
     "SELECT id, format, month, next_faction, next_unit, next_structure, pass, world FROM campaign ORDER BY id";
 
-/// The rows of `campaign` as SQL shows them, whatever their values are.
-/// Each fault is reported as `ReadFault` says, OtherType never; whatever is answered, nothing is
-/// changed.
+/// Reads the rows of `campaign` as SQL shows them, whatever their values are. Nothing is changed.
+/// Each fault is returned as `ReadFault` says; OtherType is never returned.
 pub(crate) fn select_campaign<S: Alter>(conn: &mut Connection<S>) -> Result<Vec<Row>, ReadFault>
     requires { conn.old.in_transaction ≡ false }
     ensures { Asks S.Store (selection campaign_table 1) conn.old result conn.new }

@@ -30,7 +30,7 @@ pub(crate) fn utf8_text(row: &Row, at: usize) -> Result<String, Error>
     Ok(text)
 }
 
-/// The bytes of the text in a column, whatever they are.
+/// The bytes of the text in a column, UTF-8 or not.
 pub(crate) fn text_bytes(alloc: Global, row: &Row, at: usize) -> Result<Sequence<u8>, Error>
     ensures ok { IfOk result (λ b. column row.now at ≡ Text b) }
     ensures other { IfErr result

@@ -45,7 +45,7 @@ pub struct HasRow {
     pub amount: u32,
 }
 
-/// Inserts the row, or changes the one that has its unit, kind and thing.
+/// Inserts a row of `has`, or changes the row with the same unit, kind and thing.
 pub(crate) fn put_has<S: Alter>(tx: &mut Transaction<'_, S>, row: &HasRow) -> Result<(), Error>
     ensures { WritesRow S.Store has_table 3 (has_shown row.now) result tx.old.conn tx.new.conn }
 {
@@ -57,7 +57,7 @@ pub(crate) fn put_has<S: Alter>(tx: &mut Transaction<'_, S>, row: &HasRow) -> Re
     )
 }
 
-/// Deletes the row of this unit, kind and thing, if there is one.
+/// Deletes the row of this unit, kind and thing from `has`, if there is one.
 pub(crate) fn drop_has<S: Alter>(
     tx: &mut Transaction<'_, S>,
     unit: u32,
@@ -75,7 +75,7 @@ pub(crate) fn drop_has<S: Alter>(
     )
 }
 
-/// Deletes all rows of this unit.
+/// Deletes all rows of this unit from `has`.
 pub(crate) fn drop_goods<S: Alter>(tx: &mut Transaction<'_, S>, unit: u32) -> Result<(), Error>
     ensures { TakesOut S.Store has_table 1 (int unit ∷ []) result tx.old.conn tx.new.conn }
 {

@@ -14,7 +14,7 @@ use atl_tables::{Entries, Format, MarkedNumbers, Sequence};
 use sqlite::{Alter, Error, Row, Transaction, params};
 use std::alloc::Global;
 
-/// Inserts the mail of a faction, or replaces the one that it has.
+/// Inserts the row of a faction's mail, or replaces the one that the faction has.
 pub(crate) fn put_mail<S: Alter>(
     tx: &mut Transaction<'_, S>,
     faction: u32,

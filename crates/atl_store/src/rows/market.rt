@@ -12,7 +12,7 @@ use atl_tables::Format;
 use sqlite::{Alter, Error, Row, Transaction, params};
 use std::alloc::Global;
 
-/// Inserts the row of a stock, or changes the one that has its region and item.
+/// Inserts the row of a stock into `market`, or changes the row with the same region and item.
 pub(crate) fn put_stock<S: Alter>(
     tx: &mut Transaction<'_, S>,
     region: u32,
@@ -29,7 +29,7 @@ pub(crate) fn put_stock<S: Alter>(
     )
 }
 
-/// Deletes the row of this region and item, where there is one.
+/// Deletes the row of this region and item from `market`, if there is one.
 pub(crate) fn drop_stock<S: Alter>(
     tx: &mut Transaction<'_, S>,
     region: u32,
@@ -45,7 +45,7 @@ pub(crate) fn drop_stock<S: Alter>(
     )
 }
 
-/// Deletes all rows of this region.
+/// Deletes all rows of this region from `market`.
 pub(crate) fn drop_stocks<S: Alter>(tx: &mut Transaction<'_, S>, region: u32) -> Result<(), Error>
     ensures { TakesOut S.Store market_table 1 (int region ∷ []) result tx.old.conn tx.new.conn }
 {

@@ -39,10 +39,9 @@ pub trait HasSelect: Stored {
         ensures since { result.0 ≡ (listing_of part).since }
         ensures select { result.1.now ≡ (listing_of part).select };
 
-    /// Reads all rows of the table, in the order of its key.
-    /// Rows of `has`, `books` and `market` come with their rowids. Each fault is reported as
-    /// `ReadFault` says, OtherType also for a report or a world text that isn't UTF-8; whatever is
-    /// answered, nothing is changed.
+    /// Reads all rows of the table, in the order of its key. Nothing is changed. Rows of `has`,
+    /// `books` and `market` come with their rowids. Each fault is returned as `ReadFault` says,
+    /// OtherType also for a report or a world text that isn't UTF-8.
     final fn read<S: Alter>(alloc: Global, conn: &mut Connection<S>) -> Result<Vec<Self>, ReadFault>
         requires { conn.old.in_transaction ≡ false }
         ensures select { ReadsRows S.Store (listing_of part).select conn.old Self.forms Self.shown
@@ -84,8 +83,8 @@ pub(crate) fn parse_rows<T: Stored>(alloc: Global, rows: &[Row]) -> Result<Vec<T
     Ok(all)
 }
 
-/// The rows that a SELECT shows. It runs in a transaction of its own, which is rolled back, so that
-/// it changes nothing, whatever the schema is.
+/// The rows that a SELECT shows. The SELECT runs in a transaction of its own, which is rolled back,
+/// so that nothing is changed, whatever the schema is.
 pub(crate) fn select<S: Alter>(conn: &mut Connection<S>, sql: &str) -> Result<Vec<Row>, ReadFault>
     requires { conn.old.in_transaction ≡ false }
     ensures { Asks S.Store sql.now conn.old result conn.new }
@@ -96,7 +95,7 @@ pub(crate) fn select<S: Alter>(conn: &mut Connection<S>, sql: &str) -> Result<Ve
     Ok(rows)
 }
 
-/// Parses a row and puts it after the others; false if it can't be parsed or kept.
+/// Parses a row and adds it to the end of a list; false if it can't be parsed or kept.
 fn push_row<T: Stored>(alloc: Global, all: &mut Vec<T>, row: &Row) -> bool
     ensures { result ≡ true → AddsRow T.forms T.shown all.old.items row.now all.new.items }
 {

@@ -15,7 +15,7 @@ use sqlite_sql::ops::{BinaryOp, CompareOp};
 use sqlite_value::keys::Collation;
 use sqlite_value::value::Value;
 
-/// The indexes, among the nodes, of the two sides of an equation; None if the node is none.
+/// The indexes, among the nodes, of the two sides of an equation; None if the node is no equation.
 fn sides(node: Option<&Op>) -> Option<(usize, usize)>
     ensures equal { IfSome result
         (λ two. option_copied node.entry ≡ Some (variant.Binary (Compare Eq Binary) two.0 two.1)) }

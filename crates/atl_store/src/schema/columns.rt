@@ -18,7 +18,8 @@ fn is_field(column: &Column, name: &[u8], kind: Kind) -> bool
         && column.collation == Collation::Binary
 }
 
-/// Whether the columns are such ones, with these names and kinds, in this order.
+/// Whether the columns are STRICT and NOT NULL, without a default, and have these names and kinds
+/// in this order.
 pub(crate) fn are_fields(columns: &[Column], fields: &[(&[u8], Kind)]) -> bool
     ensures { IsTrue result ↔ (columns.now ≡ map (λ f. field f.0.now f.1) fields.now) }
 {

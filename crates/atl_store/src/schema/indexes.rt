@@ -55,7 +55,7 @@ fn is_index_of(
     is_index(found, name, tree, made.tree, columns)
 }
 
-/// Whether this is the `place`th index, from 0, of the keys that are not the row's number.
+/// Whether this is the index at `place`, from 0, of the keys that are not the row's number.
 fn is_key_index(found: &Index, place: usize) -> bool
     ensures { IsTrue result ↔ (slice_get all_indexes place ≡ Some found.now) }
 {
@@ -141,8 +141,8 @@ fn are_harmless(indexes: &[Index], count: usize) -> bool
     true
 }
 
-/// Whether these are the first `keys` indexes of a campaign, and then such as make nothing unique
-/// in the first `tables` tables.
+/// Whether these are the first `keys` indexes of a campaign, and then indexes that make nothing
+/// unique in the first `tables` tables.
 pub(crate) fn are_indexes(indexes: &[Index], tables: usize, keys: usize) -> bool
     requires tables { tables ≤ length all_tables }
     requires keys { keys ≤ length all_indexes }

@@ -1,4 +1,4 @@
-//! Compares the keys of a table: the number of its rows, or several columns.
+//! Compares the keys of a table with the wanted ones: the row's number, or several columns.
 ghost use Rattle.std.specs.Prelude.{◌≡◌, [], ◌∷◌, Some, None, ◌↔◌, IsTrue};
 ghost use Rattle.sqlite_value.specs.Keys.{plain};
 

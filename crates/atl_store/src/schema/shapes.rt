@@ -7,7 +7,7 @@ use crate::schema::keys::{has_no_unique, is_numbered, is_under, is_unique};
 use crate::tables::TableDefinition;
 use sqlite_schema::schema::{Stamps, Table};
 
-/// Whether no default reads the time.
+/// Whether no default of the table reads the time.
 fn is_unstamped(stamps: &Stamps) -> bool
     ensures { IsTrue result ↔ (stamps.now ≡ record { places = []; terms = []; formats = [] }) }
 {

@@ -41,7 +41,7 @@ read mail -> 1 "#ATLANTIS 1""##;
     play_new(&rt, rt.alloc(), script)
 }
 
-/// A table and an index that a person added stay as they are.
+/// Writes leave a table and an index that a person added as they are.
 #[test]
 fn other_tables_are_carried_along(rt: HostRuntime) -> Result<(), Fail> {
     let script = r##"create small

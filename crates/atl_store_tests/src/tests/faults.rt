@@ -9,7 +9,7 @@ use std::alloc::Global;
 use std::process::Abort;
 use std::test::Fail;
 
-/// Faults of `load`, with the number of each (Memory has none) and its text.
+/// The faults of `load`, each with its number (Memory has none) and its text.
 static OPENINGS: [(StoreFault, Option<u8>, &str); 5] = [
     (StoreFault::Store, Some(1), "Store"),
     (StoreFault::Damaged(Rule::Books), Some(2), "Damaged 11"),

@@ -41,7 +41,7 @@ pub(crate) fn keep(alloc: Global, game: &mut Game, text: String) -> Result<Strin
     done(alloc)
 }
 
-/// Whether a text is the one that was kept.
+/// Answers whether a text is the one that was kept.
 pub(crate) fn is_kept(alloc: Global, game: &Game, text: &str) -> Result<String, Fail> {
     yes_or_no(alloc, game.kept.as_str() == text)
 }
@@ -52,7 +52,7 @@ pub(crate) fn keep_campaign(alloc: Global, game: &mut Game) -> Result<String, Fa
     keep(alloc, game, rows)
 }
 
-/// Whether the rows of the campaign are those that were kept.
+/// Answers whether the rows of the campaign are those that were kept.
 pub(crate) fn is_kept_campaign(alloc: Global, game: &Game) -> Result<String, Fail> {
     let rows = rows_of(alloc, &game.campaign)?;
     is_kept(alloc, game, rows.as_str())

@@ -2,7 +2,7 @@
 use super::script::play_new;
 use std::test::Fail;
 
-/// The table of units is made anew without STRICT, with a unit whose money is a word.
+/// Reading answers OtherType if a unit's money is a word, in a table `unit` without STRICT.
 #[test]
 fn a_value_of_another_type_is_told(rt: HostRuntime) -> Result<(), Fail> {
     let script = "create small
@@ -35,7 +35,7 @@ read unit -> 1 1 "Unit 1" 1 0 1 1000 0"#;
     play_new(&rt, rt.alloc(), script)
 }
 
-/// Names are read as the bytes that they are; a report has to be UTF-8.
+/// A report that is not UTF-8 answers OtherType; a unit's name is read as its bytes, UTF-8 or not.
 #[test]
 fn a_text_that_is_no_utf_8_is_told(rt: HostRuntime) -> Result<(), Fail> {
     let script = "create small

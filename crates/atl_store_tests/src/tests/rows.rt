@@ -27,7 +27,7 @@ trait Line {
 }
 
 impl Line for StoredCampaign {
-    /// The world text is shown by its name.
+    /// The columns of the campaign row; the world text is shown by its name.
     fn line(&self, alloc: Global) -> Result<String, AllocError> {
         let head = &self.head;
         let pass = quote(alloc, head.pass.as_slice())?;

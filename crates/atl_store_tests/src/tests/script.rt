@@ -83,7 +83,7 @@ fn person_answer<S: Alter>(
     }
 }
 
-/// The answer of any step.
+/// Carries out any step of a script; the result is its answer.
 pub(crate) fn answer<S: Alter>(
     alloc: Global,
     conn: &mut Connection<S>,

@@ -10,7 +10,7 @@ use std::alloc::Global;
 use std::process::Abort;
 use std::test::Fail;
 
-/// What is left in a database, as text: the answer of a load, and the rows of all tables.
+/// The contents of a database as text: the answer of `load`, and the rows of all tables.
 fn contents_left<S: Alter>(
     alloc: Global,
     conn: &mut Connection<S>,
@@ -102,7 +102,7 @@ fn play_on_files<D: Disk + Drop>(
     }
 }
 
-/// The files as a crash leaves them.
+/// Lets both files crash; the result is the files as the crash leaves them.
 fn crash<D: Crash>(files: Files<D>) -> Files<D> {
     let Files { mut log, mut db } = files;
     log.crash();

@@ -4,7 +4,8 @@ use std::alloc::Global;
 use std::process::Abort;
 use std::test::Fail;
 
-/// The upgrade gives the same campaign as a file of the second format, and so does a load after it.
+/// The upgrade gives the campaign that a file of the second format with the same rows gives, and a
+/// load after the upgrade gives it too.
 #[test]
 fn the_campaign_is_the_old_one(rt: HostRuntime) -> Result<(), Fail> {
     let script = "create isle
@@ -55,7 +56,8 @@ type Case = (&'static str, &'static str, &'static str, &'static str);
 const LOOSE: &str =
     "DROP TABLE campaign; CREATE TABLE campaign (id INTEGER NOT NULL PRIMARY KEY CHECK (id = 1), format INTEGER NOT NULL, month INTEGER NOT NULL, next_faction INTEGER NOT NULL, next_unit INTEGER NOT NULL, next_structure INTEGER NOT NULL, pass TEXT NOT NULL, world TEXT NOT NULL); INSERT INTO campaign VALUES (1, 1, 'x', 3, 12, 2, 'gm', 'no world')";
 
-/// Old files with one thing changed, and worlds, with the answer of each check.
+/// Files of the first format with one thing changed, and worlds. The answers of `load` and
+/// `upgrade` are the faults of the first check that fails, or Done.
 static CASES: [Case; 18] = [
     ("", "small", "OldFormat", "Differs"),
     ("", "no world", "OldFormat", "World"),
@@ -132,7 +134,8 @@ fn rest_of(alloc: Global, load: &str, upgrade: &str) -> Result<String, Fail> {
     }
 }
 
-/// Asserts both answers of a case, and what comes after.
+/// Asserts a case's answers of `load` and of `upgrade`, and then that the tables are unchanged or
+/// loaded.
 fn assert_answer(rt: &impl Abort, alloc: Global, case: &Case) -> Result<(), Fail> {
     let (sql, world, load, upgrade) = *case;
     let before = format!(in alloc;

@@ -8,7 +8,7 @@ pub(crate) fn done(alloc: Global) -> Result<String, Fail> {
     Ok(String::from_str(alloc, "Done")?)
 }
 
-/// The answer `yes` or `no`.
+/// The answer `yes` if a condition holds, else `no`.
 pub(crate) fn yes_or_no(alloc: Global, is_so: bool) -> Result<String, Fail> {
     let word = if is_so { "yes" } else { "no" };
     Ok(String::from_str(alloc, word)?)

@@ -3,8 +3,9 @@
 use super::script::play_new;
 use std::test::Fail;
 
-/// Something changes in each table but those of units and what they have. The unit stays as it was changed by hand. The
-/// mail is none of the campaign's, and not marked.
+/// Only marked rows are written: after a change in each table but `unit`, `has` and `mail`, the
+/// unit keeps the name that it was given by hand. The mail, which the campaign doesn't have,
+/// stays, since it is not marked.
 #[test]
 fn marked_rows_alone_are_written(rt: HostRuntime) -> Result<(), Fail> {
     let script = "create small
@@ -31,7 +32,7 @@ SELECT count(*) FROM mail -> 1";
     play_new(&rt, rt.alloc(), script)
 }
 
-/// If a table is missing, nothing is written, and the marks stay.
+/// If a table is missing, the write answers Store, nothing is written, and the marks stay.
 #[test]
 fn nothing_is_written_in_part(rt: HostRuntime) -> Result<(), Fail> {
     let script = "create small
@@ -52,7 +53,8 @@ SELECT peasants FROM region -> 1000";
     play_new(&rt, rt.alloc(), script)
 }
 
-/// The unit learns two skills. A row of what it has, changed by hand, stays where its money alone is marked. Then it goes.
+/// A unit's row and its rows of `has` are written apart: a skill's row that was changed by hand
+/// stays if only the unit's money is marked. A unit that is removed leaves no row.
 #[test]
 fn a_unit_and_its_goods_are_written_apart(rt: HostRuntime) -> Result<(), Fail> {
     let script = "create small
@@ -78,8 +80,9 @@ SELECT count(*) FROM has -> 0";
     play_new(&rt, rt.alloc(), script)
 }
 
-/// Rows of the unit and of a skill are changed by hand; another skill and an item are marked. Then a skill is forgotten,
-/// and there is an item of the number of the other. Then the unit goes.
+/// A marked skill or item is written alone: rows of the unit and of another skill keep what was
+/// changed by hand. A skill of 0 days loses its row, and an item with the number of a skill doesn't
+/// touch the skill's row. A unit that is removed leaves no row.
 #[test]
 fn a_marked_thing_is_written_alone(rt: HostRuntime) -> Result<(), Fail> {
     let script = "create small
@@ -132,8 +135,8 @@ SELECT count(*) FROM books -> 4";
     play_new(&rt, rt.alloc(), script)
 }
 
-/// A campaign with a lent unit, which is one mark, new money and no mail is written, and loaded
-/// again unchanged.
+/// A campaign that was written is loaded again unchanged. Before the write a unit is lent, which is
+/// one mark, money is set and booked, and the mail is cleared.
 #[test]
 fn a_written_campaign_comes_back(rt: HostRuntime) -> Result<(), Fail> {
     let script = "create small
@@ -153,11 +156,10 @@ is_kept_campaign -> yes";
     play_new(&rt, rt.alloc(), script)
 }
 
-/// A unit that was lent (`unit_mut`) is written whole, and no other unit is. By hand all units get
-/// another name and a day more of each skill, and two of them another skill. Of unit 3, which is
-/// lent, all is as the campaign has it then, its name and its skills too. Ten units keep the names
-/// of the change by hand,
-/// and four of them its days: 61, 451, 91, and 751 with 30.
+/// A unit that was lent (`unit_mut`) is written whole, and no other unit is. Before the write all
+/// units get by hand another name and a day more of each skill, and two of them another skill.
+/// After it unit 3, which was lent, has the campaign's name and skills. The ten others keep the
+/// names given by hand, and four of them the days: 61, 451, 91, and 751 with 30.
 #[test]
 fn a_lent_unit_is_written_whole_and_alone(rt: HostRuntime) -> Result<(), Fail> {
     let script = "create isle
@@ -180,8 +182,9 @@ load";
     play_new(&rt, rt.alloc(), script)
 }
 
-/// All stocks are changed by hand. One is set to less, and then sold out. Another of its region, and one
-/// that is set to what it is, keep what they were changed to.
+/// Only stocks that changed are written. All rows are changed by hand; then one stock is set to
+/// less, and later to 0. Another stock of the same region, and one that is set to what it is in
+/// the campaign, keep what was set by hand.
 #[test]
 fn only_changed_stocks_are_written(rt: HostRuntime) -> Result<(), Fail> {
     let script = "create isle with markets
