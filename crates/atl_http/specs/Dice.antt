@@ -15,7 +15,7 @@ generator seed stream = started 64 multiplier_64 seed (increment_of 64 stream)
 unfoldable pub word_of : Lcg → ℕ
 word_of g = (pcg32 g).0
 
--- the generator after giving that word
+-- the generator after it has given its next word
 unfoldable pub next_generator : Lcg → Lcg
 next_generator g = (pcg32 g).1
 

@@ -53,17 +53,17 @@ pub record LeavesIdle {S : Type 0} (g : Ghosts S) (old new : Held S) : Type 0 wh
   pub later : IsLater (state g old) (state g new)
   pub others : HasCleanDisk (state g new) → LeavesOthersAlone (state g old) (state g new)
 
--- the service's fault for a fault of the store: Memory for Memory, Store for Store
+-- the service's fault for a fault of a write to the store: Memory for Memory, Store for Store
 abbrev pub of_write : WriteFault → Failure
 of_write write.Memory = fault.Memory
 of_write write.Store = fault.Store
 
--- A mailing that is not stored: `step` refuses it for this reason. Of running out of memory nothing is said.
+-- Why a mailing was not stored: `step` refuses it for this reason; or memory ran out, and then nothing more is required.
 abbrev pub Denies : WorldValue → CampaignValue → Command → MailError → Type 0
 Denies w c command (unkept.Refused why) = step w c command ≡ (c, Refused why)
 Denies w c command unkept.Memory = ⊤
 
--- the refusal for a mailing that can't be read, or Memory
+-- the error for a fault of reading a mailing: the refusal of the same name, or Memory
 abbrev pub mail_error : MailFault → MailError
 mail_error mail.TooLong = unkept.Refused why.TooLong
 mail_error mail.NoHeader = unkept.Refused why.NoHeader

@@ -6,7 +6,7 @@ use Rattle.sqlite_store.specs.declared.store.FileStore.{FileStore}
 use Rattle.sqlite_store.specs.FileStore.{files}
 
 module _ {D : Type 0} {g : disk.Ghosts D} where
-  -- A read of the file or its log gave other bytes than were written there, with the same digest under the log's key.
+  -- A read of the database file or its log gave other bytes than were written there, with the same digest under the log's key.
   abbrev pub HasCollided : (D → List ℕ) → (D → List Event) → FileStore D g → Type 0
   HasCollided start record_of store =
       let log = (files store).0 in

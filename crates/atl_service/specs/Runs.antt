@@ -16,7 +16,7 @@ use Rattle.atl_service.specs.Causes.{OfCommand, HasCause, IsFault}
 use Rattle.atl_service.specs.Step.{step, run_of}
 use Rattle.atl_service.specs.Service.{ServiceValue, text_in}
 
--- A command was carried out: campaign and answer are those of `step`, and the tables hold the new campaign.
+-- A command was carried out: campaign and answer are those of `step`, and, if the disk is clean, the tables hold the new campaign.
 pub record Accepts {S : Type 0} (g : Ghosts S) (c : CampaignValue) (old : ServiceValue S) (command : Command) (answer : Answer) (new : ServiceValue S) : Type 0 where
   pub after : CampaignValue
   pub step : step old.world c command ≡ (after, answer)
@@ -27,12 +27,13 @@ pub record Accepts {S : Type 0} (g : Ghosts S) (c : CampaignValue) (old : Servic
 abbrev pub Refuses : {S : Type 0} → CampaignValue → ServiceValue S → Command → Answer → ServiceValue S → Type 0
 Refuses c old command answer new = (step old.world c command ≡ (c, answer)) × (new ≡ old)
 
--- A fault closed the service: the tables hold the campaign before the command; a crash leaves that one or the one after `step` (`LeavesAfterFault`).
+-- A fault closed the service: if the disk is clean, the tables hold the campaign before the command (`LeavesAfterFault`);
+-- a crash leaves that campaign or the one after `step`.
 pub record Closes {S : Type 0} (g : Ghosts S) (c : CampaignValue) (old : ServiceValue S) (command : Command) (new : ServiceValue S) : Type 0 where
   pub same : new ≡ record old { conn = new.conn; campaign = None }
   pub tables : HasCleanDisk (state g new.conn) → LeavesAfterFault (state g old.conn).faults (state g new.conn) (text_in g old.conn) c (step old.world c command).0
 
--- What one command answers and leaves while the service is open with campaign `c`, by its answer.
+-- What one command may answer in a service that is open with campaign `c`, and what each answer leaves of the service.
 abbrev pub RunsOpen : {S : Type 0} → Ghosts S → CampaignValue → ServiceValue S → Command → Answer → ServiceValue S → Type 0
 RunsOpen g c old command (Joined faction unit) new = Accepts g c old command (Joined faction unit) new
 RunsOpen g c old command (Mailed orders faults) new = Accepts g c old command (Mailed orders faults) new
@@ -43,7 +44,7 @@ RunsOpen g c old command (Fault Memory) new = Closes g c old command new × HasC
 RunsOpen g c old command (Fault Store) new = Closes g c old command new × HasCause g (OfCommand old.world c command) old.conn new.conn Store
 RunsOpen g c old command (Fault Closed) new = ⊥
 
--- The same of a service that may be closed: then the answer is Closed, and nothing changes.
+-- What one command may answer and leave: an open service does what `RunsOpen` says; a closed one answers Closed, and nothing changes.
 abbrev pub RunsAt : {S : Type 0} → Ghosts S → ServiceValue S → Command → Answer → ServiceValue S → Option CampaignValue → Type 0
 RunsAt g old command answer new (Some c) = RunsOpen g c old command answer new
 RunsAt g old command answer new None = (answer ≡ Fault Closed) × (new ≡ old)
@@ -61,8 +62,9 @@ AreClosed (c ∷ cs) (a ∷ rs) = (a ≡ Fault Closed) × AreClosed cs rs
 AreClosed [] (a ∷ rs) = ⊥
 AreClosed (c ∷ cs) [] = ⊥
 
--- The answers from campaign `c` on are those of `step` up to the first fault, and Closed after it. Without a fault the tables end with the rows of the last campaign.
--- With one they stay at the campaign of the commands before it (`LeavesAfterFault`), and the fault has its cause. `faults` is how often the disk had failed before.
+-- From campaign `c` on, the answers are those of `step` up to the first fault, and Closed after it.
+-- Without a fault the tables end with the rows of the last campaign. After a fault they stay at the campaign of the commands before it
+-- (`LeavesAfterFault`), and the fault has its cause. Both need a clean disk. `faults` is how often the disk had failed before.
 abbrev pub Follows : {S : Type 0} → Ghosts S → List ℕ → ℕ → WorldValue → CampaignValue → List Command → List Answer → ServiceValue S → Type 0
 Follows g text faults w c [] [] new = (new.campaign ≡ Some c) × HoldsCampaign g new.conn text c
 Follows g text faults w c (command ∷ cs) (Joined faction unit ∷ rs) new = ((step w c command).1 ≡ Joined faction unit) × Follows g text faults w (step w c command).0 cs rs new
@@ -75,12 +77,12 @@ Follows g text faults w c (command ∷ cs) (Fault fault ∷ rs) new =
 Follows g text faults w c [] (a ∷ rs) new = ⊥
 Follows g text faults w c (command ∷ cs) [] new = ⊥
 
--- The same of a service that may be closed: then every answer is Closed, and nothing changes.
+-- What a list of commands may answer and leave: an open service does what `Follows` says; a closed one answers Closed each time, and nothing changes.
 abbrev pub FollowsAt : {S : Type 0} → Ghosts S → ServiceValue S → List Command → List Answer → ServiceValue S → Option CampaignValue → Type 0
 FollowsAt g old commands answers new (Some c) = Follows g (text_in g old.conn) (state g old.conn).faults old.world c commands answers new × (new.world ≡ old.world)
 FollowsAt g old commands answers new None = AreClosed commands answers × (new ≡ old)
 
--- Running the list from service `old` may give these answers and leave service `new`.
+-- Running the list of commands from service `old` may give these answers and leave service `new`.
 pub record RunsAll {S : Type 0} (g : Ghosts S) (old : ServiceValue S) (commands : List Command) (answers : List Answer) (new : ServiceValue S) : Type 0 where
   pub follows : FollowsAt g old commands answers new old.campaign
   pub later : IsLater (state g old.conn) (state g new.conn)
@@ -92,7 +94,7 @@ pub record Headline {S : Type 0} (g : Ghosts S) (text : List ℕ) (w : WorldValu
   pub tables : HoldsCampaign g new.conn text (run_of w c commands).0
 
 -- A command ended in a fault that has its cause: the answers before it are those of `run_of`, and all later answers are Closed.
--- The tables stay at the campaign of the commands before it (`LeavesAfterFault`).
+-- If the disk is clean, the tables stay at the campaign of the commands before the fault (`LeavesAfterFault`).
 pub record Interrupted {S : Type 0} (g : Ghosts S) (text : List ℕ) (faults : ℕ) (w : WorldValue) (c : CampaignValue) (commands : List Command) (answers : List Answer) (new : ServiceValue S) : Type 0 where
   pub count : ℕ
   pub command : Command

@@ -18,7 +18,7 @@ pub record ServiceValue (S : Type 0) : Type 0 where
   pub world : WorldValue
   pub campaign : Option CampaignValue
 
--- for proofs alone: the encoding of a service's value by its parts, which the kit asks of each type
+-- for proofs alone: the encoding of a service's value by its parts, which the kit requires of each type
 abbrev pub service_code : {S : Type 0} → Coded S → Coded (ServiceValue S)
 service_code {S} store =
     code_by (Held S × (WorldValue × Option CampaignValue)) (coded× (held_code store) (coded× world_code (coded_option campaign_code)))
