@@ -53,7 +53,8 @@ fn first_report(
     }
 }
 
-/// The answer to the report of a new faction in a campaign founded in memory by the world text.
+/// Founds a campaign in memory by the world text, joins a faction, and returns the answer to its
+/// Report.
 fn answer(alloc: Global, world_text: &str) -> Result<Answer, Failure> {
     let join = join(alloc)?;
     let report = report(alloc)?;
@@ -62,8 +63,7 @@ fn answer(alloc: Global, world_text: &str) -> Result<Answer, Failure> {
 }
 
 /// The subcommand `trial`: founds a campaign with pass `gm` by the world text on standard input,
-/// joins `Avalon` with pass `pw` and word 0, and
-/// prints the faction's report.
+/// joins `Avalon` with pass `pw` and word 0, and prints the faction's report.
 pub struct Trial;
 
 impl Subcommand for Trial {

@@ -93,7 +93,7 @@ impl Request {
     }
 }
 
-/// The verdict on the bytes received so far.
+/// The verdict on the bytes received so far: more to read, refused, or a whole request.
 #[derive(Drop)]
 pub enum Verdict {
     /// The request isn't whole: more is to be read.

@@ -59,7 +59,8 @@ fn reply_to<S: Alter>(
     }
 }
 
-/// Serves one request as `serve_one` does, and counts its reads and writes.
+/// Reads one request, runs its command and writes the reply, as `serve_one` does, and counts the
+/// reads and the interrupted writes.
 pub fn serve_counted<R: Read, W: Write, S: Alter>(
     alloc: Global,
     reader: &mut R,

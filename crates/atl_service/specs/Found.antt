@@ -20,7 +20,8 @@ use Rattle.atl_store.specs.OwnStatements.{Statements}
 use Rattle.atl_service.specs.Causes.{FoundsBy, GivesOtherError, LacksMemory}
 use Rattle.atl_service.specs.Service.{ServiceValue, text_in}
 
--- A campaign was founded: the service is open with the text's world and the founded campaign, and its tables hold both. There was no table `campaign`.
+-- A campaign was founded: the service is open with the text's world and the founded campaign, and, if the disk is clean, its tables hold both.
+-- There was no table `campaign`.
 pub record Founds {S : Type 0} (g : Ghosts S) (old : Held S) (text pass : List ℕ) (made : ServiceValue S) : Type 0 where
   pub fresh : has_campaign old.schema ≡ false
   pub world : world_of text ≡ Ok made.world
