@@ -10,11 +10,11 @@ use std::{fmt, io};
 
 /// Why the program did not do what was asked.
 pub enum Failure {
-    /// The words of the command line are bad, or ask for help.
+    /// The parser refused the command line, or the command line asks for help.
     CommandLine(clap::Error),
-    /// No subcommand of the list was asked for, though the parser of the command line asks for one.
+    /// The command line names no subcommand of the list, though its parser requires one.
     NoSubcommand,
-    /// An option has no value, though the parser of the command line asks for one.
+    /// An option has no value, though the parser of the command line requires one.
     NoValue,
     /// A file, or standard input, can't be read as text.
     File,

@@ -153,7 +153,8 @@ digits_utf8 p h = all_utf8 is_ascii_digit (λ b e. grind (arith, nat_tests)) p h
 pub ascii_utf8 : (p : List ℕ) → list_all (λ b. ltb b 128) p ≡ true → IsUtf8 p
 ascii_utf8 p h = all_utf8 (λ b. ltb b 128) (λ b e. grind (arith, nat_tests)) p h
 
--- The lookup after a prefix finds the key, and the text is UTF-8 or no number; or it finds nothing, and the text is no number.
+-- The lookup after a prefix finds the key, and the text is UTF-8 or no number; or it finds nothing, and the text is no
+-- number.
 abbrev pub NumberSays : ℕ → List ℕ → Type 0
 NumberSays key rest = ((first (number_row key) rest ≡ Some key) × ((number_of rest ≡ None) ⊎ IsUtf8 rest)) ⊎ ((first (number_row key) rest ≡ None) × (number_of rest ≡ None))
 

@@ -56,7 +56,8 @@ part_rest path n h =
     let count : length (drop n path) ≡ length path - n = length-drop n path in
     rw (one, two, ← count) (take-length (drop n path))
 
--- if a pattern's prefix has `n` bytes and its parameter is last, the walk takes the path without its first `n` bytes as `number`
+-- if a pattern's prefix has `n` bytes and its parameter is last, the walk takes the path without its first `n` bytes as
+-- `number`
 takes : (pattern text path rest : List ℕ) (start end n : ℕ) → wild_from pattern (length path) 0 0 ≡ (n, n) → (ltb n (length pattern) && (get_or pattern n 0 == param_token) && ltb (n + 1) (length pattern)) ≡ false → part_of text start end ≡ number_text → drop n path ≡ rest → n ≤ length path → walk pattern text path ((start, end) ∷ []) 0 0 ≡ (number_text, rest) ∷ []
 takes pattern text path rest start end n at last named_is rest_is h =
     rw (at, last, named_is, part_rest path n h, rest_is) refl

@@ -47,7 +47,8 @@ abbrev pub size_within : Option ℕ → Result ℕ Problem
 size_within None = Err BadRequest
 size_within (Some n) = if nat_lt most_bytes n then Err BodyTooLong else Ok n
 
--- the body length that the values of Content-Length declare: exactly one value, or no value (0) where the length is optional
+-- the body length that the values of Content-Length declare: exactly one value, or no value (0) where the length is
+-- optional
 abbrev pub declared : (optional : Bool) → List (List ℕ) → Result ℕ Problem
 declared true [] = Ok 0
 declared false [] = Err NoLength

@@ -1,4 +1,5 @@
--- For proofs alone: the values found under a field's name, and when results of the code agree with those of the definitions.
+-- For proofs alone: the values found under a field's name, and when results of the code agree with those of the
+-- definitions.
 use Rattle.std.specs.Prelude.{◌≡◌, ◌<◌, ℕ, List, [], ◌∷◌, ◌++◌, length, map, Result, Ok, Err, ⊤}
 use Rattle.httparse.specs.declared.spans.Span.{Span}
 use Rattle.httparse.specs.declared.spans.HeaderSpan.{HeaderSpan}
@@ -45,8 +46,8 @@ abbrev pub Gives : {X Y : Type 0} → (X → Y) → Result X CheckError → Resu
 Gives view (Ok x) read = read ≡ Ok (view x)
 Gives view (Err e) read = Fails e read
 
--- The progress is right for a head with these checks and the bytes `rest` after it: it has the verdict, or a count of missing bytes.
--- With fewer further bytes than this count the verdict stays More.
+-- The progress is right for a head with these checks and the bytes `rest` after it: it has the verdict, or a count of
+-- missing bytes. With fewer further bytes than this count the verdict stays More.
 abbrev pub EndsAs : Result (Route × ℕ × List ℕ) Problem → (rest : List ℕ) → Progress → Type 0
 EndsAs checks rest (Lacks count) = (0 < count) × ((more : List ℕ) → length more < count → verdict_with_body checks (rest ++ more) ≡ More)
 EndsAs checks rest (Ends outcome) = final outcome ≡ verdict_with_body checks rest

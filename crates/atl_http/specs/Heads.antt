@@ -1,4 +1,5 @@
--- `Judges`: the verdict on the bytes received so far, by their head: whole, unfinished, refused or too long. See docs/FORMATS.md, "HTTP".
+-- `Judges`: the verdict on the bytes received so far, by their head: whole, unfinished, refused or too long. See
+-- docs/FORMATS.md, "HTTP".
 use Rattle.std.specs.Prelude.{◌≡◌, ℕ, ◌≤◌, ◌<◌, ◌⊎◌, List, [], length, take, ◌++◌, ⊤}
 use Rattle.httparse.specs.Grammar.{RequestHead, print_request, ReadsRequest, NeverHasRequest, HasNoRequest, MayBecomeRequest}
 use Rattle.httparse.specs.Spans.{RequestExceeds, RequestOverflows}
@@ -76,11 +77,13 @@ verdict_by (progress.Ends outcome) = final outcome
 abbrev pub most_at_once : ℕ
 most_at_once = 8192
 
--- No read was done after the request was whole or refused: before the last read the verdict was More, or nothing was read at all.
+-- No read was done after the request was whole or refused: before the last read the verdict was More, or nothing was
+-- read at all.
 abbrev pub IsReadSoFar : List ℕ → Type 0
 IsReadSoFar seen = (seen ≡ []) ⊎ ((front : List ℕ) × (last : List ℕ) × (seen ≡ front ++ last) × (length last ≤ most_at_once) × Judges front More)
 
--- It doesn't matter in which pieces a request comes: bytes after a final verdict change nothing, and no input has two final verdicts.
+-- It doesn't matter in which pieces a request comes: bytes after a final verdict change nothing, and no input has two
+-- final verdicts.
 abbrev pub PiecesDoNotMatter : Type 0
 PiecesDoNotMatter =
     ((input more : List ℕ) (v : Verdict) → Judges input v → IsFinal v → Judges (input ++ more) v)

@@ -25,7 +25,8 @@ ReadsMore before after old new (Err ReadFault) = Keeps before after × (new ≡ 
 ReadsMore before after old new (Err WriteFault) = ⊥
 ReadsMore before after old new (Err Memory) = ⊤
 
--- The bytes `seen` were read, and no more than needed: their verdict is the outcome, or More if the input ended or a read failed.
+-- The bytes `seen` were read, and no more than needed: their verdict is the outcome, or More if the input ended or a
+-- read failed.
 abbrev pub Receives : (before after : Option (List ℕ)) → (seen : List ℕ) → Result Outcome HttpFault → Type 0
 Receives before after seen (Ok outcome) = Consumes before after seen × IsReadSoFar seen × Judges seen (final outcome)
 Receives before after seen (Err Cut) = Consumes before after seen × Judges seen More × IsAtEnd after

@@ -1,4 +1,5 @@
--- What serving connections one after another leaves of a service, whatever the peers send and take. See docs/FORMATS.md, "HTTP".
+-- What serving connections one after another leaves of a service, whatever the peers send and take. See
+-- docs/FORMATS.md, "HTTP".
 use Rattle.std.specs.Prelude.{◌≡◌, ◌≢◌, ◌≤◌, ◌<◌, ℕ, zero, suc, Result, Ok, Err}
 use Rattle.sqlite_trees.specs.declared.store.Store.{Ghosts}
 use Rattle.atl_service.specs.Service.{ServiceValue}
@@ -24,7 +25,8 @@ abbrev pub ServesInTurn : {S : Type 0} → Ghosts S → Dice → (count : ℕ) �
 ServesInTurn g dice zero old new = new ≡ old
 ServesInTurn {S} g dice (suc count) old new = (between : ServiceValue S) × ServesInTurn g dice count old between × ServesConnection g dice between (Ok tt) new
 
--- At most `count` requests are served one after another, fewer if the network fails (Net). If memory runs out for one, it is the last.
+-- At most `count` requests are served one after another, fewer if the network fails (Net). If memory runs out for one,
+-- it is the last.
 abbrev pub ServesEach : {S : Type 0} → Ghosts S → Dice → (count : ℕ) → (old : ServiceValue S) → Result (Unit {0}) ListenFault → (new : ServiceValue S) → Type 0
 ServesEach g dice count old (Ok done) new = (served : ℕ) × (served ≤ count) × ServesInTurn g dice served old new
 ServesEach g dice count old (Err Net) new = (served : ℕ) × (served < count) × ServesInTurn g dice served old new

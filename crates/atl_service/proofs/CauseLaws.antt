@@ -1,4 +1,5 @@
--- Laws on the cause of a fault: an error of the write was out of memory if the fault is Memory, and another one if it is Store.
+-- Laws on the cause of a fault: an error of the write was out of memory if the fault is Memory, and another one if it
+-- is Store.
 use Rattle.std.proofs.Common.{◌≡◌, ◌≢◌, Bool, true, false, cond, Result, Ok, Err, IfErr, refl, sym, subst, inl, inr}
 use Rattle.std.specs.Prelude.{IsErrAnd}
 use Rattle.sqlite_trees.specs.declared.store.Store.{Ghosts}

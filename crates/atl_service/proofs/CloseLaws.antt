@@ -1,4 +1,5 @@
--- Laws on closing a month: the mail is read, the reports are stored, the result is the campaign of `closed`, and the dirty set has all changes.
+-- Laws on closing a month: the mail is read, the reports are stored, the result is the campaign of `closed`, and the
+-- dirty set has all changes.
 use Rattle.std.proofs.Common.{◌≡◌, ◌≤◌, ◌<◌, ℕ, Bool, true, false, cond, List, [], ◌∷◌, ◌++◌, ◌+◌, drop, get_or, map, length, Option, Some, None, option_map, Result, Ok, Err, refl, sym, ap, ap₂, ◌∙◌, subst, arith}
 use Rattle.std.specs.Prelude.{All, OnOk, filter, fold, nat_lt, not, unwrap_or}
 use Rattle.std.proofs.lemmas.Bool.Decides.{nat_tests}
@@ -147,7 +148,8 @@ active_there before after stay = there_among (IsThere after.factions) (λ f. not
 
 -- ---- the month
 
--- storing the reports after the month's phases, with the month counted and the mail removed, gives the campaign of `closed`
+-- storing the reports after the month's phases, with the month counted and the mail removed, gives the campaign of
+-- `closed`
 pub closed_is : (w : WorldValue) (c after : CampaignValue) (events : List Event) (words : List ℕ) (faults : FinMap nat_cmp (List FaultyLine)) → (after, events) ≡ month_of w c (by_faction (readings w c)) words
     → faults ≡ mapped (λ text. faults_of (reading w text)) c.mail → fold (reported_to w (λ n. unwrap_or (get faults n) []) events) (after_month after) (active c) ≡ closed w c words
 unfolding closed
@@ -230,7 +232,8 @@ read_ends w c r rest none (mailings, all, outcome, sent) = record {
 
 -- ---- the reports, stored one after another
 
--- if a fold of a list from index `i` on ends in `last`, so does the fold from index `i + 1` on, after the step for element `i`
+-- if a fold of a list from index `i` on ends in `last`, so does the fold from index `i + 1` on, after the step for
+-- element `i`
 pub fold_further : {A B : Type 0} (step : A → B → A) (old new last : A) (all : List B) (i : ℕ) (d : B) → i < length all → new ≡ step old (get_or all i d) → fold step old (drop i all) ≡ last → fold step new (drop (i + 1) all) ≡ last
 fold_further step old new last all i d h is whole = ap (λ a. fold step a (drop (i + 1) all)) is ∙ subst (λ l. fold step old l ≡ last) (drop_more all i d h) whole
 

@@ -87,7 +87,8 @@ module _ {S : Type 0} (g : Ghosts S) where
         ok_same : (a b : WorldValue) → ◌≡◌ {A = Result WorldValue WorldFault} (Ok a) (Ok b) → a ≡ b
         ok_same a b e = cc
 
-    -- a fault of creating the founded campaign's tables comes from the statements that found by this world text and pass text
+    -- a fault of creating the founded campaign's tables comes from the statements that found by this world text and
+    -- pass text
     told_by_founding : (fault : CreateFault) → IsTold g (OfFounding text c) create_fault old new fault → IsTold g (FoundsBy text pass) create_fault old new fault
     told_by_founding fault told = (
       told.0,

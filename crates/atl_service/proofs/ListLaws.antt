@@ -1,4 +1,5 @@
--- Laws on lists of commands: if each command fulfils `Runs`, the list fulfils `RunsAll`, which implies the main theorem `Headline`.
+-- Laws on lists of commands: if each command fulfils `Runs`, the list fulfils `RunsAll`, which implies the main theorem
+-- `Headline`.
 use Rattle.std.proofs.Common.{◌≡◌, ◌⊎◌, ◌≤◌, ◌<◌, ◌+◌, ◌++◌, ◌∷◌, [], ℕ, List, map, drop, length, get_or, Option, Some, None, IfSome, refl, sym, ap, ap₂, ◌∙◌, subst, inl, inr, append_assoc, append-nil, arith}
 use native.Mathlib.Numerals.{unary_clauses}
 use Rattle.std.proofs.lemmas.List.{drop_more, drop_all}
@@ -32,7 +33,8 @@ stops_from few many s text before after h stops = record {
     lower few many now h more = omega (arith, h, more)
 
 module _ {S : Type 0} (g : Ghosts S) where
-  -- if `Follows` holds, it holds with a world text that is equal on a clean disk, and with a lower count of earlier disk failures
+  -- if `Follows` holds, it holds with a world text that is equal on a clean disk, and with a lower count of earlier
+  -- disk failures
   follows_as : (t u : List ℕ) (few many : ℕ) (w : WorldValue) (c : CampaignValue) (cs : List Command) (rs : List Answer) (new : ServiceValue S) → (HasCleanDisk (state g new.conn) → t ≡ u) → few ≤ many
       → Follows g t many w c cs rs new → Follows g u few w c cs rs new
   follows_as t u few many w c [] [] new same h f = (f.0, λ clean. subst (λ x. Keeps (state g new.conn) x c) (same clean) (f.1 clean))
@@ -51,7 +53,8 @@ module _ {S : Type 0} (g : Ghosts S) where
     record { old = f.4.old; held = λ clean. subst (λ t. Keeps (state g f.4.old) t c) (same clean) (f.4.held clean); cause = f.4.cause },
   )
 
-  -- if a command was carried out and the rest follows from the service after it, `Follows` holds for the rest from its campaign on
+  -- if a command was carried out and the rest follows from the service after it, `Follows` holds for the rest from its
+  -- campaign on
   carried : (old mid new : ServiceValue S) (c : CampaignValue) (x : Command) (a : Answer) (cs : List Command) (rs : List Answer) → (accepts : Accepts g c old x a mid) → (HasCleanDisk (state g new.conn) → HasCleanDisk (state g mid.conn))
       → (state g old.conn).faults ≤ (state g mid.conn).faults → FollowsAt g mid cs rs new mid.campaign
       → ((step old.world c x).1 ≡ a) × Follows g (text_in g old.conn) (state g old.conn).faults old.world (step old.world c x).0 cs rs new × (new.world ≡ old.world)
@@ -100,7 +103,8 @@ module _ {S : Type 0} (g : Ghosts S) where
   first_open old mid new c x (Fault Store) cs rs ran was later holds up rest = let k = ended_in_fault old mid new c x Store cs rs ran.0 ran.1 holds later.clean rest in (((λ e. let d = e in cc), k.0, k.1, k.2, k.3), k.4)
   first_open old mid new c x (Fault Closed) cs rs ran was later holds up rest = absurd ran
 
-  -- if the first command of a list ran in a service, open or closed, and the rest follows from it, the whole list follows
+  -- if the first command of a list ran in a service, open or closed, and the rest follows from it, the whole list
+  -- follows
   first_at : (old mid new : ServiceValue S) (x : Command) (a : Answer) (cs : List Command) (rs : List Answer) (o : Option CampaignValue) → old.campaign ≡ o → RunsAt g old x a mid o
       → (HasCleanDisk (state g new.conn) → HasCleanDisk (state g mid.conn)) → IsLater (state g old.conn) (state g mid.conn) → IfSome o (λ c. HoldsCampaign g old.conn (text_in g old.conn) c) → FollowsAt g mid cs rs new mid.campaign
       → FollowsAt g old (x ∷ cs) (a ∷ rs) new o
@@ -132,7 +136,8 @@ module _ {S : Type 0} (g : Ghosts S) where
 
   -- ---- the loop of `run_all`
 
-  -- if the answers before command `i` continue to answers of the whole list, so do those with the answer of command `i` added
+  -- if the answers before command `i` continue to answers of the whole list, so do those with the answer of command `i`
+  -- added
   pub one_more : (e mid now new : ServiceValue S) (cs : List Command) (i : ℕ) (c : Command) (a : Answer) (sofar rs : List Answer) → i < length cs → c ≡ get_or cs i c
       → ((ts : List Answer) (n : ServiceValue S) → RunsAll g mid (drop i cs) ts n → RunsAll g e cs (sofar ++ ts) n) → IfSome mid.campaign (λ d. HoldsCampaign g mid.conn (text_in g mid.conn) d) → Runs g mid c a now → IsLater (state g mid.conn) (state g now.conn)
       → RunsAll g now (drop (i + 1) cs) rs new → RunsAll g e cs ((sofar ++ a ∷ []) ++ rs) new
@@ -158,7 +163,8 @@ module _ {S : Type 0} (g : Ghosts S) where
   all_closed (x ∷ cs) [] h = absurd h
   all_closed (x ∷ cs) (a ∷ rs) h = ap₂ (λ b bs. b ∷ bs) h.0 (all_closed cs rs h.1)
 
-  -- if `Ends` holds for the rest of a list after a command, and `step` gives the command's answer, it holds for the whole list
+  -- if `Ends` holds for the rest of a list after a command, and `step` gives the command's answer, it holds for the
+  -- whole list
   further : (text : List ℕ) (faults : ℕ) (w : WorldValue) (c : CampaignValue) (x : Command) (a : Answer) (cs : List Command) (rs : List Answer) (new : ServiceValue S) → (step w c x).1 ≡ a → Ends text faults w (step w c x).0 cs rs new
       → Ends text faults w c (x ∷ cs) (a ∷ rs) new
   further text faults w c x a cs rs new is (inl h) = inl (record { answers_are = ap₂ (λ b bs. b ∷ bs) (sym is) h.answers_are; campaign_is = h.campaign_is; tables = h.tables })

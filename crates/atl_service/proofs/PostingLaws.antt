@@ -74,7 +74,8 @@ run_posts w c (Mail faction pass text ∷ more) all =
 run_posts w c (Close _ _ _ ∷ more) all = absurd all
 run_posts w c (Report _ _ ∷ more) all = absurd all
 
--- a faction's mail after a list of stored mailings is its last text in the list, or its earlier mail if the list has none
+-- a faction's mail after a list of stored mailings is its last text in the list, or its earlier mail if the list has
+-- none
 get_posted : (mail : FinMap nat_cmp (List ℕ)) (sent : List Command) (n : ℕ) → get (posted mail sent) n ≡ last_text n (get mail n) sent
 get_posted mail [] n = refl
 get_posted mail (Join _ _ _ ∷ more) n = get_posted mail more n

@@ -31,7 +31,8 @@ module _ {S : Type 0} (g : Ghosts S) where
     abbrev pub Answered : Answer → Type 0
     Answered = Answers g w c conn command c' conn'
 
-    -- after an answered command in a consistent service, the tables hold the new campaign with the same world text, if the disk is clean
+    -- after an answered command in a consistent service, the tables hold the new campaign with the same world text, if
+    -- the disk is clean
     holding : (answer : Answer) → IsConsistent g conn w c true → LeavesIdle g conn conn' → Answered answer → HoldsCampaign g conn' (text_in g conn) c'
     holding answer stands leaves done clean = done.tables clean (text_in g conn) (stands.tables refl (leaves.later.clean clean))
 

@@ -22,14 +22,15 @@ by_faction : (b : Bool) (o : Option (List Event)) (listed rest : List Event) (e 
 by_faction true o listed rest e h = ap (λ l. (l ++ (e ∷ [])) ++ rest) (h refl) ∙ append_assoc (unwrap_or o []) (e ∷ []) rest
 by_faction false o listed rest e h = refl
 
--- equal numbers have the same list
+-- if two faction numbers are equal, their lists of events are equal
 same_list : (sorted : FinMap nat_cmp (List Event)) (q r : ℕ) → (r == q) ≡ true → events_of sorted r ≡ events_of sorted q
 same_list sorted q r h = ap (events_of sorted) (equal q r h)
   where
     equal : (q r : ℕ) → (r == q) ≡ true → r ≡ q
     equal q r h = grind (arith, nat_tests)
 
--- each faction's list with an event added, followed by its events of the rest, is its list followed by its events of both
+-- each faction's list with an event added, followed by its events of the rest, is its list followed by its events of
+-- both
 event_goes_on : (sorted : FinMap nat_cmp (List Event)) (e : Event) (es : List Event) (n : ℕ)
     → events_of (with_event sorted e) n ++ own_events n es ≡ events_of sorted n ++ own_events n (e ∷ es)
 event_goes_on sorted e es n =

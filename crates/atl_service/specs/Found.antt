@@ -20,8 +20,8 @@ use Rattle.atl_store.specs.OwnStatements.{Statements}
 use Rattle.atl_service.specs.Causes.{FoundsBy, GivesOtherError, LacksMemory}
 use Rattle.atl_service.specs.Service.{ServiceValue, text_in}
 
--- A campaign was founded: the service is open with the text's world and the founded campaign, and, if the disk is clean, its tables hold both.
--- There was no table `campaign`.
+-- A campaign was founded: the service is open with the text's world and the founded campaign, and, if the disk is
+-- clean, its tables hold both. There was no table `campaign`.
 pub record Founds {S : Type 0} (g : Ghosts S) (old : Held S) (text pass : List ℕ) (made : ServiceValue S) : Type 0 where
   pub fresh : has_campaign old.schema ≡ false
   pub world : world_of text ≡ Ok made.world
@@ -49,8 +49,9 @@ IsCause text pass is_there Differs = ⊥
 IsCause text pass is_there Store = IsWorldText text × (pass_ok pass ≡ true) × (is_there ≡ false)
 IsCause text pass is_there Memory = ⊤
 
--- What founding leaves after Store or Memory: tables as before while the connection is open; a crash leaves what it left before, or the founded campaign.
--- The facts about tables and crash need a clean disk. If the text is no world, or the pass text isn't good, nothing is changed at all.
+-- What founding leaves after Store or Memory: tables as before while the connection is open; a crash leaves what it
+-- left before, or the founded campaign. The facts about tables and crash need a clean disk. If the text is no world, or
+-- the pass text isn't good, nothing is changed at all.
 pub record FailsToFound {S : Type 0} (g : Ghosts S) (old : Held S) (text pass : List ℕ) (new : Held S) : Type 0 where
   pub tables : HasCleanDisk (state g new) → ChangesNothing (state g old) (state g new)
   pub unfounded : (¬ IsWorldText text) ⊎ (pass_ok pass ≡ false) → new ≡ old
@@ -61,7 +62,8 @@ pub record FailsToFound {S : Type 0} (g : Ghosts S) (old : Held S) (text pass : 
 abbrev pub RefusesToWrite : {S : Type 0} → Ghosts S → Statements → Held S → Held S → Type 0
 RefusesToWrite g own old new = ((¬ IsReadyToCreate (state g old)) × (new ≡ old)) ⊎ (IsReadyToCreate (state g old) × GivesOtherError g own old new)
 
--- What a refused founding leaves, by its cause: nothing is changed after a failed check; Store and Memory leave what `FailsToFound` says.
+-- What a refused founding leaves, by its cause: nothing is changed after a failed check; Store and Memory leave what
+-- `FailsToFound` says.
 abbrev pub LeavesByCause : {S : Type 0} → Ghosts S → Held S → List ℕ → List ℕ → Held S → Cause → Type 0
 LeavesByCause g old text pass new (BadWorld fault) = new ≡ old
 LeavesByCause g old text pass new BadPassText = new ≡ old
@@ -80,7 +82,8 @@ pub record RefusesFounding {S : Type 0} (g : Ghosts S) (old : Held S) (text pass
   pub leaves : LeavesByCause g old text pass new why
   pub later : IsLater (state g old) (state g new)
 
--- What founding builds before it writes: `w` is the world of the text, the pass text is good, and `c` is the campaign founded in that world.
+-- What founding builds before it writes: `w` is the world of the text, the pass text is good, and `c` is the campaign
+-- founded in that world.
 pub record Prepares (text pass : List ℕ) (w : WorldValue) (c : CampaignValue) : Type 0 where
   pub world : world_of text ≡ Ok w
   pub pass_is_good : pass_ok pass ≡ true

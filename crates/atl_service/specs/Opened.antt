@@ -15,7 +15,8 @@ use Rattle.atl_service.specs.declared.command.Cause.{Cause}
 use Rattle.atl_service.specs.declared.command.Cause.TheVariants.{NotACampaign, OldFormat, Damaged, Store, Memory}
 use Rattle.atl_service.specs.Service.{ServiceValue, text_in}
 
--- A campaign was opened: if the disk is clean, the service has the world and good campaign of the tables, which are unchanged.
+-- A campaign was opened: if the disk is clean, the service has the world and good campaign of the tables, which are
+-- unchanged.
 pub record Opens {S : Type 0} (g : Ghosts S) (old : Held S) (made : ServiceValue S) : Type 0 where
   pub campaign : MarkedCampaign
   pub is_open : made.campaign ≡ Some campaign.value
@@ -38,7 +39,8 @@ of_loading (load.Damaged rule) = Damaged rule
 of_loading load.Store = Store
 of_loading load.Memory = Memory
 
--- Opening was refused for a fault of loading: if the disk is clean, loading gives this fault, and the tables are unchanged.
+-- Opening was refused for a fault of loading: if the disk is clean, loading gives this fault, and the tables are
+-- unchanged.
 pub record RefusesOpening {S : Type 0} (g : Ghosts S) (old : Held S) (why : Cause) (new : Held S) : Type 0 where
   pub fault : StoreFault
   pub why_is : why ≡ of_loading fault

@@ -12,8 +12,8 @@ use Rattle.atl_service.specs.declared.command.Cause.{Cause}
 use Rattle.atl_service.specs.declared.command.Cause.TheVariants.{World, NotACampaign, NotOld, Damaged, Differs, Store, Memory}
 use Rattle.atl_service.specs.Service.{ServiceValue, text_in}
 
--- A file was upgraded: if the disk is clean, the service is open with the new text's world and the campaign that the tables held, with empty stocks.
--- The tables then hold both. The count of disk failures has not sunk (`later`).
+-- A file was upgraded: if the disk is clean, the service is open with the new text's world and the campaign that the
+-- tables held, with empty stocks. The tables then hold both. The count of disk failures has not sunk (`later`).
 pub record UpgradesTo {S : Type 0} (g : Ghosts S) (old : Held S) (text : List ℕ) (made : ServiceValue S) : Type 0 where
   pub campaign : MarkedCampaign
   pub is_open : made.campaign ≡ Some campaign.value
@@ -31,8 +31,8 @@ of_upgrading upgrade.Differs = Differs
 of_upgrading upgrade.Store = Store
 of_upgrading upgrade.Memory = Memory
 
--- An upgrade was refused with the store's fault. If the disk is clean, the tables are as before while the connection is open;
--- a crash leaves them as before, or upgraded.
+-- An upgrade was refused with the store's fault. If the disk is clean, the tables are as before while the connection is
+-- open; a crash leaves them as before, or upgraded.
 pub record RefusesUpgrade {S : Type 0} (g : Ghosts S) (old : Held S) (text : List ℕ) (why : Cause) (new : Held S) : Type 0 where
   pub fault : UpgradeFault
   pub why_is : why ≡ of_upgrading fault
