@@ -205,8 +205,8 @@ fn joining(alloc: Global, body: &[u8]) -> Result<Request, CheckError>
     })
 }
 
-/// What a request asks for, by its whole body. BadJson if the body of a join is no object with both
-/// texts; Memory without memory for them.
+/// Makes the request of a route, a pass text and a whole body. BadJson if the body of a join is no
+/// object with both texts; Memory without memory for these.
 pub fn request_of(
     alloc: Global,
     route: Route,

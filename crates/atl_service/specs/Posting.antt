@@ -1,4 +1,4 @@
--- The statement that of a faction's mailings for a month only the last one counts. See docs/RULES.md, "Mail".
+-- `OnlyTheLastMailCounts`: of a faction's mailings for a month only the last one counts. See docs/RULES.md, "Mail".
 use Rattle.std.specs.Prelude.{◌≡◌, ◌==◌, ◌∷◌, [], ℕ, List, ⊤, Option, Some, None, if◌then◌else◌}
 use Rattle.atl_tables.specs.Worlds.{WorldValue}
 use Rattle.atl_state.specs.Campaign.{CampaignValue}

@@ -251,9 +251,9 @@ pub enum Cause {
     NotEmpty,
     /// The database has no table `campaign`, or the table lacks a column.
     NotACampaign,
-    /// The campaign has one row of its own, whose format is the first: the file is to be upgraded.
+    /// The table `campaign` has one row, whose format is the first: the file must be upgraded.
     OldFormat,
-    /// The campaign has one row of its own, whose format is the second: the file was upgraded
+    /// The table `campaign` has one row, whose format is the second: the file was upgraded
     /// before, or founded so.
     NotOld,
     /// This is the first rule of their format that the rows of the tables break.
