@@ -144,8 +144,8 @@ impl Failure {
         }
     }
 
-    /// Prints the failure in one line, or a bad command line in the words of its parser, and
-    /// returns the status: 2 for a bad command line, else 1.
+    /// Prints the failure in one line and returns the status: 2 for a bad command line, else 1. A
+    /// bad command line is printed in the words of its parser.
     pub fn report<R: Eprint>(self, rt: &R) -> ExitCode {
         let _ = match &self {
             Failure::CommandLine(error) => eprint!(rt; "{error}"),

@@ -53,8 +53,8 @@ not_refused input head rest h (inr (exceeds, over)) =
     let many = over [] head rest (subst (λ l. ReadsRequest l head rest) (sym (append-nil input)) h.reads) in
     let few = h.fields in omega (arith, many, few)
 
--- the first `n` bytes of two lists, of which the first has at most `n`, are the first list and as many of the second as
--- are left
+-- if a list has at most `n` elements, the first `n` of it and a second list are the whole list, then the first of the
+-- second
 take-append-more : (n : ℕ) (xs ys : List ℕ) → length xs ≤ n → take n (xs ++ ys) ≡ xs ++ take (n - length xs) ys
 take-append-more n xs ys h =
     let e : n ≡ length xs + (n - length xs) = omega arith in

@@ -24,8 +24,8 @@ most_interrupted = 1000000
 
 -- ---- one read
 
--- The outcome of one read by its result: a piece of bytes; the end of the input for no bytes; an interruption or a
--- failure for an error.
+-- The outcome of one read by its result: a piece, or the end of the input for no bytes; an interruption or a failure
+-- for an error.
 abbrev pub IsReadOutcome : Result ℕ Error → ReadOutcome → Type 0
 IsReadOutcome (Ok count) (came.Piece n) = (n ≡ count) × (0 < count)
 IsReadOutcome (Ok count) came.End = count ≡ 0
@@ -36,8 +36,8 @@ IsReadOutcome (Err e) came.End = ⊥
 IsReadOutcome (Err e) came.Interrupted = error_kind e ≡ kind.Interrupted
 IsReadOutcome (Err e) came.Failed = error_kind e ≢ kind.Interrupted
 
--- What one read does, by its outcome: a piece goes from the bytes that the reader has left to the front of `room`; any
--- other outcome takes no bytes.
+-- What one read does, by its outcome: a piece goes from the remaining bytes to the front of `room`. Any other outcome
+-- takes no bytes.
 abbrev pub GivesBytes : (before after : Option (List ℕ)) → (room : List ℕ) → ReadOutcome → Type 0
 GivesBytes before after room (came.Piece count) = (0 < count) × (count ≤ length room) × Consumes before after (take count room)
 GivesBytes before after room came.End = Keeps before after × IsAtEnd after

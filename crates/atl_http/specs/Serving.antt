@@ -27,8 +27,8 @@ abbrev pub next_faction : Option CampaignValue → ℕ
 next_faction None = 0
 next_faction (Some c) = c.next_faction
 
--- the command that a request asks for, with the word of the dice for the faction that joins next, or the words for the
--- month, one for each region
+-- the command that a request asks for, with dice words: one for the faction that joins next, or one per region for a
+-- month
 abbrev pub command_of : Dice → (next regions : ℕ) → Request → Command
 command_of dice next regions (Join name pass) = command.Join name pass (word_of (generator dice.seed (joining_streams + next)))
 command_of dice next regions (Orders faction pass text) = command.Mail faction pass text
@@ -61,8 +61,8 @@ fault_number ReadFault = Some 2
 fault_number WriteFault = Some 3
 fault_number Memory = None
 
--- What serving one request does, by its result: with Ok the whole reply to the bytes seen was written; with a fault
--- none of it, or a part.
+-- What serving one request does, by its result: with Ok the whole reply to the bytes seen was written. With a fault
+-- none of it was written, or a part.
 abbrev pub Serves : {S : Type 0} → Ghosts S → Dice → (before after : Known) → (old : ServiceValue S) → Result ℕ HttpFault → (new : ServiceValue S) → Type 0
 Serves g dice before after old (Ok status) new =
     (seen : List ℕ) × (reply : Reply) × Consumes before.left after.left seen × RepliesTo g dice old seen reply new × (status ≡ reply.status) × Appends before.held after.held (bytes_of reply)

@@ -17,9 +17,9 @@ use sqlite::Alter;
 use std::alloc::{AllocError, Global};
 use std::io::{Read, Write};
 
-/// Runs the command that a request asks for, and returns its answer: a join with the word of the
-/// dice for the faction that joins next, a close with their words for its month, one for each
-/// region. AllocError without memory for these: then nothing is changed.
+/// Runs the command that a request asks for, with words of the dice, and returns its answer. A join
+/// has the word for the faction that joins next, a close the words for its month, one for each
+/// region. AllocError without memory for these words: then nothing is changed.
 pub fn run_request<S: Alter>(
     alloc: Global,
     service: &mut Service<S>,

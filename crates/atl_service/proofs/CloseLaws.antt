@@ -232,8 +232,7 @@ read_ends w c r rest none (mailings, all, outcome, sent) = record {
 
 -- ---- the reports, stored one after another
 
--- if a fold of a list from index `i` on ends in `last`, so does the fold from index `i + 1` on, after the step for
--- element `i`
+-- if a fold from index `i` on ends in `last`, so does the fold from index `i + 1` on that starts after element `i`
 pub fold_further : {A B : Type 0} (step : A → B → A) (old new last : A) (all : List B) (i : ℕ) (d : B) → i < length all → new ≡ step old (get_or all i d) → fold step old (drop i all) ≡ last → fold step new (drop (i + 1) all) ≡ last
 fold_further step old new last all i d h is whole = ap (λ a. fold step a (drop (i + 1) all)) is ∙ subst (λ l. fold step old l ≡ last) (drop_more all i d h) whole
 

@@ -53,8 +53,8 @@ accepted false false x y e = cc
 is_there : {V : Type 0} (o : Option V) (v : V) → o ≡ Some v → IsSome o
 is_there o v is = ap is_some is
 
--- after a join in a good campaign with its first report, the campaign has the new faction, its unit and its report,
--- and the next numbers count them (`HasArrival`)
+-- a join in a good campaign, with its first report, adds the faction, its unit and its report, and raises the next
+-- numbers (`HasArrival`)
 arrival : (w : WorldValue) (name pass : List ℕ) (word : ℕ) (c : CampaignValue) → IsGood w c → HasArrival (reported w (joined w name pass word c) c.next_faction) c.next_faction
 unfolding joined
 arrival w name pass word c good =

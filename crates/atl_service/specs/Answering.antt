@@ -36,8 +36,8 @@ IfTextOrRefused (Text _) P = P
 IfTextOrRefused (Refused _) P = P
 IfTextOrRefused (Fault _) P = ⊤
 
--- A command was answered without a fault: answer and new campaign are those of `step`, and the tables hold the new
--- campaign if they held the old one.
+-- A command was answered without a fault: answer and new campaign are those of `step`. If the disk is clean and the
+-- tables held the old campaign, they hold the new one.
 pub record Answers {S : Type 0} (g : Ghosts S) (w : WorldValue) (before : CampaignValue) (old : Held S) (command : Command) (after : CampaignValue) (new : Held S) (answer : Answer) : Type 0 where
   pub step_is : step w before command ≡ (after, answer)
   pub sound : IsNoFault answer
@@ -45,8 +45,8 @@ pub record Answers {S : Type 0} (g : Ghosts S) (w : WorldValue) (before : Campai
   pub good : IsGood w after
   pub tables : HasCleanDisk (state g new) → (text : List ℕ) → Keeps (state g old) text before → Keeps (state g new) text after
 
--- A command failed with a fault: tables that held the campaign before the command still do (`LeavesAfterFault`); a
--- crash leaves that one or the one after `step`.
+-- A command failed with a fault: on a clean disk, tables that held the campaign before the command still do
+-- (`LeavesAfterFault`). A crash leaves that campaign or the one after `step`.
 abbrev pub GivesUp : {S : Type 0} → Ghosts S → WorldValue → CampaignValue → Held S → Command → Held S → Type 0
 GivesUp g w before old command new = HasCleanDisk (state g new) → (text : List ℕ) → Keeps (state g old) text before → LeavesAfterFault (state g old).faults (state g new) text before (step w before command).0
 

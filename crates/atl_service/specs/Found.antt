@@ -57,8 +57,9 @@ pub record FailsToFound {S : Type 0} (g : Ghosts S) (old : Held S) (text pass : 
   pub unfounded : (¬ IsWorldText text) ⊎ (pass_ok pass ≡ false) → new ≡ old
   pub crash : HasCleanDisk (state g new) → (w : WorldValue) → world_of text ≡ Ok w → MayFound (state g old) text (founded_of w pass) (state g new)
 
--- Why founding fails with Store: the connection isn't ready (`IsReadyToCreate`) and is unchanged;
--- or it is ready and, if the disk is clean, a call of the write gave an error other than out of memory.
+-- Why founding fails with Store: the connection isn't ready (`IsReadyToCreate`) and is unchanged, or it is ready and
+-- the write failed. In the second case, if the disk is clean, a call of the write gave an error other than out of
+-- memory.
 abbrev pub RefusesToWrite : {S : Type 0} → Ghosts S → Statements → Held S → Held S → Type 0
 RefusesToWrite g own old new = ((¬ IsReadyToCreate (state g old)) × (new ≡ old)) ⊎ (IsReadyToCreate (state g old) × GivesOtherError g own old new)
 
@@ -82,8 +83,8 @@ pub record RefusesFounding {S : Type 0} (g : Ghosts S) (old : Held S) (text pass
   pub leaves : LeavesByCause g old text pass new why
   pub later : IsLater (state g old) (state g new)
 
--- What founding builds before it writes: `w` is the world of the text, the pass text is good, and `c` is the campaign
--- founded in that world.
+-- What founding builds before it writes: `w` is the world of the text and `c` the campaign founded in it; the pass text
+-- is good.
 pub record Prepares (text pass : List ℕ) (w : WorldValue) (c : CampaignValue) : Type 0 where
   pub world : world_of text ≡ Ok w
   pub pass_is_good : pass_ok pass ≡ true

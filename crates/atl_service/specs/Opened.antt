@@ -24,8 +24,8 @@ pub record Opens {S : Type 0} (g : Ghosts S) (old : Held S) (made : ServiceValue
   pub alone : LeavesAlone g old made.conn
   pub later : IsLater (state g old) (state g made.conn)
 
--- Opening returns what was stored: if the disk is clean and the tables held a world text and a good campaign,
--- the service has this text, its world and this campaign.
+-- Opening returns the text, world and campaign that were stored. This holds if the disk is clean and the tables held a
+-- world text and a good campaign of its world.
 abbrev pub ComesBack : {S : Type 0} → Ghosts S → Held S → ServiceValue S → Type 0
 ComesBack g old made =
     HasCleanDisk (state g made.conn) → (text : List ℕ) (w : WorldValue) (c : CampaignValue) → world_of text ≡ Ok w → IsGood w c → HoldsCampaign g old text c

@@ -30,7 +30,7 @@ abbrev pub Refuses : {S : Type 0} → CampaignValue → ServiceValue S → Comma
 Refuses c old command answer new = (step old.world c command ≡ (c, answer)) × (new ≡ old)
 
 -- A fault closed the service: if the disk is clean, the tables hold the campaign before the command
--- (`LeavesAfterFault`); a crash leaves that campaign or the one after `step`.
+-- (`LeavesAfterFault`). A crash leaves that campaign or the one after `step`.
 pub record Closes {S : Type 0} (g : Ghosts S) (c : CampaignValue) (old : ServiceValue S) (command : Command) (new : ServiceValue S) : Type 0 where
   pub same : new ≡ record old { conn = new.conn; campaign = None }
   pub tables : HasCleanDisk (state g new.conn) → LeavesAfterFault (state g old.conn).faults (state g new.conn) (text_in g old.conn) c (step old.world c command).0

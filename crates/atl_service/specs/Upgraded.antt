@@ -12,8 +12,9 @@ use Rattle.atl_service.specs.declared.command.Cause.{Cause}
 use Rattle.atl_service.specs.declared.command.Cause.TheVariants.{World, NotACampaign, NotOld, Damaged, Differs, Store, Memory}
 use Rattle.atl_service.specs.Service.{ServiceValue, text_in}
 
--- A file was upgraded: if the disk is clean, the service is open with the new text's world and the campaign that the
--- tables held, with empty stocks. The tables then hold both. The count of disk failures has not sunk (`later`).
+-- A file was upgraded: the service is open with the new text's world and a campaign with empty stocks. On a clean disk
+-- it is the campaign that the tables held, and they now hold it with the new text. The count of disk failures has not
+-- sunk (`later`).
 pub record UpgradesTo {S : Type 0} (g : Ghosts S) (old : Held S) (text : List ℕ) (made : ServiceValue S) : Type 0 where
   pub campaign : MarkedCampaign
   pub is_open : made.campaign ≡ Some campaign.value

@@ -245,16 +245,16 @@ pub fn open<S: Alter>(alloc: Global, mut conn: Connection<S>) -> Result<Service<
     }
 }
 
-/// Upgrades the tables of a campaign from the first format to the second, with a new world that
-/// differs from the old one only in markets, and opens the campaign: it is as it was, and nothing
-/// is in stock. The cause of a refusal is the first check that fails. A refusal returns the
-/// connection; if the disk is clean, the tables are as they were while the connection is open, and
-/// a crash leaves what it left before or the upgraded campaign. NotACampaign: there is no table
-/// `campaign`, or it lacks a column. NotOld: the table `campaign` has one row, whose format is the
-/// second. Damaged: this is the first rule of the first format that the rows break. World: the new
-/// world text has this fault. Differs: the worlds differ in more than markets. Store: the
-/// connection is in a transaction, the tables are not exactly those of the first format, or the
-/// database failed for another cause than memory. See docs/FORMATS.md, "Upgrading a file".
+/// Upgrades a campaign's tables from the first format to the second, with a new world, and opens
+/// the campaign. The new world may differ from the old one only in markets. The campaign is as it
+/// was, and nothing is in stock. The cause of a refusal is the first check that fails. A refusal
+/// returns the connection; if the disk is clean, the tables are as they were while the connection
+/// is open, and a crash leaves what it left before or the upgraded campaign. NotACampaign: there is
+/// no table `campaign`, or it lacks a column. NotOld: the table `campaign` has one row, whose
+/// format is the second. Damaged: this is the first rule of the first format that the rows break.
+/// World: the new world text has this fault. Differs: the worlds differ in more than markets.
+/// Store: the connection is in a transaction, the tables are not exactly those of the first format,
+/// or the database failed for another cause than memory. See docs/FORMATS.md, "Upgrading a file".
 pub fn upgrade<S: Alter>(
     alloc: Global,
     mut conn: Connection<S>,

@@ -83,8 +83,8 @@ fn reads_beyond_the_bound(rt: HostRuntime) -> Result<(), Fail> {
 /// written.
 static WRITES: [(usize, usize); 3] = [(112, 999_999), (56, 499_999), (1, 8_928)];
 
-/// How many bytes a write takes, how many writes are interrupted before each, so that the bound is
-/// reached, and how many bytes and writes were done when serving ends.
+/// Rows in which too many writes are interrupted: bytes per write, interruptions before each write,
+/// and the bytes and writes done when serving ends.
 static TOO_MANY_WRITES: [(usize, usize, usize, usize); 4] = [
     (112, 1_000_000, 0, 1_000_000),
     (56, 500_000, 56, 1_000_001),

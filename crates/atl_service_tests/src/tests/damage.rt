@@ -185,9 +185,9 @@ static SHAPES: [(&str, Told); 10] = [
     ),
 ];
 
-/// SQL statements that make two faults, and the outcome of opening, which is the first in this
-/// order: the campaign's own row can't be read; it breaks the first rule; another table can't be
-/// read; a value has another type; tables differ; rows break a later rule.
+/// SQL statements that make two faults, and the outcome of opening, which is the first fault in the
+/// order of checks. The order is: the campaign's own row can't be read; it breaks the first rule;
+/// another table can't be read; a value has another type; tables differ; rows break a later rule.
 static MEETINGS: [(&str, Told); 16] = [
     ("DROP TABLE campaign; DROP TABLE unit", Told::NotACampaign),
     (

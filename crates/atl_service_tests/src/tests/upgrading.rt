@@ -15,8 +15,8 @@ use std::alloc::Global;
 use std::process::Abort;
 use std::test::Fail;
 
-/// A file of the first format and its history: steps on the island before it was written, SQL
-/// statements on it, steps after the upgrade, and queries at the end.
+/// A file of the first format and its history. There are steps on the island before it was written,
+/// SQL statements on it, steps after the upgrade, and queries at the end.
 struct Story {
     before: &'static [Step],
     by_hand: &'static str,
