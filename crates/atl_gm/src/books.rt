@@ -9,7 +9,7 @@ use clap::{Arg, ArgMatches};
 use sqlite::Alter;
 use std::alloc::{AllocError, Global};
 
-/// The work of `books`: makes the text of the books. A closed service gives Store.
+/// The work of `books`: makes the text of the campaign's books. A closed service gives Store.
 struct Asking;
 
 impl Work for Asking {

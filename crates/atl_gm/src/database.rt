@@ -15,7 +15,7 @@ pub trait Work {
     fn run<S: Alter>(&self, service: &mut Service<S>) -> Result<Self::Done, Failure>;
 }
 
-/// The work of a command: running it; the result is its answer.
+/// The work of running one command on the service; the result is the command's answer.
 impl Work for Command {
     type Done = Answer;
 
@@ -24,7 +24,7 @@ impl Work for Command {
     }
 }
 
-/// How the campaign of a file is obtained: founded, opened or upgraded.
+/// How the program gets the campaign of a file: it founds, opens or upgrades it.
 #[derive(Clone, Copy)]
 pub enum Opening<'a> {
     /// It is founded by a world text, with the moderator's pass text. The file may be made for it.
@@ -38,7 +38,7 @@ pub enum Opening<'a> {
 /// The number of bytes in the header of a database. A shorter file is no database.
 const HEADER_BYTES: u64 = 100;
 
-/// Whether a file or a folder is at the path.
+/// Whether a file or a folder exists at the path.
 fn is_there(rt: &HostRuntime, path: &str) -> Result<bool, Failure> {
     match fs::exists(rt, path) {
         Ok(is_there) => Ok(is_there),
@@ -46,7 +46,8 @@ fn is_there(rt: &HostRuntime, path: &str) -> Result<bool, Failure> {
     }
 }
 
-/// Whether the folder of the path is there. A path without a `/` is in the folder that the program runs in.
+/// Whether the folder that the path names exists. A path without a `/` is in the folder that the
+/// program runs in.
 fn has_folder(rt: &HostRuntime, path: &str) -> Result<bool, Failure> {
     match path.rsplit_once('/') {
         Some((folder, _)) if !folder.is_empty() => is_there(rt, folder),
@@ -64,8 +65,8 @@ fn without_file(rt: &HostRuntime, path: &str) -> Failure {
     }
 }
 
-/// Refuses a path without a file, and a file that is too short for a database. Opening would create the first and overwrite the
-/// second. It accepts a folder, which then can't be opened.
+/// Refuses a path without a file, and a file that is too short for a database. Opening would create
+/// the first and overwrite the second. It accepts a folder, which then can't be opened.
 fn confirm_file(rt: &HostRuntime, path: &str) -> Result<(), Failure> {
     let metadata = match fs::metadata(rt, path) {
         Ok(metadata) => metadata,
@@ -81,8 +82,8 @@ fn confirm_file(rt: &HostRuntime, path: &str) -> Result<(), Failure> {
     Err(Failure::Store)
 }
 
-/// Opens the file as a database, or makes it. A file that is made has no sums on its pages, which a `sqlite3` without that
-/// extension would spoil.
+/// Opens the file as a database, or makes it. A file that is made has no sums on its pages, which a
+/// `sqlite3` without that extension would spoil.
 fn connect<S: Start>(
     rt: &HostRuntime,
     path: &str,

@@ -10,32 +10,32 @@ use std::{fmt, io};
 
 /// Why the program did not do what was asked.
 pub enum Failure {
-    /// The words of the command line are bad, or ask for help.
+    /// The parser refused the command line, or the command line asks for help.
     CommandLine(clap::Error),
-    /// No subcommand of the list was asked for, though the parser of the command line asks for one.
+    /// The command line names no subcommand of the list, though its parser requires one.
     NoSubcommand,
-    /// An option has no value, though the parser of the command line asks for one.
+    /// An option has no value, though the parser of the command line requires one.
     NoValue,
     /// A file, or standard input, can't be read as text.
     File,
     World(WorldFault),
     Refused(Refusal),
-    /// A campaign is in the database.
+    /// The database to found a campaign in already has one.
     NotEmpty,
-    /// No campaign is in the database.
+    /// The database has no campaign.
     NotACampaign,
-    /// The campaign is of the first format.
+    /// The campaign is in the first format, so the file must be upgraded.
     OldFormat,
-    /// The campaign to upgrade is of the second format.
+    /// The campaign to upgrade is in the second format already.
     NotOld,
     /// The rows of the campaign break the rule of this number.
     Damaged(u8),
     /// The new world differs from the old one in more than its markets.
     Differs,
-    /// The database refuses.
+    /// The database failed, for another cause than memory.
     Store,
     Memory,
-    /// The net refuses.
+    /// The network failed: the port can't be bound, or no connection can be accepted.
     Net,
     /// Standard output can't be written.
     Output,
@@ -102,7 +102,8 @@ impl From<Cause> for Failure {
     }
 }
 
-/// A text that is printed on one line: each control character in it as its escape, all else as it is.
+/// A text that is printed on one line: each control character in it as its escape, all else as it
+/// is.
 #[derive(Clone, Copy)]
 struct OneLine<'a>(&'a str);
 
@@ -143,8 +144,8 @@ impl Failure {
         }
     }
 
-    /// Prints the failure in one line, or a bad command line in the words of its parser, and returns the status: 2 for a
-    /// bad command line, else 1.
+    /// Prints the failure in one line and returns the status: 2 for a bad command line, else 1. A
+    /// bad command line is printed in the words of its parser.
     pub fn report<R: Eprint>(self, rt: &R) -> ExitCode {
         let _ = match &self {
             Failure::CommandLine(error) => eprint!(rt; "{error}"),

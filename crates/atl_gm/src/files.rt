@@ -9,12 +9,13 @@ fn unread(error: io::Error) -> Failure {
     Failure::of_system(error, Failure::File)
 }
 
-/// The text of the file at the path.
+/// Reads the text of the file at the path.
 pub fn text_at(rt: &HostRuntime, path: &str) -> Result<String, Failure> {
     fs::read_to_string(rt, path).map_err(unread)
 }
 
-/// The first `most` bytes of the file at the path, or all bytes of a shorter file. Nothing after them is read.
+/// The first `most` bytes of the file at the path, or all bytes of a shorter file. Nothing after
+/// them is read.
 pub fn first_bytes_at(rt: &HostRuntime, path: &str, most: u64) -> Result<Vec<u8>, Failure> {
     let file = fs::open(rt, path).map_err(unread)?;
     let mut bytes = Vec::new(rt.alloc());
@@ -24,7 +25,7 @@ pub fn first_bytes_at(rt: &HostRuntime, path: &str, most: u64) -> Result<Vec<u8>
     }
 }
 
-/// The text on standard input.
+/// Reads the text on standard input.
 pub fn text_on_input<R: Input>(rt: &R, alloc: Global) -> Result<String, Failure> {
     io::read_to_string(alloc, rt.reader()).map_err(unread)
 }

@@ -27,7 +27,7 @@ use std::alloc::{AllocError, Global};
 use std::process::ExitCode;
 use std::{env, io};
 
-/// The list of all subcommands, in the order of the help, as nested pairs.
+/// The list of all subcommands as nested pairs, in the order in which the help lists them.
 type All = (
     trial::Trial,
     (
@@ -91,7 +91,7 @@ fn words(rt: &HostRuntime, command: &mut Command<'_>) -> Result<Vec<String>, Fai
     }
 }
 
-/// Checks the stack, parses the command line, and runs its subcommand.
+/// Checks the stack, parses the command line, and runs the subcommand that it names.
 fn run(rt: &HostRuntime) -> Result<(), Failure> {
     if !stack::has_room() {
         return Err(Failure::Memory);
@@ -104,6 +104,7 @@ fn run(rt: &HostRuntime) -> Result<(), Failure> {
     }
 }
 
+/// Runs the program, reports a failure on standard error, and returns the exit status.
 fn main(rt: HostRuntime) -> ExitCode {
     match run(&rt) {
         Ok(()) => ExitCode::SUCCESS,

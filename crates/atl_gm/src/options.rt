@@ -25,10 +25,10 @@ pub const FACTION: &str = "faction";
 /// The name of the option for a month's number.
 pub const MONTH: &str = "month";
 
-/// The name of the option for the port that is served.
+/// The name of the option for the port that `serve` listens on.
 pub const PORT: &str = "port";
 
-/// The name of the option for the count of connections.
+/// The name of the option for how many connections `serve` serves.
 pub const COUNT: &str = "count";
 
 /// The name of the option for the seed of the dice.

@@ -7,7 +7,7 @@ use atl_service::{Answer, Fault};
 use clap::ArgMatches;
 use std::io;
 
-/// The result of printing: the failure Output if a line could not be printed.
+/// Turns an error of printing into the failure Output.
 pub fn print_result(written: io::Result<()>) -> Result<(), Failure> {
     match written {
         Ok(()) => Ok(()),
@@ -44,7 +44,8 @@ pub fn print_answer_of<W: Work<Done = Answer>>(
     print_answer(rt, &answer)
 }
 
-/// Prints the answer to a command. A refusal or a fault is a failure, and nothing is printed of it here.
+/// Prints the answer to a command. A refusal or a fault is a failure, and nothing is printed of it
+/// here.
 pub fn print_answer<R: Print>(rt: &R, answer: &Answer) -> Result<(), Failure> {
     match answer {
         Answer::Joined { faction, unit } => print_result(println!(rt;

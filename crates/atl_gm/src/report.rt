@@ -7,7 +7,7 @@ use atl_tables::Sequence;
 use clap::{Arg, ArgMatches};
 use std::alloc::{AllocError, Global};
 
-/// The command Report by the options.
+/// The command Report, with the faction's number and pass text from the options.
 fn request(rt: &HostRuntime, options: &ArgMatches<'_>) -> Result<atl_service::Command, Failure> {
     let faction = options::number_of(options, options::FACTION)?;
     let pass = options::text_of(options, options::PASS)?;

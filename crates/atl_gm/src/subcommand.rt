@@ -7,10 +7,10 @@ use std::alloc::{AllocError, Global};
 pub trait Subcommand {
     const NAME: &'static str;
 
-    /// What the help says of it.
+    /// What the help says about the subcommand.
     const ABOUT: &'static str;
 
-    /// Its options, none where nothing else is said.
+    /// The options of the subcommand; none unless it defines some.
     fn options<'a>(alloc: Global) -> Result<Vec<Arg<'a>>, AllocError> {
         Ok(Vec::new(alloc))
     }
@@ -20,10 +20,10 @@ pub trait Subcommand {
 
 /// A list of subcommands: a pair of the first and the rest, or () where there is none.
 pub trait Subcommands {
-    /// The command line with these subcommands after its own.
+    /// Adds the parsers of these subcommands to that of the command line.
     fn add_to<'a>(alloc: Global, line: Command<'a>) -> Result<Command<'a>, AllocError>;
 
-    /// Runs the subcommand of this name. Where there is none, that is a bad command line.
+    /// Runs the subcommand of this name in the list; NoSubcommand if there is none.
     fn run(rt: &HostRuntime, name: &str, options: &ArgMatches<'_>) -> Result<(), Failure>;
 }
 

@@ -53,7 +53,8 @@ fn first_report(
     }
 }
 
-/// The answer to the report of a new faction in a campaign founded in memory by the world text.
+/// Founds a campaign in memory by the world text, joins a faction, and returns the answer to its
+/// Report.
 fn answer(alloc: Global, world_text: &str) -> Result<Answer, Failure> {
     let join = join(alloc)?;
     let report = report(alloc)?;
@@ -61,9 +62,9 @@ fn answer(alloc: Global, world_text: &str) -> Result<Answer, Failure> {
     first_report(alloc, conn, world_text, &join, &report)
 }
 
-/// The subcommand `trial`: founds a campaign with pass `gm` by the world text on standard input,
-/// joins `Avalon` with pass `pw` and word 0, and
-/// prints the faction's report.
+/// The subcommand `trial`, which founds a campaign in memory, has a faction join, and prints its
+/// first report. The world text is standard input and the moderator's pass text `gm`; `Avalon`
+/// joins with pass text `pw` and word 0.
 pub struct Trial;
 
 impl Subcommand for Trial {

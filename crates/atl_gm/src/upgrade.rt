@@ -26,8 +26,8 @@ impl Work for CountMarkets {
     }
 }
 
-/// The subcommand `upgrade`, which upgrades a file by a world file and prints its number of
-/// markets.
+/// The subcommand `upgrade`, which upgrades a campaign's file by a new world file and prints that
+/// world's number of markets.
 pub struct Upgrade;
 
 impl Subcommand for Upgrade {

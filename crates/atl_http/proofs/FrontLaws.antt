@@ -1,4 +1,4 @@
--- Laws on the router's rows: looking up a path after a common prefix, and a number after the prefix.
+-- Laws on the router's rows: looking up a path in rows with a common prefix, and a number after that prefix.
 use Rattle.std.proofs.Common.{get_or, ltb, ◌&&◌, ◌≡◌, ◌≢◌, ℕ, ◌-◌, ◌<◌, ◌⊎◌, inl, inr, List, [], ◌∷◌, ◌++◌, length, take, drop, Option, Some, None, Bool, true, false, cond, refl, sym, ap, ◌∙◌, subst, arith, nat_eq, ◌==◌}
 use Rattle.std.specs.Prelude.{option_and_then}
 use Rattle.std.specs.Cmp.Lexicographic.{pointwise}
@@ -28,19 +28,20 @@ behind_step x y w p =
       | false ↦ refl
     ]
 
+-- if the first bytes and then the rest compare equal, the path is the prefix followed by the rest of the path
 behind_by : (x y : ℕ) (w p rest : List ℕ) (t : Bool) → (y == x) ≡ t → (after_prefix w p ≡ Some rest → p ≡ w ++ rest) → cond t (after_prefix w p) None ≡ Some rest → y ∷ p ≡ x ∷ (w ++ rest)
 behind_by x y w p rest true e ih k =
     let same : y ≡ x = grind (arith, nat_tests) in
     rw (same, ih k) refl
 behind_by x y w p rest false e ih k = cc
 
--- a path whose rest after a prefix is `rest` is the prefix and then `rest`
+-- if `after_prefix` gives `rest`, the path is the prefix followed by `rest`
 pub behind_is : (w p rest : List ℕ) → after_prefix w p ≡ Some rest → p ≡ w ++ rest
 behind_is [] p rest h = cc
 behind_is (x ∷ w) [] rest h = cc
 behind_is (x ∷ w) (y ∷ p) rest h = behind_by x y w p rest (y == x) refl (λ k. behind_is w p rest k) (sym (behind_step x y w p) ∙ h)
 
--- the next law, where it is known whether the first bytes are equal
+-- looking up a path in rows with a common prefix: the step for the first byte, by whether it is that of the prefix
 front_by : (x y : ℕ) (w p : List ℕ) (t : Rows) (v : Bool) → (y == x) ≡ v → first (prepend w t) p ≡ option_and_then (λ rest. first t rest) (after_prefix w p) → seek 0 (step y (prepend (x ∷ w) t)) p ≡ option_and_then (λ rest. first t rest) (cond v (after_prefix w p) None)
 front_by x y w p t true e ih =
     let same : y ≡ x = grind (arith, nat_tests) in
@@ -49,7 +50,7 @@ front_by x y w p t false e ih =
     let differ : x ≢ y = λ q. grind (arith, nat_tests) in
     rw (step-miss y x w t differ) (seek-empty 0 p)
 
--- looking up a path in rows with a common prefix looks up its rest after the prefix
+-- looking up a path in rows with a common prefix looks up the rest of the path after the prefix, or finds nothing
 pub first_behind : (w : List ℕ) (t : Rows) (path : List ℕ) → IsText w → first (prepend w t) path ≡ option_and_then (λ rest. first t rest) (after_prefix w path)
 unfolding seek
 first_behind [] t path h = ap (λ r. first r path) (prepend-nil t)
@@ -61,18 +62,18 @@ first_behind (x ∷ w) t (y ∷ p) h =
 
 -- ---- a number after a prefix
 
--- the row of a parameter alone, which takes a text without a slash
+-- the row of a parameter alone, which matches a text without a slash
 abbrev pub number_row : ℕ → Rows
 number_row key = (param_token ∷ [], key) ∷ []
 
--- a digit and then digits hold no slash
+-- a digit followed by digits has no slash
 slash_step : (b : ℕ) (p : List ℕ) (t : Bool) → is_ascii_digit b ≡ t → (list_all is_ascii_digit p ≡ true → has_slash p ≡ false) → (t && list_all is_ascii_digit p) ≡ true → has_slash (b ∷ p) ≡ false
 slash_step b p true e ih h =
     let differ : (b == 47) ≡ false = grind (arith, nat_tests) in
     rw differ (ih h)
 slash_step b p false e ih h = cc
 
--- digits hold no slash
+-- a text of digits has no slash
 no_slash : (p : List ℕ) → list_all is_ascii_digit p ≡ true → has_slash p ≡ false
 no_slash [] h = refl
 no_slash (b ∷ p) h = slash_step b p (is_ascii_digit b) refl (λ k. no_slash p k) h
@@ -82,7 +83,7 @@ first_digit : (b : ℕ) (p : List ℕ) (t : Bool) → is_ascii_digit b ≡ t →
 first_digit b p true e h = grind (arith, nat_tests)
 first_digit b p false e h = cc
 
--- the parameter takes a whole text without a slash
+-- the parameter matches the whole text if the text has no slash and doesn't begin with the parameter's token
 taken_whole : (key b : ℕ) (p : List ℕ) → (param_token == b) ≡ false → has_slash (b ∷ p) ≡ false → first (number_row key) (b ∷ p) ≡ Some key
 unfolding seek
 taken_whole key b p e h =
@@ -93,42 +94,46 @@ taken_whole key b p e h =
 abbrev IsAt : ℕ → Option ℕ → Type 0
 IsAt key found = (found ≡ Some key) ⊎ (found ≡ None)
 
--- two look-ups of one key, one after the other, find it or nothing
+-- if two lookups find the key or nothing, so does the first with the second as its fallback
 or_either : (key : ℕ) (a b : Option ℕ) → IsAt key a → IsAt key b → IsAt key (or_else a b)
 or_either key a b (inl e) h = inl (ap (λ x. or_else x b) e)
 or_either key a b (inr e) h = subst (λ x. IsAt key (or_else x b)) (sym e) h
 
--- a row that has ended finds nothing for a path that goes on
+-- a row without further bytes finds nothing for a path with further bytes
 pub end_none : (key b : ℕ) (p : List ℕ) → seek 0 (([], key) ∷ []) (b ∷ p) ≡ None
 unfolding seek
 end_none key b p = simp (seek-empty 0 p, param_step-empty (b ∷ p), seek-empty ((param_step {K = ℕ} [] (b ∷ p)).0 - 1) p)
 
--- a row that has ended finds its key at the end of the path, or nothing
+-- a row without further bytes finds its key or nothing
 end_alone : (key : ℕ) (p : List ℕ) → IsAt key (seek 0 (([], key) ∷ []) p)
 unfolding seek
 end_alone key [] = inl refl
 end_alone key (b ∷ p) = inr (end_none key b p)
 
+-- a row without further bytes, kept or dropped by a test, finds its key or nothing
 stepped : (key b : ℕ) (p : List ℕ) (t : Bool) → IsAt key (seek 0 (cond t (([], key) ∷ []) []) p)
 stepped key b p true = end_alone key p
 stepped key b p false = inr (seek-empty 0 p)
 
+-- after a parameter at the end of its row, the lookup finds the key or nothing, by whether the rest has a slash
 after_by : (key b : ℕ) (p : List ℕ) (t : Bool) → has_slash (b ∷ p) ≡ t → IsAt key (after_param (([], key) ∷ []) (b ∷ p))
 after_by key b p true h = inr (after_param-stop [] (Some key) b p refl h)
 after_by key b p false h = inl (after_param-end [] (Some key) b p tt refl h)
 
--- a parameter finds its key or nothing
+-- looking up a text that isn't empty in the row of a parameter finds its key or nothing
 one_or_none : (key b : ℕ) (p : List ℕ) → IsAt key (first (number_row key) (b ∷ p))
 unfolding seek
 one_or_none key b p =
     or_either key (seek 0 (cond (param_token == b) (([], key) ∷ []) []) p) (or_else (after_param (([], key) ∷ []) (b ∷ p)) None) (stepped key b p (param_token == b))
     (or_either key (after_param (([], key) ∷ []) (b ∷ p)) None (after_by key b p (has_slash (b ∷ p)) refl) (inr refl))
 
+-- a choice between a number and None is None if its last test is false
 number_none : (x y : Bool) (n : Option ℕ) → cond (x && (y && false)) n None ≡ None
 number_none true true n = refl
 number_none true false n = refl
 number_none false y n = refl
 
+-- a byte that passes a test for ASCII is below 128
 small_by : (test : ℕ → Bool) (b : ℕ) (t : Bool) → test b ≡ t → (test b ≡ true → b < 128) → (t ≡ false → ⊥) → b < 128
 small_by test b true e small h = small e
 small_by test b false e small h = absurd (h refl)
@@ -148,15 +153,17 @@ digits_utf8 p h = all_utf8 is_ascii_digit (λ b e. grind (arith, nat_tests)) p h
 pub ascii_utf8 : (p : List ℕ) → list_all (λ b. ltb b 128) p ≡ true → IsUtf8 p
 ascii_utf8 p h = all_utf8 (λ b. ltb b 128) (λ b e. grind (arith, nat_tests)) p h
 
--- The lookup after a prefix finds the key and the text is UTF-8 or no number, or it finds nothing and the text is no number.
+-- The lookup after a prefix finds the key, and the text is UTF-8 or no number; or it finds nothing, and the text is no
+-- number.
 abbrev pub NumberSays : ℕ → List ℕ → Type 0
 NumberSays key rest = ((first (number_row key) rest ≡ Some key) × ((number_of rest ≡ None) ⊎ IsUtf8 rest)) ⊎ ((first (number_row key) rest ≡ None) × (number_of rest ≡ None))
 
+-- a text that is no number fulfils `NumberSays` if its lookup finds the key or nothing
 found_or_none : (key : ℕ) (rest : List ℕ) → number_of rest ≡ None → IsAt key (first (number_row key) rest) → NumberSays key rest
 found_or_none key rest none (inl e) = inl (e, inl none)
 found_or_none key rest none (inr e) = inr (e, none)
 
--- `NumberSays` of a text, where it is known whether it is of digits
+-- a text that isn't empty fulfils `NumberSays`, by whether all its bytes are digits
 number_by : (key b : ℕ) (p : List ℕ) (t : Bool) → list_all is_ascii_digit (b ∷ p) ≡ t → NumberSays key (b ∷ p)
 unfolding number_of
 number_by key b p true e = inl (taken_whole key b p (first_digit b p (is_ascii_digit b) refl e) (no_slash (b ∷ p) e), inr (digits_utf8 (b ∷ p) e))

@@ -1,4 +1,4 @@
--- Laws on heads: what parsing the first 8,192 bytes gives decides the verdict (`Judges`).
+-- Laws on heads: the result of parsing the first 8,192 bytes decides the verdict (`Judges`).
 use Rattle.std.proofs.Common.{◌≡◌, ℕ, ◌≤◌, ◌<◌, ◌+◌, List, [], ◌∷◌, ◌++◌, length, take, drop, min, sym, ap, ◌∙◌, subst, inl, inr, refl, arith}
 use Rattle.std.specs.Prelude.{Result, Ok, Err, IfOk}
 use Rattle.std.proofs.lemmas.List.{append_assoc, append-nil, take-append-drop, drop-append-le, length-take, length-map, take_min}
@@ -18,21 +18,21 @@ use Rattle.atl_http.specs.Checks.{head_checks, verdict_with_body, verdict_of}
 use Rattle.atl_http.specs.Finding.{seen, EndsAs}
 use Rattle.atl_http.specs.Heads.{most_head, most_fields, HasHead, IsRefused, IsUnfinished, Judges, whole, too_long, refused, unfinished, ComesTo, verdict_by}
 
--- the first 8,192 bytes and then the others are the input
+-- the first 8,192 bytes followed by the others are the input
 front_and_rest : (input : List ℕ) → take most_head input ++ drop most_head input ≡ input
 front_and_rest input = take-append-drop most_head input
 
--- the first bytes are at most 8,192
+-- `take most_head` gives at most 8,192 bytes
 front_short : (input : List ℕ) → length (take most_head input) ≤ most_head
 front_short input = let e = length-take most_head input in omega (arith, e)
 
--- the first bytes are no more than the input
+-- the first 8,192 bytes of an input are no longer than the input
 pub front_within : (input : List ℕ) → length (take most_head input) ≤ length input
 front_within input = let e = length-take most_head input in omega (arith, e)
 
 -- ---- a whole head
 
--- a parsed head has at most 32 fields, if there is a buffer for 32
+-- a parsed head has at most 32 fields if the buffer has room for 32
 few_fields : (front : List ℕ) (headers : List HeaderSpan) (spans : RequestSpans) (head : RequestHead) → IsRequestAt front headers spans head → length headers ≡ most_fields → length head.fields ≤ most_fields
 few_fields front headers spans head at room =
     let same = ap length at.fields in
@@ -41,7 +41,7 @@ few_fields front headers spans head at room =
     let count = length-take spans.headers headers in
     omega (arith, same, taken, named, count, room)
 
--- a head parsed whole in the first bytes is a whole head of the input (`HasHead`)
+-- a head parsed whole in the first 8,192 bytes with a buffer for 32 fields is a whole head of the input (`HasHead`)
 pub whole_head : (input : List ℕ) (headers : List HeaderSpan) (spans : RequestSpans) (head : RequestHead) → IsRequestWithin (take most_head input) headers spans → IsRequestAt (take most_head input) headers spans head → length headers ≡ most_fields → HasHead input head (drop spans.len input)
 whole_head input headers spans head lies at room =
     let front = take most_head input in
@@ -54,36 +54,36 @@ whole_head input headers spans head lies at room =
       fields = few_fields front headers spans head at room;
     }
 
--- with more bytes after it the head stays whole
+-- an input with a whole head has the same head when more bytes follow
 pub head_stays : (input more : List ℕ) (head : RequestHead) (rest : List ℕ) → HasHead input head rest → HasHead (input ++ more) head (rest ++ more)
 head_stays input more head rest h = record { reads = ReadsRequest-append input head rest more h.reads; bytes = h.bytes; fields = h.fields }
 
--- the verdict by the parsed spans is that of the head
+-- the verdict by the checks of the parsed spans is the verdict on the head that they describe
 verdict_is : (input : List ℕ) (headers : List HeaderSpan) (spans : RequestSpans) (head : RequestHead) (rest : List ℕ) → IsRequestAt (take most_head input) headers spans head → verdict_with_body (head_checks spans.version (span_bytes (take most_head input) spans.method) (span_bytes (take most_head input) spans.path) (seen (take most_head input) (take spans.headers headers))) rest ≡ verdict_of head rest
 verdict_is input headers spans head rest at = rw (at.version, at.method, at.path, at.fields) refl
 
--- ---- a head that isn't one
+-- ---- a refused head
 
--- too many fields stay too many with more bytes
+-- an input whose head exceeds 32 fields still does so when more bytes follow
 exceeds_stays : (input more : List ℕ) → RequestExceeds most_fields input → RequestExceeds most_fields (input ++ more)
 exceeds_stays input more (front, rest, e, head, reads, over) = (front, rest ++ more, ap (λ l. l ++ more) e ∙ append_assoc front rest more, head, reads, over)
 
--- an input whose every head has too many fields stays so with more bytes
+-- an input whose every head has more than 32 fields still is one when more bytes follow
 overflows_stays : (input more : List ℕ) → RequestOverflows most_fields input → RequestOverflows most_fields (input ++ more)
 overflows_stays input more over again head rest reads = over (more ++ again) head rest (subst (λ l. ReadsRequest l head rest) (append_assoc input more again) reads)
 
--- a refused input stays refused with more bytes
+-- a refused input stays refused when more bytes follow
 pub refused_stays : (input more : List ℕ) → IsRefused input → IsRefused (input ++ more)
 refused_stays input more (inl never) = inl (λ again. subst HasNoRequest (sym (append_assoc input more again)) (never (more ++ again)))
 refused_stays input more (inr (exceeds, over)) = inr (exceeds_stays input more exceeds, overflows_stays input more over)
 
--- an input is refused if its first 8,192 bytes are
+-- an input is refused if its first 8,192 bytes are refused
 pub front_refused : (input : List ℕ) → IsRefused (take most_head input) → IsRefused input
 front_refused input h = subst IsRefused (front_and_rest input) (refused_stays (take most_head input) (drop most_head input) h)
 
 -- ---- a head that isn't whole
 
--- an input shorter than 8,192 bytes is unfinished if its first bytes are
+-- an input shorter than 8,192 bytes is unfinished if its first bytes hold no head and may become one
 pub short_front : (input : List ℕ) → length input < most_head → HasNoRequest (take most_head input) → MayBecomeRequest (take most_head input) → IsUnfinished input
 short_front input h none goes_on =
     let least : min most_head (length input) ≡ length input = omega arith in
@@ -96,7 +96,7 @@ short_front input h none goes_on =
 abbrev Finds : (input rest : List ℕ) → Result (Route × ℕ × List ℕ) Problem → Type 0
 Finds input rest checks = (head : RequestHead) × HasHead input head rest × ((behind : List ℕ) → verdict_with_body checks behind ≡ verdict_of head behind)
 
--- a head parsed whole is found
+-- the input has the head that was parsed whole, with the results of the checks of its spans (`Finds`)
 pub finds_head : (input front method target rest : List ℕ) (headers fields : List HeaderSpan) (spans : RequestSpans) → front ≡ take most_head input → IsRequestWithin front headers spans × IsRequestOf front headers spans → length headers ≡ most_fields → method ≡ span_bytes front spans.method → target ≡ span_bytes front spans.path → fields ≡ take spans.headers headers → rest ≡ drop spans.len input → Finds input rest (head_checks spans.version method target (seen front fields))
 finds_head input front method target rest headers fields spans e (lies, (head, at)) room method_is target_is fields_are rest_is =
     let at_front : IsRequestAt (take most_head input) headers spans head = subst (λ l. IsRequestAt l headers spans head) e at in
@@ -108,16 +108,16 @@ finds_head input front method target rest headers fields spans e (lies, (head, a
     ∙ ap (λ l. head_checks spans.version (span_bytes l spans.method) (span_bytes l spans.path) (seen l (take spans.headers headers))) e in
     (head, subst (λ l. HasHead input head l) (sym rest_is) (whole_head input headers spans head lies_front at_front room), λ behind. ap (λ c. verdict_with_body c behind) checked ∙ verdict_is input headers spans head behind at_front)
 
--- the progress on a head that was found is right (`ComesTo`)
+-- the progress on an input with a whole head is right (`ComesTo`) if it is right for the head's checks (`EndsAs`)
 pub comes_whole : (input rest : List ℕ) (checks : Result (Route × ℕ × List ℕ) Problem) (told : Progress) → Finds input rest checks → EndsAs checks rest told → ComesTo input told
 comes_whole input rest checks (Ends outcome) (head, has, same) e = whole head rest has (e ∙ same rest)
 comes_whole input rest checks (Lacks count) (head, has, same) (some, short) = (some, λ more few. whole head (rest ++ more) (head_stays input more head rest has) (sym (short more few) ∙ same (rest ++ more)))
 
--- refused first bytes give the verdict BadRequest
+-- if the first 8,192 bytes are refused, the verdict on the input is BadRequest
 pub judges_refused : (input front : List ℕ) → front ≡ take most_head input → IsRefused front → Judges input (Refused BadRequest)
 judges_refused input front e h = refused (front_refused input (subst IsRefused e h)) refl
 
--- an unfinished head of fewer than 8,192 bytes gives the verdict More
+-- an unfinished input of fewer than 8,192 bytes has the verdict More
 judges_more : (input front : List ℕ) → front ≡ take most_head input → length input < most_head → HasNoRequest front × MayBecomeRequest front → Judges input More
 judges_more input front e h (none, goes_on) = unfinished (short_front input h (subst HasNoRequest e none) (subst MayBecomeRequest e goes_on)) refl
 
@@ -126,16 +126,16 @@ short_by_one : (input : List ℕ) → Judges input More → (more : List ℕ) �
 short_by_one input h [] few = subst (λ l. Judges l More) (sym (append-nil input)) h
 short_by_one input h (x ∷ more) few = absurd (omega (arith, few))
 
--- an unfinished head lacks at least one byte
+-- an unfinished input of fewer than 8,192 bytes lacks at least one byte
 pub lacks_one : (input front : List ℕ) → front ≡ take most_head input → length input < most_head → HasNoRequest front × MayBecomeRequest front → ComesTo input (Lacks 1)
 lacks_one input front e h unfinished_front = (omega arith, short_by_one input (judges_more input front e h unfinished_front))
 
--- a consequence of what holds of the value of a result
+-- if P holds of a result's value, and P implies Q, then Q holds of it
 pub if_ok : {T E : Type 0} {P Q : T → Type 0} (r : Result T E) → ((x : T) → P x → Q x) → IfOk r P → IfOk r Q
 if_ok (Ok x) f h = f x h
 if_ok (Err e) f h = tt
 
--- the verdict of a right progress is right
+-- if a progress is right (`ComesTo`), its verdict is right (`Judges`)
 pub judges_by : (input : List ℕ) (told : Progress) → ComesTo input told → Judges input (verdict_by told)
 judges_by input (Ends outcome) h = h
 judges_by input (Lacks count) (some, short) = subst (λ l. Judges l More) (append-nil input) (short [] some)

@@ -1,4 +1,4 @@
--- Laws on reading and writing in a loop: what was read or written so far, and one call more.
+-- Laws on reading and writing in pieces: the bytes read or written so far, with those of one more call.
 use Rattle.std.proofs.Common.{◌≡◌, ℕ, ◌+◌, ◌-◌, ◌≤◌, ◌<◌, List, [], ◌++◌, length, take, drop, Option, Some, None, sym, ap, ◌∙◌, subst, inr, arith}
 use Rattle.std.specs.Io.KnownBytes.{Keeps, Appends, Consumes}
 use Rattle.std.proofs.lemmas.List.{append_assoc, append-nil, length-append}
@@ -12,28 +12,28 @@ use Rattle.atl_http.specs.declared.request.Progress.TheVariants.{Lacks}
 use Rattle.atl_http.specs.Io.{ReadsMore, Receives}
 use Rattle.std.proofs.Math.Seq.{take-add, take-length}
 
--- reading some bytes and then a piece reads both
+-- if some bytes were read and then a piece, the bytes followed by the piece were read
 pub consumes_more : (before between after : Option (List ℕ)) (seen piece : List ℕ) → Consumes before between seen → Consumes between after piece → Consumes before after (seen ++ piece)
 consumes_more None between after seen piece h k = tt
 consumes_more (Some xs) None after seen piece h k = absurd h
 consumes_more (Some xs) (Some ys) None seen piece h k = absurd k
 consumes_more (Some xs) (Some ys) (Some zs) seen piece h k = h ∙ ap (λ l. seen ++ l) k ∙ sym (append_assoc seen piece zs)
 
--- reading some bytes and then nothing reads those bytes
+-- if some bytes were read and then nothing, those bytes were read
 pub consumes_kept : (before between after : Option (List ℕ)) (seen : List ℕ) → Consumes before between seen → Keeps between after → Consumes before after seen
 consumes_kept None between after seen h k = tt
 consumes_kept (Some xs) None after seen h k = absurd h
 consumes_kept (Some xs) (Some ys) None seen h k = absurd k
 consumes_kept (Some xs) (Some ys) (Some zs) seen h k = h ∙ ap (λ l. seen ++ l) (sym k)
 
--- writing some bytes and then a piece writes both
+-- if some bytes were written and then a piece, the bytes followed by the piece were written
 pub appends_more : (before between after : Option (List ℕ)) (sent piece : List ℕ) → Appends before between sent → Appends between after piece → Appends before after (sent ++ piece)
 appends_more None between after sent piece h k = tt
 appends_more (Some xs) None after sent piece h k = absurd h
 appends_more (Some xs) (Some ys) None sent piece h k = absurd k
 appends_more (Some xs) (Some ys) (Some zs) sent piece h k = k ∙ ap (λ l. l ++ piece) h ∙ append_assoc xs sent piece
 
--- writing the first `sent` bytes and then the next `count` writes the first `sent + count`
+-- if the first `sent` bytes were written and then the next `count`, the first `sent + count` were written
 pub appends_next : (before between after : Option (List ℕ)) (bytes : List ℕ) (sent count : ℕ) → Appends before between (take sent bytes) → Appends between after (take count (drop sent bytes)) → Appends before after (take (sent + count) bytes)
 appends_next before between after bytes sent count h k =
     let P : List ℕ → Type 0 = λ l. Appends before after l in
@@ -50,30 +50,30 @@ stopped before between after seen new ReadFault h judged (kept, same) =
 stopped before between after seen new WriteFault h judged none = absurd none
 stopped before between after seen new Memory h judged done = tt
 
--- after a read that gave bytes, all bytes so far were read
+-- after one more read without a fault, exactly the bytes collected so far were read
 pub went_on : (before between after : Option (List ℕ)) (seen new : List ℕ) (count : ℕ) → Consumes before between seen → ReadsMore between after seen new (Ok count) → Consumes before after new
 went_on before between after seen new count h (piece, is, few, more, same) = subst (λ l. Consumes before after l) (sym same) (consumes_more before between after seen piece h more)
 
--- no read was done too many (`IsReadSoFar`), if the bytes before the last piece were an unfinished request
+-- if the bytes before the last read had the verdict More, no read was done too many (`IsReadSoFar`)
 pub read_so_far : (between after : Option (List ℕ)) (seen new : List ℕ) (count : ℕ) → Judges seen More → ReadsMore between after seen new (Ok count) → IsReadSoFar new
 read_so_far between after seen new count h (piece, is, few, more, same) = inr (seen, piece, same, omega (arith, is, few), h)
 
 -- ---- the number of missing bytes
 
--- the progress `Lacks count` on equal bytes
+-- if a progress that is right for some bytes is `Lacks count`, then `Lacks count` is right for equal bytes
 pub lacks : (seen items : List ℕ) (told : Progress) (count : ℕ) → seen ≡ items → told ≡ Lacks count → ComesTo seen told → ComesTo items (Lacks count)
 lacks seen items told count e f h = subst (λ l. ComesTo l (Lacks count)) e (subst (ComesTo seen) f h)
 
--- bytes that lack some have the verdict More
+-- received bytes whose right progress is `Lacks` have the verdict More
 pub no_outcome : (items : List ℕ) (count : ℕ) → ComesTo items (Lacks count) → Judges items More
 no_outcome items count (some, short) = subst (λ l. Judges l More) (append-nil items) (short [] some)
 
--- after a piece of `count` bytes, that many fewer are missing
+-- after a read of `count` bytes, `count` fewer are missing
 pub short_by_less : (between after : Option (List ℕ)) (seen new : List ℕ) (lacking count : ℕ) → ComesTo seen (Lacks lacking) → ReadsMore between after seen new (Ok count) → IsShortBy new (lacking - count)
 short_by_less between after seen new lacking count (some, short) (piece, is, few, came, same) more fewer =
     let together : length (piece ++ more) < lacking = (let k = length-append piece more in omega (arith, k, is, fewer)) in
     subst (λ l. Judges l More) (sym (append_assoc seen piece more) ∙ ap (λ l. l ++ more) (sym same)) (short (piece ++ more) together)
 
--- the number of missing bytes for equal bytes
+-- if some bytes lack `count` bytes, equal bytes lack as many
 pub short_still : (seen items : List ℕ) (count : ℕ) → seen ≡ items → IsShortBy items count → IsShortBy seen count
 short_still seen items count e short = subst (λ l. IsShortBy l count) (sym e) short

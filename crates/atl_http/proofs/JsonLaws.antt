@@ -1,16 +1,19 @@
--- Laws on the body of a join: JSON is read from UTF-8 alone.
+-- Laws on the body of a join: it is read as JSON if it is UTF-8, and has no value otherwise.
 use Rattle.std.proofs.Common.{◌≡◌, ℕ, Bool, true, false, cond, List, None, refl, ap}
 use Rattle.std.specs.Str.{is_utf8, IsUtf8}
 use Rattle.std.proofs.lemmas.Str.{is_utf8-from_IsUtf8, IsUtf8-from_is_utf8}
 use Rattle.serde_json.specs.Read.{read}
 use Rattle.atl_http.specs.Checks.{json_of}
 
+-- the JSON value of a body that is UTF-8 is the one that `read` gives
 pub json_read : (body : List ℕ) → IsUtf8 body → json_of body ≡ read body
 json_read body h = ap (λ t. cond t (read body) None) (is_utf8-from_IsUtf8 body h)
 
+-- a choice by the test for UTF-8 is None for a body that is not UTF-8
 no_text : (t : Bool) (body : List ℕ) → is_utf8 body ≡ t → (IsUtf8 body → ⊥) → cond t (read body) None ≡ None
 no_text true body e h = absurd (h (IsUtf8-from_is_utf8 body e))
 no_text false body e h = refl
 
+-- a body that is not UTF-8 has no JSON value
 pub json_none : (body : List ℕ) → (IsUtf8 body → ⊥) → json_of body ≡ None
 json_none body h = no_text (is_utf8 body) body refl h

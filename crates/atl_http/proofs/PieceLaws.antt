@@ -17,7 +17,7 @@ use Rattle.atl_http.proofs.HeadLaws.{head_stays, refused_stays}
 
 -- ---- more bytes
 
--- the verdict on a whole body stays with more bytes, where it is known whether the body is short
+-- a final verdict on a head with its body stays the same when more bytes follow, by whether the body is short
 ended_at : (short : Bool) (route : Route) (size : ℕ) (pass rest more : List ℕ) → nat_lt (length rest) size ≡ short → IsFinal (cond short More (verdict_on_request (request_of route pass (take size rest)))) → cond (nat_lt (length (rest ++ more)) size) More (verdict_on_request (request_of route pass (take size (rest ++ more)))) ≡ cond short More (verdict_on_request (request_of route pass (take size rest)))
 ended_at true route size pass rest more e final = absurd final
 ended_at false route size pass rest more e final =
@@ -26,17 +26,17 @@ ended_at false route size pass rest more e final =
     ap (λ t. cond t More (verdict_on_request (request_of route pass (take size (rest ++ more))))) longer
     ∙ ap (λ body. verdict_on_request (request_of route pass body)) (take-append-le size rest more long)
 
--- a final verdict by the checks stays with more bytes
+-- a final verdict by the checks of a head stays the same when more bytes follow
 ended_still : (wanted : Result (Route × ℕ × List ℕ) Problem) (rest more : List ℕ) → IsFinal (verdict_with_body wanted rest) → verdict_with_body wanted (rest ++ more) ≡ verdict_with_body wanted rest
 ended_still (Err problem) rest more final = refl
 ended_still (Ok (route, size, pass)) rest more final = ended_at (nat_lt (length rest) size) route size pass rest more refl final
 
--- a head that is too long stays so with more bytes
+-- an input whose head is too long still is one when more bytes follow
 long_stays : (input more : List ℕ) → IsTooLong input → IsTooLong (input ++ more)
 long_stays input more (long, none) =
     ((let k = length-append input more in omega (arith, long, k)), subst HasNoRequest (sym (take-append-le most_head input more long)) none)
 
--- a final verdict stays with more bytes
+-- a final verdict stays right when more bytes follow
 pub judged_still : (input more : List ℕ) (v : Verdict) → Judges input v → IsFinal v → Judges (input ++ more) v
 judged_still input more v (whole head rest h e) final =
     whole head (rest ++ more) (head_stays input more head rest h) (e ∙ sym (ended_still (head_checks head.minor head.method head.target (fields_of head)) rest more (subst IsFinal e final)))
@@ -53,6 +53,8 @@ not_refused input head rest h (inr (exceeds, over)) =
     let many = over [] head rest (subst (λ l. ReadsRequest l head rest) (sym (append-nil input)) h.reads) in
     let few = h.fields in omega (arith, many, few)
 
+-- if a list has at most `n` elements, the first `n` of it and a second list are the whole list, then the first of the
+-- second
 take-append-more : (n : ℕ) (xs ys : List ℕ) → length xs ≤ n → take n (xs ++ ys) ≡ xs ++ take (n - length xs) ys
 take-append-more n xs ys h =
     let e : n ≡ length xs + (n - length xs) = omega arith in

@@ -24,20 +24,21 @@ use Rattle.atl_http.proofs.FrontLaws.{behind_is, first_behind, number_row, end_n
 
 -- ---- the text of a number in a path
 
--- the name of the routes' parameter: number
+-- the name of the routes' parameter: `number`
 abbrev number_text : List ℕ
 number_text = codes "number"
 
+-- a byte below the parameter's token, before a text without a parameter, makes a text without a parameter
 text_step : (b : ℕ) (front : List ℕ) (t : Bool) → ltb b param_token ≡ t → (list_all (λ c. ltb c param_token) front ≡ true → IsText front) → (t && list_all (λ c. ltb c param_token) front) ≡ true → IsText (b ∷ front)
 text_step b front true e ih h = (grind (arith, nat_tests), ih h)
 text_step b front false e ih h = cc
 
--- a text of bytes below the parameter's token has no parameter
+-- a text whose bytes are all below the parameter's token has no parameter (`IsText`)
 is_text : (front : List ℕ) → list_all (λ b. ltb b param_token) front ≡ true → IsText front
 is_text [] h = tt
 is_text (b ∷ front) h = text_step b front (ltb b param_token) refl (λ k. is_text front k) h
 
--- the router's walk passes a prefix byte by byte
+-- walking a route's pattern along a path passes the prefix, and reaches the parameter after it
 walk_front : (front : List ℕ) (len t : ℕ) → IsText front → t + length front ≤ len → wild_from (front ++ param_token ∷ []) len t t ≡ (t + length front, t + length front)
 walk_front [] len t h l = rw (add-zero t) refl
 walk_front (b ∷ front) len t h l =
@@ -47,7 +48,7 @@ walk_front (b ∷ front) len t h l =
     let same : t + 1 + length front ≡ t + length (b ∷ front) = omega arith in
     rw (byte, inside, walk_front front len (t + 1) h.1 more, same) refl
 
--- the part of a path from an index to its end is the rest of the path
+-- the part of a path from index `n` to its end is the path without its first `n` bytes
 part_rest : (path : List ℕ) (n : ℕ) → n ≤ length path → part_of path n (length path) ≡ drop n path
 part_rest path n h =
     let one : leb n (length path) ≡ true = grind (arith, nat_tests) in
@@ -55,6 +56,8 @@ part_rest path n h =
     let count : length (drop n path) ≡ length path - n = length-drop n path in
     rw (one, two, ← count) (take-length (drop n path))
 
+-- if a pattern's prefix has `n` bytes and its parameter is last, the walk takes the path without its first `n` bytes as
+-- `number`
 takes : (pattern text path rest : List ℕ) (start end n : ℕ) → wild_from pattern (length path) 0 0 ≡ (n, n) → (ltb n (length pattern) && (get_or pattern n 0 == param_token) && ltb (n + 1) (length pattern)) ≡ false → part_of text start end ≡ number_text → drop n path ≡ rest → n ≤ length path → walk pattern text path ((start, end) ∷ []) 0 0 ≡ (number_text, rest) ∷ []
 takes pattern text path rest start end n at last named_is rest_is h =
     rw (at, last, named_is, part_rest path n h, rest_is) refl
@@ -87,20 +90,20 @@ takes_report rest =
 
 -- ---- the route of each path
 
--- What the router finds for a path: the route Join, a route with a number, or nothing, and `route_of` says the same.
+-- The router finds the route Join, a route with a number, or nothing for this path, and `route_of` gives the same.
 data Leads (path : List ℕ) : Type 0 where
   to_join : first rows path ≡ Some 1 → IsUtf8 path → route_of path ≡ Some route.Join → Leads path
   to_number : (key : ℕ) → (rest : List ℕ) → first rows path ≡ Some key → Takes key path rest → (IsUtf8 path → IsUtf8 rest) → (route_of path ≡ None) ⊎ IsUtf8 path → route_of path ≡ route_in (kept_at key).value (Some rest) → Leads path
   nowhere : first rows path ≡ None → route_of path ≡ None → Leads path
 
--- The facts on the prefix of a route with a number that the lookup needs.
+-- What the lookup needs of the prefix of a route with a number: the rest is its parameter, and both are UTF-8 together.
 record Fronted (key : ℕ) (front : List ℕ) : Type 0 where
   takes_rest : (rest : List ℕ) → Takes key (front ++ rest) rest
   cut : (rest : List ℕ) → IsUtf8 (front ++ rest) → IsUtf8 rest
   joins : (rest : List ℕ) → IsUtf8 rest → IsUtf8 (front ++ rest)
   without : (rest : List ℕ) → number_of rest ≡ None → route_in (kept_at key).value (Some rest) ≡ None
 
--- a prefix of ASCII has these facts
+-- a UTF-8 prefix that ends in an ASCII byte, whose rest is the parameter, fulfils `Fronted`
 fronted : (key last : ℕ) (front : List ℕ) → length front ≡ last + 1 → IsUtf8 front → ((rest : List ℕ) → get_or (front ++ rest) last 0 < 128) → ((rest : List ℕ) → Takes key (front ++ rest) rest)
     → ((rest : List ℕ) → number_of rest ≡ None → route_in (kept_at key).value (Some rest) ≡ None) → Fronted key front
 fronted key last front count text ascii takes_rest without = record {
@@ -112,21 +115,24 @@ fronted key last front count text ascii takes_rest without = record {
   without = without;
 }
 
+-- the prefix `/close/` fulfils `Fronted`
 fronted_close : Fronted 0 (codes "/close/")
 fronted_close = fronted 0 6 (codes "/close/") refl (ascii_utf8 (codes "/close/") refl) (λ rest. lit< tt) takes_close (λ rest e. ap (option_map route.Close) e)
 
+-- the prefix `/orders/` fulfils `Fronted`
 fronted_orders : Fronted 2 (codes "/orders/")
 fronted_orders = fronted 2 7 (codes "/orders/") refl (ascii_utf8 (codes "/orders/") refl) (λ rest. lit< tt) takes_orders (λ rest e. ap (option_map route.Orders) e)
 
+-- the prefix `/report/` fulfils `Fronted`
 fronted_report : Fronted 3 (codes "/report/")
 fronted_report = fronted 3 7 (codes "/report/") refl (ascii_utf8 (codes "/report/") refl) (λ rest. lit< tt) takes_report (λ rest e. ap (option_map route.Report) e)
 
--- the route of a key with the number in the rest of a path, if there is a rest
+-- the route of a key with the number in the rest of a path; None if there is no rest
 abbrev in_found : ℕ → Option (List ℕ) → Option Route
 in_found key None = None
 in_found key (Some rest) = route_in (kept_at key).value (Some rest)
 
--- a path with the prefix leads to the route with its number, or nowhere
+-- a path with the prefix of a numbered route fulfils `Leads`: it leads to this route, or nowhere
 leads_number : (key : ℕ) (front path rest : List ℕ) → path ≡ front ++ rest → Fronted key front → first rows path ≡ first (number_row key) rest → route_of path ≡ route_in (kept_at key).value (Some rest) → NumberSays key rest → Leads path
 leads_number key front path rest p f a b (inl (e, inl none)) =
     to_number key rest (a ∙ e) (subst (λ l. Takes key l rest) (sym p) (f.takes_rest rest)) (λ u. f.cut rest (subst IsUtf8 p u)) (inl (b ∙ f.without rest none)) b
@@ -134,43 +140,43 @@ leads_number key front path rest p f a b (inl (e, inr text)) =
     to_number key rest (a ∙ e) (subst (λ l. Takes key l rest) (sym p) (f.takes_rest rest)) (λ u. f.cut rest (subst IsUtf8 p u)) (inr (subst IsUtf8 (sym p) (f.joins rest text))) b
 leads_number key front path rest p f a b (inr (e, none)) = nowhere (a ∙ e) (b ∙ f.without rest none)
 
--- the same, where it is known whether the path has the prefix
+-- a path that begins with `/` and a route's first letter fulfils `Leads`, whether it has the route's prefix or not
 leads_by : (key c : ℕ) (w q : List ℕ) (found : Option (List ℕ)) → after_prefix w q ≡ found → Fronted key (47 ∷ c ∷ w) → first rows (47 ∷ c ∷ q) ≡ option_and_then (λ rest. first (number_row key) rest) found → route_of (47 ∷ c ∷ q) ≡ in_found key found → Leads (47 ∷ c ∷ q)
 leads_by key c w q None h f a b = nowhere a b
 leads_by key c w q (Some rest) h f a b = leads_number key (47 ∷ c ∷ w) (47 ∷ c ∷ q) rest (ap (λ l. 47 ∷ c ∷ l) (behind_is w q rest h)) f a b (number_says key rest)
 
--- the rows of the router after the slash that all have in front
+-- the rows of the router without the slash that each begins with
 abbrev after_slash : Rows
 after_slash = (codes "close/" ++ param_token ∷ [], 0) ∷ (codes "join", 1) ∷ (codes "orders/" ++ param_token ∷ [], 2) ∷ (codes "report/" ++ param_token ∷ [], 3) ∷ []
 
--- looking up a path looks up its rest after the slash
+-- looking up a path looks up the rest of the path after its slash, or finds nothing
 slash_first : (path : List ℕ) → first rows path ≡ option_and_then (λ rest. first after_slash rest) (after_prefix (codes "/") path)
 slash_first path = first_behind (codes "/") after_slash path (lit< tt, tt)
 
--- looking up after the slash goes by the next letter
+-- looking up the rest after the slash steps to the rows that begin with its first letter
 letter_step : (c : ℕ) (q : List ℕ) → first after_slash (c ∷ q) ≡ seek 0 (step c after_slash) q
 unfolding seek
 letter_step c q = simp (param_step-empty (c ∷ q), seek-empty ((param_step {K = ℕ} [] (c ∷ q)).0 - 1) q, or_else-none)
 
--- looking up a path goes by the slash and the next letter
+-- looking up a path that begins with a slash steps to the rows that have its next letter
 letter_first : (c : ℕ) (q : List ℕ) → first rows (47 ∷ c ∷ q) ≡ seek 0 (step c after_slash) q
 letter_first c q = slash_first (47 ∷ c ∷ q) ∙ letter_step c q
 
--- where paths that begin with `/c` lead
+-- each path that begins with `/c` fulfils `Leads`: to the route Close, or nowhere
 leads_close : (q : List ℕ) → Leads (47 ∷ 99 ∷ q)
 unfolding route_of
 leads_close q =
     let same : (x : Option (List ℕ)) → numbered route.Close x None ≡ in_found 0 x = λ x. elim x as (λ x. numbered route.Close x None ≡ in_found 0 x) [ None ↦ refl | Some r ↦ refl ] in
     leads_by 0 99 (codes "lose/") q (after_prefix (codes "lose/") q) refl fronted_close (letter_first 99 q ∙ first_behind (codes "lose/") (number_row 0) q (is_text (codes "lose/") refl)) (same (after_prefix (codes "lose/") q))
 
--- where paths that begin with `/o` lead
+-- each path that begins with `/o` fulfils `Leads`: to the route Orders, or nowhere
 leads_orders : (q : List ℕ) → Leads (47 ∷ 111 ∷ q)
 unfolding route_of
 leads_orders q =
     let same : (x : Option (List ℕ)) → numbered route.Orders x None ≡ in_found 2 x = λ x. elim x as (λ x. numbered route.Orders x None ≡ in_found 2 x) [ None ↦ refl | Some r ↦ refl ] in
     leads_by 2 111 (codes "rders/") q (after_prefix (codes "rders/") q) refl fronted_orders (letter_first 111 q ∙ first_behind (codes "rders/") (number_row 2) q (is_text (codes "rders/") refl)) (same (after_prefix (codes "rders/") q))
 
--- where paths that begin with `/r` lead
+-- each path that begins with `/r` fulfils `Leads`: to the route Report, or nowhere
 leads_report : (q : List ℕ) → Leads (47 ∷ 114 ∷ q)
 unfolding route_of
 leads_report q =
@@ -181,7 +187,7 @@ leads_report q =
 abbrev join_row : Rows
 join_row = ([], 1) ∷ []
 
--- a path longer than `/join` finds nothing
+-- in the row of `/join`, a path that begins with `/j` and isn't `/join` finds nothing
 join_none : (q : List ℕ) (found : Option (List ℕ)) → after_prefix (codes "oin") q ≡ found → (q ≡ codes "oin" → ⊥) → option_and_then (λ rest. first join_row rest) found ≡ None
 join_none q None h n = refl
 join_none q (Some []) h n = absurd (n (behind_is (codes "oin") q [] h))
@@ -192,17 +198,17 @@ at_join : Leads (codes "/join")
 unfolding seek route_of
 at_join = to_join refl (ascii_utf8 (codes "/join") refl) refl
 
--- where paths that begin with `/j` lead, if it is known whether the path is `/join`
+-- each path that begins with `/j` fulfils `Leads`, by whether the path is `/join`
 join_by : (q : List ℕ) (t : Bool) → bytes_eq q (codes "oin") ≡ t → Leads (47 ∷ 106 ∷ q)
 unfolding route_of
 join_by q true e = subst Leads (ap (λ l. 47 ∷ 106 ∷ l) (sym ((bytes_eq-Decides q (codes "oin")).0 e))) at_join
 join_by q false e = nowhere (letter_first 106 q ∙ first_behind (codes "oin") join_row q (is_text (codes "oin") refl) ∙ join_none q (after_prefix (codes "oin") q) refl (λ k. let yes = (bytes_eq-Decides q (codes "oin")).1 k in cc)) (rw e refl)
 
--- where paths that begin with `/j` lead
+-- each path that begins with `/j` fulfils `Leads`: to the route Join, or nowhere
 leads_join : (q : List ℕ) → Leads (47 ∷ 106 ∷ q)
 leads_join q = join_by q (bytes_eq q (codes "oin")) refl
 
--- where paths lead whose letter after the slash begins no route: nowhere
+-- each path whose byte after the slash is not `c`, `j`, `o` or `r` fulfils `Leads`: it leads nowhere
 leads_other : (c : ℕ) (q : List ℕ) → (c == 99) ≡ false → (c == 106) ≡ false → (c == 111) ≡ false → (c == 114) ≡ false → Leads (47 ∷ c ∷ q)
 unfolding route_of
 leads_other c q one two three four =
@@ -212,41 +218,41 @@ leads_other c q one two three four =
     let first_four : (114 == c) ≡ false = grind (arith, nat_tests) in
     nowhere (letter_first c q ∙ rw (first_one, first_two, first_three, first_four) (seek-empty 0 q)) (rw (one, two, three, four) refl)
 
--- where paths lead with no `c`, `j` or `o` after the slash, if it is known whether it is `r`
+-- each path without `c`, `j` or `o` after the slash fulfils `Leads`, by whether that byte is `r`
 letter_report : (c : ℕ) (q : List ℕ) → (c == 99) ≡ false → (c == 106) ≡ false → (c == 111) ≡ false → (t : Bool) → (c == 114) ≡ t → Leads (47 ∷ c ∷ q)
 letter_report c q one two three true e =
     let same : 114 ≡ c = grind (arith, nat_tests) in
     subst (λ x. Leads (47 ∷ x ∷ q)) same (leads_report q)
 letter_report c q one two three false e = leads_other c q one two three e
 
--- where paths lead with no `c` or `j` after the slash, if it is known whether it is `o`
+-- each path without `c` or `j` after the slash fulfils `Leads`, by whether that byte is `o`
 letter_orders : (c : ℕ) (q : List ℕ) → (c == 99) ≡ false → (c == 106) ≡ false → (t : Bool) → (c == 111) ≡ t → Leads (47 ∷ c ∷ q)
 letter_orders c q one two true e =
     let same : 111 ≡ c = grind (arith, nat_tests) in
     subst (λ x. Leads (47 ∷ x ∷ q)) same (leads_orders q)
 letter_orders c q one two false e = letter_report c q one two e (c == 114) refl
 
--- where paths lead with no `c` after the slash, if it is known whether it is `j`
+-- each path without `c` after the slash fulfils `Leads`, by whether that byte is `j`
 letter_join : (c : ℕ) (q : List ℕ) → (c == 99) ≡ false → (t : Bool) → (c == 106) ≡ t → Leads (47 ∷ c ∷ q)
 letter_join c q one true e =
     let same : 106 ≡ c = grind (arith, nat_tests) in
     subst (λ x. Leads (47 ∷ x ∷ q)) same (leads_join q)
 letter_join c q one false e = letter_orders c q one e (c == 111) refl
 
--- where paths lead with a letter after the slash, if it is known whether it is `c`
+-- each path with a byte after the slash fulfils `Leads`, by whether that byte is `c`
 letter_close : (c : ℕ) (q : List ℕ) (t : Bool) → (c == 99) ≡ t → Leads (47 ∷ c ∷ q)
 letter_close c q true e =
     let same : 99 ≡ c = grind (arith, nat_tests) in
     subst (λ x. Leads (47 ∷ x ∷ q)) same (leads_close q)
 letter_close c q false e = letter_join c q e (c == 106) refl
 
--- where paths that begin with a slash lead
+-- each path that begins with a slash fulfils `Leads`
 leads_slash : (q : List ℕ) → Leads (47 ∷ q)
 unfolding seek route_of
 leads_slash [] = nowhere (slash_first (47 ∷ [])) refl
 leads_slash (c ∷ q) = letter_close c q (c == 99) refl
 
--- where paths that are not empty lead
+-- each path that is not empty fulfils `Leads`, by whether it begins with a slash
 leads_begin : (a : ℕ) (q : List ℕ) (t : Bool) → (a == 47) ≡ t → Leads (a ∷ q)
 unfolding route_of
 leads_begin a q true e =
@@ -254,7 +260,7 @@ leads_begin a q true e =
     subst (λ x. Leads (x ∷ q)) same (leads_slash q)
 leads_begin a q false e = nowhere (slash_first (a ∷ q) ∙ rw e refl) (rw e refl)
 
--- the router finds for each path the route of `route_of`
+-- each path fulfils `Leads`: the router finds the route that `route_of` gives
 leads : (path : List ℕ) → Leads path
 unfolding seek route_of
 leads [] = nowhere refl refl
@@ -262,16 +268,17 @@ leads (a ∷ q) = leads_begin a q (a == 47) refl
 
 -- ---- the laws that the code needs
 
--- the router with its routes finds what its rows with indexes find
+-- the router finds the route whose index its rows give
 kept_first : (path : List ℕ) (found : Option ℕ) → first rows path ≡ found → first kept path ≡ map_key kept_at found
 kept_first path found e = first-rename kept_at rows path ∙ ap (map_key kept_at) e
 
+-- if the router finds nothing for a path that fulfils `Leads`, the path has no route
 missing_by : (path : List ℕ) → first kept path ≡ None → Leads path → route_of path ≡ None
 missing_by path h (to_join e text is) = (let some = kept_first path (Some 1) e in cc)
 missing_by path h (to_number key rest e taken cut text is) = (let some = kept_first path (Some key) e in cc)
 missing_by path h (nowhere e is) = is
 
--- if the router finds nothing, the path has no route
+-- if the router finds nothing for a path, `route_of` gives no route
 pub missing : (path : List ℕ) → first kept path ≡ None → route_of path ≡ None
 missing path h = missing_by path h (leads path)
 
@@ -279,7 +286,7 @@ missing path h = missing_by path h (leads path)
 abbrev Says : (path : List ℕ) → RouteOf RouteKey → Type 0
 Says path e = AllText (walk e.pattern e.text path e.names 0 0) × (route_of path ≡ route_in e.value (named (codes "number") (walk e.pattern e.text path e.names 0 0)))
 
--- the route found for a path is right, by what the path leads to
+-- the route found for a UTF-8 path that fulfils `Leads` fulfils `Says`
 route_by : (path : List ℕ) (e : RouteOf RouteKey) → IsUtf8 path → first kept path ≡ Some e → Leads path → Says path e
 route_by path e text h (to_join at utf8 is) =
     let same : kept_at 1 ≡ e = (let some = kept_first path (Some 1) at in cc) in
@@ -289,26 +296,27 @@ route_by path e text h (to_number key rest at taken cut utf8 is) =
     subst (λ x. Says path x) same (rw taken (ascii_utf8 (codes "number") refl, cut text, tt), rw taken is)
 route_by path e text h (nowhere at is) = (let none = kept_first path None at in cc)
 
--- the route found for a path is right
+-- the route found for a UTF-8 path fulfils `Says`
 found : (path : List ℕ) (e : RouteOf RouteKey) → IsUtf8 path → first kept path ≡ Some e → Says path e
 found path e text h = route_by path e text h (leads path)
 
--- This is the result of looking up the parameter `number` among those that were taken.
+-- `r` is the result of looking up the parameter `number` among the parameters taken from a path, if these are UTF-8.
 abbrev Gets : {A : Type 0} → (A → List ℕ) → Option A → List (List ℕ × List ℕ) → Type 0
 Gets view r taken = AllText taken → MatchOption r (named number_text taken ≡ None) (λ text. named number_text taken ≡ Some (view text))
 
--- a look-up of the parameter gives its text
+-- if a lookup's result is right for the parameter's text, the text is that result seen through `view`
 got_is : {A : Type 0} (view : A → List ℕ) (r : Option A) (text : Option (List ℕ)) → MatchOption r (text ≡ None) (λ x. text ≡ Some (view x)) → text ≡ option_map view r
 got_is view None text h = h
 got_is view (Some x) text h = h
 
--- the route by the found key and parameter is that of `route_of`
+-- for a UTF-8 path, the route made from the found key and its parameter is that of `route_of`
 pub got : {A : Type 0} (view : A → List ℕ) (r : Option A) (path given : List ℕ) (e : RouteOf RouteKey) (route : Option Route) → given ≡ path → IsUtf8 path → first kept path ≡ Some e → Gets view r (walk e.pattern e.text given e.names 0 0) → route ≡ route_in e.value (option_map view r) → route ≡ route_of path
 got view r path given e route same text at gets is =
     let says : Says path e = found path e text at in
     let taken : Gets view r (walk e.pattern e.text path e.names 0 0) = subst (λ l. Gets view r (walk e.pattern e.text l e.names 0 0)) same gets in
     is ∙ ap (λ x. route_in e.value x) (sym (got_is view r (named number_text (walk e.pattern e.text path e.names 0 0)) (taken says.0))) ∙ sym says.1
 
+-- a path that is not UTF-8 and fulfils `Leads` has no route
 no_text_by : (path : List ℕ) → (IsUtf8 path → ⊥) → Leads path → route_of path ≡ None
 no_text_by path h (to_join e text is) = absurd (h text)
 no_text_by path h (to_number key rest e taken cut (inl none) is) = none

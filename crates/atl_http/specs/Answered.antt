@@ -21,12 +21,12 @@ joined_body faction unit = codes "{\"faction\":" ▸ decimal faction ▸ codes "
 unfoldable pub pair : FaultyLine → List ℕ
 pair faulty = codes "[" ▸ decimal faulty.line ▸ codes "," ▸ decimal (fault_number faulty.fault) ▸ codes "]"
 
--- the further faulty lines, each with a comma in front
+-- the faulty lines after the first as pairs [L,K], each with a comma in front
 abbrev pub more_pairs : List FaultyLine → List ℕ
 more_pairs [] = []
 more_pairs (faulty ∷ more) = (codes "," ▸ pair faulty) ▸ more_pairs more
 
--- all faulty lines, with commas between them
+-- all faulty lines as pairs [L,K], with commas between them
 abbrev pub pairs : List FaultyLine → List ℕ
 pairs [] = []
 pairs (faulty ∷ more) = pair faulty ▸ more_pairs more
@@ -45,7 +45,7 @@ success kind body = record { status = 200; allow = None; kind = kind; body = bod
 
 -- ---- refusals and faults
 
--- the HTTP status for a refusal; 400 for those that aren't named
+-- the HTTP status for a refusal; 400 for refusals that aren't listed here
 abbrev pub refusal_status : Refusal → ℕ
 refusal_status NameTaken = 409
 refusal_status Full = 409

@@ -1,4 +1,5 @@
--- What single reads and writes return, and how reading a request and writing its reply end. See docs/FORMATS.md, "For developers".
+-- What single reads and writes return, and how reading a request and writing its reply end. See docs/FORMATS.md, "For
+-- developers".
 use Rattle.std.specs.Prelude.{◌≡◌, ◌≢◌, ◌≤◌, ◌<◌, ◌+◌, ◌⊎◌, ℕ, zero, List, [], length, take, Option, Result, Ok, Err, ⊤}
 use Rattle.std.specs.Io.KnownBytes.{Keeps, Appends, Consumes, IsAtEnd}
 use Rattle.std.specs.IoError.{error_kind}
@@ -23,7 +24,8 @@ most_interrupted = 1000000
 
 -- ---- one read
 
--- This is the outcome of one read that returned so: no bytes are the end of the input, and an error is an interruption or a failure.
+-- The outcome of one read by its result: a piece, or the end of the input for no bytes; an interruption or a failure
+-- for an error.
 abbrev pub IsReadOutcome : Result ℕ Error → ReadOutcome → Type 0
 IsReadOutcome (Ok count) (came.Piece n) = (n ≡ count) × (0 < count)
 IsReadOutcome (Ok count) came.End = count ≡ 0
@@ -34,43 +36,46 @@ IsReadOutcome (Err e) came.End = ⊥
 IsReadOutcome (Err e) came.Interrupted = error_kind e ≡ kind.Interrupted
 IsReadOutcome (Err e) came.Failed = error_kind e ≢ kind.Interrupted
 
--- A read with this outcome takes a piece from the bytes that the reader has left, and puts it at the front of the buffer `room`; else nothing.
+-- What one read does, by its outcome: a piece goes from the remaining bytes to the front of `room`. Any other outcome
+-- takes no bytes.
 abbrev pub GivesBytes : (before after : Option (List ℕ)) → (room : List ℕ) → ReadOutcome → Type 0
 GivesBytes before after room (came.Piece count) = (0 < count) × (count ≤ length room) × Consumes before after (take count room)
 GivesBytes before after room came.End = Keeps before after × IsAtEnd after
 GivesBytes before after room came.Interrupted = Keeps before after
 GivesBytes before after room came.Failed = Keeps before after
 
--- the count before the first read
+-- the counters before the first read
 abbrev pub no_reads : Reads
 no_reads = record { count = 0; last = came.Piece 0 }
 
--- One read is done with the outcome `told`, and counted.
+-- One read is done with this outcome, which is kept as the last one, and the count of reads is one more.
 abbrev pub ReadsOnce : (before after : Option (List ℕ)) → (room : List ℕ) → (old new : Reads) → ReadOutcome → Type 0
 ReadsOnce before after room old new told = GivesBytes before after room told × (new ≡ record { count = old.count + 1; last = told })
 
--- After this outcome reading goes on: it was a piece or an interruption.
+-- After this outcome another read may follow: it was a piece or an interruption.
 abbrev pub GoesOn : ReadOutcome → Type 0
 GoesOn (came.Piece count) = ⊤
 GoesOn came.Interrupted = ⊤
 GoesOn came.End = ⊥
 GoesOn came.Failed = ⊥
 
--- These reads explain the fault: the input ended (Cut), or a read failed or was the last one allowed (ReadFault). Memory runs out only while reading goes on.
+-- The reads explain the fault: the input ended (Cut), or a read failed or was the last one allowed (ReadFault).
+-- Memory needs a last read that gave a piece or was interrupted; WriteFault is never explained.
 abbrev pub ReadFaultOf : Reads → HttpFault → Type 0
 ReadFaultOf reads Cut = reads.last ≡ came.End
 ReadFaultOf reads ReadFault = (reads.last ≡ came.Failed) ⊎ (GoesOn reads.last × (reads.count ≡ most_reads))
 ReadFaultOf reads WriteFault = ⊥
 ReadFaultOf reads Memory = GoesOn reads.last
 
--- These reads fit the result of reading a request: at most the limit were done, and a fault is explained by them.
+-- The reads agree with the result of reading a request: at most `most_reads` were done, and they explain a fault.
 abbrev pub EndsReading : {X : Type 0} → Reads → Result X HttpFault → Type 0
 EndsReading reads (Ok x) = (reads.count ≤ most_reads) × GoesOn reads.last
 EndsReading reads (Err fault) = (reads.count ≤ most_reads) × ReadFaultOf reads fault
 
 -- ---- one write
 
--- This is the outcome of one write that returned so: no byte taken is a failure, and an error is an interruption or a failure.
+-- The outcome of one write by its result: bytes taken; a failure for no bytes; an interruption or a failure for an
+-- error.
 abbrev pub IsWriteOutcome : Result ℕ Error → WriteOutcome → Type 0
 IsWriteOutcome (Ok count) (written.Taken n) = (n ≡ count) × (0 < count)
 IsWriteOutcome (Ok count) written.Interrupted = ⊥
@@ -79,13 +84,14 @@ IsWriteOutcome (Err e) (written.Taken n) = ⊥
 IsWriteOutcome (Err e) written.Interrupted = error_kind e ≡ kind.Interrupted
 IsWriteOutcome (Err e) written.Failed = error_kind e ≢ kind.Interrupted
 
--- A write with this outcome has appended the first `count` bytes of `rest`, or nothing.
+-- What one write does, by its outcome: it has appended the first `count` bytes of `rest`, or nothing if interrupted or
+-- failed.
 abbrev pub Takes : (before after : Option (List ℕ)) → (rest : List ℕ) → WriteOutcome → Type 0
 Takes before after rest (written.Taken count) = (0 < count) × (count ≤ length rest) × Appends before after (take count rest)
 Takes before after rest written.Interrupted = Appends before after []
 Takes before after rest written.Failed = Appends before after []
 
--- the count before the first write
+-- the counters before the first write
 abbrev pub no_writes : Writes
 no_writes = record { interrupted = 0; last = written.Taken 0 }
 
@@ -95,26 +101,28 @@ with_write old (written.Taken count) = record { interrupted = old.interrupted; l
 with_write old written.Interrupted = record { interrupted = old.interrupted + 1; last = written.Interrupted }
 with_write old written.Failed = record { interrupted = old.interrupted; last = written.Failed }
 
--- One write is done with the outcome `told`, and counted if it was interrupted.
+-- One write is done with this outcome, which is kept as the last one, and counted if it was interrupted.
 abbrev pub WritesOnce : (before after : Option (List ℕ)) → (rest : List ℕ) → (old new : Writes) → WriteOutcome → Type 0
 WritesOnce before after rest old new told = Takes before after rest told × (new ≡ with_write old told)
 
--- These writes explain the fault WriteFault: the last one failed, or the allowed number was interrupted.
+-- The writes explain the fault WriteFault: the last one failed, or `most_interrupted` were interrupted. They explain no
+-- other fault.
 abbrev pub WriteFaultOf : Writes → HttpFault → Type 0
 WriteFaultOf writes Cut = ⊥
 WriteFaultOf writes ReadFault = ⊥
 WriteFaultOf writes WriteFault = (writes.last ≡ written.Failed) ⊎ (writes.interrupted ≡ most_interrupted)
 WriteFaultOf writes Memory = ⊥
 
--- These writes fit the result of writing a reply: a fault is explained by them.
+-- The writes agree with the result of writing a reply: fewer than `most_interrupted` were interrupted, or they explain
+-- the fault.
 abbrev pub EndsWriting : Writes → Result (Unit {0}) HttpFault → Type 0
 EndsWriting writes (Ok done) = writes.interrupted < most_interrupted
 EndsWriting writes (Err fault) = (writes.interrupted ≤ most_interrupted) × WriteFaultOf writes fault
 
 -- ---- the whole
 
--- These reads and writes fit the result of serving a request: the reads explain why there is no request, the writes why there is no whole reply.
--- Memory runs out only while reading goes on and before the first write.
+-- The reads and writes agree with the result of serving a request: the reads explain a missing request, the writes an
+-- unfinished reply. Memory runs out only before the first write, and not after a read that failed or found the end.
 abbrev pub EndsBy : Reads → Writes → Result ℕ HttpFault → Type 0
 EndsBy reads writes (Ok status) = EndsReading reads (Ok status) × EndsWriting writes (Ok tt)
 EndsBy reads writes (Err Cut) = EndsReading {X = ℕ} reads (Err Cut) × (writes ≡ no_writes)

@@ -18,20 +18,20 @@ use Rattle.atl_orders.specs.Limits.{most_bytes}
 use Rattle.atl_http.specs.Routes.{number_of, path_of, route_of, method_of}
 use Rattle.atl_http.specs.Fields.{Pair, fields_of, values_of, only}
 
--- the value, or this problem if there is none
+-- the value in an option, or this problem if there is none
 abbrev pub or_problem : {A : Type 0} → Problem → Option A → Result A Problem
 or_problem problem None = Err problem
 or_problem problem (Some x) = Ok x
 
 -- ---- the first check: a request of HTTP/1.1 has exactly one Host
 
--- whether a request of HTTP/1.1 has exactly one Host; one of HTTP/1.0 needs none
+-- whether a request of HTTP/1.1 has exactly one field Host; a request of HTTP/1.0 needs none
 unfoldable pub has_host : (minor : ℕ) → List Pair → Bool
 has_host minor fields = minor == 0 || is_some (only (values_of (codes "Host") fields))
 
 -- ---- the second: a route, and its method
 
--- the route, if there is one and this is its method
+-- the route, if there is one and this is its method; else NoRoute, or BadMethod
 abbrev pub with_method : (method : List ℕ) → Option Route → Result Route Problem
 with_method method None = Err NoRoute
 with_method method (Some route) = if bytes_eq method (method_of route) then Ok route else Err (BadMethod route)
@@ -42,12 +42,13 @@ requested_route minor method target fields = if has_host minor fields then with_
 
 -- ---- the third: how many bytes the body of a POST has
 
--- the length of a body, if it is a number and at most the most bytes of a mailing
+-- the length of a body, if it is a number and no greater than a mailing may be; else BadRequest, or BodyTooLong
 abbrev pub size_within : Option ℕ → Result ℕ Problem
 size_within None = Err BadRequest
 size_within (Some n) = if nat_lt most_bytes n then Err BodyTooLong else Ok n
 
--- the length that the values of Content-Length declare: one value, or none if it is optional
+-- the body length that the values of Content-Length declare: exactly one value, or no value (0) where the length is
+-- optional
 abbrev pub declared : (optional : Bool) → List (List ℕ) → Result ℕ Problem
 declared true [] = Ok 0
 declared false [] = Err NoLength
@@ -59,7 +60,7 @@ abbrev pub unless_coded : List (List ℕ) → Result ℕ Problem → Result ℕ 
 unless_coded [] size = size
 unless_coded (coding ∷ more) size = Err NoLength
 
--- the length of the body of a POST, by its fields
+-- the length of the body of a POST by the fields Content-Length and Transfer-Encoding, or the problem with them
 unfoldable pub posted_size : (optional : Bool) → List Pair → Result ℕ Problem
 posted_size optional fields = unless_coded (values_of (codes "Transfer-Encoding") fields) (declared optional (values_of (codes "Content-Length") fields))
 
@@ -70,7 +71,7 @@ size_of (Orders faction) fields = posted_size false fields
 size_of (Close month) fields = posted_size true fields
 size_of (Report faction) fields = Ok 0
 
--- ---- the fourth: exactly one pass text, but for a joining
+-- ---- the fourth: exactly one pass text, except for a join
 
 -- the value of Atlantis-Pass, if there is exactly one; else NoPass
 unfoldable pub pass_field : List Pair → Result (List ℕ) Problem
@@ -101,7 +102,7 @@ joining body = do
   pass ← or_problem BadJson (text_at (codes "pass") said)
   Ok (request.Join name pass)
 
--- what a route with this pass text and body asks for
+-- the request that a route, pass text and body make; BadJson for a join whose body is not right
 abbrev pub request_of : Route → (pass body : List ℕ) → Result Request Problem
 request_of Join pass body = joining body
 request_of (Orders faction) pass body = Ok (request.Orders faction pass body)
@@ -123,7 +124,7 @@ abbrev pub verdict_on_request : Result Request Problem → Verdict
 verdict_on_request (Err problem) = Refused problem
 verdict_on_request (Ok asked) = Asks asked
 
--- the verdict on a head of these checks and the bytes after it: More while the body isn't whole
+-- the verdict on a head, by the result of its checks and the bytes after it: More while the body isn't whole
 abbrev pub verdict_with_body : Result (Route × ℕ × List ℕ) Problem → (rest : List ℕ) → Verdict
 verdict_with_body (Err problem) rest = Refused problem
 verdict_with_body (Ok (route, size, pass)) rest = if nat_lt (length rest) size then More else verdict_on_request (request_of route pass (take size rest))

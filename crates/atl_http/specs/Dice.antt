@@ -3,7 +3,8 @@ use Rattle.std.specs.Prelude.{ℕ, zero, suc, List, [], ◌∷◌}
 use Rattle.rand_pcg.specs.Lcg.{Lcg, started, increment_of}
 use Rattle.rand_pcg.specs.Pcg.{multiplier_64, pcg32}
 
--- 10,000: a faction that joins has the stream of this plus its number; a month has the stream of its number, which is lower
+-- 10,000: a faction that joins has the stream of this plus its number; a month has the stream of its number, which is
+-- lower
 unfoldable pub joining_streams : ℕ
 joining_streams = 10000
 
@@ -15,7 +16,7 @@ generator seed stream = started 64 multiplier_64 seed (increment_of 64 stream)
 unfoldable pub word_of : Lcg → ℕ
 word_of g = (pcg32 g).0
 
--- the generator after giving that word
+-- the generator after it has given its next word
 unfoldable pub next_generator : Lcg → Lcg
 next_generator g = (pcg32 g).1
 

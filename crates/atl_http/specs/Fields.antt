@@ -16,7 +16,7 @@ fields_of head = map name_and_value head.fields
 unfoldable pub values_of : List ℕ → List Pair → List (List ℕ)
 values_of name fields = map (λ f. f.1) (filter (λ f. str_eq_ignore_ascii_case f.0 name) fields)
 
--- the value, if there is exactly one
+-- the only value of a list; None if the list is empty or has several
 abbrev pub only : List (List ℕ) → Option (List ℕ)
 only [] = None
 only (value ∷ []) = Some value

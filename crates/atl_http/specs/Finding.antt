@@ -1,4 +1,5 @@
--- For proofs alone: the values found under a field's name, and how results of the code stand for those of the definitions.
+-- For proofs alone: the values found under a field's name, and when results of the code agree with those of the
+-- definitions.
 use Rattle.std.specs.Prelude.{◌≡◌, ◌<◌, ℕ, List, [], ◌∷◌, ◌++◌, length, map, Result, Ok, Err, ⊤}
 use Rattle.httparse.specs.declared.spans.Span.{Span}
 use Rattle.httparse.specs.declared.spans.HeaderSpan.{HeaderSpan}
@@ -19,33 +20,34 @@ use Rattle.atl_http.specs.declared.problem.CheckError.{CheckError}
 use Rattle.atl_http.specs.declared.problem.CheckError.TheVariants.{Memory, Failed}
 use Rattle.atl_http.specs.Fields.{Pair}
 
--- The lookup fits these values: none, one (the bytes of the span), or several.
+-- The lookup found these values: none, one (the bytes of a span within the bytes), or several.
 abbrev pub HasValues : List ℕ → FieldLookup → List (List ℕ) → Type 0
 HasValues bytes Nowhere values = values ≡ []
 HasValues bytes (Once span) values = (values ≡ span_bytes bytes span ∷ []) × IsWithin (length bytes) span
 HasValues bytes Several values = (first : List ℕ) × (second : List ℕ) × (others : List (List ℕ)) × (values ≡ first ∷ second ∷ others)
 
--- the lookup after one more value was found
+-- the lookup after one more value was found: one after none, several after one or several
 abbrev pub one_more : FieldLookup → Span → FieldLookup
 one_more Nowhere value = Once value
 one_more (Once other) value = Several
 one_more Several value = Several
 
--- fields given as spans of the received bytes, as names and values
+-- the names and values of fields that are given as spans of the received bytes
 abbrev pub seen : List ℕ → List HeaderSpan → List Pair
 seen bytes fields = map (header_bytes bytes) fields
 
--- The error is the problem that the definition gives, unless memory ran out.
+-- The code's error is the problem that the definition gives, unless memory ran out.
 abbrev pub Fails : {Y : Type 0} → CheckError → Result Y Problem → Type 0
 Fails Memory read = ⊤
 Fails (Failed problem) read = read ≡ Err problem
 
--- The result, seen by `view`, is what the definition gives, unless memory ran out.
+-- The code's result, its value mapped by `view`, is what the definition gives, unless memory ran out.
 abbrev pub Gives : {X Y : Type 0} → (X → Y) → Result X CheckError → Result Y Problem → Type 0
 Gives view (Ok x) read = read ≡ Ok (view x)
 Gives view (Err e) read = Fails e read
 
--- The progress on a head of these checks with the bytes `rest` after it: its verdict, or a number of missing bytes below which it stays More.
+-- The progress is right for a head with these checks and the bytes `rest` after it: it has the verdict, or a count of
+-- missing bytes. With fewer further bytes than this count the verdict stays More.
 abbrev pub EndsAs : Result (Route × ℕ × List ℕ) Problem → (rest : List ℕ) → Progress → Type 0
 EndsAs checks rest (Lacks count) = (0 < count) × ((more : List ℕ) → length more < count → verdict_with_body checks (rest ++ more) ≡ More)
 EndsAs checks rest (Ends outcome) = final outcome ≡ verdict_with_body checks rest

@@ -1,4 +1,5 @@
--- `Judges`: the verdict on the bytes received so far, by their head: whole, unfinished, refused or too long. See docs/FORMATS.md, "HTTP".
+-- `Judges`: the verdict on the bytes received so far, by their head: whole, unfinished, refused or too long. See
+-- docs/FORMATS.md, "HTTP".
 use Rattle.std.specs.Prelude.{◌≡◌, ℕ, ◌≤◌, ◌<◌, ◌⊎◌, List, [], length, take, ◌++◌, ⊤}
 use Rattle.httparse.specs.Grammar.{RequestHead, print_request, ReadsRequest, NeverHasRequest, HasNoRequest, MayBecomeRequest}
 use Rattle.httparse.specs.Spans.{RequestExceeds, RequestOverflows}
@@ -19,7 +20,7 @@ most_head = 8192
 abbrev pub most_fields : ℕ
 most_fields = 32
 
--- The input begins with this whole head within the limits, and `rest` follows.
+-- The input begins with this whole head, within the limits of bytes and fields, and `rest` follows.
 pub record HasHead (input : List ℕ) (head : RequestHead) (rest : List ℕ) : Type 0 where
   pub reads : ReadsRequest input head rest
   pub bytes : length (print_request head) ≤ most_head
@@ -29,17 +30,18 @@ pub record HasHead (input : List ℕ) (head : RequestHead) (rest : List ℕ) : T
 abbrev pub IsRefused : List ℕ → Type 0
 IsRefused input = NeverHasRequest input ⊎ (RequestExceeds most_fields input × RequestOverflows most_fields input)
 
--- The first 8,192 bytes have come, and they hold no whole head.
+-- The first 8,192 bytes have arrived, and they hold no whole head.
 abbrev pub IsTooLong : List ℕ → Type 0
 IsTooLong input = (most_head ≤ length input) × HasNoRequest (take most_head input)
 
--- The head isn't whole, and with further bytes it may become so.
+-- The head isn't whole, and may become whole with further bytes; fewer than 8,192 bytes have arrived.
 pub record IsUnfinished (input : List ℕ) : Type 0 where
   pub short : length input < most_head
   pub none : HasNoRequest input
   pub open_end : MayBecomeRequest input
 
--- This is the verdict on the bytes received so far. While a target or one field too many is still arriving, both `refused` and `unfinished` may apply.
+-- The verdict is right for the bytes received so far: the head is whole, too long, refused or unfinished.
+-- While a target or one field too many is still arriving, both `refused` and `unfinished` may apply.
 pub data Judges (input : List ℕ) (verdict : Verdict) : Type 0 where
   whole : (head : RequestHead) → (rest : List ℕ) → HasHead input head rest → verdict ≡ verdict_of head rest → Judges input verdict
   too_long : IsTooLong input → verdict ≡ Refused BadRequest → Judges input verdict
@@ -75,11 +77,13 @@ verdict_by (progress.Ends outcome) = final outcome
 abbrev pub most_at_once : ℕ
 most_at_once = 8192
 
--- No read was done after the request was whole or refused: before the last read the verdict was More, or nothing was read at all.
+-- No read was done after the request was whole or refused: before the last read the verdict was More, or nothing was
+-- read at all.
 abbrev pub IsReadSoFar : List ℕ → Type 0
 IsReadSoFar seen = (seen ≡ []) ⊎ ((front : List ℕ) × (last : List ℕ) × (seen ≡ front ++ last) × (length last ≤ most_at_once) × Judges front More)
 
--- It doesn't matter in which pieces a request comes: bytes after a final verdict change nothing, and no input has two final verdicts.
+-- It doesn't matter in which pieces a request comes: bytes after a final verdict change nothing, and no input has two
+-- final verdicts.
 abbrev pub PiecesDoNotMatter : Type 0
 PiecesDoNotMatter =
     ((input more : List ℕ) (v : Verdict) → Judges input v → IsFinal v → Judges (input ++ more) v)

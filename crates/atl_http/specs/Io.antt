@@ -17,7 +17,7 @@ use Rattle.atl_http.specs.Serving.{IsReply}
 
 -- ---- reading
 
--- One read added `count` bytes to those that had come, or failed and added nothing.
+-- One read added `count` bytes to those read before, or failed and added nothing.
 abbrev pub ReadsMore : (before after : Option (List ℕ)) → (old new : List ℕ) → Result ℕ HttpFault → Type 0
 ReadsMore before after old new (Ok count) = (piece : List ℕ) × (length piece ≡ count) × (count ≤ most_at_once) × Consumes before after piece × (new ≡ old ++ piece)
 ReadsMore before after old new (Err Cut) = Keeps before after × IsAtEnd after × (new ≡ old)
@@ -25,7 +25,8 @@ ReadsMore before after old new (Err ReadFault) = Keeps before after × (new ≡ 
 ReadsMore before after old new (Err WriteFault) = ⊥
 ReadsMore before after old new (Err Memory) = ⊤
 
--- The bytes `seen` were read, and no more than needed: their verdict is the outcome, or More if the input ended or a read failed.
+-- The bytes `seen` were read, and no more than needed: their verdict is the outcome, or More if the input ended or a
+-- read failed.
 abbrev pub Receives : (before after : Option (List ℕ)) → (seen : List ℕ) → Result Outcome HttpFault → Type 0
 Receives before after seen (Ok outcome) = Consumes before after seen × IsReadSoFar seen × Judges seen (final outcome)
 Receives before after seen (Err Cut) = Consumes before after seen × Judges seen More × IsAtEnd after
@@ -39,7 +40,7 @@ Receives before after seen (Err Memory) = ⊤
 abbrev pub Says : Reply → Message → Type 0
 Says reply message = (message.status ≡ reply.status) × (string_bytes message.bytes ≡ bytes_of reply)
 
--- All bytes were written, or with WriteFault only the first `count` of them.
+-- All bytes were written; or, with WriteFault, only the first `count` of them, which are fewer.
 abbrev pub Sends : (before after : Option (List ℕ)) → (bytes : List ℕ) → Result (Unit {0}) HttpFault → Type 0
 Sends before after bytes (Ok done) = Appends before after bytes
 Sends before after bytes (Err Cut) = ⊥
@@ -47,7 +48,7 @@ Sends before after bytes (Err ReadFault) = ⊥
 Sends before after bytes (Err WriteFault) = (count : ℕ) × (count < length bytes) × Appends before after (take count bytes)
 Sends before after bytes (Err Memory) = ⊥
 
--- The message is the reply to the outcome; without memory there is none, and the command may have been run or not.
+-- The message is the reply to the outcome. If memory ran out there is no message, and the command has been run or not.
 abbrev pub RepliesWith : {S : Type 0} → Ghosts S → Dice → (old : ServiceValue S) → Outcome → Result Message AllocError → (new : ServiceValue S) → Type 0
 RepliesWith g dice old outcome (Ok message) new = (reply : Reply) × Says reply message × IsReply g dice old outcome reply new
 RepliesWith g dice old outcome (Err e) new = (new ≡ old) ⊎ ((reply : Reply) × IsReply g dice old outcome reply new)

@@ -1,4 +1,5 @@
--- What serving connections one after another leaves of a service, whatever the peers send and take. See docs/FORMATS.md, "HTTP".
+-- What serving connections one after another leaves of a service, whatever the peers send and take. See
+-- docs/FORMATS.md, "HTTP".
 use Rattle.std.specs.Prelude.{◌≡◌, ◌≢◌, ◌≤◌, ◌<◌, ℕ, zero, suc, Result, Ok, Err}
 use Rattle.sqlite_trees.specs.declared.store.Store.{Ghosts}
 use Rattle.atl_service.specs.Service.{ServiceValue}
@@ -9,22 +10,23 @@ use Rattle.atl_http.specs.declared.io.HttpFault.{HttpFault}
 use Rattle.atl_http.specs.declared.io.HttpFault.TheVariants as http
 use Rattle.atl_http.specs.Serving.{Known, Serves}
 
--- One request is served with this result, over some bytes read and written.
+-- One request is served with this result, for some bytes read and written.
 abbrev pub IsServed : {S : Type 0} → Ghosts S → Dice → (old : ServiceValue S) → Result ℕ HttpFault → (new : ServiceValue S) → Type 0
 IsServed g dice old told new = (before : Known) × (after : Known) × Serves g dice before after old told new
 
--- The one request of a connection is served; Err Memory says that memory ran out, and Ok that it didn't.
+-- One connection's request is served: with Err Memory the service ran out of memory, with Ok it did not.
 abbrev pub ServesConnection : {S : Type 0} → Ghosts S → Dice → (old : ServiceValue S) → Result (Unit {0}) ListenFault → (new : ServiceValue S) → Type 0
 ServesConnection g dice old (Ok done) new = (told : Result ℕ HttpFault) × (told ≢ Err http.Memory) × IsServed g dice old told new
 ServesConnection g dice old (Err Memory) new = IsServed g dice old (Err http.Memory) new
 ServesConnection g dice old (Err Net) new = ⊥
 
--- `count` requests are served one after another, and memory runs out for none.
+-- Exactly `count` requests are served one after another, and memory runs out for none.
 abbrev pub ServesInTurn : {S : Type 0} → Ghosts S → Dice → (count : ℕ) → (old new : ServiceValue S) → Type 0
 ServesInTurn g dice zero old new = new ≡ old
 ServesInTurn {S} g dice (suc count) old new = (between : ServiceValue S) × ServesInTurn g dice count old between × ServesConnection g dice between (Ok tt) new
 
--- At most so many requests are served one after another; where memory runs out for one of them, that one is the last.
+-- At most `count` requests are served one after another, fewer if the network fails (Net). If memory runs out for one,
+-- it is the last.
 abbrev pub ServesEach : {S : Type 0} → Ghosts S → Dice → (count : ℕ) → (old : ServiceValue S) → Result (Unit {0}) ListenFault → (new : ServiceValue S) → Type 0
 ServesEach g dice count old (Ok done) new = (served : ℕ) × (served ≤ count) × ServesInTurn g dice served old new
 ServesEach g dice count old (Err Net) new = (served : ℕ) × (served < count) × ServesInTurn g dice served old new

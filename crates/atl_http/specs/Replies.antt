@@ -42,7 +42,7 @@ bytes_of r = head_of r.status r.kind r.body ▸ allow_line r.allow ▸ codes "\r
 
 -- ---- the reply to a problem
 
--- 0, the number in the body of an error that has none
+-- 0, the number in the error body of a problem or fault, which has no number of its own
 abbrev pub no_number : ℕ
 no_number = 0
 
@@ -56,7 +56,7 @@ problem_name BodyTooLong = codes "BodyTooLong"
 problem_name NoPass = codes "NoPass"
 problem_name BadJson = codes "BadJson"
 
--- the HTTP status for a problem; 400 for those that aren't named
+-- the HTTP status for a problem; 400 for problems that aren't listed here
 abbrev pub problem_status : Problem → ℕ
 problem_status NoRoute = 404
 problem_status (BadMethod route) = 405
@@ -64,7 +64,7 @@ problem_status NoLength = 411
 problem_status BodyTooLong = 413
 problem_status p = 400
 
--- the route whose method the reply names: that of BadMethod
+-- the route whose method the reply's `Allow` line names: the route of BadMethod, else none
 abbrev pub allowed : Problem → Option Route
 allowed (BadMethod route) = Some route
 allowed p = None

@@ -15,11 +15,11 @@ most_digits = 9
 unfoldable pub number_of : List ℕ → Option ℕ
 number_of bytes = if nat_lt 0 (length bytes) && (nat_le (length bytes) most_digits && list_all is_ascii_digit bytes) then Some (digits_value 10 bytes) else None
 
--- the text without this prefix, if it begins with it
+-- the rest of a text after this prefix; None if the text doesn't begin with the prefix
 abbrev pub after_prefix : List ℕ → List ℕ → Option (List ℕ)
 after_prefix front text = if pointwise nat_eq (take (length front) text) front then Some (drop (length front) text) else None
 
--- the route with the number after a prefix, or `other` if the path lacks the prefix
+-- the route with the number after a prefix, None if no number follows, or `other` if the path lacks the prefix
 abbrev pub numbered : (ℕ → Route) → Option (List ℕ) → Option Route → Option Route
 numbered route None other = other
 numbered route (Some parameter) other = option_map route (number_of parameter)
@@ -28,11 +28,11 @@ numbered route (Some parameter) other = option_map route (number_of parameter)
 abbrev pub is_question : ℕ → Bool
 is_question b = b == 63
 
--- the path of a target: up to the question mark
+-- the path of a target: its bytes before the first question mark
 abbrev pub path_of : List ℕ → List ℕ
 path_of target = before_first is_question target
 
--- the route of a path
+-- the route of a path: /join, /orders/F, /close/M or /report/F; None for any other
 unfoldable pub route_of : List ℕ → Option Route
 route_of path =
     if bytes_eq path (codes "/join") then Some Join
@@ -40,7 +40,7 @@ route_of path =
     (numbered Close (after_prefix (codes "/close/") path)
     (numbered Report (after_prefix (codes "/report/") path) None))
 
--- the method of a route
+-- the HTTP method of a route: GET for a report, else POST
 abbrev pub method_of : Route → List ℕ
 method_of Join = codes "POST"
 method_of (Orders faction) = codes "POST"

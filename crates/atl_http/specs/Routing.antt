@@ -27,7 +27,8 @@ rows = (codes "/close/" ++ param_token ∷ [], 0) ∷ (codes "/join", 1) ∷ (co
 abbrev pub kept : RowsOf (RouteOf RouteKey)
 kept = rename kept_at rows
 
--- the route of a key of the router, with the number that the text after the prefix writes
+-- the route of a key of the router, with the number that the text after the prefix writes; None if a number is missing
+-- or faulty
 abbrev pub route_in : RouteKey → Option (List ℕ) → Option Route
 route_in Join parameter = Some route.Join
 route_in Orders None = None

@@ -27,23 +27,25 @@ abbrev pub next_faction : Option CampaignValue → ℕ
 next_faction None = 0
 next_faction (Some c) = c.next_faction
 
--- the command that a request asks for, with the word of the dice for the faction that joins next, or the words for the month, one for each region
+-- the command that a request asks for, with dice words: one for the faction that joins next, or one per region for a
+-- month
 abbrev pub command_of : Dice → (next regions : ℕ) → Request → Command
 command_of dice next regions (Join name pass) = command.Join name pass (word_of (generator dice.seed (joining_streams + next)))
 command_of dice next regions (Orders faction pass text) = command.Mail faction pass text
 command_of dice next regions (Close month pass) = command.Close month pass (first_words regions (generator dice.seed month))
 command_of dice next regions (Report faction pass) = command.Report faction pass
 
--- the same, with the next faction and the regions of this service
+-- the command that a request asks for, with the words of the dice for the next faction and the regions of this service
 abbrev pub command_in : {S : Type 0} → Dice → ServiceValue S → Request → Command
 command_in dice old request = command_of dice (next_faction old.campaign) (len old.world.regions) request
 
--- This is the reply to an outcome: a refused request changes nothing, and one that asks for a command has it run.
+-- The reply is right for an outcome: a refused request changes nothing; for any other its command is run, and its
+-- answer is the reply.
 abbrev pub IsReply : {S : Type 0} → Ghosts S → Dice → (old : ServiceValue S) → Outcome → Reply → (new : ServiceValue S) → Type 0
 IsReply g dice old (Refused problem) reply new = (reply ≡ problem_reply problem) × (new ≡ old)
 IsReply g dice old (Asks request) reply new = (answer : Answer) × Runs g old (command_in dice old request) answer new × (reply ≡ answer_reply answer)
 
--- This is the reply to the bytes `seen`, after which no more were read.
+-- The reply is right for the bytes `seen`: no more were read than needed, and the reply is that to their verdict.
 abbrev pub RepliesTo : {S : Type 0} → Ghosts S → Dice → (old : ServiceValue S) → (seen : List ℕ) → Reply → (new : ServiceValue S) → Type 0
 RepliesTo g dice old seen reply new = (outcome : Outcome) × IsReadSoFar seen × Judges seen (final outcome) × IsReply g dice old outcome reply new
 
@@ -59,7 +61,8 @@ fault_number ReadFault = Some 2
 fault_number WriteFault = Some 3
 fault_number Memory = None
 
--- One request was served: with Ok the whole reply to the bytes seen was written; with a fault none of it, or a part.
+-- What serving one request does, by its result: with Ok the whole reply to the bytes seen was written. With a fault
+-- none of it was written, or a part.
 abbrev pub Serves : {S : Type 0} → Ghosts S → Dice → (before after : Known) → (old : ServiceValue S) → Result ℕ HttpFault → (new : ServiceValue S) → Type 0
 Serves g dice before after old (Ok status) new =
     (seen : List ℕ) × (reply : Reply) × Consumes before.left after.left seen × RepliesTo g dice old seen reply new × (status ≡ reply.status) × Appends before.held after.held (bytes_of reply)

@@ -11,6 +11,7 @@ use http::StatusCode;
 use std::alloc::{AllocError, Global};
 use std::fmt::Write;
 
+/// The body for a join: `{"faction":F,"unit":U}`.
 #[tactic(auto, unfolding(crate::specs::Answered::joined_body))]
 fn joined_body(alloc: Global, faction: u32, unit: u32) -> Result<String, AllocError>
     ensures { IfOk result (λ body. string_bytes body ≡ joined_body faction unit) }
@@ -18,6 +19,7 @@ fn joined_body(alloc: Global, faction: u32, unit: u32) -> Result<String, AllocEr
     format!(in alloc; "{{\"faction\":{faction},\"unit\":{unit}}}")
 }
 
+/// Writes a faulty line as `[L,K]`: its number and the number of its fault.
 #[tactic(auto, unfolding(crate::specs::Answered::pair))]
 fn write_pair(out: &mut String, faulty: &FaultyLine) -> Result<(), AllocError>
     ensures { OnOk result (string_bytes out.new ≡ string_bytes out.old ++ pair faulty.now) }
@@ -27,7 +29,7 @@ fn write_pair(out: &mut String, faulty: &FaultyLine) -> Result<(), AllocError>
     write!(out, "[{line},{number}]")
 }
 
-/// Writes the further faulty lines, each with a comma in front.
+/// Writes the faulty lines after the first as `[L,K]`, each with a comma in front.
 fn write_more_pairs(out: &mut String, faults: &[FaultyLine]) -> Result<(), AllocError>
     ensures { OnOk result (string_bytes out.new ≡ string_bytes out.old ++ more_pairs faults.now) }
 {
@@ -38,7 +40,7 @@ fn write_more_pairs(out: &mut String, faults: &[FaultyLine]) -> Result<(), Alloc
     Ok(())
 }
 
-/// Writes all faulty lines, with commas between them.
+/// Writes all faulty lines as `[L,K]`, with commas between them.
 fn write_pairs(out: &mut String, faults: &[FaultyLine]) -> Result<(), AllocError>
     ensures { OnOk result (string_bytes out.new ≡ string_bytes out.old ++ pairs faults.now) }
 {
@@ -51,6 +53,7 @@ fn write_pairs(out: &mut String, faults: &[FaultyLine]) -> Result<(), AllocError
     }
 }
 
+/// The body for a mailing: `{"faults":[..],"orders":N}`.
 #[tactic(auto, unfolding(crate::specs::Answered::mailed_body))]
 fn mailed_body(alloc: Global, orders: usize, faults: &[FaultyLine]) -> Result<String, AllocError>
     ensures { IfOk result (λ body. string_bytes body ≡ mailed_body orders faults.now) }
@@ -61,6 +64,7 @@ fn mailed_body(alloc: Global, orders: usize, faults: &[FaultyLine]) -> Result<St
     Ok(body)
 }
 
+/// The body for a closed month: `{"month":M}`.
 #[tactic(auto, unfolding(crate::specs::Answered::month_body))]
 fn month_body(alloc: Global, month: u32) -> Result<String, AllocError>
     ensures { IfOk result (λ body. string_bytes body ≡ month_body month) }
@@ -68,7 +72,7 @@ fn month_body(alloc: Global, month: u32) -> Result<String, AllocError>
     format!(in alloc; "{{\"month\":{month}}}")
 }
 
-/// The HTTP status for a refusal, from 400 to 413.
+/// The HTTP status for a refusal: 403, 404, 409 or 413, else 400.
 fn refusal_status(refusal: Refusal) -> StatusCode
     ensures { result ≡ refusal_status refusal }
 {

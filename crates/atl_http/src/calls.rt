@@ -12,7 +12,7 @@ pub const MOST_READS: u32 = 1_000_000;
 /// The most writes of one reply that may be interrupted.
 pub const MOST_INTERRUPTED: u32 = 1_000_000;
 
-/// The outcome of one read.
+/// The outcome of one read: a piece, the end of the input, an interruption, or a failure.
 #[derive(Drop, Clone, Copy)]
 pub enum ReadOutcome {
     /// The number of bytes read, at least one.
@@ -47,7 +47,7 @@ pub struct Writes {
     last: WriteOutcome,
 }
 
-/// Whether an error only says that the call was interrupted.
+/// Whether an error says only that the call was interrupted.
 fn is_interrupted(error: &Error) -> bool
     ensures { IsTrue result ↔ (error_kind error.now ≡ ErrorKind.Interrupted) }
 {
@@ -81,7 +81,7 @@ fn write_outcome(returned: io::Result<usize>) -> WriteOutcome
 impl Reads {
     ghost use Rattle.atl_http.specs.Calls.{most_reads, no_reads, ReadsOnce};
 
-    /// The count before the first read.
+    /// The counters before the first read.
     pub fn none() -> Reads
         ensures { result ≡ no_reads }
     {
@@ -98,7 +98,7 @@ impl Reads {
         self.count
     }
 
-    /// Reads once, to the front of the buffer `room`, counts the read, and returns its outcome.
+    /// Reads once into the front of the buffer `room`, counts the read, and returns its outcome.
     pub fn read<R: Read>(&mut self, reader: &mut R, room: &mut [u8]) -> ReadOutcome
         requires room { 0 < length room.old }
         requires few { self.old.count < most_reads }
@@ -115,7 +115,7 @@ impl Reads {
 impl Writes {
     ghost use Rattle.atl_http.specs.Calls.{most_interrupted, no_writes, WritesOnce};
 
-    /// The count before the first write.
+    /// The counters before the first write.
     pub fn none() -> Writes
         ensures { result ≡ no_writes }
     {
@@ -132,7 +132,8 @@ impl Writes {
         self.interrupted
     }
 
-    /// Writes once, counts an interrupted write, and returns the outcome.
+    /// Writes bytes of `rest` once, counts the write if it was interrupted, and returns the
+    /// outcome.
     pub fn write<W: Write>(&mut self, writer: &mut W, rest: &[u8]) -> WriteOutcome
         requires { self.old.interrupted < most_interrupted }
         ensures { WritesOnce (W.contents writer.old) (W.contents writer.new) rest.now self.old

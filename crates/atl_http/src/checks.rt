@@ -27,7 +27,7 @@ const CONTENT_LENGTH: &[u8] = b"Content-Length";
 /// The name of the field with a pass text.
 const PASS: &[u8] = b"Atlantis-Pass";
 
-/// Whether a request of HTTP/1.1 has exactly one Host.
+/// Whether a request has exactly one field Host; a request of HTTP/1.0 needs none.
 #[tactic(auto, unfolding(crate::specs::Checks::has_host))]
 fn has_host(minor: u8, bytes: &[u8], fields: &[HeaderSpan]) -> bool
     requires { All (IsHeaderWithin (length bytes.now)) fields.now }
@@ -61,14 +61,15 @@ fn requested_route(
     }
 }
 
-/// Whether a method is the route's.
+/// Whether a method is the one of the route.
 fn is_method(method: &[u8], route: Route) -> bool
     ensures { result ≡ bytes_eq method.now (method_of route) }
 {
     method == route.method().as_str().as_bytes()
 }
 
-/// The length of a body that a value of Content-Length gives, if it is at most that of a mailing.
+/// The length of a body by a value of Content-Length: BadRequest if it is no number, BodyTooLong if
+/// it is greater than a mailing may be.
 fn size_within(text: &[u8]) -> Result<usize, CheckError>
     ensures { Gives (λ size. size) result (size_within (number_of text.now)) }
 {
@@ -79,7 +80,8 @@ fn size_within(text: &[u8]) -> Result<usize, CheckError>
     }
 }
 
-/// The length of the body of a POST, in bytes, by its fields; the third check.
+/// The length of a POST's body in bytes, by the fields Content-Length and Transfer-Encoding; the
+/// third check.
 #[tactic(auto, unfolding(crate::specs::Checks::posted_size))]
 fn posted_size(is_optional: bool, bytes: &[u8], fields: &[HeaderSpan]) -> Result<usize, CheckError>
     requires { All (IsHeaderWithin (length bytes.now)) fields.now }
@@ -99,7 +101,7 @@ fn posted_size(is_optional: bool, bytes: &[u8], fields: &[HeaderSpan]) -> Result
     }
 }
 
-/// The number of body bytes that are read for a route: 0 for a GET.
+/// The number of body bytes that are read for a route: 0 for a GET, else the declared length.
 fn size_of(route: Route, bytes: &[u8], fields: &[HeaderSpan]) -> Result<usize, CheckError>
     requires { All (IsHeaderWithin (length bytes.now)) fields.now }
     ensures { Gives (λ size. size) result (size_of route (seen bytes.now fields.now)) }
@@ -143,7 +145,8 @@ pub struct ParsedHead<'a> {
     pub pass: &'a [u8],
 }
 
-/// The checks of a head: the problem of the first that it fails, or Memory without memory for the routes.
+/// The checks of a head: the problem of the first that it fails, or Memory without memory for the
+/// routes.
 #[tactic(auto, unfolding(crate::specs::Checks::head_checks))]
 pub fn head_checks<'a>(
     alloc: Global,
@@ -188,7 +191,7 @@ fn text_at<'a>(said: &'a Value, key: &str) -> Result<&'a str, CheckError>
     }
 }
 
-/// The join that a body of JSON asks for, with its name and pass text; the fifth check.
+/// The join that a JSON body asks for, with name and pass text; else BadJson. The fifth check.
 #[tactic(auto, unfolding(crate::specs::Checks::joining))]
 fn joining(alloc: Global, body: &[u8]) -> Result<Request, CheckError>
     ensures { Gives (λ request. request) result (joining body.now) }
@@ -202,8 +205,8 @@ fn joining(alloc: Global, body: &[u8]) -> Result<Request, CheckError>
     })
 }
 
-/// What a request asks for, by its whole body. BadJson if the body of a join is no object with both texts; Memory without memory
-/// for them.
+/// Makes the request of a route, a pass text and a whole body. BadJson if the body of a join is no
+/// object with both texts; Memory without memory for these.
 pub fn request_of(
     alloc: Global,
     route: Route,

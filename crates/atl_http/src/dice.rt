@@ -10,7 +10,7 @@ use std::alloc::{AllocError, Global};
 /// month's.
 const JOINING_STREAMS: u64 = 10_000;
 
-/// Dice, by the seed that a club chose. The same seed gives the same words.
+/// The dice of a campaign, by the seed that a club chose. The same seed gives the same words.
 /// See docs/FORMATS.md, "Dice".
 #[derive(Clone, Copy, Debug)]
 pub struct Dice {
@@ -28,8 +28,7 @@ impl Dice {
     }
 
     /// The first `count` words of the month of this number, one for each region. AllocError without
-    /// memory for them. See
-    /// docs/FORMATS.md, "Dice".
+    /// memory for them. See docs/FORMATS.md, "Dice".
     #[tactic(auto, unfolding(crate::specs::Dice::generator, crate::specs::Dice::first_words))]
     pub fn month_words(
         self,

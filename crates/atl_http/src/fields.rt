@@ -47,7 +47,7 @@ pub fn find_value(bytes: &[u8], fields: &[HeaderSpan], name: &[u8]) -> FieldLook
     found
 }
 
-/// The value of a field, if exactly one field has this name.
+/// The value of the field of this name, if exactly one field has the name; else None.
 pub fn only_value<'a>(bytes: &'a [u8], fields: &[HeaderSpan], name: &[u8]) -> Option<&'a [u8]>
     requires { All (IsHeaderWithin (length bytes.now)) fields.now }
     ensures { option_map (λ value. value.now) result

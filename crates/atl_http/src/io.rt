@@ -20,10 +20,11 @@ const MOST_AT_ONCE: usize = 8_192;
 pub enum HttpFault {
     /// The input ended before the request was whole. No command was run, and nothing written.
     Cut,
-    /// A read failed, or 1,000,000 reads haven't brought the whole request. No command was run, and nothing written.
+    /// A read failed, or 1,000,000 reads haven't brought the whole request. No command was run, and
+    /// nothing written.
     ReadFault,
-    /// A write failed or took no byte, or 1,000,000 writes were interrupted. A front of the reply may have been written, and a
-    /// command that was run stays.
+    /// A write failed or took no byte, or 1,000,000 writes were interrupted. A front of the reply
+    /// may have been written, and a command that was run stays.
     WriteFault,
     /// There was no memory. Nothing was written, and a command that was run stays.
     Memory,
@@ -136,7 +137,7 @@ fn progress_if_due(alloc: Global, seen: &[u8], lacking: usize) -> Result<Progres
     progress_of(alloc, seen)
 }
 
-/// The loop of `receive`, with a buffer for one read.
+/// Reads until the request is whole or refused, as `receive` does, with a buffer for one read.
 fn receive_in<R: Read>(
     alloc: Global,
     reader: &mut R,

@@ -1,4 +1,5 @@
-//! HTTP on loopback: one request, its reply, and the words that the dice give. See docs/FORMATS.md, "HTTP".
+//! HTTP on loopback: one request, its reply, and the words that the dice give. See docs/FORMATS.md,
+//! "HTTP".
 #![tactic(auto)]
 
 mod answering;

@@ -15,13 +15,13 @@ use std::rt::Clock;
 /// Why serving connections stopped early.
 #[derive(Drop, Clone, Copy, Debug, PartialEq, Eq)]
 pub enum ListenFault {
-    /// The system gives no further connection.
+    /// The system refused to accept a further connection.
     Net,
-    /// There was no memory for a request or its reply.
+    /// Memory ran out for a request or its reply.
     Memory,
 }
 
-/// Serves the one request of a connection. One whose peer sends or takes too slowly is given up. A
+/// Serves the one request of a connection, and gives up if the peer sends or receives too slowly. A
 /// connection without a whole request or reply counts as served. The only error is Memory.
 fn serve_stream<C: Clock, S: Alter>(
     alloc: Global,
@@ -44,9 +44,9 @@ fn serve_stream<C: Clock, S: Alter>(
 }
 
 /// Serves `count` connections of a bound listener, one after another, one request each. A
-/// connection that its peer ends before it is accepted counts among them. Net where none can be
-/// accepted; Memory where there was none for a request or its reply: the connections before are
-/// served, and no more are accepted. The clock says how long a peer has been waited for.
+/// connection that its peer ends before it is accepted counts, too. Net if no connection can be
+/// accepted; Memory if memory ran out for a request or its reply: the connections before are
+/// served, and no more are accepted. The clock measures how long the service waits for a peer.
 pub fn serve_each<C: Clock, S: Alter>(
     alloc: Global,
     clock: &C,

@@ -17,7 +17,7 @@ pub const JSON: &str = "application/json";
 /// The content type of a report.
 pub const PLAIN: &str = "text/plain";
 
-/// The number in the body of an error that has none.
+/// The number in the error body of a problem or fault, which has no number of its own: 0.
 pub const NO_NUMBER: u8 = 0;
 
 /// A reply as it is sent: its status, and all its bytes from the status line on.

@@ -64,7 +64,7 @@ fn front_of(seen: &[u8]) -> &[u8]
 pub enum HeadParse {
     Whole(RequestSpans),
     Partial,
-    /// No head begins so, or it has too many fields.
+    /// No good head begins with these bytes, or it has too many fields.
     Refused,
 }
 
@@ -81,7 +81,7 @@ fn parse_head(front: &[u8], fields: &mut [HeaderSpan]) -> HeadParse
     }
 }
 
-/// The first `count` fields, which were found.
+/// The first `count` fields of the buffer, which are those that the parser found.
 fn first_fields(fields: &[HeaderSpan], count: usize) -> &[HeaderSpan]
     requires { count ≤ length fields.now }
     ensures { result.now ≡ take count fields.now }
@@ -89,7 +89,7 @@ fn first_fields(fields: &[HeaderSpan], count: usize) -> &[HeaderSpan]
     &fields[..count]
 }
 
-/// The bytes after the first `len`.
+/// The received bytes after the first `len`.
 pub fn rest_after(seen: &[u8], len: usize) -> &[u8]
     requires { len ≤ length seen.now }
     ensures { result.now ≡ drop len seen.now }
@@ -97,7 +97,8 @@ pub fn rest_after(seen: &[u8], len: usize) -> &[u8]
     &seen[len..]
 }
 
-/// The progress on bytes that begin with a whole head.
+/// The progress on received bytes that begin with a whole head: verdict, or number of missing
+/// bytes.
 fn progress_past_head(
     alloc: Global,
     seen: &[u8],
@@ -119,7 +120,7 @@ fn progress_past_head(
     progress_with_body(alloc, head.version, method, target, front, fields, rest)
 }
 
-/// The progress on the bytes, with a buffer for the fields of their head.
+/// The progress on the bytes received so far, with a buffer for the fields of their head.
 fn progress_in(
     alloc: Global,
     seen: &[u8],

@@ -14,7 +14,7 @@ const CALL_SECONDS: u64 = 10;
 /// line of 1.1 kB a second carries the longest mailing.
 const WHOLE_SECONDS: u64 = 60;
 
-/// The time that a peer is still waited for. The time that the command itself takes doesn't count.
+/// How long the service will still wait for a peer. The time that the command takes doesn't count.
 pub struct Patience<'a, C: Clock> {
     clock: &'a C,
     left: Cell<Duration>,

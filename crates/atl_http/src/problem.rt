@@ -9,22 +9,24 @@ use std::alloc::AllocError;
 use std::error::Error;
 use std::fmt;
 
-/// Why a request is refused before any command is run: the first check that it fails. See docs/FORMATS.md, "HTTP".
+/// Why a request is refused before any command is run: the first check that it fails. See
+/// docs/FORMATS.md, "HTTP".
 #[derive(Drop, Clone, Copy, Debug, PartialEq, Eq)]
 pub enum Problem {
-    /// The head is none of HTTP/1, is too long, or has too many fields, not one Host, or no good Content-Length.
+    /// The head is none of HTTP/1, is too long, or has too many fields, not one Host, or no good
+    /// Content-Length.
     BadRequest,
     /// No route has this path.
     NoRoute,
-    /// The route has another method.
+    /// The request's method isn't the one of its route.
     BadMethod(Route),
     /// It isn't said how long the body is, or it comes in another coding.
     NoLength,
     /// The body has more bytes than a mailing may have.
     BodyTooLong,
-    /// There isn't exactly one pass text.
+    /// There isn't exactly one field Atlantis-Pass.
     NoPass,
-    /// The body isn't the JSON that is asked for.
+    /// The body of a join is not a JSON object with the texts `name` and `pass`.
     BadJson,
 }
 
@@ -58,7 +60,7 @@ impl Problem {
     }
 }
 
-/// The problem's name, as `NoRoute`.
+/// Prints a problem's name, as `NoRoute`.
 impl fmt::Display for Problem {
     fn fmt<W: fmt::Write>(&self, f: &mut fmt::Formatter<W>) -> fmt::Result {
         write!(f, "{}", self.name())

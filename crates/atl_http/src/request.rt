@@ -7,7 +7,7 @@ use atl_service::Command;
 use atl_tables::Sequence;
 use std::alloc::{AllocError, Global};
 
-/// A whole request that passed every check of its form: what it asks for.
+/// A whole request that passed all five checks: join, orders, close or report.
 pub enum Request {
     /// A faction joins, under a name, with a pass text of its own.
     Join {
@@ -53,9 +53,8 @@ impl Drop for Request {
 impl Request {
     ghost use Rattle.atl_http.specs.Serving.{command_of};
 
-    /// The command that the request asks for, with the word of the dice for the faction `next` that
-    /// joins, or the words for a month, one for each of `regions`. AllocError without memory for
-    /// them.
+    /// Makes the command of the request, with the dice word for the faction `next` that joins, or
+    /// one word for each of `regions` for a month. AllocError without memory for these words.
     pub fn into_command(
         self,
         alloc: Global,
@@ -93,7 +92,7 @@ impl Request {
     }
 }
 
-/// The verdict on the bytes received so far.
+/// The verdict on the bytes received so far: more to read, refused, or a whole request.
 #[derive(Drop)]
 pub enum Verdict {
     /// The request isn't whole: more is to be read.

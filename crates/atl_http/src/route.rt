@@ -65,7 +65,7 @@ pub fn number_of(bytes: &[u8]) -> Option<u32>
     Some(value as u32)
 }
 
-/// The index of the first question mark.
+/// The index of the first question mark in a target, if there is one.
 fn first_question(bytes: &[u8]) -> Option<usize>
     ensures { result ≡ position is_question bytes.now }
 {
@@ -112,7 +112,8 @@ fn router(alloc: Global) -> Result<Router<RouteKey>, AllocError>
     Ok(router)
 }
 
-/// The route of the key `place`, with the number that the text `parameter` writes.
+/// The route of the key `place`, with the number that the text `parameter` writes; None if that is
+/// no number.
 fn route_in(place: RouteKey, parameter: Option<&str>) -> Option<Route>
     ensures { result ≡ route_in place (option_map (λ text. text.now) parameter.entry) }
 {

@@ -17,9 +17,9 @@ use sqlite::Alter;
 use std::alloc::{AllocError, Global};
 use std::io::{Read, Write};
 
-/// Runs the command that a request asks for, and returns its answer: a join with the word of the
-/// dice for the faction that joins next, a close with their words for its month, one for each
-/// region. AllocError without memory for these: then nothing is changed.
+/// Runs the command that a request asks for, with words of the dice, and returns its answer. A join
+/// has the word for the faction that joins next, a close the words for its month, one for each
+/// region. AllocError without memory for these words: then nothing is changed.
 pub fn run_request<S: Alter>(
     alloc: Global,
     service: &mut Service<S>,
@@ -59,7 +59,8 @@ fn reply_to<S: Alter>(
     }
 }
 
-/// Serves one request as `serve_one` does, and counts its reads and writes.
+/// Reads one request, runs its command and writes the reply, as `serve_one` does, and counts the
+/// reads and the interrupted writes.
 pub fn serve_counted<R: Read, W: Write, S: Alter>(
     alloc: Global,
     reader: &mut R,

@@ -1,4 +1,4 @@
-//! Tests of atl_http by its public calls alone.
+//! Tests of atl_http: requests, their replies and faults, and the dice, by its public calls alone.
 #![tactic(auto)]
 
 #[cfg(test)]

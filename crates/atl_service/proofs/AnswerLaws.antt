@@ -11,6 +11,7 @@ use Rattle.atl_service.specs.declared.command.Refusal.{Refusal}
 use Rattle.atl_service.specs.Step.{step}
 use Rattle.atl_service.specs.Answering.{Answers}
 
+-- a command that `step` refuses, answered Refused with campaign and connection unchanged, fulfils `Answers`
 pub is_refused : {S : Type 0} (g : Ghosts S) (w : WorldValue) (c : CampaignValue) (conn : Held S) (command : Command) (why : Refusal) → step w c command ≡ (c, Refused why) → IsGood w c
     → Answers g w c conn command c conn (Refused why)
 is_refused g w c conn command why is good = record {

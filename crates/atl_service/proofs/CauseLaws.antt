@@ -1,4 +1,4 @@
--- Laws on the cause of a fault: an error of the write was out of memory if the fault is Memory, and another one if it is Store.
+-- Laws on the cause of a fault: for Memory a call of the write ran out of memory, for Store it gave another error.
 use Rattle.std.proofs.Common.{◌≡◌, ◌≢◌, Bool, true, false, cond, Result, Ok, Err, IfErr, refl, sym, subst, inl, inr}
 use Rattle.std.specs.Prelude.{IsErrAnd}
 use Rattle.sqlite_trees.specs.declared.store.Store.{Ghosts}
@@ -13,45 +13,49 @@ use Rattle.atl_store.specs.declared.fault.WriteFault.TheVariants as write
 use Rattle.atl_service.specs.Answering.{of_write}
 use Rattle.atl_service.specs.Causes.{GivesError, HasCause}
 
--- from which of two different values a test chose, the test's result follows
+-- if a test chose between two different values, the chosen value shows the test's result
 module _ {F : Type 0} (memory other : F) (apart : memory ≢ other) where
+  -- if the first value was chosen, the test is true
   is_first : (b : Bool) → memory ≡ cond b memory other → b ≡ true
   is_first true is = refl
   is_first false is = absurd (apart is)
 
+  -- if the second value was chosen, the test is false
   is_second : (b : Bool) → other ≡ cond b memory other → b ≡ false
   is_second true is = absurd (apart (sym is))
   is_second false is = refl
 
 module _ {S : Type 0} (g : Ghosts S) (own : Statements) (old new : Held S) where
+  -- the faults Memory and Store of creating the tables are different
   creates_apart : create.Memory ≢ create.Store
   creates_apart is = let e = is in cc
 
+  -- the faults Memory and Store of a write are different
   writes_apart : write.Memory ≢ write.Store
   writes_apart is = let e = is in cc
 
-  -- creating the tables reported Memory: one of its calls ran out of memory
+  -- if creating the tables reported Memory, one of its calls ran out of memory
   pub creation_lacked : IsTold g own create_fault old new create.Memory → GivesError g own true old new
   creation_lacked (e, is, given) = record { error = e; memory_is = is_first create.Memory create.Store creates_apart (is_memory e) is; given = given }
 
-  -- creating the tables reported Store: one of its calls gave another error
+  -- if creating the tables reported Store, one of its calls gave an error other than out of memory
   pub creation_failed : IsTold g own create_fault old new create.Store → GivesError g own false old new
   creation_failed (e, is, given) = record { error = e; memory_is = is_second create.Memory create.Store creates_apart (is_memory e) is; given = given }
 
-  -- a write reported Memory: one of its calls ran out of memory
+  -- if a write reported Memory, one of its calls ran out of memory
   lacked : IsTold g own write_fault old new write.Memory → GivesError g own true old new
   lacked (e, is, given) = record { error = e; memory_is = is_first write.Memory write.Store writes_apart (is_memory e) is; given = given }
 
-  -- a write reported Store: one of its calls gave another error
+  -- if a write reported Store, one of its calls gave an error other than out of memory
   failed : IsTold g own write_fault old new write.Store → GivesError g own false old new
   failed (e, is, given) = record { error = e; memory_is = is_second write.Memory write.Store writes_apart (is_memory e) is; given = given }
 
-  -- the fault that a write reports has its cause (`HasCause`)
+  -- the service's fault for one that a write reports, if the disk is clean, has its cause (`HasCause`)
   pub writing_told : (fault : WriteFault) → (HasCleanDisk (state g new) → IsTold g own write_fault old new fault) → HasCause g own old new (of_write fault)
   writing_told write.Memory told = inr (λ clean. lacked (told clean))
   writing_told write.Store told = λ clean. failed (told clean)
 
-  -- the same for the fault that a write's error becomes as the result of a command
+  -- if a result's error is the fault that a write reports, the service's fault for it has its cause (`HasCause`)
   pub ended_by : {A : Type 0} (fault : WriteFault) (r : Result A WriteFault) → IsErrAnd r (λ f. f ≡ fault) → (HasCleanDisk (state g new) → IsTold g own write_fault old new fault) → IfErr r (λ f. HasCause g own old new (of_write f))
   ended_by fault (Ok a) is told = tt
   ended_by fault (Err f) is told = subst (λ x. HasCause g own old new (of_write x)) (sym is) (writing_told fault told)

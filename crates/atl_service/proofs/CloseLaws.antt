@@ -1,4 +1,5 @@
--- Laws on closing a month: the mail is read, the reports are stored, the result is the campaign of `closed`, and all changes are dirty.
+-- Laws on closing a month: the mail is read, the reports are stored, the result is the campaign of `closed`, and the
+-- dirty set has all changes.
 use Rattle.std.proofs.Common.{◌≡◌, ◌≤◌, ◌<◌, ℕ, Bool, true, false, cond, List, [], ◌∷◌, ◌++◌, ◌+◌, drop, get_or, map, length, Option, Some, None, option_map, Result, Ok, Err, refl, sym, ap, ap₂, ◌∙◌, subst, arith}
 use Rattle.std.specs.Prelude.{All, OnOk, filter, fold, nat_lt, not, unwrap_or}
 use Rattle.std.proofs.lemmas.Bool.Decides.{nat_tests}
@@ -43,14 +44,14 @@ use Rattle.atl_service.specs.declared.reporting.MonthResult.{MonthResult}
 use Rattle.atl_service.specs.Months.{AreThere, HasRead, ReadSoFar, reported_to_all}
 use Rattle.atl_service.specs.Closing.{closed, faults_in, faults_of, read_of, readings, reported_to, reported_with, with_month_reports}
 
--- ---- each mail can be read, and no two are of one faction
+-- ---- each stored mailing can be read, and no two are of one faction
 
 module _ (w : WorldValue) (n : ℕ) (text : List ℕ) where
-  -- The text was read, and names the faction `n`.
+  -- The text was read, and its header names the faction `n`.
   abbrev pub Names : Result Reading MailFault → Type 0
   Names read = (r : Reading) × (read ≡ Ok r) × (r.faction ≡ n)
 
-  -- a mailing whose header names the faction is read so
+  -- a mailing whose header names the faction is read as one of that faction
   named : (next : ℕ) (rest : List (List ℕ)) → header_from 1 (lines text) ≡ Ok (record { faction = n; next = next; rest = rest }) → Names (after_header w (header_from 1 (lines text)))
   named next rest is = rw is (_, refl, refl)
 
@@ -64,14 +65,14 @@ module _ (w : WorldValue) (n : ℕ) (text : List ℕ) where
   unfolding reading
   reads sent = not_long (nat_lt most_bytes (length text)) refl sent.short (let (next, rest, is) = sent.header in named next rest is)
 
-  -- reading a faction's mailing never gives this fault
+  -- reading a stored mailing of a faction never fails
   pub not_unread : (fault : MailFault) → IsMailingOf n text → reading w text ≡ Err fault → ⊥
   not_unread fault sent unread = let (r, is, own) = reads sent in apart r fault (sym is ∙ unread)
     where
       apart : (r : Reading) (fault : MailFault) → ◌≡◌ {A = Result Reading MailFault} (Ok r) (Err fault) → ⊥
       apart r fault is = cc
 
-  -- if reading a faction's mailing fails, then because memory ran out
+  -- if the code fails to read a stored mailing of a faction, its fault is Memory
   pub only_memory : (fault : MailFault) → IsMailingOf n text → Reads reading_of (Err fault) (reading w text) → fault ≡ Memory
   only_memory TooLong sent unread = absurd (not_unread TooLong sent unread)
   only_memory NoHeader sent unread = absurd (not_unread NoHeader sent unread)
@@ -79,7 +80,7 @@ module _ (w : WorldValue) (n : ℕ) (text : List ℕ) where
   only_memory Memory sent unread = refl
 
 module _ (w : WorldValue) where
-  -- the readings of the mailings in these entries of the mail
+  -- the readings of those mailings in these entries of the mail that can be read
   abbrev texts_read : List (ℕ × List ℕ) → List Reading
   texts_read es = flat_map (λ e. read_of (reading w e.1)) es
 
@@ -90,16 +91,16 @@ module _ (w : WorldValue) where
       let (r, is, own) = reads w e.0 e.1 h.0 in
       ap (λ read. map (λ r. r.faction) (read_of read ++ texts_read es)) is ∙ ap₂ (λ n ns. n ∷ ns) own (factions_read es h.1)
 
--- mailings and their readings name the same factions
+-- mailings and their readings name the same factions in the same order
 factions_of : (ms : List Mailing) → map (λ r. r.faction) (map reading_of ms) ≡ map (λ m. m.faction) ms
 factions_of [] = refl
 factions_of (m ∷ ms) = ap (λ ns. m.faction ∷ ns) (factions_of ms)
 
--- each mail of a good campaign is a mailing of its faction
+-- each stored mailing of a good campaign is a mailing of its faction
 sent_by : (w : WorldValue) (c : CampaignValue) → IsGood w c → EachOf IsMailingOf (entries c.mail)
 sent_by w c good = each-from_every IsMailingOf c.mail (λ n text there. (good.sound.mail n text there).0)
 
--- no two mailings that were read of a good campaign are of one faction
+-- no two mailings read from a good campaign are of one faction
 pub own_factions : (w : WorldValue) (c : CampaignValue) (ms : List Mailing) → IsGood w c → map reading_of ms ≡ readings w c → HaveOwnFactions ms
 own_factions w c ms good is =
     let numbers = map (λ e. e.0) (entries c.mail) in
@@ -107,7 +108,7 @@ own_factions w c ms good is =
     let same : map (λ m. m.faction) ms ≡ numbers = sym (factions_of ms) ∙ ap (map (λ r. r.faction)) is ∙ factions_read w (entries c.mail) sent in
     subst (IsDistinct (eq_by_cmp nat_cmp)) (sym same) (IsDistinct-from_sorted nat_cmp numbers (keys_rise (entries c.mail) (sorted c.mail)))
 
--- ---- what is wrong with each mail
+-- ---- the faulty lines of each mailing
 
 -- the faulty lines found under a number are those of that faction's mailing
 pub wrong_under : (w : WorldValue) (mail : FinMap nat_cmp (List ℕ)) (n : ℕ) → unwrap_or (get (mapped (λ text. faults_of (reading w text)) mail) n) [] ≡ faults_in w (get mail n)
@@ -120,19 +121,19 @@ wrong_under w mail n = ap (λ o. unwrap_or o []) (get-mapped (λ text. faults_of
 -- ---- the reports
 
 module _ (w : WorldValue) (events : List Event) where
-  -- two functions with equal faulty lines for each faction give the same reports
+  -- functions that give equal faulty lines for each faction give the same campaign with reports
   pub same_reports : (f g : ℕ → List FaultyLine) → ((n : ℕ) → f n ≡ g n) → (c : CampaignValue) (ns : List ℕ) → fold (reported_to w f events) c ns ≡ fold (reported_to w g events) c ns
   same_reports f g same c [] = refl
   same_reports f g same c (n ∷ ns) =
       ap (λ faults. fold (reported_to w f events) (reported_with w c n faults events) ns) (same n) ∙ same_reports f g same (reported_to w g events c n) ns
 
-  -- storing reports for factions that are there keeps the campaign good
+  -- storing reports for factions of the campaign keeps the campaign good
   pub good_reports : (faults : ℕ → List FaultyLine) (c : CampaignValue) (ns : List ℕ) → AreThere c ns → IsGood w c → IsGood w (fold (reported_to w faults events) c ns)
   good_reports faults c [] there good = good
   good_reports faults c (n ∷ ns) (here, there) good =
       good_reports faults (reported_to w faults events c n) ns there (IsGood-with_report w c n (report_of w (view_of w c n) (faults n) events) here good)
 
--- what is true of each faction's number is true of those chosen by a test
+-- what is true of every faction's number is true of the numbers of the factions that pass a test
 there_among : (P : ℕ → Type 0) (p : Faction → Bool) (es : List (ℕ × Faction)) → EachOf (λ n f. P n) es → AllByRecursion P (numbers_among p es)
 there_among P p [] all = tt
 there_among P p (e ∷ es) (here, all) = at (p e.1) (there_among P p es all)
@@ -141,13 +142,14 @@ there_among P p (e ∷ es) (here, all) = at (p e.1) (there_among P p es all)
     at true rest = (here, rest)
     at false rest = rest
 
--- if no faction was removed, those that weren't gone before are there
+-- if no faction was removed, the factions that weren't gone before are in the campaign after
 pub active_there : (before after : CampaignValue) → ((n : ℕ) → IsThere before.factions n → IsThere after.factions n) → AreThere after (active before)
 active_there before after stay = there_among (IsThere after.factions) (λ f. not f.gone) (entries before.factions) (each-from_every (λ n f. IsThere after.factions n) before.factions (λ n f is. stay n (f, is)))
 
 -- ---- the month
 
--- storing the reports after the month's phases gives the campaign of `closed`
+-- storing the reports after the month's phases, with the month counted and the mail removed, gives the campaign of
+-- `closed`
 pub closed_is : (w : WorldValue) (c after : CampaignValue) (events : List Event) (words : List ℕ) (faults : FinMap nat_cmp (List FaultyLine)) → (after, events) ≡ month_of w c (by_faction (readings w c)) words
     → faults ≡ mapped (λ text. faults_of (reading w text)) c.mail → fold (reported_to w (λ n. unwrap_or (get faults n) []) events) (after_month after) (active c) ≡ closed w c words
 unfolding closed
@@ -155,35 +157,35 @@ closed_is w c after events words faults is wrong =
     same_reports w events (λ n. unwrap_or (get faults n) []) (λ n. faults_in w (get c.mail n)) (λ n. ap (λ m. unwrap_or (get m n) []) wrong ∙ wrong_under w c.mail n) (after_month after) (active c)
     ∙ ap (with_month_reports w c) is
 
--- ---- marks
+-- ---- the dirty set
 
--- the changes are dirty in a campaign equal to one where they are
+-- if the dirty set of a campaign has all changes, so has that of a campaign with equal value and equal dirty set
 marked_as : (c d : MarkedCampaign) (what : CampaignValue) (marks : Marks) → d.value ≡ what → d.marks ≡ marks → MarksChanges c (record { value = what; marks = marks }) → MarksChanges c d
 marked_as c d what marks is m h = subst (MarksChanges c) (sym (ap₂ (λ s n. record { value = s; marks = n }) is m)) h
 
--- counting the month makes the campaign row dirty
+-- after counting the month, with the campaign row added to the dirty set, the dirty set has all changes
 pub month_marked : (c d : MarkedCampaign) (n : ℕ) → d.value ≡ with_month c.value n → d.marks ≡ mark_campaign_row c → MarksChanges c d
 month_marked c d n is m = marked_as c d (with_month c.value n) (mark_campaign_row c) is m (marks-month c n)
 
--- removing the mail makes all mail dirty
+-- after removing the mail, with all mail added to the dirty set, the dirty set has all changes
 pub mail_marked : (c d : MarkedCampaign) → d.value ≡ without_mail c.value → d.marks ≡ mark_all_mail c → MarksChanges c d
 mail_marked c d is m = marked_as c d (without_mail c.value) (mark_all_mail c) is m (marks-no_mail c)
 
--- storing a report makes it dirty
+-- after storing a report, with the report added to the dirty set, the dirty set has all changes
 pub report_marked : (w : WorldValue) (c d : MarkedCampaign) (n : ℕ) (faults : List FaultyLine) (events : List Event) → d.value ≡ reported_with w c.value n faults events → d.marks ≡ mark_report c n → MarksChanges c d
 report_marked w c d n faults events is m = marked_as c d (reported_with w c.value n faults events) (mark_report c n) is m (marks-report c n (report_of w (view_of w c.value n) faults events))
 
--- after the phases, counting the month and removing the mail, all changes are dirty
+-- after the phases, counting the month and removing the mail, the dirty set has all changes
 pub turned_marked : (a b c d : MarkedCampaign) (n : ℕ) → MarksChanges a b → c.value ≡ with_month b.value n → c.marks ≡ mark_campaign_row b → d.value ≡ without_mail c.value → d.marks ≡ mark_all_mail c → MarksChanges a d
 turned_marked a b c d n run is m taken t = marks-trans a b d run (marks-trans b c d (month_marked b c n is m) (mail_marked c d taken t))
 
--- after storing a report, the change is dirty; nothing is said if it fails
+-- after storing a report without an error, the dirty set has all changes
 pub stored_marked : {A E : Type 0} (w : WorldValue) (c d : MarkedCampaign) (n : ℕ) (faults : List FaultyLine) (events : List Event) (r : Result A E) → OnOk r (d.value ≡ reported_with w c.value n faults events) → OnOk r (d.marks ≡ mark_report c n)
     → OnOk r (MarksChanges c d)
 stored_marked w c d n faults events (Ok a) is m = report_marked w c d n faults events is m
 stored_marked w c d n faults events (Err e) is m = tt
 
--- ---- the mail that is read, mail by mail
+-- ---- the mail, read one mailing after another
 
 -- the faulty lines of the mailings in these entries, by faction
 abbrev wrong_in : WorldValue → List (ℕ × List ℕ) → List (ℕ × List FaultyLine)
@@ -193,7 +195,7 @@ wrong_in w es = map (λ e. (e.0, faults_of (reading w e.1))) es
 abbrev wrong : WorldValue → CampaignValue → FinMap nat_cmp (List FaultyLine)
 wrong w c = mapped (λ text. faults_of (reading w text)) c.mail
 
--- before the first mailing is read, all is still to be read
+-- before the first mailing of a good campaign is read, `ReadSoFar` holds with all mailings still to be read
 pub read_begins : (w : WorldValue) (c : CampaignValue) (ms : List Mailing) (faults : FinMap nat_cmp (List FaultyLine)) (all : List (ℕ × List ℕ)) → IsGood w c → all ≡ entries c.mail → ms ≡ [] → faults ≡ empty → ReadSoFar w c ms faults all
 read_begins w c ms faults all good is none none_wrong =
     rw (is, none, none_wrong) (
@@ -203,7 +205,7 @@ read_begins w c ms faults all good is none none_wrong =
       sent_by w c good,
     )
 
--- reading one mailing more keeps what `ReadSoFar` says
+-- after one more mailing is read, `ReadSoFar` holds with the rest of the mailings
 pub read_goes_on : (w : WorldValue) (c : CampaignValue) (ms ns : List Mailing) (faults faults' : FinMap nat_cmp (List FaultyLine)) (here rest : List (ℕ × List ℕ)) (n : ℕ) (text : List ℕ) (m : Mailing) → here ≡ (n, text) ∷ rest → ns ≡ ms ++ m ∷ [] → IsReadWith w m → m.text ≡ text
     → faults' ≡ insert faults n m.faults → ReadSoFar w c ms faults here → ReadSoFar w c ns faults' rest
 read_goes_on w c ms ns faults faults' here rest n text m left one_more read kept put (mailings, all, outcome, sent) =
@@ -220,7 +222,7 @@ read_goes_on w c ms ns faults faults' here rest n text m left one_more read kept
       (subst (EachOf IsMailingOf) left sent).1,
     )
 
--- with no mailing left to read, all mail is read (`HasRead`)
+-- if no mailing is left to read, all mail is read (`HasRead`)
 pub read_ends : (w : WorldValue) (c : CampaignValue) (r : ReadMail) (rest : List (ℕ × List ℕ)) → rest ≡ [] → ReadSoFar w c r.mailings.items r.faults rest → HasRead w c r
 read_ends w c r rest none (mailings, all, outcome, sent) = record {
   readings_are = sym (append-nil (map reading_of r.mailings.items)) ∙ subst (λ es. map reading_of r.mailings.items ++ texts_read w es ≡ readings w c) none mailings;
@@ -228,24 +230,24 @@ read_ends w c r rest none (mailings, all, outcome, sent) = record {
   faults = same_entries_map r.faults (wrong w c) (sym (append-nil (entries r.faults)) ∙ subst (λ es. entries r.faults ++ wrong_in w es ≡ entries (wrong w c)) none outcome);
 }
 
--- ---- the reports, one by one
+-- ---- the reports, stored one after another
 
--- one step of a fold in a loop: if the fold of the rest ends in `last`, so does the fold of what is left after the step
+-- if a fold from index `i` on ends in `last`, so does the fold from index `i + 1` on that starts after element `i`
 pub fold_further : {A B : Type 0} (step : A → B → A) (old new last : A) (all : List B) (i : ℕ) (d : B) → i < length all → new ≡ step old (get_or all i d) → fold step old (drop i all) ≡ last → fold step new (drop (i + 1) all) ≡ last
 fold_further step old new last all i d h is whole = ap (λ a. fold step a (drop (i + 1) all)) is ∙ subst (λ l. fold step old l ≡ last) (drop_more all i d h) whole
 
--- storing a report leaves the structures, so the list of structures by region stays right
+-- storing a report doesn't change the structures, so the lists of structures by region stay right
 pub sites_stay : (w : WorldValue) (faults : ℕ → List FaultyLine) (events : List Event) (c d : CampaignValue) (n : ℕ) → d ≡ reported_to w faults events c n → (sites : FinMap nat_cmp (List ℕ)) → AreSites c.structures sites → AreSites d.structures sites
 sites_stay w faults events c d n is sites listed =
     subst (λ (s : CampaignValue). AreSites s.structures sites) (sym is) listed
 
--- ---- what the store asks for, and what is written
+-- ---- what the store requires, and what is written
 
--- a good campaign has at most as many things in its books as the store can write
+-- the books of a good campaign count at most as many things as the store can write (`most_things`)
 pub few_things : (w : WorldValue) (c : CampaignValue) → IsWorld w → IsGood w c → c.books.things ≤ most_things
 few_things w c world good = omega (arith, good.sound.steady.numbers.books.count, world.few_items)
 
--- after all reports of a month the campaign is that of `closed`, and good
+-- after all reports of a month are stored, the campaign is that of `closed`, and good
 pub closed_after_reports : (w : WorldValue) (c turned after : CampaignValue) (words : List ℕ) (outcome : MonthResult) → reported_to_all w turned outcome ≡ closed w c words → after ≡ reported_to_all w turned outcome → AreThere turned outcome.factions.items → IsGood w turned → (after ≡ closed w c words) × IsGood w after
 closed_after_reports w c turned after words outcome whole is there good =
     (is ∙ whole, subst (IsGood w) (sym is) (good_reports w outcome.events.items (λ n. unwrap_or (get outcome.faults n) []) turned outcome.factions.items there good))

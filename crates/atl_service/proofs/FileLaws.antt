@@ -12,12 +12,14 @@ use Rattle.sqlite.specs.State.{HasCleanDisk}
 use Rattle.sqlite.proofs.Shield.{shield_means}
 use Rattle.atl_service.specs.Files.{HasCollided}
 
+-- a clean disk has no failures that count as doubt
 no_doubt : (clean : Bool) → IsTrue clean → doubt clean ≡ 0
 unfolding doubt
 no_doubt true is = refl
 no_doubt false is = absurd (false≢true is)
 
 module _ {D : Type 0} {g : disk.Ghosts D} (start : D → List ℕ) (record_of : D → List Event) where
+  -- a shielded connection over files whose calls are recorded has a clean disk, or two digests have collided
   pub shielded_is_clean : ((d : D) → g.is_fair d ≡ (replay (start d) (record_of d)).is_fair) → ((d : D) → g.is_clean d ≡ (replay (start d) (record_of d)).is_honest) → (conn : Held (FileStore D g)) → is_shielded conn.store
       → HasCleanDisk (file_state conn) ⊎ HasCollided start record_of conn.store
   shielded_is_clean fair clean conn shielded =

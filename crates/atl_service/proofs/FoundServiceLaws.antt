@@ -1,4 +1,4 @@
--- Laws on `found`: a founding fulfils `Founds`, a refusal `RefusesFounding`, and the new service is consistent.
+-- Laws on `found`: founding fulfils `Founds`, a refusal fulfils `RefusesFounding`, and the new service is consistent.
 use Rattle.std.proofs.Common.{◌≡◌, ◌⊎◌, Bool, true, false, List, ℕ, Result, Ok, Some, refl, sym, ap, ◌∙◌, subst, inl, inr, arith}
 use Rattle.std.proofs.lemmas.Bool.{false≢true}
 use Rattle.sqlite_trees.specs.declared.store.Store.{Ghosts}
@@ -33,11 +33,11 @@ module _ {S : Type 0} (g : Ghosts S) where
   later_itself : (conn : Held S) → IsLater (state g conn) (state g conn)
   later_itself conn = record { clean = λ clean. clean; counts = omega arith; shield = λ k. k }
 
-  -- an unchanged connection fulfils what a failed founding leaves
+  -- an unchanged connection fulfils `FailsToFound`
   nothing_done : (conn : Held S) (text pass : List ℕ) → FailsToFound g conn text pass conn
   nothing_done conn text pass = record { tables = λ clean. spares_itself (state g conn); unfounded = λ bad. refl; crash = λ clean w is db may. inl may }
 
-  -- a founding refused by a check before the tables are created leaves the connection as it was
+  -- a refusal by a check before the tables are created fulfils `RefusesFounding` with the connection unchanged
   pub spared : (conn : Held S) (text pass : List ℕ) (why : Cause) → ((is_there : Bool) → MayBeCause text pass is_there why) → RefusesFounding g conn text pass why conn
   spared conn text pass why cause = record { cause = cause (has_campaign conn.schema); leaves = leaves why cause; later = later_itself conn }
     where
@@ -62,7 +62,7 @@ module _ {S : Type 0} (g : Ghosts S) where
     text = λ up clean. ap world_of (world_text_is (state g conn) text c (holds clean)) ∙ is;
   }
 
-  -- a founding whose tables were created fulfils `Founds`
+  -- if the world text and pass text are good and the tables were created, founding fulfils `Founds`
   pub founds_on : (old conn : Held S) (w : WorldValue) (c : CampaignValue) (text pass : List ℕ) → Prepares text pass w c → Creates g text c old conn → IsLater (state g old) (state g conn) → Founds g old text pass (record { conn = conn; world = w; campaign = Some c })
   founds_on old conn w c text pass made creates later = record {
     fresh = creates.fresh;
@@ -76,7 +76,7 @@ module _ {S : Type 0} (g : Ghosts S) where
 
   -- ---- a founding whose tables could not be created
   module _ (old new : Held S) (w : WorldValue) (c : CampaignValue) (text pass : List ℕ) (made : Prepares text pass w c) (later : IsLater (state g old) (state g new)) where
-    -- tables that could not be created fulfil what a failed founding leaves
+    -- if the tables could not be created, founding fulfils `FailsToFound`
     failed : FailsToCreate g text c old new → FailsToFound g old text pass new
     failed fails = record {
       tables = fails.tables;
@@ -87,7 +87,8 @@ module _ {S : Type 0} (g : Ghosts S) where
         ok_same : (a b : WorldValue) → ◌≡◌ {A = Result WorldValue WorldFault} (Ok a) (Ok b) → a ≡ b
         ok_same a b e = cc
 
-    -- the statements at fault are those of the founding by this text and pass text
+    -- a fault of creating the founded campaign's tables comes from the statements that found by this world text and
+    -- pass text
     told_by_founding : (fault : CreateFault) → IsTold g (OfFounding text c) create_fault old new fault → IsTold g (FoundsBy text pass) create_fault old new fault
     told_by_founding fault told = (
       told.0,
@@ -95,7 +96,7 @@ module _ {S : Type 0} (g : Ghosts S) where
       gives_among g (OfFounding text c) (FoundsBy text pass) (λ sql params own. (w, made.world, subst (λ (d : CampaignValue). OfFounding text d sql params) made.campaign own)) told.0 old new told.2,
     )
 
-    -- if creating the tables fails, the founding is refused by the fault's cause
+    -- if creating the tables fails, founding fulfils `RefusesFounding` with the cause for that fault
     pub refused_by_store : (fault : CreateFault) → RefusesToCreate g text c old new fault → RefusesFounding g old text pass (of_creation fault) new
     refused_by_store NotEmpty refused = record { cause = ((w, made.world), made.pass_is_good, refused.0); leaves = refused.1; later = later }
     refused_by_store Store refused = record { cause = ((w, made.world), made.pass_is_good, refused.0.fresh); leaves = (failed refused.0, broken refused.1); later = later }

@@ -1,4 +1,4 @@
--- Laws on a command Join: what `step` makes of it for each result of `join_of`, and that the store can write the result.
+-- Laws on a command Join: what `step` returns for each result of `join_of`, and that the store can write the result.
 use Rattle.std.proofs.Common.{◌≡◌, ◌+◌, ◌-◌, ℕ, pos, List, [], Bool, true, false, cond, not, Option, Some, is_some, IsSome, Ok, Err, refl, sym, ap, ◌∙◌, subst, arith}
 use Rattle.std.specs.FinMap.{get, insert}
 use Rattle.atl_tables.specs.Names.{name_ok, pass_ok}
@@ -18,37 +18,43 @@ use Rattle.atl_service.specs.declared.command.Refusal.TheVariants as why
 use Rattle.atl_service.specs.Step.{step, reported}
 
 module _ (w : WorldValue) (c : CampaignValue) (name pass : List ℕ) (word : ℕ) where
+  -- `step` refuses a join whose name breaks the rule of names
   pub bad_name : not (name_ok name) ≡ true → step w c (Join name pass word) ≡ (c, Refused why.BadName)
   unfolding step
   bad_name e = rw e refl
 
+  -- `step` refuses a join whose name is good and whose pass text breaks the rule of pass texts
   pub bad_pass : name_ok name ≡ true → not (pass_ok pass) ≡ true → step w c (Join name pass word) ≡ (c, Refused why.BadPassText)
   unfolding step
   bad_pass a e = rw (a, e) refl
 
+  -- `step` refuses a join with NameTaken if name and pass text are good and `join_of` gives NameTaken
   pub is_taken : name_ok name ≡ true → pass_ok pass ≡ true → join_of w name pass word c ≡ Err NameTaken → step w c (Join name pass word) ≡ (c, Refused why.NameTaken)
   unfolding step
   is_taken a b e = rw (a, b, e) refl
 
+  -- `step` refuses a join with Full if name and pass text are good and `join_of` gives Full
   pub is_too_full : name_ok name ≡ true → pass_ok pass ≡ true → join_of w name pass word c ≡ Err Full → step w c (Join name pass word) ≡ (c, Refused why.Full)
   unfolding step
   is_too_full a b e = rw (a, b, e) refl
 
+  -- if name and pass text are good and `join_of` succeeds, `step` stores the first report and answers Joined
   pub steps_on : (d : CampaignValue) (n m : ℕ) → name_ok name ≡ true → pass_ok pass ≡ true → join_of w name pass word c ≡ Ok (d, (n, m)) → step w c (Join name pass word) ≡ (reported w d n, Joined n m)
   unfolding step
   steps_on d n m a b e = rw (a, b, e) refl
 
--- if the two tests of `join_of` let it succeed with `y`, then `y` is the joined campaign `x`
+-- if `join_of` succeeds with `y` after its two tests, then `y` is the joined campaign `x`
 accepted : {S : Type 0} (taken full : Bool) (x y : S) → cond taken (Err NameTaken) (cond full (Err Full) (Ok x)) ≡ Ok y → x ≡ y
 accepted true full x y e = cc
 accepted false true x y e = cc
 accepted false false x y e = cc
 
--- a value that was found is there (used for the faction, its unit and its report)
+-- an option that has a value is not None
 is_there : {V : Type 0} (o : Option V) (v : V) → o ≡ Some v → IsSome o
 is_there o v is = ap is_some is
 
--- after a join and its first report, the new faction, its unit and its report are there, and the numbers count them
+-- a join in a good campaign, with its first report, adds the faction, its unit and its report, and raises the next
+-- numbers (`HasArrival`)
 arrival : (w : WorldValue) (name pass : List ℕ) (word : ℕ) (c : CampaignValue) → IsGood w c → HasArrival (reported w (joined w name pass word c) c.next_faction) c.next_faction
 unfolding joined
 arrival w name pass word c good =
@@ -65,7 +71,7 @@ arrival w name pass word c good =
       report = is_there _ report (get_inserted c.reports c.next_faction report);
     }
 
--- the same for the result of `join_of`
+-- if `join_of` succeeds in a good campaign, the new faction, unit and report are in the result with its first report
 pub arrives : (w : WorldValue) (name pass : List ℕ) (word : ℕ) (c d : CampaignValue) (n m : ℕ) → IsGood w c → join_of w name pass word c ≡ Ok (d, (n, m)) → HasArrival (reported w d n) n
 unfolding join_of
 arrives w name pass word c d n m good e =
@@ -74,7 +80,7 @@ arrives w name pass word c d n m good e =
     let number : c.next_faction ≡ n = ap (λ p. p.1.0) is in
     subst (λ (s : CampaignValue). HasArrival (reported w s n) n) same (subst (λ k. HasArrival (reported w (joined w name pass word c) k) k) number (arrival w name pass word c good))
 
--- a join with its first report is one that the store can write (`IsJoining`)
+-- a join that succeeds in a good campaign, with its first report, is one that the store can write (`IsJoining`)
 pub joining_is : (w : WorldValue) (name pass : List ℕ) (word : ℕ) (c d : CampaignValue) (n m : ℕ) → IsGood w c → join_of w name pass word c ≡ Ok (d, (n, m)) → IsJoining c n (reported w d n)
 unfolding join_of
 joining_is w name pass word c d n m good e =

@@ -1,4 +1,5 @@
--- Laws on lists of commands: from each command's `Runs` to `RunsAll`, and from that to the main theorem `Headline`.
+-- Laws on lists of commands: if each command fulfils `Runs`, the list fulfils `RunsAll`, which implies the main theorem
+-- `Headline`.
 use Rattle.std.proofs.Common.{◌≡◌, ◌⊎◌, ◌≤◌, ◌<◌, ◌+◌, ◌++◌, ◌∷◌, [], ℕ, List, map, drop, length, get_or, Option, Some, None, IfSome, refl, sym, ap, ap₂, ◌∙◌, subst, inl, inr, append_assoc, append-nil, arith}
 use native.Mathlib.Numerals.{unary_clauses}
 use Rattle.std.proofs.lemmas.List.{drop_more, drop_all}
@@ -20,7 +21,7 @@ use Rattle.atl_service.specs.Step.{step}
 use Rattle.atl_service.specs.Service.{ServiceValue, text_in}
 use Rattle.atl_service.specs.Runs.{Runs, RunsAt, RunsOpen, Accepts, Closes, RunsAll, Follows, FollowsAt, AreClosed, Headline, Interrupted, HeadlineAt}
 
--- `LeavesAfterFault` with a count of disk failures holds with each lower count too
+-- if `LeavesAfterFault` holds with a count of earlier disk failures, it holds with each lower count
 stops_from : (few many : ℕ) (s : State) (text : List ℕ) (before after : CampaignValue) → few ≤ many → LeavesAfterFault many s text before after → LeavesAfterFault few s text before after
 stops_from few many s text before after h stops = record {
   still = stops.still;
@@ -32,7 +33,8 @@ stops_from few many s text before after h stops = record {
     lower few many now h more = omega (arith, h, more)
 
 module _ {S : Type 0} (g : Ghosts S) where
-  -- `Follows` holds with an equal world text and a lower count of disk failures too
+  -- if `Follows` holds, it holds with a world text that is equal on a clean disk, and with a lower count of earlier
+  -- disk failures
   follows_as : (t u : List ℕ) (few many : ℕ) (w : WorldValue) (c : CampaignValue) (cs : List Command) (rs : List Answer) (new : ServiceValue S) → (HasCleanDisk (state g new.conn) → t ≡ u) → few ≤ many
       → Follows g t many w c cs rs new → Follows g u few w c cs rs new
   follows_as t u few many w c [] [] new same h f = (f.0, λ clean. subst (λ x. Keeps (state g new.conn) x c) (same clean) (f.1 clean))
@@ -51,7 +53,8 @@ module _ {S : Type 0} (g : Ghosts S) where
     record { old = f.4.old; held = λ clean. subst (λ t. Keeps (state g f.4.old) t c) (same clean) (f.4.held clean); cause = f.4.cause },
   )
 
-  -- a command that was carried out, and then the rest of the list
+  -- if a command was carried out and the rest follows from the service after it, `Follows` holds for the rest from its
+  -- campaign on
   carried : (old mid new : ServiceValue S) (c : CampaignValue) (x : Command) (a : Answer) (cs : List Command) (rs : List Answer) → (accepts : Accepts g c old x a mid) → (HasCleanDisk (state g new.conn) → HasCleanDisk (state g mid.conn))
       → (state g old.conn).faults ≤ (state g mid.conn).faults → FollowsAt g mid cs rs new mid.campaign
       → ((step old.world c x).1 ≡ a) × Follows g (text_in g old.conn) (state g old.conn).faults old.world (step old.world c x).0 cs rs new × (new.world ≡ old.world)
@@ -68,7 +71,7 @@ module _ {S : Type 0} (g : Ghosts S) where
         on.1 ∙ world_is,
       )
 
-  -- a command that ended in a fault and closed the service, and then the rest of the list
+  -- after a command that ended in a fault, the rest of the list is answered Closed, and nothing changes any more
   ended_in_fault : (old mid new : ServiceValue S) (c : CampaignValue) (x : Command) (fault : Failure) (cs : List Command) (rs : List Answer) → Closes g c old x mid → HasCause g (OfCommand old.world c x) old.conn mid.conn fault → HoldsCampaign g old.conn (text_in g old.conn) c
       → (HasCleanDisk (state g mid.conn) → HasCleanDisk (state g old.conn)) → FollowsAt g mid cs rs new mid.campaign
       → AreClosed cs rs × (new.campaign ≡ None) × (HasCleanDisk (state g new.conn) → LeavesAfterFault (state g old.conn).faults (state g new.conn) (text_in g old.conn) c (step old.world c x).0) × IsFault g (text_in g old.conn) old.world c x fault new.conn
@@ -84,7 +87,7 @@ module _ {S : Type 0} (g : Ghosts S) where
         ap (λ (e : ServiceValue S). e.world) on.1 ∙ ap (λ (e : ServiceValue S). e.world) closes.same,
       )
 
-  -- the first command of a list while the service is open, and then the rest
+  -- if the first command of a list ran in an open service and the rest follows from it, the whole list follows
   first_open : (old mid new : ServiceValue S) (c : CampaignValue) (x : Command) (a : Answer) (cs : List Command) (rs : List Answer) → RunsOpen g c old x a mid
       → (HasCleanDisk (state g new.conn) → HasCleanDisk (state g mid.conn)) → IsLater (state g old.conn) (state g mid.conn) → HoldsCampaign g old.conn (text_in g old.conn) c → old.campaign ≡ Some c → FollowsAt g mid cs rs new mid.campaign
       → FollowsAt g old (x ∷ cs) (a ∷ rs) new (Some c)
@@ -100,7 +103,8 @@ module _ {S : Type 0} (g : Ghosts S) where
   first_open old mid new c x (Fault Store) cs rs ran was later holds up rest = let k = ended_in_fault old mid new c x Store cs rs ran.0 ran.1 holds later.clean rest in (((λ e. let d = e in cc), k.0, k.1, k.2, k.3), k.4)
   first_open old mid new c x (Fault Closed) cs rs ran was later holds up rest = absurd ran
 
-  -- the same of a service that may be closed
+  -- if the first command of a list ran in a service, open or closed, and the rest follows from it, the whole list
+  -- follows
   first_at : (old mid new : ServiceValue S) (x : Command) (a : Answer) (cs : List Command) (rs : List Answer) (o : Option CampaignValue) → old.campaign ≡ o → RunsAt g old x a mid o
       → (HasCleanDisk (state g new.conn) → HasCleanDisk (state g mid.conn)) → IsLater (state g old.conn) (state g mid.conn) → IfSome o (λ c. HoldsCampaign g old.conn (text_in g old.conn) c) → FollowsAt g mid cs rs new mid.campaign
       → FollowsAt g old (x ∷ cs) (a ∷ rs) new o
@@ -113,7 +117,7 @@ module _ {S : Type 0} (g : Ghosts S) where
   later_on : (old mid new : State) → IsLater old mid → IsLater mid new → IsLater old new
   later_on old mid new a b = record { clean = λ h. a.clean (b.clean h); counts = omega (arith, a.counts, b.counts); shield = λ s. b.shield (a.shield s) }
 
-  -- one command and then a list make a list that is one longer
+  -- if a command fulfils `Runs` and a list after it `RunsAll`, the list with the command in front fulfils `RunsAll`
   pub run_first : (old mid new : ServiceValue S) (x : Command) (a : Answer) (cs : List Command) (rs : List Answer) → IfSome old.campaign (λ c. HoldsCampaign g old.conn (text_in g old.conn) c) → Runs g old x a mid → IsLater (state g old.conn) (state g mid.conn)
       → RunsAll g mid cs rs new → RunsAll g old (x ∷ cs) (a ∷ rs) new
   run_first old mid new x a cs rs holds ran later rest = record {
@@ -121,18 +125,19 @@ module _ {S : Type 0} (g : Ghosts S) where
     later = later_on (state g old.conn) (state g mid.conn) (state g new.conn) later rest.later;
   }
 
-  -- an empty list leaves the service as it is
+  -- an empty list with no answers, from a service to itself, fulfils `FollowsAt`
   none_left : (now : ServiceValue S) (o : Option CampaignValue) → now.campaign ≡ o → IfSome o (λ c. HoldsCampaign g now.conn (text_in g now.conn) c) → FollowsAt g now [] [] now o
   none_left now (Some c) is holds = ((is, holds), refl)
   none_left now None is holds = (tt, refl)
 
-  -- an empty list runs with no answers and leaves the service
+  -- an empty list with no answers, from a service to itself, fulfils `RunsAll`
   pub run_none : (now : ServiceValue S) → IfSome now.campaign (λ c. HoldsCampaign g now.conn (text_in g now.conn) c) → RunsAll g now [] [] now
   run_none now holds = record { follows = none_left now now.campaign refl holds; later = record { clean = λ h. h; counts = omega arith; shield = λ s. s } }
 
   -- ---- the loop of `run_all`
 
-  -- one round of the loop: a command more is run, and its answer added
+  -- if the answers before command `i` continue to answers of the whole list, so do those with the answer of command `i`
+  -- added
   pub one_more : (e mid now new : ServiceValue S) (cs : List Command) (i : ℕ) (c : Command) (a : Answer) (sofar rs : List Answer) → i < length cs → c ≡ get_or cs i c
       → ((ts : List Answer) (n : ServiceValue S) → RunsAll g mid (drop i cs) ts n → RunsAll g e cs (sofar ++ ts) n) → IfSome mid.campaign (λ d. HoldsCampaign g mid.conn (text_in g mid.conn) d) → Runs g mid c a now → IsLater (state g mid.conn) (state g now.conn)
       → RunsAll g now (drop (i + 1) cs) rs new → RunsAll g e cs ((sofar ++ a ∷ []) ++ rs) new
@@ -140,25 +145,26 @@ module _ {S : Type 0} (g : Ghosts S) where
       let next : drop i cs ≡ c ∷ drop (i + 1) cs = drop_more cs i c h ∙ ap (λ x. x ∷ drop (i + 1) cs) (sym is) in
       subst (λ ts. RunsAll g e cs ts new) (sym (append_assoc sofar (a ∷ []) rs)) (whole (a ∷ rs) new (subst (λ ds. RunsAll g mid ds (a ∷ rs) new) (sym next) (run_first mid now new c a (drop (i + 1) cs) rs holds ran later rest)))
 
-  -- the end of the loop: the answers so far are those of the whole list
+  -- once all commands are run, the answers so far fulfil `RunsAll` for the whole list
   pub all_done : (e now : ServiceValue S) (cs : List Command) (i : ℕ) (sofar : List Answer) → length cs ≤ i → ((ts : List Answer) (n : ServiceValue S) → RunsAll g now (drop i cs) ts n → RunsAll g e cs (sofar ++ ts) n)
       → IfSome now.campaign (λ c. HoldsCampaign g now.conn (text_in g now.conn) c) → RunsAll g e cs sofar now
   all_done e now cs i sofar h whole holds = subst (λ ts. RunsAll g e cs ts now) (append-nil sofar) (whole [] now (subst (λ ds. RunsAll g now ds [] now) (sym (drop_all i cs h)) (run_none now holds)))
 
-  -- ---- the headline
+  -- ---- the main theorem
 
-  -- The main theorem holds, or a command ended in a fault.
+  -- The main theorem (`Headline`) holds, or a command ended in a fault (`Interrupted`).
   abbrev Ends : List ℕ → ℕ → WorldValue → CampaignValue → List Command → List Answer → ServiceValue S → Type 0
   Ends text faults w c cs rs new = Headline g text w c cs rs new ⊎ Interrupted g text faults w c cs rs new
 
-  -- if every command is answered Closed, the answers are a list of Closed
+  -- if every command is answered Closed, the answers are one Closed for each command
   all_closed : (cs : List Command) (rs : List Answer) → AreClosed cs rs → rs ≡ map (λ _. Fault Closed) cs
   all_closed [] [] h = refl
   all_closed [] (a ∷ rs) h = absurd h
   all_closed (x ∷ cs) [] h = absurd h
   all_closed (x ∷ cs) (a ∷ rs) h = ap₂ (λ b bs. b ∷ bs) h.0 (all_closed cs rs h.1)
 
-  -- what the rest of the list ends in, the list with a command before it ends in
+  -- if `Ends` holds for the rest of a list after a command, and `step` gives the command's answer, it holds for the
+  -- whole list
   further : (text : List ℕ) (faults : ℕ) (w : WorldValue) (c : CampaignValue) (x : Command) (a : Answer) (cs : List Command) (rs : List Answer) (new : ServiceValue S) → (step w c x).1 ≡ a → Ends text faults w (step w c x).0 cs rs new
       → Ends text faults w c (x ∷ cs) (a ∷ rs) new
   further text faults w c x a cs rs new is (inl h) = inl (record { answers_are = ap₂ (λ b bs. b ∷ bs) (sym is) h.answers_are; campaign_is = h.campaign_is; tables = h.tables })
@@ -175,7 +181,7 @@ module _ {S : Type 0} (g : Ghosts S) where
     tables = simp unary_clauses (simp unary_clauses at h.tables);
   })
 
-  -- answers that follow the commands end so
+  -- answers that fulfil `Follows` fulfil `Ends`
   ends : (text : List ℕ) (faults : ℕ) (w : WorldValue) (c : CampaignValue) (cs : List Command) (rs : List Answer) (new : ServiceValue S) → Follows g text faults w c cs rs new → Ends text faults w c cs rs new
   ends text faults w c [] [] new f = inl (record { answers_are = refl; campaign_is = f.0; tables = f.1 })
   ends text faults w c [] (a ∷ rs) new f = absurd f
@@ -198,11 +204,11 @@ module _ {S : Type 0} (g : Ghosts S) where
     tables = f.3;
   })
 
-  -- the same of a service that may be closed
+  -- answers that fulfil `FollowsAt`, of a service open or closed, fulfil `HeadlineAt`
   headline_at : (old new : ServiceValue S) (cs : List Command) (rs : List Answer) (o : Option CampaignValue) → FollowsAt g old cs rs new o → HeadlineAt g old cs rs new o
   headline_at old new cs rs (Some c) f = ends (text_in g old.conn) (state g old.conn).faults old.world c cs rs new f.0
   headline_at old new cs rs None f = (all_closed cs rs f.0, f.1)
 
-  -- the main theorem, from what `run_all` promises of a list
+  -- the main theorem: a list that fulfils `RunsAll` fulfils `HeadlineAt`
   pub headline : (old new : ServiceValue S) (cs : List Command) (rs : List Answer) → RunsAll g old cs rs new → HeadlineAt g old cs rs new old.campaign
   headline old new cs rs h = headline_at old new cs rs old.campaign h.follows

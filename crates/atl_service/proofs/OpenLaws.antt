@@ -1,4 +1,5 @@
--- Laws on `open`: it gives back what was stored, or refuses and leaves the tables; the opened service is consistent.
+-- Laws on `open`: it returns what was stored, or refuses and leaves the tables unchanged; the opened service is
+-- consistent.
 use Rattle.std.proofs.Common.{◌≡◌, Bool, false, true, not, Some, refl, ap, ◌∙◌, subst, inl, arith}
 use Rattle.sqlite_trees.specs.declared.store.Store.{Ghosts}
 use Rattle.sqlite.specs.Effect.{Database}
@@ -37,12 +38,12 @@ module _ {S : Type 0} (g : Ghosts S) where
     mode = refl;
   }
 
-  -- a connection in a transaction is refused with Store and left as it is
+  -- refusing a connection in a transaction with Store, and leaving it as it is, fulfils `RefusesOpening`
   pub refused_unasked : (conn : Held S) → conn.in_transaction ≡ true → RefusesOpening g conn (of_loading Store) conn
   refused_unasked conn busy = record { fault = Store; why_is = refl; cause = λ clean. inl busy; alone = alone_itself conn; later = later _ _ _ (alone_itself conn).survives }
 
   module _ (old new : Held S) (alone : LeavesAlone g old new) where
-    -- an opening whose load failed is refused by that fault
+    -- an opening whose load failed fulfils `RefusesOpening` with the load's fault
     pub refused_by_load : (fault : StoreFault) → (HasCleanDisk (state g new) → RefusesToLoad g old fault) → RefusesOpening g old (of_loading fault) new
     refused_by_load fault cause = record { fault = fault; why_is = refl; cause = cause; alone = alone; later = later _ _ _ alone.survives }
 
@@ -51,7 +52,7 @@ module _ {S : Type 0} (g : Ghosts S) where
       pub opens : Opens g old (record { conn = new; world = w; campaign = Some c.value })
       opens = record { campaign = c; is_open = refl; loads = loads; alone = alone; later = later _ _ _ alone.survives }
 
-      -- the text, world and campaign that the tables held are those that are loaded
+      -- a loaded campaign fulfils `ComesBack`: text, world and campaign are those that the tables held
       pub comes_back : ComesBack g old (record { conn = new; world = w; campaign = Some c.value })
       comes_back clean text v d reads good held =
           let kept = loads.tables clean in
@@ -63,7 +64,8 @@ module _ {S : Type 0} (g : Ghosts S) where
           let worlds : w ≡ v = holds_one_world w v db there text c.value d (loads.world clean) reads rows were.rows in
           (texts, worlds, ap Some (holds_one v db there text c.value d (subst (λ p. IsGood p c.value) worlds loads.good) good rows were.rows).1)
 
-      -- the opened service is consistent
+      -- the service of a loaded campaign is consistent if the connection was in no transaction, and its dirty set is
+      -- empty
       pub opened_consistent : old.in_transaction ≡ false → IsService g new w c true
       opened_consistent idle = record {
         consistent = record { idle = alone.mode ∙ idle; good = λ up. loads.good; tables = λ up. loads.tables; text = λ up. loads.world };

@@ -1,4 +1,4 @@
--- Law: of stored mailings only the last one of each faction counts for closing a month.
+-- Laws on stored mailings: only the last one of each faction counts for closing a month (`OnlyTheLastMailCounts`).
 use Rattle.std.proofs.Common.{◌≡◌, ◌==◌, ℕ, Bool, true, false, cond, not, List, [], ◌∷◌, Option, Some, None, Result, Ok, Err, refl, sym, ap, ◌∙◌, arith}
 use Rattle.std.proofs.lemmas.Bool.Decides.{nat_tests}
 use Rattle.std.specs.Option.{option_or}
@@ -23,16 +23,16 @@ use Rattle.atl_service.specs.Posting.{AreMailed, IsMailed, OnlyTheLastMailCounts
 -- ---- one mailing that is answered Mailed is stored
 
 module _ (c : CampaignValue) (faction : ℕ) (text : List ℕ) where
-  -- If the answer is Mailed, the campaign has this text as the faction's mail.
+  -- If the answer is Mailed, the new campaign is `c` with this text as the faction's mail.
   abbrev StoresIfMailed : CampaignValue × Answer → Type 0
   StoresIfMailed made = IsMailed made.1 → made.0 ≡ with_mail c faction text
 
-  -- `StoresIfMailed` holds with the test that the header names the sender
+  -- if `StoresIfMailed` holds of a result, it holds also after the test that the header names the sender
   kept_own : (other : Bool) (done : CampaignValue × Answer) → StoresIfMailed done → StoresIfMailed (cond other (c, Refused why.WrongFaction) done)
   kept_own true done keeps taken = absurd taken
   kept_own false done keeps taken = keeps taken
 
-  -- `StoresIfMailed` holds of each result of reading the mailing
+  -- `StoresIfMailed` holds of the result for each reading of the mailing
   kept_read : (read : Result Reading MailFault) → StoresIfMailed (mailed c faction text read)
   kept_read (Ok r) taken = kept_own (not (r.faction == faction)) _ (λ _. refl) taken
   kept_read (Err TooLong) taken = absurd taken
@@ -40,12 +40,12 @@ module _ (c : CampaignValue) (faction : ℕ) (text : List ℕ) where
   kept_read (Err BadHeader) taken = absurd taken
   kept_read (Err Memory) taken = absurd taken
 
-  -- `StoresIfMailed` holds with the test that the faction isn't gone
+  -- if `StoresIfMailed` holds of a result, it holds also after the test that the faction isn't gone
   kept_here : (gone : Bool) (done : CampaignValue × Answer) → StoresIfMailed done → StoresIfMailed (cond gone (c, Refused why.Gone) done)
   kept_here true done keeps taken = absurd taken
   kept_here false done keeps taken = keeps taken
 
-  -- `StoresIfMailed` holds with the test of number and pass text
+  -- `StoresIfMailed` holds also after the test of number and pass text
   kept_by : (w : WorldValue) (who : Result Faction Refusal) → StoresIfMailed (mailed_by w c faction text who)
   kept_by w (Err refusal) taken = absurd taken
   kept_by w (Ok f) taken = kept_here f.gone (mailed c faction text (reading w text)) (kept_read (reading w text)) taken
@@ -57,7 +57,7 @@ module _ (c : CampaignValue) (faction : ℕ) (text : List ℕ) where
 
 -- ---- the mail after a list of mailings
 
--- the mail after these commands, if each mailing is stored
+-- the mail after these commands, if all their mailings are stored
 abbrev posted : FinMap nat_cmp (List ℕ) → List Command → FinMap nat_cmp (List ℕ)
 posted mail [] = mail
 posted mail (Join _ _ _ ∷ more) = posted mail more
@@ -74,7 +74,8 @@ run_posts w c (Mail faction pass text ∷ more) all =
 run_posts w c (Close _ _ _ ∷ more) all = absurd all
 run_posts w c (Report _ _ ∷ more) all = absurd all
 
--- a faction's mail after the list is its last text in it
+-- a faction's mail after a list of stored mailings is its last text in the list, or its earlier mail if the list has
+-- none
 get_posted : (mail : FinMap nat_cmp (List ℕ)) (sent : List Command) (n : ℕ) → get (posted mail sent) n ≡ last_text n (get mail n) sent
 get_posted mail [] n = refl
 get_posted mail (Join _ _ _ ∷ more) n = get_posted mail more n
@@ -87,7 +88,7 @@ get_posted mail (Mail faction pass text ∷ more) n =
 get_posted mail (Close _ _ _ ∷ more) n = get_posted mail more n
 get_posted mail (Report _ _ ∷ more) n = get_posted mail more n
 
--- the mail before the list counts only for factions without a mailing in it
+-- a faction's earlier mail counts only if the list has no mailing of the faction
 last_or : (n : ℕ) (before other : Option (List ℕ)) (sent : List Command) → last_text n (option_or before other) sent ≡ option_or (last_text n before sent) other
 last_or n before other [] = refl
 last_or n before other (Join _ _ _ ∷ more) = last_or n before other more
@@ -99,11 +100,12 @@ last_or n before other (Mail faction pass text ∷ more) = ap (λ o. last_text n
 last_or n before other (Close _ _ _ ∷ more) = last_or n before other more
 last_or n before other (Report _ _ ∷ more) = last_or n before other more
 
--- lists with the same last text of each faction give the same mail
+-- two lists with the same last text of each faction give the same mail
 same_mail : (mail : FinMap nat_cmp (List ℕ)) (sent others : List Command) → ((n : ℕ) → last_text n None sent ≡ last_text n None others) → posted mail sent ≡ posted mail others
 same_mail mail sent others same = same_map nat_cmp_total nat_cmp-IsAntisymmetric (posted mail sent) (posted mail others) (λ n.
     get_posted mail sent n ∙ last_or n None (get mail n) sent ∙ ap (λ o. option_or o (get mail n)) (same n) ∙ sym (get_posted mail others n ∙ last_or n None (get mail n) others))
 
+-- after two lists of stored mailings with the same last text of each faction, closing a month gives the same result
 pub only_the_last_mail_counts : OnlyTheLastMailCounts
 only_the_last_mail_counts w c sent others month pass words all all_others same =
     ap (λ d. step w d (Close month pass words)) (run_posts w c sent all ∙ ap (λ mail. record c { mail = mail }) (same_mail c.mail sent others same) ∙ sym (run_posts w c others all_others))

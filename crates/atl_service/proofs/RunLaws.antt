@@ -1,5 +1,5 @@
 -- Laws on `run`: what `answer_to` promises (`Answers`, `GivesUp`) implies what `run` promises (`Runs`).
--- The invariant stays.
+-- An answered command keeps the service consistent.
 use Rattle.std.proofs.Common.{◌≡◌, Bool, true, false, cond, Some, None, IfSome, refl, sym, ap, ap₂, ◌∙◌, subst}
 use Rattle.std.proofs.lemmas.Bool.{false≢true}
 use Rattle.sqlite_trees.specs.declared.store.Store.{Ghosts}
@@ -22,20 +22,21 @@ use Rattle.atl_service.specs.Causes.{OfCommand, HasCause}
 use Rattle.atl_service.specs.Runs.{Runs, RunsOpen, Closes}
 
 module _ {S : Type 0} (g : Ghosts S) where
-  -- the value of a service with these fields, as contracts see it
+  -- the value of a service with these fields, as contracts see it: without a campaign if it is closed
   abbrev pub shown : Held S → WorldValue → CampaignValue → Bool → ServiceValue S
   shown conn w c is_open = record { conn = conn; world = w; campaign = cond is_open (Some c) None }
 
   module _ (conn conn' : Held S) (w : WorldValue) (c c' : CampaignValue) (command : Command) where
-    -- the command had this answer and left campaign c' and connection conn', as `Answers` says
+    -- The command was answered without a fault, and left campaign `c'` and connection `conn'` (`Answers`).
     abbrev pub Answered : Answer → Type 0
     Answered = Answers g w c conn command c' conn'
 
-    -- after an answered command the tables hold the new campaign
+    -- after an answered command in a consistent service, the tables hold the new campaign with the same world text, if
+    -- the disk is clean
     holding : (answer : Answer) → IsConsistent g conn w c true → LeavesIdle g conn conn' → Answered answer → HoldsCampaign g conn' (text_in g conn) c'
     holding answer stands leaves done clean = done.tables clean (text_in g conn) (stands.tables refl (leaves.later.clean clean))
 
-    -- an open service is consistent after a command that was answered
+    -- a consistent open service stays consistent after an answered command
     consistent_open : (answer : Answer) → IsConsistent g conn w c true → LeavesIdle g conn conn' → Answered answer → IsConsistent g conn' w c' true
     consistent_open answer stands leaves done = record {
       idle = leaves.idle;
@@ -44,18 +45,18 @@ module _ {S : Type 0} (g : Ghosts S) where
       text = λ up clean. ap world_of (world_text_is (state g conn') (text_in g conn) c' (holding answer stands leaves done clean)) ∙ stands.text refl (leaves.later.clean clean);
     }
 
-    -- a service whose flag `is_open` is set is consistent after a command that was answered
+    -- a consistent service stays consistent after an answered command, if its field `is_open` is true
     pub consistent_after : (answer : Answer) (is_open : Bool) → is_open ≡ true → IsConsistent g conn w c is_open → LeavesIdle g conn conn' → Answered answer → IsConsistent g conn' w c' is_open
     consistent_after answer true up stands leaves done = consistent_open answer stands leaves done
     consistent_after answer false up stands leaves done = absurd (false≢true up)
 
-    -- after an answered command the tables of an open service hold its campaign
+    -- after an answered command the tables of an open, consistent service hold its new campaign, if the disk is clean
     pub tables_after : (answer : Answer) (is_open : Bool) → is_open ≡ true → IsConsistent g conn w c is_open → LeavesIdle g conn conn' → Answered answer
         → IfSome (shown conn' w c' is_open).campaign (λ d. HoldsCampaign g conn' (text_in g conn') d)
     tables_after answer true up stands leaves done = (consistent_open answer stands leaves done).tables refl
     tables_after answer false up stands leaves done = absurd (false≢true up)
 
-    -- an answered command of an open service fulfils `RunsOpen`
+    -- an answered command of an open, consistent service fulfils `RunsOpen`
     runs_open : (answer : Answer) → IsConsistent g conn w c true → LeavesIdle g conn conn' → Answered answer → RunsOpen g c (shown conn w c true) command answer (shown conn' w c' true)
     runs_open (Joined f u) stands leaves done = record { after = c'; step = done.step_is; same = refl; tables = holding (Joined f u) stands leaves done }
     runs_open (Mailed n fs) stands leaves done = record { after = c'; step = done.step_is; same = refl; tables = holding (Mailed n fs) stands leaves done }
@@ -64,20 +65,20 @@ module _ {S : Type 0} (g : Ghosts S) where
     runs_open (Refused r) stands leaves done = (done.step_is ∙ ap (λ d. (d, Refused r)) done.same.0, ap₂ (λ h d. shown h w d true) done.same.1 done.same.0)
     runs_open (Fault f) stands leaves done = absurd done.sound
 
-    -- an answered command fulfils `Runs`
+    -- an answered command of a consistent service whose field `is_open` is true fulfils `Runs`
     pub runs_on : (old : ServiceValue S) (answer : Answer) (is_open : Bool) → shown conn w c is_open ≡ old → is_open ≡ true → IsConsistent g conn w c is_open → LeavesIdle g conn conn' → Answered answer → Runs g old command answer (shown conn' w c' is_open)
     runs_on old answer true seen up stands leaves done = subst (λ e. Runs g e command answer (shown conn' w c' true)) seen (runs_open answer stands leaves done)
     runs_on old answer false seen up stands leaves done = absurd (false≢true up)
 
-    -- The command ended in a fault.
+    -- The command ended in a fault, and left what `GivesUp` allows.
     abbrev pub GaveUp : Type 0
     GaveUp = GivesUp g w c conn command conn'
 
-    -- a command that ended in a fault closes the service
+    -- a command of a consistent open service that ended in a fault fulfils `Closes`
     closes_open : IsConsistent g conn w c true → LeavesIdle g conn conn' → GaveUp → Closes g c (shown conn w c true) command (shown conn' w c' false)
     closes_open stands leaves gave_up = record { same = refl; tables = λ clean. gave_up clean (text_in g conn) (stands.tables refl (leaves.later.clean clean)) }
 
-    -- a command that ended in a fault fulfils `Runs`, with the fault of the store as the answer
+    -- a command that ended in a fault of a write fulfils `Runs`, with the service's fault for it as the answer
     pub closes_for : (old : ServiceValue S) (fault : WriteFault) (told : Failure) (is_open : Bool) → told ≡ of_write fault → shown conn w c is_open ≡ old → is_open ≡ true → IsConsistent g conn w c is_open → LeavesIdle g conn conn' → GaveUp → HasCause g (OfCommand w c command) conn conn' (of_write fault)
         → Runs g old command (Fault told) (shown conn' w c' false)
     closes_for old fault told true is seen up stands leaves gave_up cause = subst (λ e. Runs g e command (Fault told) (shown conn' w c' false)) seen (subst (λ t. RunsOpen g c (shown conn w c true) command (Fault t) (shown conn' w c' false)) (sym is) (closes fault cause))

@@ -1,4 +1,4 @@
--- Laws on sorting events by faction: the lists are each faction's own events, and a report needs only those.
+-- Laws on sorting events by faction: each list has the faction's own events, and a report needs only these.
 use Rattle.std.proofs.Common.{Result, Ok, Err, ◌≡◌, ◌==◌, ◌++◌, ◌+◌, ◌<◌, ℕ, Bool, true, false, cond, List, [], ◌∷◌, Option, Some, unwrap_or, refl, sym, ap, ◌∙◌, arith, length, get_or, drop}
 use Rattle.std.specs.Prelude.{OnOk}
 use Rattle.std.specs.Ordering.{nat_cmp}
@@ -16,20 +16,21 @@ use Rattle.atl_report.proofs.EventLaws.{only_what_is_seen_is_told}
 use Rattle.atl_service.specs.Closing.{reported_with}
 use Rattle.atl_service.specs.Sorting.{events_of, with_event}
 
--- a faction's list after an event was added to it (`b` is true) or to another one
+-- a faction's list followed by the rest, after an event was added to that list (`b` is true) or to another list
 by_faction : (b : Bool) (o : Option (List Event)) (listed rest : List Event) (e : Event) → (b ≡ true → listed ≡ unwrap_or o [])
     → unwrap_or (cond b (Some (listed ++ (e ∷ []))) o) [] ++ rest ≡ unwrap_or o [] ++ cond b (e ∷ rest) rest
 by_faction true o listed rest e h = ap (λ l. (l ++ (e ∷ [])) ++ rest) (h refl) ∙ append_assoc (unwrap_or o []) (e ∷ []) rest
 by_faction false o listed rest e h = refl
 
--- equal numbers have the same list
+-- if two faction numbers are equal, their lists of events are equal
 same_list : (sorted : FinMap nat_cmp (List Event)) (q r : ℕ) → (r == q) ≡ true → events_of sorted r ≡ events_of sorted q
 same_list sorted q r h = ap (events_of sorted) (equal q r h)
   where
     equal : (q r : ℕ) → (r == q) ≡ true → r ≡ q
     equal q r h = grind (arith, nat_tests)
 
--- adding an event to its list and then the rest gives the same as the list and then the event and the rest
+-- each faction's list with an event added, followed by its events of the rest, is its list followed by its events of
+-- both
 event_goes_on : (sorted : FinMap nat_cmp (List Event)) (e : Event) (es : List Event) (n : ℕ)
     → events_of (with_event sorted e) n ++ own_events n es ≡ events_of sorted n ++ own_events n (e ∷ es)
 event_goes_on sorted e es n =
@@ -37,7 +38,7 @@ event_goes_on sorted e es n =
     ∙ ap (λ b. unwrap_or (cond b (Some (events_of sorted e.faction ++ (e ∷ []))) (get sorted n)) [] ++ own_events n es) (key_turned n e.faction)
     ∙ by_faction (e.faction == n) (get sorted n) (events_of sorted e.faction) (own_events n es) e (same_list sorted n e.faction)
 
--- one round of the loop: the event of index `i` is added to its faction's list
+-- list `n` followed by its unsorted events stays the same when event `i` is added to its faction's list
 pub sorted_on : (sorted new : FinMap nat_cmp (List Event)) (events : List Event) (i : ℕ) (d : Event) (whole : List Event) (n : ℕ) → i < length events → new ≡ with_event sorted (get_or events i d)
     → events_of sorted n ++ own_events n (drop i events) ≡ whole → events_of new n ++ own_events n (drop (i + 1) events) ≡ whole
 sorted_on sorted new events i d whole n h is so_far =
@@ -50,7 +51,7 @@ sorted_on sorted new events i d whole n h is so_far =
 pub none_sorted : (m : FinMap nat_cmp (List Event)) → m ≡ empty → (n : ℕ) → events_of m n ≡ []
 none_sorted m h n = ap (λ (m : FinMap nat_cmp (List Event)). events_of m n) h ∙ ap (λ o. unwrap_or o []) (get-empty nat_cmp n)
 
--- the own events among one's own are all of them
+-- choosing a faction's own events a second time changes nothing
 pub own_again : (n : ℕ) (events : List Event) → own_events n (own_events n events) ≡ own_events n events
 own_again n [] = refl
 own_again n (e ∷ es) = by_test (e.faction == n) refl (own_again n es)
@@ -59,7 +60,7 @@ own_again n (e ∷ es) = by_test (e.faction == n) refl (own_again n es)
     by_test true is rest = ap (λ t. cond t (e ∷ own_events n (own_events n es)) (own_events n (own_events n es))) is ∙ ap (λ (more : List Event). e ∷ more) rest
     by_test false is rest = rest
 
--- a report of a faction's own events is the report of all of them
+-- a campaign with a report made from a faction's own events is that with a report made from all events
 pub stored_own : {A E : Type 0} (w : WorldValue) (c d : CampaignValue) (n : ℕ) (faults lines : List FaultyLine) (events own : List Event) (r : Result A E)
     → lines ≡ faults → own ≡ own_events n events → OnOk r (d ≡ reported_with w c n lines own) → OnOk r (d ≡ reported_with w c n faults events)
 stored_own w c d n faults lines events own (Err e) wrong mine is = tt

@@ -1,4 +1,5 @@
--- What answering one command does to campaign and tables while the service is open: from campaign `before` and connection `old` to `after` and `new`.
+-- What answering one command does to campaign and tables while the service is open: from campaign `before` and
+-- connection `old` to `after` and `new`.
 use Rattle.std.specs.Prelude.{◌≡◌, ℕ, List, false, ⊤}
 use Rattle.sqlite_trees.specs.declared.store.Store.{Ghosts}
 use Rattle.sqlite.specs.Held.{Held, state}
@@ -35,7 +36,8 @@ IfTextOrRefused (Text _) P = P
 IfTextOrRefused (Refused _) P = P
 IfTextOrRefused (Fault _) P = ⊤
 
--- A command was answered without a fault: answer and new campaign are those of `step`, and the tables hold the new campaign if they held the old one.
+-- A command was answered without a fault: answer and new campaign are those of `step`. If the disk is clean and the
+-- tables held the old campaign, they hold the new one.
 pub record Answers {S : Type 0} (g : Ghosts S) (w : WorldValue) (before : CampaignValue) (old : Held S) (command : Command) (after : CampaignValue) (new : Held S) (answer : Answer) : Type 0 where
   pub step_is : step w before command ≡ (after, answer)
   pub sound : IsNoFault answer
@@ -43,27 +45,30 @@ pub record Answers {S : Type 0} (g : Ghosts S) (w : WorldValue) (before : Campai
   pub good : IsGood w after
   pub tables : HasCleanDisk (state g new) → (text : List ℕ) → Keeps (state g old) text before → Keeps (state g new) text after
 
--- A command failed with a fault: tables that held the campaign before the command still do (`LeavesAfterFault`); a crash leaves that one or the one after `step`.
+-- A command failed with a fault: on a clean disk, tables that held the campaign before the command still do
+-- (`LeavesAfterFault`). A crash leaves that campaign or the one after `step`.
 abbrev pub GivesUp : {S : Type 0} → Ghosts S → WorldValue → CampaignValue → Held S → Command → Held S → Type 0
 GivesUp g w before old command new = HasCleanDisk (state g new) → (text : List ℕ) → Keeps (state g old) text before → LeavesAfterFault (state g old).faults (state g new) text before (step w before command).0
 
--- After any command, answered or failed: the connection is in no transaction, its count of disk failures has not sunk, and other tables are unchanged.
+-- After any command, answered or failed: the connection is in no transaction, its count of disk failures has not sunk,
+-- and other tables are unchanged.
 pub record LeavesIdle {S : Type 0} (g : Ghosts S) (old new : Held S) : Type 0 where
   pub idle : new.in_transaction ≡ false
   pub later : IsLater (state g old) (state g new)
   pub others : HasCleanDisk (state g new) → LeavesOthersAlone (state g old) (state g new)
 
--- the service's fault for a fault of the store: Memory for Memory, Store for Store
+-- the service's fault for a fault of a write to the store: Memory for Memory, Store for Store
 abbrev pub of_write : WriteFault → Failure
 of_write write.Memory = fault.Memory
 of_write write.Store = fault.Store
 
--- A mailing that is not stored: `step` refuses it for this reason. Of running out of memory nothing is said.
+-- Why a mailing was not stored: `step` refuses it for this reason; or memory ran out, and then nothing more is
+-- required.
 abbrev pub Denies : WorldValue → CampaignValue → Command → MailError → Type 0
 Denies w c command (unkept.Refused why) = step w c command ≡ (c, Refused why)
 Denies w c command unkept.Memory = ⊤
 
--- the refusal for a mailing that can't be read, or Memory
+-- the error for a fault of reading a mailing: the refusal of the same name, or Memory
 abbrev pub mail_error : MailFault → MailError
 mail_error mail.TooLong = unkept.Refused why.TooLong
 mail_error mail.NoHeader = unkept.Refused why.NoHeader

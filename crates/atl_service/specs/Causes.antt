@@ -1,4 +1,4 @@
--- Why a command or a founding ended in the fault Memory or Store: the error that one of its own statements gave.
+-- Why a command or founding ended in the fault Memory or Store: the error that a call of its write gave.
 use Rattle.std.specs.Prelude.{◌≡◌, ◌⊎◌, ℕ, List, Bool, true, false, Ok}
 use Rattle.sqlite_trees.specs.declared.store.Store.{Ghosts}
 use Rattle.sqlite.specs.declared.error.Error.{Error}
@@ -20,20 +20,22 @@ use Rattle.atl_service.specs.Step.{step}
 
 -- ---- the statements that may be at fault
 
--- the statements that write a command, with the rows of the campaign after it; none for a report
+-- the SQL statements that store what a command changes, with the rows of the campaign after the command; none for a
+-- report
 abbrev pub OfCommand : WorldValue → CampaignValue → Command → Statements
 OfCommand w c (Join name pass word) = OfJoining c.next_faction (step w c (Join name pass word)).0
 OfCommand w c (Mail faction pass text) = OfMail faction text
 OfCommand w c (Close month pass words) = OfChange (step w c (Close month pass words)).0
 OfCommand w c (Report faction pass) = λ sql params. ⊥
 
--- the statements that found a campaign with this world text and pass text
+-- the SQL statements that found a campaign with this world text and pass text; none if the text is no world
 abbrev pub FoundsBy : List ℕ → List ℕ → Statements
 FoundsBy text pass sql params = (w : WorldValue) × (world_of text ≡ Ok w) × OfFounding text (founded_of w pass) sql params
 
 -- ---- causes
 
--- A call of the transaction that runs the statements `own` gave an error; `memory` says whether it was out of memory.
+-- A call of the transaction that runs the statements `own` gave an error; `memory` says whether the error was out of
+-- memory.
 pub record GivesError {S : Type 0} (g : Ghosts S) (own : Statements) (memory : Bool) (old new : Held S) : Type 0 where
   pub error : Error
   pub memory_is : is_memory error ≡ memory
@@ -47,7 +49,8 @@ LacksMemory g own old new = (new ≡ old) ⊎ (HasCleanDisk (state g new) → Gi
 abbrev pub GivesOtherError : {S : Type 0} → Ghosts S → Statements → Held S → Held S → Type 0
 GivesOtherError g own old new = HasCleanDisk (state g new) → GivesError g own false old new
 
--- Why a command ended in this fault, by the connection before and after it. Closed has no cause here, since no command ran.
+-- Why a command ended in this fault, by the connection before and after it. Closed has no cause here, since no command
+-- ran.
 abbrev pub HasCause : {S : Type 0} → Ghosts S → Statements → Held S → Held S → Fault → Type 0
 HasCause g own old new Memory = LacksMemory g own old new
 HasCause g own old new Store = GivesOtherError g own old new

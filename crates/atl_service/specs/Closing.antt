@@ -15,7 +15,7 @@ use Rattle.atl_report.specs.Sight.{view_of}
 
 -- ---- the mail
 
--- what a mailing's text was read as, in a list of one; no reading if it can't be read
+-- the reading of a mailing's text as a list of one; an empty list if the text can't be read
 abbrev pub read_of : Result Reading MailFault → List Reading
 read_of (Ok r) = r ∷ []
 read_of (Err fault) = []
@@ -36,20 +36,23 @@ faults_in w (Some text) = faults_of (reading w text)
 
 -- ---- the reports
 
--- the campaign with a new report for a faction: what it sees, the faulty lines of its mailing, and its own among the events
+-- the campaign with a new report for a faction: what it sees, the faulty lines of its mailing, and its own among the
+-- events
 abbrev pub reported_with : WorldValue → CampaignValue → ℕ → List FaultyLine → List Event → CampaignValue
 reported_with w c faction faults events = with_report c faction (report_of w (view_of w c faction) faults events)
 
--- the same, where `faults` gives the faulty lines of each faction's mailing
+-- the campaign with a new report for a faction, where `faults` gives the faulty lines of each faction's mailing
 abbrev pub reported_to : WorldValue → (ℕ → List FaultyLine) → List Event → CampaignValue → ℕ → CampaignValue
 reported_to w faults events c faction = reported_with w c faction (faults faction) events
 
 -- ---- the whole
 
--- the campaign after a month's phases with the month counted, the mail removed, and a new report for each faction that wasn't gone before
+-- the campaign after a month's phases, with the month counted, the mail removed, and new reports for the factions not
+-- gone before the month
 abbrev pub with_month_reports : WorldValue → CampaignValue → CampaignValue × List Event → CampaignValue
 with_month_reports w before (after, events) = fold (reported_to w (λ n. faults_in w (get before.mail n)) events) (after_month after) (active before)
 
--- the campaign after closing a month with these words of the dice: mail read, phases run, month counted, reports stored
+-- the campaign after closing a month with these words of the dice: mail read and removed, phases run, month counted,
+-- reports stored
 unfoldable pub closed : WorldValue → CampaignValue → List ℕ → CampaignValue
 closed w c words = with_month_reports w c (month_of w c (by_faction (readings w c)) words)

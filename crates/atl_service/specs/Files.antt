@@ -1,4 +1,5 @@
--- When a digest has collided: bytes that were read from a database file or its log differ from those written, but their digests are equal.
+-- When a digest has collided: bytes that were read from a database file or its log differ from those written, but their
+-- digests are equal.
 use Rattle.std.specs.Prelude.{◌⊎◌, ℕ, List}
 use Rattle.sqlite_disk.specs.Events.{Event, HasCollision}
 use Rattle.sqlite_disk.specs.declared.Disk as disk
@@ -6,7 +7,8 @@ use Rattle.sqlite_store.specs.declared.store.FileStore.{FileStore}
 use Rattle.sqlite_store.specs.FileStore.{files}
 
 module _ {D : Type 0} {g : disk.Ghosts D} where
-  -- A read of the file or its log gave other bytes than were written there, with the same digest under the log's key.
+  -- A read of the database file or its log gave other bytes than were written there, with the same digest under the
+  -- log's key.
   abbrev pub HasCollided : (D → List ℕ) → (D → List Event) → FileStore D g → Type 0
   HasCollided start record_of store =
       let log = (files store).0 in

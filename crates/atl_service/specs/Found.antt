@@ -20,7 +20,8 @@ use Rattle.atl_store.specs.OwnStatements.{Statements}
 use Rattle.atl_service.specs.Causes.{FoundsBy, GivesOtherError, LacksMemory}
 use Rattle.atl_service.specs.Service.{ServiceValue, text_in}
 
--- A campaign was founded: the service is open with the text's world and the founded campaign, and its tables hold both. There was no table `campaign`.
+-- A campaign was founded: the service is open with the text's world and the founded campaign, and, if the disk is
+-- clean, its tables hold both. There was no table `campaign`.
 pub record Founds {S : Type 0} (g : Ghosts S) (old : Held S) (text pass : List ℕ) (made : ServiceValue S) : Type 0 where
   pub fresh : has_campaign old.schema ≡ false
   pub world : world_of text ≡ Ok made.world
@@ -30,11 +31,11 @@ pub record Founds {S : Type 0} (g : Ghosts S) (old : Held S) (text pass : List �
   pub text_is : HasCleanDisk (state g made.conn) → text_in g made.conn ≡ text
   pub later : IsLater (state g old) (state g made.conn)
 
--- the world text has no fault
+-- The text is a world: it parses without a fault.
 abbrev pub IsWorldText : List ℕ → Type 0
 IsWorldText text = (w : WorldValue) × (world_of text ≡ Ok w)
 
--- Whether a founding may fail with this cause: that of the first check that fails, Store if none does, or Memory.
+-- Founding may fail with this cause: the cause of the first check that fails, Store if no check fails, or Memory.
 -- `is_there` says whether a table `campaign` exists. Causes of opening and upgrading never apply.
 abbrev pub MayBeCause : List ℕ → List ℕ → Bool → Cause → Type 0
 MayBeCause text pass is_there (BadWorld fault) = world_of text ≡ Err fault
@@ -48,18 +49,22 @@ MayBeCause text pass is_there Differs = ⊥
 MayBeCause text pass is_there Store = IsWorldText text × (pass_ok pass ≡ true) × (is_there ≡ false)
 MayBeCause text pass is_there Memory = ⊤
 
--- What a founding leaves that failed with Store or Memory: the tables are as before while the connection is open, and a crash leaves what it left before or the founded campaign.
--- If the text is no world, or the pass text isn't good, nothing is changed at all.
+-- What founding leaves after Store or Memory: tables as before while the connection is open; a crash leaves what it
+-- left before, or the founded campaign. The facts about tables and crash need a clean disk. If the text is no world, or
+-- the pass text isn't good, nothing is changed at all.
 pub record FailsToFound {S : Type 0} (g : Ghosts S) (old : Held S) (text pass : List ℕ) (new : Held S) : Type 0 where
   pub tables : HasCleanDisk (state g new) → ChangesNothing (state g old) (state g new)
   pub unfounded : (¬ IsWorldText text) ⊎ (pass_ok pass ≡ false) → new ≡ old
   pub crash : HasCleanDisk (state g new) → (w : WorldValue) → world_of text ≡ Ok w → MayFound (state g old) text (founded_of w pass) (state g new)
 
--- Why a founding fails with Store: the connection isn't ready (`IsReadyToCreate`) and nothing is changed, or it is, and a call of the write gave an error other than out of memory.
+-- Why founding fails with Store: the connection isn't ready (`IsReadyToCreate`) and is unchanged, or it is ready and
+-- the write failed. In the second case, if the disk is clean, a call of the write gave an error other than out of
+-- memory.
 abbrev pub RefusesToWrite : {S : Type 0} → Ghosts S → Statements → Held S → Held S → Type 0
 RefusesToWrite g own old new = ((¬ IsReadyToCreate (state g old)) × (new ≡ old)) ⊎ (IsReadyToCreate (state g old) × GivesOtherError g own old new)
 
--- What a refused founding leaves, by its cause: nothing is changed after a failed check; Store and Memory leave what `FailsToFound` says.
+-- What a refused founding leaves, by its cause: nothing is changed after a failed check; Store and Memory leave what
+-- `FailsToFound` says.
 abbrev pub LeavesByCause : {S : Type 0} → Ghosts S → Held S → List ℕ → List ℕ → Held S → Cause → Type 0
 LeavesByCause g old text pass new (BadWorld fault) = new ≡ old
 LeavesByCause g old text pass new BadPassText = new ≡ old
@@ -78,7 +83,8 @@ pub record RefusesFounding {S : Type 0} (g : Ghosts S) (old : Held S) (text pass
   pub leaves : LeavesByCause g old text pass new why
   pub later : IsLater (state g old) (state g new)
 
--- `w` is the world of the text, the pass text is good, and `c` is the campaign founded in that world
+-- What founding builds before it writes: `w` is the world of the text and `c` the campaign founded in it; the pass text
+-- is good.
 pub record Prepares (text pass : List ℕ) (w : WorldValue) (c : CampaignValue) : Type 0 where
   pub world : world_of text ≡ Ok w
   pub pass_is_good : pass_ok pass ≡ true
@@ -86,10 +92,12 @@ pub record Prepares (text pass : List ℕ) (w : WorldValue) (c : CampaignValue) 
 
 -- ---- the cause for a fault of the world text, or of creating the tables
 
+-- the cause for a fault of the world text: Memory for Memory, else `BadWorld` with the fault
 abbrev pub of_world : WorldFault → Cause
 of_world world.Memory = Memory
 of_world fault = BadWorld fault
 
+-- the cause for a fault of creating the tables, of the same name
 abbrev pub of_creation : CreateFault → Cause
 of_creation create.NotEmpty = NotEmpty
 of_creation create.Store = Store

@@ -18,7 +18,8 @@ use Rattle.atl_service.specs.declared.command.Answer.TheVariants.{MonthDone}
 use Rattle.atl_service.specs.Closing.{closed, faults_of, read_of, readings, reported_to}
 use Rattle.atl_service.specs.Step.{step}
 
--- A part of the mail is read: these mailings and faulty lines, with those still to be read of `rest`, are those of the whole mail. Each text in `rest` is a mailing of its faction.
+-- A part of the mail is read: these mailings and faulty lines, followed by those of the unread `rest`, are those of the
+-- whole mail. Each text in `rest` is a mailing of its faction.
 abbrev pub ReadSoFar : WorldValue → CampaignValue → List Mailing → FinMap nat_cmp (List FaultyLine) → List (ℕ × List ℕ) → Type 0
 ReadSoFar w c mailings faults rest =
     (map reading_of mailings ++ flat_map (λ e. read_of (reading w e.1)) rest ≡ readings w c)
@@ -26,21 +27,23 @@ ReadSoFar w c mailings faults rest =
     × (entries faults ++ map (λ e. (e.0, faults_of (reading w e.1))) rest ≡ entries (mapped (λ text. faults_of (reading w text)) c.mail))
     × EachOf IsMailingOf rest
 
--- All mail of the campaign is read: `r` has the mailings in their order, and the faulty lines of each under its faction's number.
+-- All mail of the campaign is read: `r` has the mailings in the factions' order, and the faulty lines of each under its
+-- faction's number.
 pub record HasRead (w : WorldValue) (c : CampaignValue) (r : ReadMail) : Type 0 where
   pub readings_are : map reading_of r.mailings.items ≡ readings w c
   pub read : All (IsReadWith w) r.mailings.items
   pub faults : r.faults ≡ mapped (λ text. faults_of (reading w text)) c.mail
 
--- Each of these numbers is a faction's of the campaign.
+-- Each of these numbers is the number of a faction of the campaign.
 abbrev pub AreThere : CampaignValue → List ℕ → Type 0
 AreThere c factions = AllByRecursion (λ n. IsThere c.factions n) factions
 
--- the campaign with a new report for each faction that `outcome` lists, of its faulty lines and events
+-- the campaign with a new report for each faction that the month's result lists, with its faulty lines and events
 abbrev pub reported_to_all : WorldValue → CampaignValue → MonthResult → CampaignValue
 reported_to_all w c outcome = fold (reported_to w (λ n. unwrap_or (get outcome.faults n) []) outcome.events.items) c outcome.factions.items
 
--- Closing this month is not refused: pass text, month and count of words are right.
+-- Closing this month is not refused: `step` answers MonthDone, the month limit isn't reached, and there is one word for
+-- each region of a valid world.
 pub record MayClose (w : WorldValue) (c : CampaignValue) (month : ℕ) (pass words : List ℕ) : Type 0 where
   pub step_is : step w c (Close month pass words) ≡ (closed w c words, MonthDone month)
   pub early : c.month < last_month

@@ -5,7 +5,7 @@ use Rattle.atl_service.specs.declared.command.Refusal.TheVariants.{BadName, BadP
 use Rattle.atl_service.specs.declared.command.Fault.{Fault}
 use Rattle.atl_service.specs.declared.command.Fault.TheVariants.{Memory, Store, Closed}
 
--- each refusal by its number and its name
+-- the number and the name of each refusal
 abbrev pub refusal : Refusal → ℕ × List ℕ
 refusal BadName = (1, codes "BadName")
 refusal BadPassText = (2, codes "BadPassText")

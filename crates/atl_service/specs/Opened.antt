@@ -15,7 +15,8 @@ use Rattle.atl_service.specs.declared.command.Cause.{Cause}
 use Rattle.atl_service.specs.declared.command.Cause.TheVariants.{NotACampaign, OldFormat, Damaged, Store, Memory}
 use Rattle.atl_service.specs.Service.{ServiceValue, text_in}
 
--- A campaign was opened: the service has the world and the good campaign that the tables hold, and the tables are unchanged.
+-- A campaign was opened: if the disk is clean, the service has the world and good campaign of the tables, which are
+-- unchanged.
 pub record Opens {S : Type 0} (g : Ghosts S) (old : Held S) (made : ServiceValue S) : Type 0 where
   pub campaign : MarkedCampaign
   pub is_open : made.campaign ≡ Some campaign.value
@@ -23,7 +24,8 @@ pub record Opens {S : Type 0} (g : Ghosts S) (old : Held S) (made : ServiceValue
   pub alone : LeavesAlone g old made.conn
   pub later : IsLater (state g old) (state g made.conn)
 
--- What was stored comes back: if the disk is clean and the tables held a text, its world and a good campaign of it, the service has the same three.
+-- Opening returns the text, world and campaign that were stored. This holds if the disk is clean and the tables held a
+-- world text and a good campaign of its world.
 abbrev pub ComesBack : {S : Type 0} → Ghosts S → Held S → ServiceValue S → Type 0
 ComesBack g old made =
     HasCleanDisk (state g made.conn) → (text : List ℕ) (w : WorldValue) (c : CampaignValue) → world_of text ≡ Ok w → IsGood w c → HoldsCampaign g old text c
@@ -37,7 +39,8 @@ of_loading (load.Damaged rule) = Damaged rule
 of_loading load.Store = Store
 of_loading load.Memory = Memory
 
--- An opening was refused: for a fault that loading gives (if the disk is clean), and the tables are unchanged.
+-- Opening was refused for a fault of loading: if the disk is clean, loading gives this fault, and the tables are
+-- unchanged.
 pub record RefusesOpening {S : Type 0} (g : Ghosts S) (old : Held S) (why : Cause) (new : Held S) : Type 0 where
   pub fault : StoreFault
   pub why_is : why ≡ of_loading fault

@@ -1,4 +1,4 @@
--- The statement that of a faction's mailings for a month only the last one counts. See docs/RULES.md, "Mail".
+-- `OnlyTheLastMailCounts`: of a faction's mailings for a month only the last one counts. See docs/RULES.md, "Mail".
 use Rattle.std.specs.Prelude.{◌≡◌, ◌==◌, ◌∷◌, [], ℕ, List, ⊤, Option, Some, None, if◌then◌else◌}
 use Rattle.atl_tables.specs.Worlds.{WorldValue}
 use Rattle.atl_state.specs.Campaign.{CampaignValue}
@@ -33,7 +33,8 @@ last_text n other (Mail faction _ text ∷ more) = last_text n (if faction == n 
 last_text n other (Close _ _ _ ∷ more) = last_text n other more
 last_text n other (Report _ _ ∷ more) = last_text n other more
 
--- After two lists of stored mailings with the same last text of each faction, closing a month gives the same campaign and answer.
+-- Two lists of stored mailings with the same last text of each faction give the same campaign and answer when a month
+-- is closed.
 abbrev pub OnlyTheLastMailCounts : Type 0
 OnlyTheLastMailCounts =
     (w : WorldValue) (c : CampaignValue) (sent others : List Command) (month : ℕ) (pass words : List ℕ)

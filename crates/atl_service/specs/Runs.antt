@@ -1,4 +1,5 @@
--- What `run` and `run_all` return and leave: answers, campaign and tables of one command, and of a list. `Headline` is the main theorem.
+-- What `run` and `run_all` return and leave: answers, campaign and tables of one command, and of a list. `Headline` is
+-- the main theorem.
 use Rattle.std.specs.Prelude.{◌≡◌, ◌≢◌, ◌⊎◌, ◌<◌, ◌+◌, ◌∷◌, ◌++◌, [], ℕ, List, map, take, drop, length, slice_get, Option, Some, None, ⊤}
 use Rattle.sqlite_trees.specs.declared.store.Store.{Ghosts}
 use Rattle.sqlite.specs.Held.{state}
@@ -16,7 +17,8 @@ use Rattle.atl_service.specs.Causes.{OfCommand, HasCause, IsFault}
 use Rattle.atl_service.specs.Step.{step, run_of}
 use Rattle.atl_service.specs.Service.{ServiceValue, text_in}
 
--- A command was carried out: campaign and answer are those of `step`, and the tables hold the new campaign.
+-- A command was carried out: campaign and answer are those of `step`, and, if the disk is clean, the tables hold the
+-- new campaign.
 pub record Accepts {S : Type 0} (g : Ghosts S) (c : CampaignValue) (old : ServiceValue S) (command : Command) (answer : Answer) (new : ServiceValue S) : Type 0 where
   pub after : CampaignValue
   pub step : step old.world c command ≡ (after, answer)
@@ -27,12 +29,13 @@ pub record Accepts {S : Type 0} (g : Ghosts S) (c : CampaignValue) (old : Servic
 abbrev pub Refuses : {S : Type 0} → CampaignValue → ServiceValue S → Command → Answer → ServiceValue S → Type 0
 Refuses c old command answer new = (step old.world c command ≡ (c, answer)) × (new ≡ old)
 
--- A fault closed the service: the tables hold the campaign before the command; a crash leaves that one or the one after `step` (`LeavesAfterFault`).
+-- A fault closed the service: if the disk is clean, the tables hold the campaign before the command
+-- (`LeavesAfterFault`). A crash leaves that campaign or the one after `step`.
 pub record Closes {S : Type 0} (g : Ghosts S) (c : CampaignValue) (old : ServiceValue S) (command : Command) (new : ServiceValue S) : Type 0 where
   pub same : new ≡ record old { conn = new.conn; campaign = None }
   pub tables : HasCleanDisk (state g new.conn) → LeavesAfterFault (state g old.conn).faults (state g new.conn) (text_in g old.conn) c (step old.world c command).0
 
--- What one command answers and leaves while the service is open with campaign `c`, by its answer.
+-- What one command may answer in a service that is open with campaign `c`, and what each answer leaves of the service.
 abbrev pub RunsOpen : {S : Type 0} → Ghosts S → CampaignValue → ServiceValue S → Command → Answer → ServiceValue S → Type 0
 RunsOpen g c old command (Joined faction unit) new = Accepts g c old command (Joined faction unit) new
 RunsOpen g c old command (Mailed orders faults) new = Accepts g c old command (Mailed orders faults) new
@@ -43,7 +46,8 @@ RunsOpen g c old command (Fault Memory) new = Closes g c old command new × HasC
 RunsOpen g c old command (Fault Store) new = Closes g c old command new × HasCause g (OfCommand old.world c command) old.conn new.conn Store
 RunsOpen g c old command (Fault Closed) new = ⊥
 
--- The same of a service that may be closed: then the answer is Closed, and nothing changes.
+-- What one command may answer and leave: an open service does what `RunsOpen` says; a closed one answers Closed, and
+-- nothing changes.
 abbrev pub RunsAt : {S : Type 0} → Ghosts S → ServiceValue S → Command → Answer → ServiceValue S → Option CampaignValue → Type 0
 RunsAt g old command answer new (Some c) = RunsOpen g c old command answer new
 RunsAt g old command answer new None = (answer ≡ Fault Closed) × (new ≡ old)
@@ -61,8 +65,10 @@ AreClosed (c ∷ cs) (a ∷ rs) = (a ≡ Fault Closed) × AreClosed cs rs
 AreClosed [] (a ∷ rs) = ⊥
 AreClosed (c ∷ cs) [] = ⊥
 
--- The answers from campaign `c` on are those of `step` up to the first fault, and Closed after it. Without a fault the tables end with the rows of the last campaign.
--- With one they stay at the campaign of the commands before it (`LeavesAfterFault`), and the fault has its cause. `faults` is how often the disk had failed before.
+-- From campaign `c` on, the answers are those of `step` up to the first fault, and Closed after it. Without a fault the
+-- tables end with the rows of the last campaign. After a fault they stay at the campaign of the commands before it
+-- (`LeavesAfterFault`), and the fault has its cause. Both need a clean disk. `faults` is how often the disk had failed
+-- before.
 abbrev pub Follows : {S : Type 0} → Ghosts S → List ℕ → ℕ → WorldValue → CampaignValue → List Command → List Answer → ServiceValue S → Type 0
 Follows g text faults w c [] [] new = (new.campaign ≡ Some c) × HoldsCampaign g new.conn text c
 Follows g text faults w c (command ∷ cs) (Joined faction unit ∷ rs) new = ((step w c command).1 ≡ Joined faction unit) × Follows g text faults w (step w c command).0 cs rs new
@@ -75,24 +81,26 @@ Follows g text faults w c (command ∷ cs) (Fault fault ∷ rs) new =
 Follows g text faults w c [] (a ∷ rs) new = ⊥
 Follows g text faults w c (command ∷ cs) [] new = ⊥
 
--- The same of a service that may be closed: then every answer is Closed, and nothing changes.
+-- What a list of commands may answer and leave: an open service does what `Follows` says; a closed one answers Closed
+-- each time, and nothing changes.
 abbrev pub FollowsAt : {S : Type 0} → Ghosts S → ServiceValue S → List Command → List Answer → ServiceValue S → Option CampaignValue → Type 0
 FollowsAt g old commands answers new (Some c) = Follows g (text_in g old.conn) (state g old.conn).faults old.world c commands answers new × (new.world ≡ old.world)
 FollowsAt g old commands answers new None = AreClosed commands answers × (new ≡ old)
 
--- Running the list from service `old` may give these answers and leave service `new`.
+-- Running the list of commands from service `old` may give these answers and leave service `new`.
 pub record RunsAll {S : Type 0} (g : Ghosts S) (old : ServiceValue S) (commands : List Command) (answers : List Answer) (new : ServiceValue S) : Type 0 where
   pub follows : FollowsAt g old commands answers new old.campaign
   pub later : IsLater (state g old.conn) (state g new.conn)
 
--- The main theorem: answers and campaign are those of `run_of`, and if the disk has been clean so far, the tables hold exactly the campaign's rows.
+-- The main theorem: answers and campaign are those of `run_of`, and if the disk has been clean so far, the tables hold
+-- exactly the campaign's rows.
 pub record Headline {S : Type 0} (g : Ghosts S) (text : List ℕ) (w : WorldValue) (c : CampaignValue) (commands : List Command) (answers : List Answer) (new : ServiceValue S) : Type 0 where
   pub answers_are : answers ≡ (run_of w c commands).1
   pub campaign_is : new.campaign ≡ Some (run_of w c commands).0
   pub tables : HoldsCampaign g new.conn text (run_of w c commands).0
 
--- A command ended in a fault that has its cause: the answers before it are those of `run_of`, and all later answers are Closed.
--- The tables stay at the campaign of the commands before it (`LeavesAfterFault`).
+-- A command ended in a fault that has its cause: the answers before it are those of `run_of`, and all later answers are
+-- Closed. If the disk is clean, the tables stay at the campaign of the commands before the fault (`LeavesAfterFault`).
 pub record Interrupted {S : Type 0} (g : Ghosts S) (text : List ℕ) (faults : ℕ) (w : WorldValue) (c : CampaignValue) (commands : List Command) (answers : List Answer) (new : ServiceValue S) : Type 0 where
   pub count : ℕ
   pub command : Command
@@ -105,7 +113,8 @@ pub record Interrupted {S : Type 0} (g : Ghosts S) (text : List ℕ) (faults : �
   pub cause : IsFault g text w (run_of w c (take count commands)).0 command fault new.conn
   pub tables : HasCleanDisk (state g new.conn) → LeavesAfterFault faults (state g new.conn) text (run_of w c (take count commands)).0 (run_of w c (take (count + 1) commands)).0
 
--- From an open service `Headline` holds, or a command ended in a fault (`Interrupted`). From a closed one every answer is Closed, and nothing changes.
+-- From an open service `Headline` holds, or a command ended in a fault (`Interrupted`). From a closed one every answer
+-- is Closed, and nothing changes.
 abbrev pub HeadlineAt : {S : Type 0} → Ghosts S → ServiceValue S → List Command → List Answer → ServiceValue S → Option CampaignValue → Type 0
 HeadlineAt g old commands answers new (Some c) =
     Headline g (text_in g old.conn) old.world c commands answers new ⊎ Interrupted g (text_in g old.conn) (state g old.conn).faults old.world c commands answers new

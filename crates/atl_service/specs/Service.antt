@@ -18,7 +18,7 @@ pub record ServiceValue (S : Type 0) : Type 0 where
   pub world : WorldValue
   pub campaign : Option CampaignValue
 
--- for proofs alone: the encoding of a service's value by its parts, which the kit asks of each type
+-- for proofs alone: the encoding of a service's value by its parts, which the kit requires of each type
 abbrev pub service_code : {S : Type 0} → Coded S → Coded (ServiceValue S)
 service_code {S} store =
     code_by (Held S × (WorldValue × Option CampaignValue)) (coded× (held_code store) (coded× world_code (coded_option campaign_code)))
@@ -30,7 +30,8 @@ service_code {S} store =
 abbrev pub text_in : {S : Type 0} → Ghosts S → Held S → List ℕ
 text_in g conn = world_text (state g conn)
 
--- The service is consistent: in no transaction and, while open, its campaign is good and its tables hold the campaign and a text of its world.
+-- The service is consistent: it is in no transaction and, while it is open, its campaign is good.
+-- While it is open and the disk is clean, its tables hold the campaign and a text of its world.
 pub record IsConsistent {S : Type 0} (g : Ghosts S) (conn : Held S) (w : WorldValue) (c : CampaignValue) (is_open : Bool) : Type 0 where
   pub idle : conn.in_transaction ≡ false
   pub good : is_open ≡ true → IsGood w c

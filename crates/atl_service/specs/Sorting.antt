@@ -9,7 +9,7 @@ use Rattle.atl_report.specs.Events.{own_events}
 abbrev pub events_of : FinMap nat_cmp (List Event) → ℕ → List Event
 events_of sorted faction = unwrap_or (get sorted faction) []
 
--- the lists with one event more, at the end of its faction's list
+-- the sorted lists with one event added at the end of its faction's list
 abbrev pub with_event : FinMap nat_cmp (List Event) → Event → FinMap nat_cmp (List Event)
 with_event sorted e = insert sorted e.faction (events_of sorted e.faction ++ (e ∷ []))
 

@@ -26,7 +26,7 @@ use Rattle.atl_service.specs.declared.command.Fault.TheVariants as faults
 abbrev pub reported : WorldValue → CampaignValue → ℕ → CampaignValue
 reported w c faction = reported_with w c faction [] []
 
--- the campaign and answer for a result of `join_of`: the first report is stored, or the join refused
+-- the campaign and answer for a result of `join_of`: joined with its first report stored, refused, or out of memory
 abbrev pub joined_with : WorldValue → CampaignValue → Result (CampaignValue × (ℕ × ℕ)) JoinFault → CampaignValue × Answer
 joined_with w c (Ok (after, (faction, unit))) = (reported w after faction, Joined faction unit)
 joined_with w c (Err NameTaken) = (c, Refused why.NameTaken)
@@ -38,8 +38,8 @@ abbrev pub faction_with_pass : List ℕ → Option Faction → Result Faction Re
 faction_with_pass pass None = Err why.NoFaction
 faction_with_pass pass (Some f) = if not (pointwise nat_eq f.pass pass) then Err why.WrongPass else Ok f
 
--- The campaign with a mailing stored in place of an older one, and the answer with its number of orders and its faulty lines.
--- One that can't be read is refused, and one that names another faction. A faulty line is no reason to refuse.
+-- The campaign with a mailing stored in place of an older one, and the answer with its number of orders and its faulty
+-- lines. A mailing that can't be read, or that names another faction, is refused. A faulty line is no reason to refuse.
 abbrev pub mailed : CampaignValue → ℕ → List ℕ → Result Reading MailFault → CampaignValue × Answer
 mailed c faction text (Ok r) =
     if not (r.faction == faction) then (c, Refused why.WrongFaction)
@@ -49,19 +49,22 @@ mailed c faction text (Err mail.NoHeader) = (c, Refused why.NoHeader)
 mailed c faction text (Err mail.BadHeader) = (c, Refused why.BadHeader)
 mailed c faction text (Err mail.Memory) = (c, Fault faults.Memory)
 
--- the same, once the faction is identified by number and pass text; a faction that is gone is refused
+-- the campaign and answer for a mailing: refused if number or pass text identify no faction or one that is gone, else
+-- those of `mailed`
 abbrev pub mailed_by : WorldValue → CampaignValue → ℕ → List ℕ → Result Faction Refusal → CampaignValue × Answer
 mailed_by w c faction text (Err refusal) = (c, Refused refusal)
 mailed_by w c faction text (Ok f) =
     if f.gone then (c, Refused why.Gone)
     else mailed c faction text (reading w text)
 
--- the unchanged campaign, and as the answer the stored report of the identified faction (empty if none is stored), or the refusal
+-- the unchanged campaign, and as the answer the stored report of the identified faction (empty if none is stored), or
+-- the refusal
 abbrev pub report_answer : CampaignValue → ℕ → Result Faction Refusal → CampaignValue × Answer
 report_answer c faction (Err refusal) = (c, Refused refusal)
 report_answer c faction (Ok f) = (c, Text (unwrap_or (get c.reports faction) []))
 
--- The campaign after closing a month, which is the one after the month last closed, with a word of the dice for each region; else the first refusal.
+-- The campaign and answer for closing a month: closed if pass text, month and number of dice words are right, else the
+-- first refusal.
 abbrev pub closed_by : WorldValue → CampaignValue → ℕ → List ℕ → List ℕ → CampaignValue × Answer
 closed_by w c month pass words =
     if not (pointwise nat_eq c.pass pass) then (c, Refused why.WrongPass)
@@ -80,7 +83,7 @@ step w c (Mail faction pass text) = mailed_by w c faction text (faction_with_pas
 step w c (Close month pass words) = closed_by w c month pass words
 step w c (Report faction pass) = report_answer c faction (faction_with_pass pass (get c.factions faction))
 
--- the campaign after a list of commands, and the list of answers
+-- the campaign after a list of commands, each run by `step`, and the list of answers
 abbrev pub run_of : WorldValue → CampaignValue → List Command → CampaignValue × List Answer
 run_of w c [] = (c, [])
 run_of w c (command ∷ more) = let one = step w c command in let rest = run_of w one.0 more in (rest.0, one.1 ∷ rest.1)

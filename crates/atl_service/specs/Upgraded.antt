@@ -12,8 +12,9 @@ use Rattle.atl_service.specs.declared.command.Cause.{Cause}
 use Rattle.atl_service.specs.declared.command.Cause.TheVariants.{World, NotACampaign, NotOld, Damaged, Differs, Store, Memory}
 use Rattle.atl_service.specs.Service.{ServiceValue, text_in}
 
--- A file was upgraded: the service is open with the new text's world and the campaign that the tables held, which has nothing in stock, and the tables hold both.
--- No failure of the disk is forgotten (`later`).
+-- A file was upgraded: the service is open with the new text's world and a campaign with empty stocks. On a clean disk
+-- it is the campaign that the tables held, and they now hold it with the new text. The count of disk failures has not
+-- sunk (`later`).
 pub record UpgradesTo {S : Type 0} (g : Ghosts S) (old : Held S) (text : List ℕ) (made : ServiceValue S) : Type 0 where
   pub campaign : MarkedCampaign
   pub is_open : made.campaign ≡ Some campaign.value
@@ -31,7 +32,8 @@ of_upgrading upgrade.Differs = Differs
 of_upgrading upgrade.Store = Store
 of_upgrading upgrade.Memory = Memory
 
--- An upgrade was refused, for the fault that the store gives. While the connection is open the tables are as before; a crash leaves them so, or upgraded.
+-- An upgrade was refused with the store's fault. If the disk is clean, the tables are as before while the connection is
+-- open; a crash leaves them as before, or upgraded.
 pub record RefusesUpgrade {S : Type 0} (g : Ghosts S) (old : Held S) (text : List ℕ) (why : Cause) (new : Held S) : Type 0 where
   pub fault : UpgradeFault
   pub why_is : why ≡ of_upgrading fault

@@ -1,4 +1,4 @@
-//! Answers one command while the service is open: tests the refusals, changes campaign and tables.
+//! Answers one command while the service is open: refuses it, or changes campaign and tables.
 //! See docs/RULES.md, "Refusals and faults".
 ghost use Rattle.std.specs.Prelude.{◌≡◌, length, false, Ok, Err, Some, IfOk, IfErr, OnOk, OnErr};
 ghost use Rattle.std.specs.FinMap as map;
@@ -20,8 +20,8 @@ use atl_tables::{Sequence, Text, World, name_ok, pass_ok};
 use sqlite::{Alter, Connection};
 use std::alloc::{AllocError, Global};
 
-/// Carries out a command Join, or refuses it, and returns the answer. The commit is the last call
-/// that can fail.
+/// Carries out or refuses a command Join, and returns the answer: a faction joins with its first
+/// report. The commit is the last call that can fail.
 fn join<S: Alter>(
     alloc: Global,
     world: &World,
@@ -63,7 +63,7 @@ fn join<S: Alter>(
     Ok(Answer::Joined { faction, unit })
 }
 
-/// The faction of this number, if the pass text is its own; else NoFaction or WrongPass.
+/// The faction with this number, if the pass text is its own; else NoFaction or WrongPass.
 fn faction_with_pass<'a>(
     campaign: &'a Campaign,
     faction: u32,
@@ -83,7 +83,7 @@ fn faction_with_pass<'a>(
     Ok(known)
 }
 
-/// Why a mailing is not stored: a refusal, or out of memory.
+/// Why a mailing is not stored: it is refused, or memory ran out.
 #[derive(Drop, Clone, Copy)]
 enum MailError {
     Refused(Refusal),
@@ -113,7 +113,8 @@ impl From<MailFault> for MailError {
     }
 }
 
-/// The mailing that a command Mail asks to store, as it was read; or the first reason to refuse it.
+/// Reads the mailing of a command Mail before it is stored; the error is the first refusal, or
+/// Memory. Nothing changes.
 #[tactic(auto, unfolding(crate::specs::Step::step))]
 fn mailing_to_keep(
     alloc: Global,
@@ -147,8 +148,8 @@ fn mailing_to_keep(
     Ok(mailing)
 }
 
-/// Carries out a command Mail, or refuses it, and returns the answer. The commit is the last call
-/// that can fail.
+/// Carries out or refuses a command Mail, and returns the answer: the mailing is stored. The commit
+/// is the last call that can fail.
 fn mail<S: Alter>(
     alloc: Global,
     world: &World,
@@ -210,8 +211,8 @@ fn report(
     Ok(Answer::Text(text))
 }
 
-/// Carries out any command, or refuses it, and returns the answer. After an Err the campaign may be
-/// changed in part; the tables are as before.
+/// Carries out any command, or refuses it, and returns the answer. After an Err the campaign in
+/// memory may be changed in part; the tables are as before while the connection is open.
 pub(crate) fn answer_to<S: Alter>(
     alloc: Global,
     world: &World,

@@ -26,14 +26,14 @@ use sqlite::{Alter, Connection};
 use std::alloc::{AllocError, Global};
 use std::mem;
 
-/// All mail of a campaign as it was read: the mailings, and the faulty lines of each by faction.
+/// All mail of a campaign after reading: the mailings, and the faulty lines of each by faction.
 #[derive(Drop)]
 pub(crate) struct ReadMail {
     pub(crate) mailings: Vec<Mailing>,
     pub(crate) faults: Numbered<Sequence<FaultyLine>>,
 }
 
-/// AllocError for the fault Memory, the only one that reading a stored mailing can give.
+/// Turns the fault Memory, the only one that reading a stored mailing can give, into AllocError.
 fn out_of_memory(fault: MailFault) -> AllocError
     requires { fault ≡ Memory }
 {
@@ -41,7 +41,8 @@ fn out_of_memory(fault: MailFault) -> AllocError
     AllocError
 }
 
-/// Reads a stored mailing. It was read when it came, so this fails only if memory runs out.
+/// Reads a stored mailing. This fails only if memory runs out: the mailing was read before it was
+/// stored.
 fn read_stored(alloc: Global, world: &World, text: &[u8]) -> Result<Mailing, AllocError>
     requires { (faction : ℕ) × IsMailingOf faction text.now }
     ensures kept { IfOk result (λ m. m.text ≡ text.now) }
@@ -69,9 +70,9 @@ fn read_mail(alloc: Global, world: &World, campaign: &Campaign) -> Result<ReadMa
     Ok(ReadMail { mailings, faults })
 }
 
-/// Runs the month's phases, counts the month, and removes the mail. What changed is in the dirty
-/// set. Returns what the reports need of the month. Without memory the campaign is lost, and a
-/// blank one is in its place.
+/// Runs the month's phases, counts the month, removes the mail, and returns what the reports need.
+/// The dirty set has all changes. If memory runs out, the campaign in memory is lost, and a blank
+/// one is in its place.
 fn turn_month(
     alloc: Global,
     world: &World,
@@ -102,7 +103,7 @@ fn turn_month(
     })
 }
 
-/// Checks pass text, month and count of words of a command Close; the error is the first refusal.
+/// Checks pass text, month and number of words of a command Close; the error is the first refusal.
 #[tactic(auto, unfolding(crate::specs::Step::step))]
 fn check_close(
     world: &World,
@@ -132,8 +133,8 @@ fn check_close(
     Ok(())
 }
 
-/// Carries out a command Close, or refuses it, and returns the answer. The commit is the last call
-/// that can fail.
+/// Carries out or refuses a command Close, and returns the answer: the month is played, and reports
+/// and tables are written. The commit is the last call that can fail.
 pub(crate) fn close<S: Alter>(
     alloc: Global,
     world: &World,

@@ -20,11 +20,11 @@ use std::fmt;
 pub enum Command {
     /// A faction joins. See docs/RULES.md, "Joining".
     Join {
-        /// The name under which it joins.
+        /// The faction's name.
         name: Sequence<u8>,
-        /// The pass text that it is going to give.
+        /// The pass text that the faction's later commands must give.
         pass: Sequence<u8>,
-        /// A word of the dice, which picks its region.
+        /// A word of the dice, which picks the region where the faction begins.
         word: u32,
     },
     /// A faction sends its orders for the month to come. See docs/RULES.md, "Mail".
@@ -80,15 +80,15 @@ impl Drop for Command {
     }
 }
 
-/// Why a command is refused. A refused command changes nothing. See docs/RULES.md, "Refusals and faults"; which refusal comes
-/// first is said with each command there.
+/// Why a command is refused. A refused command changes nothing. See docs/RULES.md, "Refusals and
+/// faults"; which refusal comes first is said with each command there.
 #[derive(Drop, Clone, Copy, Debug, PartialEq, Eq)]
 pub enum Refusal {
     /// The name breaks the rule of names.
     BadName = 1,
     /// The pass text breaks the rule of pass texts.
     BadPassText = 2,
-    /// Some faction ever joined under this name.
+    /// A faction has joined under this name before.
     NameTaken = 3,
     /// A limit is reached: no further faction, or no further unit, is possible.
     Full = 4,
@@ -102,7 +102,7 @@ pub enum Refusal {
     TooLong = 8,
     /// No line of the mailing begins with `#ATLANTIS`.
     NoHeader = 9,
-    /// The first line that does names no faction from 1 to 9,999.
+    /// The header line of the mailing names no faction from 1 to 9,999.
     BadHeader = 10,
     /// The header names another faction.
     WrongFaction = 11,
@@ -133,7 +133,7 @@ impl Refusal {
     }
 }
 
-/// The number and the name, as `12 WrongMonth`.
+/// Prints a refusal's number and name, as `12 WrongMonth`.
 impl fmt::Display for Refusal {
     fn fmt<W: fmt::Write>(&self, f: &mut fmt::Formatter<W>) -> fmt::Result {
         write!(f, "{} {}", self.number(), self.name())
@@ -142,13 +142,13 @@ impl fmt::Display for Refusal {
 
 impl Error for Refusal {}
 
-/// Why a command could not be carried out. While the connection is open its tables are as before; a crash leaves them as before
-/// or after the command. See docs/RULES.md, "Refusals and faults".
+/// Why a command could not be carried out. While the connection is open its tables are as before; a
+/// crash leaves them as before or after the command. See docs/RULES.md, "Refusals and faults".
 #[derive(Drop, Clone, Copy, Debug, PartialEq, Eq)]
 pub enum Fault {
     /// Out of memory. The service is closed from then on.
     Memory,
-    /// The database refused for another cause. The service is closed from then on.
+    /// The database failed for another cause than memory. The service is closed from then on.
     Store,
     /// The service was closed by an earlier fault. Nothing changes.
     Closed,
@@ -167,7 +167,7 @@ impl Fault {
     }
 }
 
-/// The fault's name, as `Store`.
+/// Prints a fault's name, as `Store`.
 impl fmt::Display for Fault {
     fn fmt<W: fmt::Write>(&self, f: &mut fmt::Formatter<W>) -> fmt::Result {
         write!(f, "{}", self.name())
@@ -188,29 +188,29 @@ impl From<WriteFault> for Fault {
 }
 
 /// The answer to a command. Joined, Mailed and MonthDone are given once what the command changed is
-/// written. See docs/RULES.md,
-/// "Joining", "Mail", "Closing a month", "Reports" and "Refusals and faults".
+/// written. See docs/RULES.md, "Joining", "Mail", "Closing a month", "Reports" and "Refusals and
+/// faults".
 pub enum Answer {
     /// A faction joined, and its first report is stored.
     Joined {
         /// The number of the faction.
         faction: u32,
-        /// The number of its unit.
+        /// The number of the faction's first unit.
         unit: u32,
     },
-    /// A mailing is kept for the month to come, in the place of an older one.
+    /// A mailing is stored for the next month to be closed, in place of an older one.
     Mailed {
-        /// How many orders it has, a FORM among them and UNIT and END not.
+        /// The number of orders in the mailing; FORM counts, UNIT and END don't.
         orders: usize,
-        /// Its faulty lines, each with what is wrong.
+        /// The faulty lines of the mailing, each with its fault.
         faults: Sequence<FaultyLine>,
     },
-    /// A month was closed; the mail is taken away, and the reports are stored.
+    /// A month was closed; the mail is removed, and the reports are stored.
     MonthDone {
         /// The number of the month.
         month: u32,
     },
-    /// The stored report, as it was made; nothing changes. It is empty where none is stored.
+    /// The stored report of the faction, empty if none is stored; nothing changes.
     Text(Text),
     /// The command was refused for this reason, and nothing changes.
     Refused(Refusal),
@@ -237,12 +237,13 @@ impl Drop for Answer {
     }
 }
 
-/// Why no campaign is founded, opened or upgraded: the first of these that applies, or Memory at any point. A founding gives
-/// World, BadPassText, NotEmpty, Store and Memory, an opening NotACampaign, OldFormat, Damaged, Store and Memory, and an upgrade
-/// NotACampaign, NotOld, Damaged, World, Differs, Store and Memory. See docs/FORMATS.md, "Tables".
+/// Why no campaign is founded, opened or upgraded: the first cause that applies, or Memory at any
+/// point. `found` gives World, BadPassText, NotEmpty, Store and Memory; `open` NotACampaign,
+/// OldFormat, Damaged, Store and Memory; `upgrade` NotACampaign, NotOld, Damaged, World, Differs,
+/// Store and Memory. See docs/FORMATS.md, "Tables".
 #[derive(Drop, Debug)]
 pub enum Cause {
-    /// The world text, of an upgrade the new one, has this fault, which is not Memory.
+    /// The world text (for an upgrade the new one) has this fault, which is not Memory.
     World(WorldFault),
     /// The moderator's pass text breaks the rule of pass texts.
     BadPassText,
@@ -250,22 +251,25 @@ pub enum Cause {
     NotEmpty,
     /// The database has no table `campaign`, or the table lacks a column.
     NotACampaign,
-    /// The campaign has one row of its own, whose format is the first: the file is to be upgraded.
+    /// The table `campaign` has one row, whose format is the first: the file must be upgraded.
     OldFormat,
-    /// The campaign has one row of its own, whose format is the second: the file was upgraded before, or founded so.
+    /// The table `campaign` has one row, whose format is the second: the file was upgraded
+    /// before, or founded so.
     NotOld,
-    /// The rows of the tables break this rule of their format, and none before it.
+    /// This is the first rule of their format that the rows of the tables break.
     Damaged(Rule),
     /// The new world differs from the old one in more than its markets.
     Differs,
-    /// The database refuses for another cause than memory. To a founding it has other tables; to an opening its tables are not
-    /// made as those of a campaign; to an upgrade they are not just those of the first format.
+    /// The database failed for another cause than memory. Founding gives it if there are other
+    /// tables, opening if the tables are not made as those of a campaign, and an upgrade if
+    /// they are not exactly those of the first format.
     Store,
-    /// There was no memory.
+    /// Memory ran out.
     Memory,
 }
 
-/// As the program prints it: `world: 8 NoLand`, `refused: 2 BadPassText`, `fault: Damaged 11`, `fault: OldFormat` and so on.
+/// Prints a cause as the program does: `world: 8 NoLand`, `refused: 2 BadPassText`,
+/// `fault: Damaged 11`, `fault: OldFormat` and so on.
 impl fmt::Display for Cause {
     fn fmt<W: fmt::Write>(&self, f: &mut fmt::Formatter<W>) -> fmt::Result {
         match self {
@@ -342,11 +346,12 @@ impl From<AllocError> for Cause {
     }
 }
 
-/// A founding, an opening or an upgrade that was refused hands its connection back, with its tables as they were.
+/// What a refused `found`, `open` or `upgrade` returns: the cause, and the connection with its
+/// tables as they were.
 #[derive(Drop)]
 pub struct Refused<S: Alter> {
     /// The first cause that applies.
     pub why: Cause,
-    /// The connection that was handed in.
+    /// The connection that the call was given.
     pub conn: Connection<S>,
 }

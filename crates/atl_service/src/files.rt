@@ -12,10 +12,10 @@ use sqlite_disk::{Calls, Modelled};
 
 /// Law: if a service's connection is shielded, its disk is clean, or two digests have collided.
 /// Does nothing: the law is its clause, for a service over files of which each call is recorded.
-/// The digests have 64 bits. The kit's open shields a connection whose disk is clean then, and
-/// `found`, `open`, `upgrade`, `run` and `run_all` keep it shielded. So all that is said of tables
-/// at the end of a call holds of a file whose disk was clean as it was opened, unless a digest has
-/// collided. See docs/PROVED.md, "Premises".
+/// The digests have 64 bits. The kit's `open` shields a connection whose disk is clean at that
+/// time, and `found`, `open`, `upgrade`, `run` and `run_all` keep it shielded. So what the clauses
+/// say of the tables after a call holds for a file whose disk was clean when it was opened, unless
+/// two digests have collided. See docs/PROVED.md, "Premises".
 pub fn a_shielded_disk_is_clean<C: Calls, S: Start>(service: &Service<FileStore<Modelled<C, S>>>)
     ensures { (file_state service.now.conn).IsShielded → HasCleanDisk (file_state service.now.conn)
         ⊎ HasCollided (start_of S.Start) (λ f. C.Calls.history (calls_of f))

@@ -10,8 +10,8 @@ use atl_state::{Campaign, founded};
 use atl_tables::{World, pass_ok, read_world};
 use std::alloc::Global;
 
-/// The world of a text and the campaign that is founded in it; or the cause of the first check that
-/// fails.
+/// Makes the world of a text and the campaign founded in it; or returns the cause of the first
+/// check that fails, or Memory.
 pub(crate) fn world_and_campaign(
     alloc: Global,
     world_text: &str,

@@ -2,8 +2,8 @@
 ghost use Rattle.atl_service.specs.Posting.{OnlyTheLastMailCounts};
 
 /// Law: closing a month depends only on the last stored mailing of each faction. Does nothing: the
-/// law is its clause. In which order factions sent their mailings, and what a faction sent before
-/// its last one, makes no difference.
+/// law is its clause. The order of the factions' mailings, and what a faction sent before its last
+/// one, makes no difference.
 pub fn only_the_last_mail_counts()
     ensures { OnlyTheLastMailCounts }
 {}

@@ -16,8 +16,8 @@ use atl_state::{Campaign, Event};
 use atl_tables::{Numbered, Sequence, Text, World, let_go};
 use std::alloc::{AllocError, Global};
 
-/// What the reports of a month need: the factions that get one, the faulty lines of each one's
-/// mailing, and the events of all.
+/// What the reports of a month need: the factions that get one, the faulty lines of each faction's
+/// mailing, and all events.
 pub(crate) struct MonthResult {
     pub(crate) factions: Vec<u32>,
     pub(crate) faults: Numbered<Sequence<FaultyLine>>,
@@ -30,8 +30,8 @@ impl Drop for MonthResult {
     }
 }
 
-/// Stores a new report for a faction: what it sees, these faulty lines, and its own of the events.
-/// The report becomes dirty. Without memory for it the campaign stays as it is.
+/// Stores a new report for a faction: what it sees, these faulty lines, and its own events. The
+/// report becomes dirty. If memory runs out, the campaign stays as it is.
 fn store_report_with(
     alloc: Global,
     world: &World,
@@ -54,8 +54,8 @@ fn store_report_with(
     Ok(())
 }
 
-/// Stores the first report of a faction: what it sees. The report becomes dirty. Without memory for
-/// it the campaign stays as it is.
+/// Stores the first report of a faction: what it sees. The report becomes dirty. If memory runs
+/// out, the campaign stays as it is.
 pub(crate) fn store_report(
     alloc: Global,
     world: &World,
@@ -94,8 +94,8 @@ fn report_to(
     store_report_with(alloc, world, campaign, sites, faction, faults, events)
 }
 
-/// Stores a report of the month for each faction of the list, with structures and events sorted
-/// before.
+/// Stores a report of the month for each faction that gets one, by the structures of each region
+/// (`sites`) and the events of each faction (`sorted`).
 fn report_to_each(
     alloc: Global,
     world: &World,

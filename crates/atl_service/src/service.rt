@@ -22,8 +22,8 @@ use sqlite::{Alter, Connection};
 use std::alloc::{AllocError, Global};
 use std::marker::Model;
 
-/// A world and its campaign, in memory and in the tables of a connection. After a fault the service is closed: then every
-/// command is answered Closed.
+/// A world and its campaign, in memory and in the tables of a connection. After a fault the service
+/// is closed: then every command is answered Closed.
 pub struct Service<S: Alter> {
     alloc: Global,
     conn: Connection<S>,
@@ -59,7 +59,8 @@ impl<S: Alter> Service<S> {
     ghost use Rattle.atl_service.specs.Service.{IsService, text_in};
     ghost use Rattle.atl_service.specs.Runs.{Runs, RunsAll, HeadlineAt};
 
-    /// An open service of a campaign whose rows are in the tables of the connection.
+    /// Makes an open service of a world and a campaign whose rows are in the connection's
+    /// tables.
     fn opened(alloc: Global, conn: Connection<S>, world: World, campaign: Campaign) -> Service<S>
         requires { IsService S.Store conn world campaign true }
         ensures { result ≡ record { conn = conn; world = world; campaign = Some campaign.value } }
@@ -73,11 +74,13 @@ impl<S: Alter> Service<S> {
         }
     }
 
-    /// Runs one command. A command that is refused, or answered with a report, changes nothing. Fault Store comes only where
-    /// a call of the write gave another error than running out of memory; Fault Memory where one gave that, or before the
-    /// database was asked to write. After both the tables are as before, the service is closed, and every command is
-    /// answered Closed and changes nothing. See docs/RULES.md, "Joining", "Mail", "Closing a month", "Reports" and "Refusals
-    /// and faults".
+    /// Runs one command and returns its answer. A command that is refused, or answered with a
+    /// report, changes nothing. If the disk is clean, fault Store means that a call of the
+    /// write gave another error than out of memory; fault Memory means that one ran out of
+    /// memory, or that memory ran out before the database was asked to write. After either
+    /// fault the tables are as before while the connection is open, and the service is closed:
+    /// every command is answered Closed and changes nothing. See docs/RULES.md, "Joining",
+    /// "Mail", "Closing a month", "Reports" and "Refusals and faults".
     pub fn run(&mut self, command: &Command) -> Answer
         ensures runs { Runs S.Store self.old command.now result self.new }
         ensures later { IsLater (state S.Store self.old.conn) (state S.Store self.new.conn) }
@@ -105,8 +108,9 @@ impl<S: Alter> Service<S> {
         }
     }
 
-    /// Runs commands in their order, and gives an answer for each; after a fault it is Closed. The room for the answers is
-    /// taken first: without it nothing is run and nothing changes. See docs/RULES.md, "Refusals and faults".
+    /// Runs commands in their order, and returns one answer for each; after a fault all later
+    /// answers are Closed. Memory for the answers is allocated first: if there is none, nothing
+    /// is run and nothing changes. See docs/RULES.md, "Refusals and faults".
     pub fn run_all(&mut self, commands: &[Command]) -> Result<Vec<Answer>, AllocError>
         ensures runs { IfOk result
             (λ answers. RunsAll S.Store self.old commands.now answers.items self.new) }
@@ -124,8 +128,8 @@ impl<S: Alter> Service<S> {
         Ok(answers)
     }
 
-    /// The campaign, while the service is open. Its dirty set is empty: all changes have been
-    /// written.
+    /// The campaign, while the service is open; None once it is closed. The campaign's dirty
+    /// set is empty: all changes have been written.
     pub fn campaign(&self) -> Option<&Campaign>
         ensures value { option_map (λ c. c.value) (option_copied result) ≡ self.now.campaign }
         ensures good { IfSome self.now.campaign (IsGood self.now.world) }
@@ -141,8 +145,8 @@ impl<S: Alter> Service<S> {
         }
     }
 
-    /// The text of the books, while the service is open, or AllocError without memory for it. Nothing changes, whatever comes
-    /// of it. The books balance. See docs/FORMATS.md, "Books".
+    /// The text of the campaign's books, or AllocError without memory for it; None once the
+    /// service is closed. Nothing changes. The books balance. See docs/FORMATS.md, "Books".
     pub fn books(&self) -> Option<Result<String, AllocError>>
         ensures open { is_some result ≡ is_some self.now.campaign }
         ensures definition { IfSome self.now.campaign
@@ -154,7 +158,7 @@ impl<S: Alter> Service<S> {
         Some(books_text(self.alloc, &self.world, campaign))
     }
 
-    /// The world of the campaign, as it was founded or upgraded. It is lent also after a fault.
+    /// The world of the campaign, as it was founded or upgraded; also after a fault.
     pub fn world(&self) -> &World
         ensures value { result.now ≡ self.now.world }
         ensures text { HasCleanDisk (state S.Store self.now.conn) → IsSome self.now.campaign
@@ -163,7 +167,7 @@ impl<S: Alter> Service<S> {
         &self.world
     }
 
-    /// The connection, with its tables as they are.
+    /// Ends the service and returns its connection, with the tables as they are.
     pub fn end(self) -> Connection<S>
         ensures value { result ≡ self.conn }
         ensures tables { IfSome self.campaign
@@ -180,13 +184,15 @@ impl<S: Alter> Service<S> {
     }
 }
 
-/// Founds a campaign by a world text and the moderator's pass text, in a database without tables. The cause of a refusal
-/// is the first check that fails: the world's fault, the pass text, a campaign that is there, the database; or Memory at
-/// any of them, before the database was asked to write or where a call of the write ran out of memory. Store: there is a
-/// table, an index or a view, the connection is in a transaction, or a call of the writing gave another error. After the first
-/// three nothing is changed, nor after Memory where the text is no world or the pass text isn't good; after the others the
-/// tables are as they were while the connection is open, and a crash leaves what it left before or the founded campaign. See
-/// docs/RULES.md, "Founding", and docs/FORMATS.md, "Faults of a world file" and "Tables".
+/// Founds a campaign by a world text and the moderator's pass text, in a database without tables.
+/// The cause of a refusal is the first check that fails: World, BadPassText, NotEmpty, Store; or
+/// Memory at any of them. NotEmpty: there is a table `campaign`. Store: there is another table, an
+/// index or a view, the connection is in a transaction, or a call of the write gave another error
+/// than out of memory. After World, BadPassText and NotEmpty nothing is changed, nor after Memory
+/// if the text is no world or the pass text isn't good. After Store and Memory, if the disk is
+/// clean, the tables are as they were while the connection is open, and a crash leaves what it left
+/// before or the founded campaign. See docs/RULES.md, "Founding", and docs/FORMATS.md, "Faults of a
+/// world file" and "Tables".
 pub fn found<S: Alter>(
     alloc: Global,
     mut conn: Connection<S>,
@@ -211,11 +217,13 @@ pub fn found<S: Alter>(
     }
 }
 
-/// Opens the campaign that the tables hold, with its world: one that was stored comes back as it was. Nothing is changed,
-/// whatever is answered, and a refusal hands the connection back. NotACampaign: there is no table `campaign`, or it lacks a
-/// column. OldFormat: the campaign has one row of its own, whose format is the first, and `upgrade` takes it. Damaged: the rows
-/// of the tables break this rule, and none before it. Store: the connection is in a transaction, the tables are not made as
-/// those of a campaign, or the database refuses for another cause than memory. See docs/FORMATS.md, "Rules of the tables".
+/// Opens the campaign that the tables hold, with its world; on a clean disk both are as they were
+/// stored. The tables are unchanged, also after a refusal, which returns the connection.
+/// NotACampaign: there is no table `campaign`, or it lacks a column. OldFormat: the table
+/// `campaign` has one row, whose format is the first, and `upgrade` accepts it. Damaged: this is
+/// the first rule that the rows of the tables break. Store: the connection is in a transaction, the
+/// tables are not made as those of a campaign, or the database failed for another cause than
+/// memory. See docs/FORMATS.md, "Rules of the tables".
 pub fn open<S: Alter>(alloc: Global, mut conn: Connection<S>) -> Result<Service<S>, Refused<S>>
     ensures ok { IfOk result (Opens S.Store conn) }
     ensures back { IfOk result (ComesBack S.Store conn) }
@@ -237,14 +245,16 @@ pub fn open<S: Alter>(alloc: Global, mut conn: Connection<S>) -> Result<Service<
     }
 }
 
-/// Upgrades the campaign that tables of the first format hold to the second, with a new world that differs from the old one in
-/// markets alone, and opens it: the campaign is as it was, and nothing is in stock. The cause of a refusal is the first check
-/// that fails, and a refusal hands the connection back, with its tables as they were while it is open; a crash leaves what it
-/// left before or the upgraded campaign. NotACampaign: there is no table `campaign`, or it lacks a column. NotOld: the campaign
-/// has one row of its own, whose format is the second. Damaged: the rows of the tables break this rule of the first format, and
-/// none before it. World: the new world text has this fault. Differs: the worlds differ in more than markets. Store: the
-/// connection is in a transaction, the tables are not just those of the first format, or the database refuses for another cause
-/// than memory. See docs/FORMATS.md, "Upgrading a file".
+/// Upgrades a campaign's tables from the first format to the second, with a new world, and opens
+/// the campaign. The new world may differ from the old one only in markets. The campaign is as it
+/// was, and nothing is in stock. The cause of a refusal is the first check that fails. A refusal
+/// returns the connection; if the disk is clean, the tables are as they were while the connection
+/// is open, and a crash leaves what it left before or the upgraded campaign. NotACampaign: there is
+/// no table `campaign`, or it lacks a column. NotOld: the table `campaign` has one row, whose
+/// format is the second. Damaged: this is the first rule of the first format that the rows break.
+/// World: the new world text has this fault. Differs: the worlds differ in more than markets.
+/// Store: the connection is in a transaction, the tables are not exactly those of the first format,
+/// or the database failed for another cause than memory. See docs/FORMATS.md, "Upgrading a file".
 pub fn upgrade<S: Alter>(
     alloc: Global,
     mut conn: Connection<S>,

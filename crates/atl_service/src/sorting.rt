@@ -7,8 +7,8 @@ use atl_state::Event;
 use atl_tables::{Numbered, Sequence};
 use std::alloc::{AllocError, Global};
 
-/// Adds an event at the end of its faction's list. Without memory the lists are not usable any
-/// more.
+/// Adds an event at the end of its faction's list. If memory runs out, the lists are no longer
+/// usable.
 fn add_event(
     alloc: Global,
     sorted: &mut Numbered<Sequence<Event>>,
@@ -26,7 +26,7 @@ fn add_event(
     }
 }
 
-/// The events of each faction in their order, by the faction's number, from one pass over all of them.
+/// Sorts all events by faction: under each faction's number are its own events, in their order.
 pub(crate) fn events_by_faction(
     alloc: Global,
     events: &[Event],
@@ -40,7 +40,7 @@ pub(crate) fn events_by_faction(
     Ok(sorted)
 }
 
-/// The list under a number, such as a faction's; the empty one if there is none.
+/// The list stored under a number, such as a faction's; empty if there is no list.
 pub(crate) fn list_of<T: Drop>(lists: &Numbered<Sequence<T>>, number: u32) -> &[T]
     ensures { result.now ≡ unwrap_or (map.get lists.now number) [] }
 {

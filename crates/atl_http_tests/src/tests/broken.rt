@@ -1,5 +1,5 @@
-//! Tests of replies that can't be written to their end: the command has run all the same. And the
-//! numbers of faults.
+//! Tests that a command has run even if its reply can't be written to the end, and of the numbers
+//! of faults.
 use super::compare::{assert_count, assert_fault, assert_number, assert_true};
 use super::ends::Narrow;
 use super::making::begun;
@@ -27,8 +27,8 @@ pub(crate) fn breaks_off(
     assert_number(rt, service.next_faction(), 2);
 }
 
-/// The same in a new campaign, with a writer that takes at most `most` bytes and then fails, or
-/// takes none.
+/// Asserts WriteFault and the join in a new campaign, with a writer that takes at most `most` bytes
+/// and then fails, or takes none.
 fn is_broken(rt: &impl Abort, alloc: Global, most: usize, fails: bool) -> Result<(), Fail> {
     let mut service = begun(alloc)?;
     let mut writer = Narrow::of(alloc, most, fails);
@@ -37,7 +37,7 @@ fn is_broken(rt: &impl Abort, alloc: Global, most: usize, fails: bool) -> Result
     Ok(())
 }
 
-/// A reply breaks off after any number of bytes, because a write fails.
+/// A join is done although its reply breaks off after any number of bytes, because a write fails.
 #[test]
 fn writes_that_fail(rt: HostRuntime) -> Result<(), Fail> {
     for most in 0..JOINED.len() {
@@ -46,7 +46,8 @@ fn writes_that_fail(rt: HostRuntime) -> Result<(), Fail> {
     Ok(())
 }
 
-/// A reply breaks off after any number of bytes, because a write takes none.
+/// A join is done although its reply breaks off after any number of bytes, because a write takes
+/// none.
 #[test]
 fn writes_that_take_nothing(rt: HostRuntime) -> Result<(), Fail> {
     for most in 0..JOINED.len() {

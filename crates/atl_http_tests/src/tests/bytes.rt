@@ -39,7 +39,7 @@ fn no_texts(rt: &impl Abort, alloc: Global, service: &mut impl Served) {
     }
 }
 
-/// Requests with bytes that aren't UTF-8 get their replies.
+/// Requests with bytes that aren't UTF-8 in target, field or body are refused with the right reply.
 #[test]
 fn no_text(rt: HostRuntime) -> Result<(), Fail> {
     let mut service = begun(rt.alloc())?;

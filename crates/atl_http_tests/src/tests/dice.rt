@@ -45,6 +45,7 @@ fn assert_join_words(rt: &impl Abort, rows: &[(u64, u32, u32)]) {
     }
 }
 
+/// The words of a month are those that were worked out independently for its seed and number.
 #[test]
 fn words_of_months(rt: HostRuntime) -> Result<(), AllocError> {
     let alloc = rt.alloc();
@@ -67,12 +68,13 @@ fn words_of_months(rt: HostRuntime) -> Result<(), AllocError> {
     assert_words(&rt, alloc, 7, 1, &[])
 }
 
+/// The word for a join is the one worked out independently for its seed and faction number.
 #[test]
 fn words_of_factions(rt: HostRuntime) {
     assert_join_words(&rt, &JOINING_WORDS);
 }
 
-/// A faction's stream has a number beyond all months, 10,000 more than the faction's.
+/// A faction's word is the first one of the stream with the faction's number plus 10,000.
 #[test]
 fn streams_of_factions(rt: HostRuntime) -> Result<(), AllocError> {
     let alloc = rt.alloc();

@@ -1,4 +1,5 @@
-//! Tests of reads and writes that are interrupted, up to the bound of 1,000,000 and beyond it.
+//! Tests that a request is served after up to 1,000,000 reads and fewer than 1,000,000 interrupted
+//! writes, and ends in a fault beyond that.
 use super::broken::breaks_off;
 use super::compare::{assert_count, assert_text};
 use super::ends::{Narrow, Pieces};
@@ -10,16 +11,15 @@ use std::process::Abort;
 use std::test::Fail;
 
 /// How many bytes a read gives, how many reads are interrupted before each, and how many reads
-/// there are in all.
-/// They are 1,000,000 in one piece and in two, and 81 times 12,345 byte by byte.
+/// there are in all. They are 1,000,000 in one piece and in two, and 81 times 12,345 byte by byte.
 static READS: [(usize, usize, usize); 3] = [
     (81, 999_999, 1_000_000),
     (41, 499_999, 1_000_000),
     (1, 12_344, 999_945),
 ];
 
-/// The same with one more interruption before each piece, so that the request isn't whole after
-/// 1,000,000 reads.
+/// How many bytes a read gives, and how many reads are interrupted before each, so that the request
+/// isn't whole after 1,000,000 reads.
 static TOO_MANY_READS: [(usize, usize); 4] = [
     (81, 1_000_000),
     (41, 500_000),
@@ -40,7 +40,7 @@ fn joins_by(
     assert_count(rt, reader.reads, reads);
 }
 
-/// Asserts each row of `READS`.
+/// Asserts the reply and the number of reads for each row of `READS`.
 fn are_read(rt: &impl Abort, alloc: Global) -> Result<(), Fail> {
     for (piece, interruptions, reads) in READS.iter() {
         let mut service = begun(alloc)?;
@@ -52,6 +52,7 @@ fn are_read(rt: &impl Abort, alloc: Global) -> Result<(), Fail> {
     Ok(())
 }
 
+/// A request that is whole after at most 1,000,000 reads is served.
 #[test]
 fn reads_within_the_bound(rt: HostRuntime) -> Result<(), Fail> {
     are_read(&rt, rt.alloc())
@@ -68,6 +69,7 @@ fn are_too_many(rt: &impl Abort, alloc: Global, service: &mut impl Served) {
     assert_reply(rt, alloc, service, &mut JOIN.as_bytes(), JOINED);
 }
 
+/// A request that isn't whole after 1,000,000 reads ends in a fault, and no command is run.
 #[test]
 fn reads_beyond_the_bound(rt: HostRuntime) -> Result<(), Fail> {
     let mut service = begun(rt.alloc())?;
@@ -81,8 +83,8 @@ fn reads_beyond_the_bound(rt: HostRuntime) -> Result<(), Fail> {
 /// written.
 static WRITES: [(usize, usize); 3] = [(112, 999_999), (56, 499_999), (1, 8_928)];
 
-/// The same with one more interruption before each, and how many bytes and writes were done when
-/// serving ends.
+/// Rows in which too many writes are interrupted: bytes per write, interruptions before each write,
+/// and the bytes and writes done when serving ends.
 static TOO_MANY_WRITES: [(usize, usize, usize, usize); 4] = [
     (112, 1_000_000, 0, 1_000_000),
     (56, 500_000, 56, 1_000_001),
@@ -97,7 +99,7 @@ fn joins_over(rt: &impl Abort, alloc: Global, service: &mut impl Served, writer:
     assert_text(rt, told(served, &writer.taken), JOINED);
 }
 
-/// Asserts each row of `WRITES`.
+/// Asserts the reply for each row of `WRITES`.
 fn are_written(rt: &impl Abort, alloc: Global) -> Result<(), Fail> {
     for (piece, interruptions) in WRITES.iter() {
         let mut service = begun(alloc)?;
@@ -110,12 +112,13 @@ fn are_written(rt: &impl Abort, alloc: Global) -> Result<(), Fail> {
     Ok(())
 }
 
+/// A reply is written whole if fewer than 1,000,000 writes are interrupted.
 #[test]
 fn writes_within_the_bound(rt: HostRuntime) -> Result<(), Fail> {
     are_written(&rt, rt.alloc())
 }
 
-/// Asserts each row of `TOO_MANY_WRITES`.
+/// Asserts WriteFault and the bytes written for each row of `TOO_MANY_WRITES`.
 fn break_off(rt: &impl Abort, alloc: Global) -> Result<(), Fail> {
     for (piece, interruptions, taken, writes) in TOO_MANY_WRITES.iter() {
         let mut service = begun(alloc)?;
@@ -129,6 +132,7 @@ fn break_off(rt: &impl Abort, alloc: Global) -> Result<(), Fail> {
     Ok(())
 }
 
+/// A reply breaks off with WriteFault once 1,000,000 writes were interrupted.
 #[test]
 fn writes_beyond_the_bound(rt: HostRuntime) -> Result<(), Fail> {
     break_off(&rt, rt.alloc())

@@ -41,6 +41,7 @@ fn assert_verdict(
     Ok(())
 }
 
+/// `verdict_on` gives each text of `BYTES` its verdict.
 #[test]
 fn bytes_are_judged(rt: HostRuntime) -> Result<(), AllocError> {
     for (bytes, wanted) in BYTES.iter() {

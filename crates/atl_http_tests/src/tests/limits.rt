@@ -1,4 +1,4 @@
-//! Tests of a campaign at its limits, over HTTP.
+//! Tests that a campaign at its limits of months and units refuses a join and a closing over HTTP.
 use super::making::{Case, assert_replies, begun};
 use super::requests::JOIN;
 use atl_service::{Service, open};
@@ -9,7 +9,7 @@ use std::test::Fail;
 /// SQL that makes the last month closed and the last unit number given.
 const LIMITS: &str = "UPDATE campaign SET month = 9999, next_unit = 1000000000";
 
-/// A join and a closing that are refused then.
+/// A join and a closing that are refused at the limits, with their replies.
 static AT_LIMITS: [Case; 2] = [
     (
         JOIN,
@@ -31,6 +31,7 @@ fn changed(alloc: Global, sql: &str) -> Result<Service<MemStore>, Fail> {
     }
 }
 
+/// After the last month and the last unit number, a join and a closing are refused over HTTP.
 #[test]
 fn at_the_limits(rt: HostRuntime) -> Result<(), Fail> {
     let mut service = changed(rt.alloc(), LIMITS)?;

@@ -89,6 +89,7 @@ fn four_are_served<R: Net<Stream = TcpStream> + Clock + Abort>(
     assert_all_received(rt, alloc, &streams)
 }
 
+/// Four connections over a socket are served one after another, one of which ends early.
 #[test]
 fn over_a_socket(rt: HostRuntime) -> Result<(), Fail> {
     let Ok(listener) = TcpListener::bind(&rt, (Ipv4Addr::LOCALHOST, 0)) else {
@@ -118,6 +119,7 @@ fn nobody_is_served<R: Clock + Abort>(
     Ok(())
 }
 
+/// A listener without a connection gives Net, and no command is run.
 #[test]
 fn no_connection_is_taken(rt: HostRuntime) -> Result<(), Fail> {
     let Ok(listener) = TcpListener::bind(&rt, (Ipv4Addr::LOCALHOST, 0)) else {

@@ -79,6 +79,7 @@ static JOINING: [Case; 6] = [
     ),
 ];
 
+/// A join, a second join under the same name, and requests for the report get their replies.
 #[test]
 fn joining(rt: HostRuntime) -> Result<(), Fail> {
     plays(&rt, rt.alloc(), &JOINING)
@@ -101,6 +102,7 @@ static A_MONTH: [Case; 4] = [
     ),
 ];
 
+/// Orders, a closing and the report after it get their replies.
 #[test]
 fn a_month(rt: HostRuntime) -> Result<(), Fail> {
     plays(&rt, rt.alloc(), &A_MONTH)
@@ -124,6 +126,7 @@ static QUITTING: [Case; 4] = [
     ),
 ];
 
+/// After a faction quit, its later orders are refused.
 #[test]
 fn quitting(rt: HostRuntime) -> Result<(), Fail> {
     plays(&rt, rt.alloc(), &QUITTING)
@@ -166,12 +169,13 @@ static REFUSALS: [Case; 9] = [
     ),
 ];
 
+/// Refused joins, reports, closings and mailings get their statuses, names and numbers.
 #[test]
 fn refusals(rt: HostRuntime) -> Result<(), Fail> {
     plays(&rt, rt.alloc(), &REFUSALS)
 }
 
-/// Refused heads, among them those with a wrong number of Host fields.
+/// Refused heads, some with a wrong number of Host fields, and one that is cut short.
 static HEADS: [Case; 6] = [
     ("\u{1}", BAD_REQUEST),
     ("GET /report/1 HTTP/2.0\r\n\r\n", BAD_REQUEST),
@@ -187,6 +191,7 @@ static HEADS: [Case; 6] = [
     ("GET /report/1", "cut"),
 ];
 
+/// Faulty heads are refused with BadRequest, and a head that isn't whole gives the fault Cut.
 #[test]
 fn heads(rt: HostRuntime) -> Result<(), Fail> {
     plays(&rt, rt.alloc(), &HEADS)
@@ -209,6 +214,7 @@ static ROUTES: [Case; 13] = [
     ("POST /report/1 HTTP/1.0\r\n\r\n", GET_ONLY),
 ];
 
+/// Paths without a route are refused, and so are methods that a route doesn't have.
 #[test]
 fn routes(rt: HostRuntime) -> Result<(), Fail> {
     plays(&rt, rt.alloc(), &ROUTES)
@@ -268,6 +274,7 @@ static LENGTHS: [Case; 14] = [
     ),
 ];
 
+/// Requests without one good body length or without exactly one pass text are refused.
 #[test]
 fn lengths(rt: HostRuntime) -> Result<(), Fail> {
     plays(&rt, rt.alloc(), &LENGTHS)
@@ -311,6 +318,7 @@ static BODIES: [Case; 9] = [
     ),
 ];
 
+/// A join whose body is no JSON object with both texts is refused with BadJson.
 #[test]
 fn bodies(rt: HostRuntime) -> Result<(), Fail> {
     plays(&rt, rt.alloc(), &BODIES)
@@ -337,6 +345,7 @@ static VALUES: [Case; 4] = [
     ),
 ];
 
+/// A join whose body has a JSON value that can't be read is refused with BadJson.
 #[test]
 fn values(rt: HostRuntime) -> Result<(), Fail> {
     plays(&rt, rt.alloc(), &VALUES)

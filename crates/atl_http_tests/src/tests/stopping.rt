@@ -55,8 +55,8 @@ fn stopping(alloc: Global, calls: u64) -> Files<Fuse<Memory>> {
 /// for the founding.
 const FEW_CALLS: u64 = 24;
 
-/// The disk stops one call later each time, until a campaign is founded: then the next call is the
-/// join's.
+/// A join at which the disk stops is answered Store, and later requests Closed. The disk stops one
+/// call later each time, until a campaign is founded: then the next call is the join's.
 #[test]
 fn a_disk_that_stops(rt: HostRuntime) -> Result<(), Fail> {
     for calls in FEW_CALLS..FEW_CALLS + 8 {

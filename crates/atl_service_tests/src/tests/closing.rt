@@ -1,4 +1,4 @@
-//! Tests of `Close`: closing months, and its refusals.
+//! Tests of `Close`: the reports, books and tables after a month, and the refusals.
 use super::commands::AVALON;
 use super::mailings::FAULTY;
 use super::script::{Asked, Course, Step, plays, plays_course};
@@ -90,11 +90,13 @@ static FIRST_MONTHS: [Course; 2] = [
     },
 ];
 
+/// Closing a month without mail gives the report, books and tables worked out by hand.
 #[test]
 fn a_month_is_closed(rt: HostRuntime) -> Result<(), Fail> {
     plays_course(&rt, rt.alloc(), &FIRST_MONTHS[0])
 }
 
+/// Closing a month reports a faulty line of a mailing, carries out its good order, and removes it.
 #[test]
 fn a_faulty_line_is_told_and_the_mail_is_gone(rt: HostRuntime) -> Result<(), Fail> {
     plays_course(&rt, rt.alloc(), &FIRST_MONTHS[1])
@@ -111,6 +113,7 @@ static REFUSED: [Step; 7] = [
     Step::Told(Asked::Close(1, "gm", &[0, 0]), "wrong dice"),
 ];
 
+/// A closing with wrong pass text, month or number of dice words is refused and changes nothing.
 #[test]
 fn a_refused_closing_changes_nothing(rt: HostRuntime) -> Result<(), Fail> {
     refuses(&rt, rt.alloc(), EVERY_TABLE, &REFUSED)
@@ -125,12 +128,13 @@ static AFTER_NOBODY: [(&str, Option<i64>); 5] = [
     (REGION_MONEY, Some(2500)),
 ];
 
-/// Two closings where nobody has joined.
+/// Two closings in a campaign that no faction has joined.
 static NOBODY: [Step; 2] = [
     Step::Closed(MONTH_ONE, 1),
     Step::Closed(Asked::Close(2, "gm", &[7]), 2),
 ];
 
+/// Months are closed in a campaign that no faction has joined.
 #[test]
 fn a_month_without_factions(rt: HostRuntime) -> Result<(), Fail> {
     plays(&rt, rt.alloc(), SMALL, &NOBODY, &AFTER_NOBODY)
@@ -154,7 +158,8 @@ static STARVED: [Step; 6] = [
     Step::Told(Asked::Report(1, "pw"), AFTER_STARVING),
 ];
 
-/// What the tables hold then. The 5 money are spent, and the unit's number isn't given again.
+/// What the tables hold after the faction starved: the 5 money are spent, and the unit's number
+/// isn't given again.
 static AFTER_ALL_STARVED: [(&str, Option<i64>); 6] = [
     (MONTH, Some(2)),
     (NEXT, Some(200002)),
@@ -164,6 +169,7 @@ static AFTER_ALL_STARVED: [(&str, Option<i64>); 6] = [
     (REGION_MONEY, Some(2500)),
 ];
 
+/// A faction whose last man starves is gone: its mail is refused, and its report stays.
 #[test]
 fn a_faction_that_starves_is_gone(rt: HostRuntime) -> Result<(), Fail> {
     plays(&rt, rt.alloc(), BARREN, &STARVED, &AFTER_ALL_STARVED)

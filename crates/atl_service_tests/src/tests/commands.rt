@@ -1,4 +1,4 @@
-//! Tests of `Join` and `Report`, and of lists of commands (`run_all`).
+//! Tests of `Join` and `Report`, and that a list run by `run_all` gets the answers of its commands.
 use super::closing::{AFTER_MONTH_ONE, AFTER_WORK, MONTH_ONE};
 use super::compare::assert_count;
 use super::making::begun_in_memory;
@@ -72,6 +72,7 @@ static AFTER_TWO: [(&str, Option<i64>); 3] = [
     (UNITS, Some(2)),
 ];
 
+/// The first report of a second faction shows the first faction's unit, but not its money.
 #[test]
 fn another_faction_is_seen_without_money(rt: HostRuntime) -> Result<(), Fail> {
     plays(&rt, rt.alloc(), SMALL, &TWO_JOIN, &AFTER_TWO)
@@ -83,16 +84,16 @@ static FAR_JOINS: [Step; 2] = [
     Step::Told(Asked::Report(1, "pw"), FAR_REPORT),
 ];
 
-/// What the tables hold then.
+/// What the tables hold after a faction joined in the second land region.
 static AFTER_FAR: [(&str, Option<i64>); 2] = [(FACTIONS, Some(1)), (UNITS, Some(1))];
 
-/// The word 1 of the dice places a faction in the second land region.
+/// A faction that joins with the dice word 1 begins in the second land region.
 #[test]
 fn the_second_land_region(rt: HostRuntime) -> Result<(), Fail> {
     plays(&rt, rt.alloc(), ISLE, &FAR_JOINS, &AFTER_FAR)
 }
 
-/// Joins, mailings and reports, good ones and refused ones.
+/// Joins, mailings and reports, some of them refused.
 const CLUB: [Step; 12] = [
     Step::Told(Asked::Join(" x", "pw", 0), "bad name"),
     Step::Told(Asked::Join("Avalon", "a b", 0), "bad pass text"),
@@ -123,7 +124,7 @@ const AFTER_CLUB: [(&str, Option<i64>); 8] = [
     (MAIL_BYTES, Some(19)),
 ];
 
-/// Asserts the answers of a list of commands.
+/// Asserts that there is one answer for each step, and that it is the wanted one.
 fn are_told(rt: &impl Abort, answers: &[Answer], steps: &[Step]) {
     assert_count(rt, answers.len(), steps.len());
     for (answer, step) in answers.iter().zip(steps.iter()) {
@@ -160,7 +161,8 @@ fn at_once(rt: &impl Abort, alloc: Global, list: &AtOnce) -> Result<(), Fail> {
     is_run(rt, alloc, &commands, list)
 }
 
-/// Commands with a closing; one by one, the same closing is tested in `closing`.
+/// Commands that close a month, run as a list; `closing` tests the same month one command at a
+/// time.
 const A_MONTH: [Step; 4] = [
     Step::Told(AVALON, "joined"),
     Step::Told(MONTH_ONE, "month done"),
@@ -188,6 +190,7 @@ fn are_run(rt: &impl Abort, alloc: Global) -> Result<(), Fail> {
     Ok(())
 }
 
+/// A list of commands, run as a whole, has the answers and leaves the tables that its steps name.
 #[test]
 fn a_list_is_run_as_one_by_one(rt: HostRuntime) -> Result<(), Fail> {
     plays(&rt, rt.alloc(), SMALL, LISTS[0].steps, LISTS[0].after)?;

@@ -53,6 +53,8 @@ const AFTER_BOTH: [(&str, Option<i64>); 8] = [
     (BOOKED, Some(4456)),
 ];
 
+/// Two months with GUARD, NAME and FORM orders, without a stopped disk, leave the worked-out
+/// tables.
 #[test]
 fn both_months_are_closed(rt: HostRuntime) -> Result<(), Fail> {
     plays_course(&rt, rt.alloc(), &COURSES[0])
@@ -90,12 +92,13 @@ const AFTER_MONTH_OF_TWO: [(&str, Option<i64>); 12] = [
     (BOOKED, Some(4872)),
 ];
 
+/// A month of two factions, without a stopped disk, leaves the worked-out tables.
 #[test]
 fn a_month_of_two_factions_is_closed(rt: HostRuntime) -> Result<(), Fail> {
     plays_course(&rt, rt.alloc(), &COURSES[1])
 }
 
-/// Both courses: two months in the small world, and a month on the island.
+/// The courses that `crashes` plays: two months in the small world, and a month on the island.
 pub(crate) static COURSES: [Course; 2] = [
     Course {
         world: SMALL,

@@ -1,6 +1,5 @@
 //! Tests that a disk that stops at any of its calls leaves the campaign before a write or after it,
-//! never a part.
-//! The writes are those of a founding, a join, mailings and closings.
+//! never a part. The writes are those of founding, a join, mailings and closings.
 use super::compare::assert_text;
 use super::courses::COURSES;
 use super::files::connected;
@@ -17,8 +16,7 @@ use std::alloc::Global;
 use std::process::Abort;
 use std::test::Fail;
 
-/// A course, its commands, and all rows of the campaign after each write; before the first there
-/// are none.
+/// A course, its commands, and all rows of the campaign after each write; no rows before the first.
 struct Plan {
     course: Course,
     commands: Vec<Command>,
@@ -48,7 +46,7 @@ fn set_up(
     Ok(service)
 }
 
-/// Runs the commands, and appends the rows to `stages` after each.
+/// Runs the commands, and appends the campaign's rows to `stages` after each command.
 fn run_noted(
     alloc: Global,
     service: &mut impl Served,
@@ -112,7 +110,7 @@ fn run_each(rt: &impl Abort, service: &mut impl Served, commands: &[Command]) ->
     done
 }
 
-/// The service, or its connection if the disk stopped.
+/// The service, or its connection if the disk stopped; asserts that the cause is Store.
 fn served<S: Alter>(
     rt: &impl Abort,
     tried: Result<Service<S>, Refused<S>>,
@@ -187,7 +185,7 @@ fn crashed<D: Crash>(files: Files<D>) -> Files<D> {
     Files { log, db }
 }
 
-/// Whether rows are those after `writings` writes.
+/// Whether these rows are the plan's rows after `writings` writes.
 fn is_stage(plan: &Plan, writings: usize, rows: &str) -> bool {
     match plan.stages.get(writings) {
         Some(stage) => stage.as_str() == rows,
@@ -278,11 +276,13 @@ fn stops_each(rt: &impl Abort, alloc: Global, which: WhichDisk) -> Result<(), Fa
     Ok(())
 }
 
+/// If the log's disk stops at any of its calls, the campaign before or after a write is left.
 #[test]
 fn the_log_stops(rt: HostRuntime) -> Result<(), Fail> {
     stops_each(&rt, rt.alloc(), WhichDisk::Log)
 }
 
+/// If the database's disk stops at any of its calls, the campaign before or after a write is left.
 #[test]
 fn the_database_stops(rt: HostRuntime) -> Result<(), Fail> {
     stops_each(&rt, rt.alloc(), WhichDisk::Database)

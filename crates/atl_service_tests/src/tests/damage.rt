@@ -23,11 +23,11 @@ enum Told {
     Differs,
     World,
     Store,
-    /// Out of memory, or a fault that only a founding has.
+    /// Out of memory, or a cause that only founding or upgrading has.
     Other,
 }
 
-/// The outcome that a cause of refusal is.
+/// The outcome for a cause of refusal.
 fn refusal(why: &Cause) -> Told {
     match why {
         Cause::Damaged(rule) => Told::Damaged(rule.number()),
@@ -109,7 +109,8 @@ static ROWS: [(&str, Told); 23] = [
     ),
 ];
 
-/// The same for the stocks of a market of wood in region 1, which has room for 30.
+/// SQL statements that change stocks, and the outcome of opening afterwards. There is a market of
+/// wood in region 1, which has room for 30.
 static STOCKS: [(&str, Told); 9] = [
     (
         "INSERT INTO market VALUES (1, 0, 30); INSERT INTO books VALUES (16, 2, 30)",
@@ -158,7 +159,7 @@ macro_rules! loose_campaign {
     };
 }
 
-/// The same for statements that make tables and indexes differently.
+/// SQL statements that make tables and indexes differently, and the outcome of opening afterwards.
 static SHAPES: [(&str, Told); 10] = [
     ("DROP TABLE campaign", Told::NotACampaign),
     (
@@ -184,10 +185,9 @@ static SHAPES: [(&str, Told); 10] = [
     ),
 ];
 
-/// The same for statements that make two faults, of which the first in this order is answered.
-/// The campaign's own row can't be read; it breaks the first rule; another table can't be read; a
-/// value has another type; tables differ;
-/// rows break a later rule.
+/// SQL statements that make two faults, and the outcome of opening, which is the first fault in the
+/// order of checks. The order is: the campaign's own row can't be read; it breaks the first rule;
+/// another table can't be read; a value has another type; tables differ; rows break a later rule.
 static MEETINGS: [(&str, Told); 16] = [
     ("DROP TABLE campaign; DROP TABLE unit", Told::NotACampaign),
     (
@@ -289,26 +289,31 @@ fn assert_openings(rt: &impl Abort, alloc: Global, cases: &[(&str, Told)]) -> Re
     Ok(())
 }
 
+/// Opening a database whose rows break a rule reports the first rule that they break.
 #[test]
 fn the_first_rule_that_rows_break_is_told(rt: HostRuntime) -> Result<(), Fail> {
     assert_openings(&rt, rt.alloc(), &ROWS)
 }
 
+/// Opening a database whose stocks break a rule reports this rule.
 #[test]
 fn stocks_that_break_a_rule_are_told(rt: HostRuntime) -> Result<(), Fail> {
     assert_openings(&rt, rt.alloc(), &STOCKS)
 }
 
+/// Opening a database whose tables or indexes are made differently is refused.
 #[test]
 fn tables_made_otherwise_are_refused(rt: HostRuntime) -> Result<(), Fail> {
     assert_openings(&rt, rt.alloc(), &SHAPES)
 }
 
+/// Opening a database with two faults reports the one that is checked first.
 #[test]
 fn of_two_faults_the_first_is_told(rt: HostRuntime) -> Result<(), Fail> {
     assert_openings(&rt, rt.alloc(), &MEETINGS)
 }
 
+/// Opening an empty database is answered NotACampaign.
 #[test]
 fn an_empty_database_is_no_campaign(rt: HostRuntime) -> Result<(), Fail> {
     let conn = Connection::open_in_memory(rt.alloc())?;
@@ -316,7 +321,7 @@ fn an_empty_database_is_no_campaign(rt: HostRuntime) -> Result<(), Fail> {
     Ok(())
 }
 
-/// SQL statements that leave a transaction open, alone and together with other faults.
+/// SQL statements that leave a transaction open, some of them with other faults.
 static BEGUN: [&str; 5] = [
     "BEGIN",
     "BEGIN; DROP TABLE campaign",
@@ -332,7 +337,7 @@ fn waits_for_the_end(rt: &impl Abort, alloc: Global, sql: &str) -> Result<(), Fa
     Ok(())
 }
 
-/// The same for each row of `BEGUN`.
+/// Asserts that opening is answered Store while a transaction is open, for each row of `BEGUN`.
 fn wait_for_the_end(rt: &impl Abort, alloc: Global) -> Result<(), Fail> {
     for sql in BEGUN.iter() {
         waits_for_the_end(rt, alloc, sql)?;
@@ -340,6 +345,7 @@ fn wait_for_the_end(rt: &impl Abort, alloc: Global) -> Result<(), Fail> {
     Ok(())
 }
 
+/// Opening a connection in a transaction is answered Store, whatever else is wrong.
 #[test]
 fn a_transaction_is_not_opened(rt: HostRuntime) -> Result<(), Fail> {
     wait_for_the_end(&rt, rt.alloc())

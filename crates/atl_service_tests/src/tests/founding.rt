@@ -1,4 +1,4 @@
-//! Tests of `found`: its refusals, and what it books.
+//! Tests of `found`: its refusals, and that a join without money books none.
 use super::commands::AVALON;
 use super::compare::assert_text;
 use super::damage::changed;
@@ -47,7 +47,8 @@ pub(crate) fn assert_refused<S: Alter>(
     }
 }
 
-/// SQL statements on an empty database, a world text, a pass text, and the first check that fails.
+/// Refused foundings: SQL statements on an empty database, a world text, a pass text, and the first
+/// check that fails.
 static REFUSED: [(&str, &str, &str, &str); 8] = [
     ("", "a = = b", "a b", "world"),
     ("", SMALL, "a b", "bad pass text"),
@@ -114,6 +115,7 @@ fn are_refused(rt: &impl Abort, alloc: Global) -> Result<(), Fail> {
     Ok(())
 }
 
+/// A refused founding reports the first check that fails, and changes no row.
 #[test]
 fn the_first_check_that_fails_is_told(rt: HostRuntime) -> Result<(), Fail> {
     are_refused(&rt, rt.alloc())
@@ -125,6 +127,7 @@ fn refuses_another(rt: &impl Abort, alloc: Global) -> Result<(), Fail> {
     founds_nothing(rt, alloc, conn, (SMALL, "gm"), "not empty")
 }
 
+/// A database that holds a campaign refuses a second founding.
 #[test]
 fn a_campaign_is_founded_once(rt: HostRuntime) -> Result<(), Fail> {
     refuses_another(&rt, rt.alloc())
@@ -146,6 +149,7 @@ static AFTER_NO_MONEY: [(&str, Option<i64>); 3] = [
     (MONEY, Some(0)),
 ];
 
+/// A faction that joins without money has no money booked under Joining.
 #[test]
 fn nothing_is_booked_of_no_money(rt: HostRuntime) -> Result<(), Fail> {
     plays(&rt, rt.alloc(), POOR, &AVALON_JOINS, &AFTER_NO_MONEY)

@@ -1,5 +1,5 @@
-//! Tests of `Join` in campaigns with many units and factions: those with room for one more, and
-//! full ones.
+//! Tests that `Join` succeeds in a campaign with room for one more unit or faction, and is refused
+//! in a full one.
 use super::commands::AVALON;
 use super::making::{begun_in_memory, opened};
 use super::script::{Asked, Step, follow};
@@ -24,12 +24,12 @@ static STEPS: [i64; 17] = [
     1, 2, 4, 8, 16, 32, 64, 128, 256, 512, 1024, 2048, 4096, 8192, 16384, 32768, 65536,
 ];
 
-/// SQL that makes the books fit 10,000 units, and sets the next unit number.
+/// SQL that makes the books balance for 10,000 units, and sets the next unit number.
 const MANY_ARE_BOOKED: &str =
     "UPDATE books SET amount = amount + 9999 WHERE entry = 1 AND thing = 1;
 UPDATE campaign SET next_unit = 10001";
 
-/// SQL that makes the books fit 100,000 units, and sets the next unit number.
+/// SQL that makes the books balance for 100,000 units, and sets the next unit number.
 const UNITS_ARE_FULL: &str =
     "UPDATE books SET amount = amount + 99999 WHERE entry = 1 AND thing = 1;
 UPDATE campaign SET next_unit = 100001";
@@ -160,6 +160,8 @@ fn are_filled(rt: &impl Abort, alloc: Global) -> Result<(), Fail> {
     Ok(())
 }
 
+/// A join succeeds among 10,000 units, and is refused among 100,000 units, or when all faction
+/// numbers or all unit numbers were given.
 #[test]
 fn nobody_joins_a_full_campaign(rt: HostRuntime) -> Result<(), Fail> {
     are_filled(&rt, rt.alloc())

@@ -13,6 +13,7 @@ static NO_MONTH_MORE: [Step; 3] = [
     Step::Told(Asked::Close(10000, "gm", &[]), "month limit"),
 ];
 
+/// After month 9,999 every closing is refused.
 #[test]
 fn no_month_is_closed_behind_the_last(rt: HostRuntime) -> Result<(), Fail> {
     refuses(&rt, rt.alloc(), LAST_IS_CLOSED, &NO_MONTH_MORE)

@@ -23,6 +23,7 @@ static ONE_FAULTY: [Step; 3] = [
 /// What the tables hold after one mailing.
 static AFTER_ONE: [(&str, Option<i64>); 1] = [(MAILINGS, Some(1))];
 
+/// A mailing with a faulty line is stored whole, and the answer has the line's fault.
 #[test]
 fn one_faulty_line(rt: HostRuntime) -> Result<(), Fail> {
     plays(&rt, rt.alloc(), SMALL, &ONE_FAULTY, &AFTER_ONE)
@@ -39,6 +40,7 @@ static TWO_SENT: [Step; 4] = [
 /// What the tables hold after the second mailing.
 static AFTER_TWO: [(&str, Option<i64>); 2] = [(MAILINGS, Some(1)), (MAIL_BYTES, Some(59))];
 
+/// A faction's second mailing replaces its first.
 #[test]
 fn the_last_mailing_is_kept(rt: HostRuntime) -> Result<(), Fail> {
     plays(&rt, rt.alloc(), SMALL, &TWO_SENT, &AFTER_TWO)
@@ -55,6 +57,7 @@ static REFUSED: [Step; 7] = [
     Step::Told(Asked::Mail(1, "pw", "#ATLANTIS 2"), "wrong faction"),
 ];
 
+/// A refused mailing changes nothing, whatever the refusal.
 #[test]
 fn a_refused_mailing_changes_nothing(rt: HostRuntime) -> Result<(), Fail> {
     refuses(&rt, rt.alloc(), EVERY_TABLE, &REFUSED)
@@ -71,6 +74,7 @@ static LIMITS: [Step; 4] = [
 /// What the tables hold after the long mailing.
 static AFTER_LONG: [(&str, Option<i64>); 2] = [(MAILINGS, Some(1)), (MAIL_BYTES, Some(65_536))];
 
+/// A mailing of 65,536 bytes is stored, and one of 65,537 is refused.
 #[test]
 fn a_mailing_has_65536_bytes_at_most(rt: HostRuntime) -> Result<(), Fail> {
     plays(&rt, rt.alloc(), SMALL, &LIMITS, &AFTER_LONG)

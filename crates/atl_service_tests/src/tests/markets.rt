@@ -1,4 +1,4 @@
-//! Tests of a market over three months: it is stocked, a unit buys, and then it wants nothing more.
+//! Tests of a market over three months: it is stocked, sells to a unit, and buys nothing when full.
 use super::closing::MONTH_ONE;
 use super::commands::AVALON;
 use super::script::{Asked, Step, plays};
@@ -67,7 +67,7 @@ static STOCKED_ONCE: [Step; 3] = [
     Step::Closed(MONTH_ONE, 1),
 ];
 
-/// What the tables hold after that month.
+/// What the tables hold after the month that stocks the market.
 static AFTER_STOCKING: [(&str, Option<i64>); 3] = [
     (FORMAT, Some(2)),
     (STOCKED, Some(1)),
@@ -77,6 +77,7 @@ static AFTER_STOCKING: [(&str, Option<i64>); 3] = [
 /// What the tables hold before any month.
 static NOBODY_THERE: [(&str, Option<i64>); 2] = [(STOCKED, Some(0)), (STOCK, None)];
 
+/// A market is empty before the first month, and stocked after it.
 #[test]
 fn a_market_is_stocked(rt: HostRuntime) -> Result<(), Fail> {
     plays(&rt, rt.alloc(), MART, &[], &NOBODY_THERE)?;
@@ -106,6 +107,7 @@ static AFTER_TRADES: [(&str, Option<i64>); 6] = [
     (STOCK, Some(30)),
 ];
 
+/// A unit buys from a market in stock, and can't sell to it when it is full.
 #[test]
 fn a_unit_trades(rt: HostRuntime) -> Result<(), Fail> {
     plays(&rt, rt.alloc(), MART, &TRADES, &AFTER_TRADES)

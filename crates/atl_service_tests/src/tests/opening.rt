@@ -1,4 +1,5 @@
-//! Tests of `open`: a campaign that is opened again, on its connection and from its files, goes on.
+//! Tests of `open`: a campaign opened again, on its connection or from its files, has the same
+//! rows, and can be played on.
 use super::closing::{AFTER_WORK, MONTH_ONE};
 use super::commands::{AVALON, FIRST_REPORT, SECOND_REPORT};
 use super::compare::assert_text;
@@ -19,8 +20,7 @@ use std::process::Abort;
 use std::test::Fail;
 
 /// What is done with a database between two openings: a world to found, steps, SQL statements, and
-/// queries afterwards.
-/// Without a world the campaign that is there is opened.
+/// queries afterwards. Without a world the stored campaign is opened.
 pub(crate) struct Session {
     pub(crate) world: Option<&'static str>,
     pub(crate) steps: &'static [Step],
@@ -127,7 +127,7 @@ fn played<S: Alter + Drop>(
     Ok((rows, conn))
 }
 
-/// Plays sessions on one connection.
+/// Plays sessions on one connection, each with the rows that the one before left.
 fn on_connection(
     rt: &impl Abort,
     alloc: Global,
@@ -141,7 +141,7 @@ fn on_connection(
     Ok((rows, conn))
 }
 
-/// Plays sessions in files that are closed and opened in between.
+/// Plays sessions in files that are closed and opened between one session and the next.
 pub(crate) fn in_files<D: Disk + Drop>(
     rt: &impl Abort,
     alloc: Global,
@@ -217,6 +217,7 @@ fn a_month_stands(rt: &impl Abort, alloc: Global) -> Result<(), Fail> {
     assert_campaign(rt, alloc, conn, rows.as_str())
 }
 
+/// A campaign opened after a closing has the same rows, and the month isn't closed again.
 #[test]
 fn a_closed_month_is_opened_again(rt: HostRuntime) -> Result<(), Fail> {
     a_month_stands(&rt, rt.alloc())
@@ -251,11 +252,13 @@ fn comes_back(rt: &impl Abort, alloc: Global) -> Result<(), Fail> {
     Ok(())
 }
 
+/// A campaign opened again on its connection has the same rows.
 #[test]
 fn a_campaign_is_opened_on_its_connection(rt: HostRuntime) -> Result<(), Fail> {
     comes_back(&rt, rt.alloc())
 }
 
+/// A campaign opened again from its files has the same rows.
 #[test]
 fn a_campaign_is_opened_from_its_files(rt: HostRuntime) -> Result<(), Fail> {
     in_files(&rt, rt.alloc(), new_files(rt.alloc()), &COMES_BACK)
@@ -297,6 +300,7 @@ static WITH_NOTES: [Session; 3] = [
     },
 ];
 
+/// A table that a person added to the database stays as it is.
 #[test]
 fn a_table_of_a_persons_own_is_carried_along(rt: HostRuntime) -> Result<(), Fail> {
     in_files(&rt, rt.alloc(), new_files(rt.alloc()), &WITH_NOTES)

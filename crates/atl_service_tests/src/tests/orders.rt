@@ -18,7 +18,7 @@ PAY NEW 1 100
 #END
 ";
 
-/// Avalon's report on that month; what the new unit was paid comes back.
+/// Avalon's report on the month with FORM; what was paid to the new unit comes back.
 const AFTER_FORMING: &str = "Atlantis report, month 1, faction 1 \"Avalon\".
 Orders:
 Unit 1, line 3, FORM: done 2.
@@ -30,7 +30,7 @@ Exits: none.
 * Unit 1 \"Unit 1\": 1 men, 1002 money.
 ";
 
-/// The steps of that month.
+/// The steps of the month with FORM: a join, the mailing, the closing and the report.
 static NOBODY_COMES: [Step; 5] = [
     Step::Joined(AVALON, 1, 1),
     Step::Mailed(Asked::Mail(1, "pw", FORMED), 3, &[]),
@@ -39,7 +39,7 @@ static NOBODY_COMES: [Step; 5] = [
     Step::Numbers(2, 3, 1),
 ];
 
-/// What the tables hold after that month.
+/// What the tables hold after the month in which the formed unit is swept.
 static AFTER_NOBODY_CAME: [(&str, Option<i64>); 4] = [
     (NEXT, Some(200003)),
     (UNITS, Some(1)),
@@ -47,6 +47,7 @@ static AFTER_NOBODY_CAME: [(&str, Option<i64>); 4] = [
     (REGION_MONEY, Some(503)),
 ];
 
+/// A unit formed in a region with three peasants gets no recruit, and is swept.
 #[test]
 fn nobody_is_recruited_of_three_peasants(rt: HostRuntime) -> Result<(), Fail> {
     plays(
@@ -72,7 +73,7 @@ Unit 1, line 3, QUIT: fault 11 WrongNumber.
 Unit 1, line 4, QUIT: done 0.
 ";
 
-/// The text of the books then: its one man has left, and what he had is lost.
+/// The text of the books after the faction quit: its one man has left, and what he had is lost.
 const BOOKS_AFTER_QUITTING: &str = "money founding 500
 money joining 1000
 money income 1000
@@ -94,7 +95,7 @@ static IT_QUITS: [Step; 6] = [
     Step::Books(BOOKS_AFTER_QUITTING),
 ];
 
-/// What the tables hold after that month.
+/// What the tables hold after the month in which the faction quits.
 static AFTER_IT_QUIT: [(&str, Option<i64>); 4] = [
     (MONTH, Some(1)),
     (FACTIONS, Some(1)),
@@ -102,6 +103,7 @@ static AFTER_IT_QUIT: [(&str, Option<i64>); 4] = [
     (MAILINGS, Some(0)),
 ];
 
+/// A faction that quits is gone after the month, and its later commands are refused.
 #[test]
 fn a_faction_quits(rt: HostRuntime) -> Result<(), Fail> {
     plays(&rt, rt.alloc(), SMALL, &IT_QUITS, &AFTER_IT_QUIT)

@@ -20,6 +20,7 @@ static JOINS_TWICE: [Step; 5] = [
     Step::Told(Asked::Report(1, "pw"), FIRST_REPORT),
 ];
 
+/// A second join under the same name is refused.
 #[test]
 fn a_name_is_taken_once(rt: HostRuntime) -> Result<(), Fail> {
     plays(&rt, rt.alloc(), SMALL, &JOINS_ONCE, &AFTER_JOINING)?;
@@ -36,6 +37,7 @@ static REFUSED: [Step; 6] = [
     Step::Told(Asked::Report(1, "no"), "wrong pass"),
 ];
 
+/// Refused joins and reports change nothing.
 #[test]
 fn refused_joinings_and_reports_change_nothing(rt: HostRuntime) -> Result<(), Fail> {
     refuses(&rt, rt.alloc(), EVERY_TABLE, &REFUSED)
@@ -59,6 +61,7 @@ static NUMBERS: [(Refusal, u8); 14] = [
     (Refusal::WrongDice, 14),
 ];
 
+/// Each refusal has the number of docs/FORMATS.md, "Refusals".
 #[test]
 fn refusals_have_their_numbers(rt: HostRuntime) {
     for (refusal, number) in NUMBERS.iter() {

@@ -130,7 +130,7 @@ fn remade(alloc: Global) -> Result<Files<Memory>, Fail> {
     Ok(files)
 }
 
-/// Avalon and its unit are there.
+/// Asserts that the file has Avalon and its unit.
 const AVALON_IS_THERE: [Step; 1] = [Step::Numbers(2, 2, 1)];
 
 /// The campaign is opened, played on, and opened once more.
@@ -155,6 +155,7 @@ static GOES_ON: [Session; 3] = [
     },
 ];
 
+/// A file that sqlite3 wrote is opened, played on, and opened once more.
 #[test]
 fn a_database_that_sqlite3_wrote_is_opened(rt: HostRuntime) -> Result<(), Fail> {
     in_files(&rt, rt.alloc(), remade(rt.alloc())?, &GOES_ON)

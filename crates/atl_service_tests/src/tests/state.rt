@@ -53,7 +53,7 @@ fn is_founded(rt: &impl Abort, campaign: &Campaign) {
     assert_total(rt, total(campaign, Thing::People), 1000);
 }
 
-/// Asserts a founding.
+/// Founds the campaign of a world, and asserts what it holds.
 fn founds(rt: &impl Abort, alloc: Global, world: &World) -> Result<(), Fail> {
     let campaign = small_campaign(alloc, world)?;
     is_founded(rt, &campaign);
@@ -114,7 +114,7 @@ fn has_unit(rt: &impl Abort, campaign: &Campaign) {
     assert_count(rt, campaign.unit_count(), 1);
 }
 
-/// Asserts a join.
+/// Has Avalon join, and asserts the books, the totals, the faction and its unit.
 fn joins(rt: &impl Abort, alloc: Global, world: &World) -> Result<(), Fail> {
     let mut campaign = small_campaign(alloc, world)?;
     avalon_joins(rt, world, &mut campaign);

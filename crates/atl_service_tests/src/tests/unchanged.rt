@@ -11,8 +11,8 @@ use std::process::Abort;
 use std::slice;
 use std::test::Fail;
 
-/// SQL on the island with a market that both have joined, after which each of the ten tables has
-/// rows. The last unit number was given, Avalon has sent a mailing, and Bree is gone.
+/// SQL on the island with a market that Avalon and Bree have joined, after which each of the ten
+/// tables has rows. The last unit number was given, Avalon has sent a mailing, and Bree is gone.
 pub(crate) const EVERY_TABLE: &str = "INSERT INTO mail VALUES (1, x'2341544C414E5449532031');
 INSERT INTO has VALUES (1, 1, 0, 450);
 INSERT INTO structure VALUES (1, 0, 'Ship 1', 3, 10, 0);
@@ -102,7 +102,8 @@ fn leave_all_rows<S: Alter + Drop>(
     Ok(())
 }
 
-/// Asserts the same on the island with a market that both have joined, after SQL statements.
+/// Asserts that none of these steps changes a row of the campaign or of the tables. They run on the
+/// island with a market that Avalon and Bree have joined, after SQL statements.
 pub(crate) fn refuses(
     rt: &impl Abort,
     alloc: Global,

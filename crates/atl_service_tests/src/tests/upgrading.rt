@@ -15,9 +15,8 @@ use std::alloc::Global;
 use std::process::Abort;
 use std::test::Fail;
 
-/// A file of the first format, what came before it, and what comes after its upgrade.
-/// There are steps on the island before it was written, SQL statements on it, steps after the
-/// upgrade, and queries at the end.
+/// A file of the first format and its history. There are steps on the island before it was written,
+/// SQL statements on it, steps after the upgrade, and queries at the end.
 struct Story {
     before: &'static [Step],
     by_hand: &'static str,
@@ -44,7 +43,8 @@ fn old(rt: &impl Abort, alloc: Global, story: &Story) -> Result<Connection<MemSt
     written_old(alloc, &service, story.by_hand)
 }
 
-/// The rows of the same campaign, played in the second format.
+/// The rows that the upgraded campaign of a story must have: those of the same campaign, played in
+/// the second format.
 fn rows_wanted(rt: &impl Abort, alloc: Global, story: &Story) -> Result<String, Fail> {
     let mut service = begun_in_memory(alloc, ISLE)?;
     follow(rt, alloc, &mut service, story.before)?;
@@ -145,7 +145,7 @@ const BUYS_NOTHING: [Step; 4] = [
     Step::Told(Asked::Report(1, "pw"), AFTER_BUYING),
 ];
 
-/// What the tables hold afterwards.
+/// What the tables hold after the month in which nothing is bought.
 const AFTER_NOTHING: [(&str, Option<i64>); 3] = [
     (FORMAT, Some(2)),
     (STOCKED, Some(1)),
@@ -183,7 +183,7 @@ Market wood: 23 in stock at 7, 7 wanted at 5.
 * Unit 1 \"Unit 1\": 1 men, 1017 money, 1 wood.
 ";
 
-/// The text of the books after that month.
+/// The text of the books after the month in which unit 1 sells 3 wood.
 const BOOKS_AFTER_SELLING: &str = "money founding 650
 money joining 1000
 money income 1300
@@ -200,7 +200,7 @@ item \"wood\" total 24
 item \"cart\" total 0
 ";
 
-/// The mail is still there after the upgrade, and is carried out.
+/// After the upgrade the mailing is still stored, and a closing carries it out.
 const SELLS_THREE: [Step; 4] = [
     Step::Keeps(Some(SELLS)),
     Step::Closed(MONTH_ONE, 1),
@@ -208,7 +208,7 @@ const SELLS_THREE: [Step; 4] = [
     Step::Books(BOOKS_AFTER_SELLING),
 ];
 
-/// What the tables hold afterwards.
+/// What the tables hold after the month in which 3 wood are sold.
 const AFTER_THREE: [(&str, Option<i64>); 2] = [(STOCKED, Some(1)), (STOCK, Some(23))];
 
 /// A story with mail from before the upgrade.
@@ -219,11 +219,13 @@ static WITH_EARLY_MAIL: Story = Story {
     after: &AFTER_THREE,
 };
 
+/// A file of the first format is not opened, is upgraded once, and is then opened and played on.
 #[test]
 fn a_file_is_upgraded_once(rt: HostRuntime) -> Result<(), Fail> {
     is_upgraded(&rt, rt.alloc(), &FAR_FROM_MARKET)
 }
 
+/// A mailing that was sent before the upgrade is carried out after it.
 #[test]
 fn early_mail_is_carried_out(rt: HostRuntime) -> Result<(), Fail> {
     is_upgraded(&rt, rt.alloc(), &WITH_EARLY_MAIL)
@@ -241,7 +243,7 @@ static REFUSED: [(&str, &str, &str); 8] = [
     ("BEGIN", "store", "store"),
 ];
 
-/// Asserts one row of `REFUSED`.
+/// Asserts for a row of `REFUSED` that the changed file is neither opened nor upgraded, and why.
 fn is_shut(rt: &impl Abort, alloc: Global, refused: &(&str, &str, &str)) -> Result<(), Fail> {
     let (sql, opening, upgrade) = *refused;
     let mut conn = old(rt, alloc, &FAR_FROM_MARKET)?;
@@ -252,7 +254,7 @@ fn is_shut(rt: &impl Abort, alloc: Global, refused: &(&str, &str, &str)) -> Resu
     Ok(())
 }
 
-/// Asserts each row of `REFUSED`.
+/// Asserts for each row of `REFUSED` that the changed file is neither opened nor upgraded, and why.
 fn are_shut(rt: &impl Abort, alloc: Global) -> Result<(), Fail> {
     for refused in REFUSED.iter() {
         is_shut(rt, alloc, refused)?;
@@ -260,6 +262,8 @@ fn are_shut(rt: &impl Abort, alloc: Global) -> Result<(), Fail> {
     Ok(())
 }
 
+/// A changed file of the first format is neither opened nor upgraded; the first failed check is
+/// reported.
 #[test]
 fn the_first_check_of_an_old_file_is_told(rt: HostRuntime) -> Result<(), Fail> {
     are_shut(&rt, rt.alloc())

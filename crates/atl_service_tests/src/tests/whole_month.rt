@@ -174,7 +174,7 @@ const BEHIND: [(&str, Option<i64>); 4] = [
     (MAILINGS, Some(0)),
 ];
 
-/// The course of this month.
+/// The course of the month of ten units: its world, rows, steps, and the tables afterwards.
 static MONTH_OF_TEN: Course = Course {
     world: ISLE,
     rows: BEFORE,
@@ -182,6 +182,8 @@ static MONTH_OF_TEN: Course = Course {
     after: &BEHIND,
 };
 
+/// A month with ten units and every kind of order but SELL and BUY gives the reports, books and
+/// tables worked out by hand.
 #[test]
 fn ten_units_carry_out_all_orders(rt: HostRuntime) -> Result<(), Fail> {
     plays_course(&rt, rt.alloc(), &MONTH_OF_TEN)
