@@ -1,5 +1,4 @@
--- SELL and BUY: units trade items with the markets of their regions. See docs/RULES.md, "Selling"
--- and docs/RULES.md, "Buying".
+-- SELL and BUY: units trade items with markets. See docs/RULES.md, "Selling" and docs/RULES.md, "Buying".
 use Rattle.std.specs.Prelude.{◌+◌, ◌-◌, ◌*◌, ◌/◌, ◌==◌, ℕ, Bool, true, false, min, pos, neg_ℤ, nat_lt, Option, Some, None, option_and_then, [], ◌∷◌}
 use Rattle.std.specs.Option.{option_map_or}
 use Rattle.std.specs.Ordering.{nat_cmp}
