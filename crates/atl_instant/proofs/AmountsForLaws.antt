@@ -1,4 +1,4 @@
--- Laws of `amounts_for`: which amount its map has of each number.
+-- Laws of `amounts_for`, which makes a map from a list of numbers: the amount of each number, and when two are equal.
 use Rattle.std.proofs.Common.{◌≡◌, ◌==◌, ℕ, ◌≤◌, Bool, true, false, not, ◌||◌, cond, List, [], ◌∷◌, map, filter, Option, Some, None, refl, sym, ap, ◌∙◌, arith}
 use Rattle.std.specs.Prelude.{unwrap_or}
 use Rattle.std.specs.List.{list_any}

@@ -92,7 +92,7 @@ moving_of [] = λ e t. 0
 moving_of (phase ∷ []) = phase.moving
 moving_of (phase ∷ next ∷ rest) = both_move phase.moving (moving_of (next ∷ rest))
 
--- what these phases keep, one after the other
+-- what these phases leave unchanged, one after the other
 abbrev pub keeps_of : List PhaseSpec → Frame
 keeps_of [] = λ w m before after. ⊤
 keeps_of (phase ∷ []) = phase.keeps

@@ -1,4 +1,4 @@
--- When the amounts of the books are small enough for one phase.
+-- When the books have room for one phase: it can move none of their amounts past `amount_limit`.
 use Rattle.std.specs.Prelude.{ℕ, ◌-◌, ◌≤◌}
 use Rattle.atl_records.specs.declared.books.Entry.{Entry}
 use Rattle.atl_records.specs.declared.books.Thing.{Thing}

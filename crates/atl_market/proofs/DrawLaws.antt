@@ -70,7 +70,7 @@ module _ (draws : Drawers) where
     abbrev pub Listed : List ℕ → ℕ × ℕ → Type 0
     Listed ns e = draws e.0 ≡ true → IsIn e.0 ns × (amount e.0 ≡ e.1)
 
-    -- shares of units above the first of a list are those of units in the rest
+    -- shares listed under a list, all of units above its first, are listed under the rest
     narrowed : (n : ℕ) (ns : List ℕ) (es : List (ℕ × ℕ)) → AllByRecursion (λ f. n < f.0) es → AllByRecursion (Listed (n ∷ ns)) es → AllByRecursion (Listed ns) es
     narrowed n ns [] above all = tt
     narrowed n ns (f ∷ es) above all = (λ draws. let (is, same) = all.0 draws in (another f.0 n ns above.0 is, same), narrowed n ns es above.1 all.1)

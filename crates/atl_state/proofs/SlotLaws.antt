@@ -38,7 +38,7 @@ module _ {V : Type 0} where
   through s None = None
   through s (Some k) = slab.get s k
 
-  -- looking up q in entries with an entry n in front gives its value where q is n, and else what the others give
+  -- finding q in entries with one of n in front gives that one's value if q is n, and else what the others give
   lodged_step : (n q : ℕ) (o : Option V) (rest : List (ℕ × V)) → is_some o ≡ true → find nat_cmp q (slot_entry_at n o rest) ≡ cond (eq_by_cmp nat_cmp q n) o (find nat_cmp q rest)
   lodged_step n q None rest h = absurd (false≢true h)
   lodged_step n q (Some v) rest h = refl

@@ -185,6 +185,7 @@ module _ (schema : Schema) (t : Table) (unlinked : (olds news : List Row) → wo
       (((r : Row) → Has (db t.tree) r → hits new r ≡ false) × Swaps schema t (hits new) (cast_row t new) db next)
       ⊎ ((r : Row) × Has (db t.tree) r × (hits new r ≡ true) × Swaps schema t (λ x. is_eq (value_cmp (rowid x) (rowid r))) (cast_row t (eval_all project (given new r ∷ r ∷ []))) db next)
 
+  -- an edit that takes out a row that is there, and puts another in, exchanges the row with that rowid for the other
   replaced_at : (r n : Row) (db next : Trees) → IsKeyed (db t.tree) → Has (db t.tree) r → Edited schema Enforced db (record { table = t; gone = id_in (rowid r) ∷ []; news = n ∷ [] }) (Ok next)
       → Swaps schema t (λ x. is_eq (value_cmp (rowid x) (rowid r))) n db next
   replaced_at r n db next keyed there h =
@@ -208,6 +209,7 @@ module _ (schema : Schema) (t : Table) (unlinked : (olds news : List Row) → wo
         others = λ u listed other. all_has _ schema.tables u done.tables listed other;
       }
 
+  -- the UPDATE of an upsert exchanges the row that it hits for the one that it computes
   updates : (new : Row) (db : Trees) (r x : Row) (w : Written) → IsKeyed (db t.tree) → Has (db t.tree) r → x ≡ rowid r ∷ [] → column (given new r) place ≡ rowid r
       → Updates upsert_task q (params ++ rowid x ∷ shown t new) db (Ok w) → Swaps schema t (λ x. is_eq (value_cmp (rowid x) (rowid r))) (cast_row t (eval_all project (given new r ∷ r ∷ []))) db w.trees
   updates new db r x w keyed there is aimed h =
@@ -218,6 +220,7 @@ module _ (schema : Schema) (t : Table) (unlinked : (olds news : List Row) → wo
       let edit = subst (λ l. Edited schema Enforced db (edit_of db t (ids_of l) Given 1 l) (Ok wrote.0)) rows wrote.1 in
       subst (Swaps schema t (λ x. is_eq (value_cmp (rowid x) (rowid r))) (cast_row t (eval_all project (given new r ∷ r ∷ []))) db) (sym trees) (replaced_at r _ db wrote.0 keyed there edit)
 
+  -- an upsert puts its row where no row has the key, and else changes the row that has it
   met : (new : Row) (db : Trees) (w : Written) (found : List Row) → IsKeyed (db t.tree) → ((r : Row) → Has (db t.tree) r → column (given new r) place ≡ rowid r)
       → AreConflicts (Some target) schema.indexes t (db t.tree) new found → Meets upsert_task (Upserts upsert_task Abort new db []) new db (clause_on target q) found (Ok w) → Upserted new db w.trees
   met new db w [] keyed aimed are h =

@@ -1,4 +1,4 @@
-//! The table `books`: signed amounts by entry and thing. See docs/FORMATS.md, "Books".
+//! The rows of the table `books`: signed amounts by entry and thing. See docs/FORMATS.md, "Books".
 ghost use Rattle.std.specs.Prelude.{refl};
 ghost use Rattle.atl_store.specs.Tables.{Books, books_table};
 ghost use Rattle.atl_store.specs.Shown.{books_key, books_stored, books_forms};

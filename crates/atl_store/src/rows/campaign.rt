@@ -1,4 +1,4 @@
-//! The table `campaign`: one row, the campaign row.
+//! The row of the table `campaign`, which is the campaign row.
 ghost use Rattle.std.specs.Prelude.{◌≡◌, false, not, IsTrue, IfOk, IfErr, refl};
 ghost use Rattle.atl_store.specs.Faults.{is_memory};
 ghost use Rattle.atl_store.specs.Stored.{first_columns, IsTyped};

@@ -1,4 +1,4 @@
-//! The table `faction`: a row for each faction, gone or not.
+//! The rows of the table `faction`: a row for each faction, gone or not.
 ghost use Rattle.std.specs.Prelude.{refl};
 ghost use Rattle.atl_store.specs.Tables.{Factions};
 ghost use Rattle.atl_store.specs.Rows.{faction_line};

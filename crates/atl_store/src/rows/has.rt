@@ -1,4 +1,4 @@
-//! The table `has`: what units have, an amount of an item or days of a skill in each row.
+//! The rows of the table `has`: in each an amount of an item, or days of a skill, of a unit.
 ghost use Rattle.std.specs.Prelude.{◌≡◌, [], ◌∷◌, refl};
 ghost use Rattle.atl_store.specs.Tables.{Goods, has_table};
 ghost use Rattle.atl_store.specs.Shown.{int, has_key, has_stored, has_forms};

@@ -1,4 +1,4 @@
-//! The table `mail`: the mailing of each faction that sent one.
+//! The rows of the table `mail`: the mailing of each faction that sent one.
 ghost use Rattle.std.specs.Prelude.{refl};
 ghost use Rattle.atl_store.specs.Tables.{Mail, mail_table};
 ghost use Rattle.atl_store.specs.Shown.{mail_row, mail_stored, mail_forms};

@@ -1,4 +1,4 @@
-//! The table `market`: the stock of an item of a region in each row.
+//! The rows of the table `market`: the stock of an item of a region in each row.
 ghost use Rattle.std.specs.Prelude.{[], ◌∷◌, refl};
 ghost use Rattle.atl_store.specs.Tables.{Markets, market_table};
 ghost use Rattle.atl_store.specs.Shown.{int, market_key, market_row, market_stored, market_forms};

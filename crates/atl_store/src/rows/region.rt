@@ -1,4 +1,4 @@
-//! The table `region`: a row for each region.
+//! The rows of the table `region`: a row for each region.
 ghost use Rattle.std.specs.Prelude.{refl};
 ghost use Rattle.atl_store.specs.Tables.{Regions};
 ghost use Rattle.atl_store.specs.Rows.{region_line};

@@ -1,4 +1,4 @@
-//! The table `report`: the last report of each faction.
+//! The rows of the table `report`: the last report of each faction.
 ghost use Rattle.std.specs.Prelude.{refl};
 ghost use Rattle.atl_store.specs.Tables.{Reports};
 ghost use Rattle.atl_store.specs.Shown.{report_row, report_stored, report_forms};

@@ -1,4 +1,4 @@
-//! The table `structure`: a row for each structure.
+//! The rows of the table `structure`: a row for each structure.
 ghost use Rattle.std.specs.Prelude.{refl};
 ghost use Rattle.atl_store.specs.Tables.{Structures};
 ghost use Rattle.atl_store.specs.Rows.{structure_line};

@@ -1,4 +1,4 @@
-//! The table `unit`: a row for each unit.
+//! The rows of the table `unit`: a row for each unit.
 ghost use Rattle.std.specs.Prelude.{refl};
 ghost use Rattle.atl_store.specs.Tables.{Units, unit_table};
 ghost use Rattle.atl_store.specs.Rows.{lines_of, unit_line};

@@ -55,7 +55,8 @@ fn is_index_of(
     is_index(found, name, tree, made.tree, columns)
 }
 
-/// Whether this is the index at `place`, from 0, of the keys that are not the row's number.
+/// Whether this is number `place`, from 0, of the four indexes that the database makes for unique
+/// keys, in the order of the tables.
 fn is_key_index(found: &Index, place: usize) -> bool
     ensures { IsTrue result ↔ (slice_get all_indexes place ≡ Some found.now) }
 {

@@ -1,4 +1,5 @@
-//! Tests of reading tables that a person changed by hand.
+//! Tests of reading one table: after a person changed it by hand, and when SQLite may take no more
+//! steps.
 use super::script::play_new;
 use std::test::Fail;
 
