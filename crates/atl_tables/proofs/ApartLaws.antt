@@ -46,7 +46,7 @@ was_there s n q e = (and_parts (not (eq_by_cmp nat_cmp q n)) (set.contains s q) 
 len-less : (s : Numbers) (n : ℕ) → set.len (set.remove s n) ≤ set.len s
 len-less s n = len-within (set.remove s n) s (was_there s n)
 
--- a law of truth values: not e distributes over "or"
+-- a law of truth values: "not e, and" distributes over "or"
 both_without : (e a b : Bool) → ((not e && a) || (not e && b)) ≡ (not e && (a || b))
 both_without true a b = refl
 both_without false a b = refl
@@ -67,7 +67,7 @@ neither : (a b : Bool) → (a || b) ≡ false → (a ≡ false) × (b ≡ false)
 neither true b h = absurd (false≢true (sym h))
 neither false b h = (refl, h)
 
--- the union of sets with no number in common has as many as both together, where a list has all numbers of the second
+-- the union of sets with no number in common has as many as both together, if a list has all numbers of the second
 len-apart_by : (ks : List ℕ) (s t : Numbers) → ((q : ℕ) → set.contains t q ≡ true → list_any (eq_by_cmp nat_cmp q) ks ≡ true) → ((q : ℕ) → set.contains t q ≡ true → set.contains s q ≡ false) → set.len (set.union s t) ≡ set.len s + set.len t
 len-apart_by [] s t all apart =
     let none : t ≡ set.empty = same t set.empty (λ q. false_from_ne_true _ (λ e. false≢true (all q e)) ∙ sym (set.contains-empty nat_cmp q)) in
@@ -115,13 +115,13 @@ apart_empty s = record { apart = λ n _. set.contains-empty nat_cmp n }
 other_key : (s : Numbers) (n q : ℕ) → set.contains s n ≡ false → set.contains s q ≡ true → eq_by_cmp nat_cmp q n ≡ false
 other_key s n q h e = false_from_ne_true _ (λ alike. false≢true (sym (ap (set.contains s) (same_key q n alike) ∙ h) ∙ e))
 
--- two sets have no number in common after one gets a number that the other doesn't have
+-- two sets without a common number still have none after one gets a number that the other doesn't have
 apart_insert : (s t : Numbers) (n : ℕ) → AreApart s t → set.contains s n ≡ false → AreApart s (set.insert t n)
 apart_insert s t n h missing = record {
   apart = λ q e. set.contains-insert nat_cmp_total t n q ∙ (λ i. other_key s n q missing e i || h.apart q e i);
 }
 
--- two sets have no number in common after a number is taken out of both
+-- two sets without a common number still have none after a number is taken out of both
 apart_remove : (s t : Numbers) (n : ℕ) → AreApart s t → AreApart (set.remove s n) (set.remove t n)
 apart_remove s t n h = record {
   apart = λ q e. set.contains-remove nat_cmp_total t n q ∙ ap (λ b. not (eq_by_cmp nat_cmp q n) && b) (h.apart q (was_there s n q e)) ∙ and_false _;

@@ -6,7 +6,7 @@ use Rattle.std.specs.Cmp.{ranked}
 use Rattle.std.specs.FinMap.{is_sorted}
 use Rattle.std.proofs.lemmas.Bool.{and_parts, false≢true}
 
--- a number that comes before q by comparison is less than q
+-- a number that compares as Less than q is less than q
 below : (k q : ℕ) → is_lt (nat_cmp k q) ≡ true → k < q
 below k q h =
     elim (nat_cmp k q) as (λ r. nat_cmp k q ≡ r → is_lt r ≡ true → k < q) [
@@ -25,12 +25,12 @@ module _ {V : Type 0} where
   pub sorted_rest : (e : ℕ × V) (es : List (ℕ × V)) → is_sorted nat_cmp (e ∷ es) ≡ true → is_sorted nat_cmp es ≡ true
   sorted_rest e es h = (and_parts _ _ h).1
 
-  -- after an entry with a number from n on, the next has a number from n + 1 on
+  -- in sorted entries, the entry after one with a number from n on has a number from n + 1 on
   pub begins_later : (n : ℕ) (e : ℕ × V) (es : List (ℕ × V)) → is_sorted nat_cmp (e ∷ es) ≡ true → n ≤ e.0 → BeginsFrom (n + 1) es
   begins_later n e [] h l = tt
   begins_later n e (f ∷ es) h l = omega (arith, l, below e.0 f.0 (and_parts _ _ (and_parts _ _ h).0).0)
 
-  -- after an entry with a number from n on, the next has a number from n on
+  -- in sorted entries, the entry after one with a number from n on has a number from n on
   pub begins_same : (n : ℕ) (e : ℕ × V) (es : List (ℕ × V)) → is_sorted nat_cmp (e ∷ es) ≡ true → n ≤ e.0 → BeginsFrom n es
   begins_same n e [] h l = tt
   begins_same n e (f ∷ es) h l = omega (arith, l, below e.0 f.0 (and_parts _ _ (and_parts _ _ h).0).0)

@@ -10,29 +10,29 @@ use Rattle.atl_tables.proofs.FaultLaws.{passes, stops_on}
 
 module _ {A : Type 0} (conditions : ℕ → A → Conditions) where
   module _ (i : ℕ) (x : A) (xs : List A) (total : Option WorldFault) (so_far : first_fault (each conditions i (x ∷ xs)) ≡ total) where
-    -- if the conditions on the first element x hold, the conditions on the rest have the fault of all
+    -- if the conditions on the first element x hold, the first fault of the rest is that of all elements
     pub goes_on : first_fault (conditions i x) ≡ None → first_fault (each conditions (i + 1) xs) ≡ total
     goes_on one = sym (passes (conditions i x) (each conditions (i + 1) xs) one) ∙ so_far
 
-    -- if a condition on the first element x is broken, its fault is the fault of all
+    -- if a condition on the first element x is broken, its fault is the first fault of all elements
     pub ends : (e : WorldFault) → Stops e (first_fault (conditions i x)) → Stops e total
     ends e one = subst (Stops e) so_far (stops_on e (conditions i x) (each conditions (i + 1) xs) one)
 
-  -- in a loop over the indices of a list: x is the i-th element, and the conditions from x on have the fault of all
+  -- in a loop over the indices of a list: x is the i-th element, and the first fault from x on is that of all elements
   module _ (xs : List A) (i : ℕ) (x : A) (total : Option WorldFault) (below : i < length xs) (here : x ≡ get_or xs i x) (so_far : first_fault (each conditions i (drop i xs)) ≡ total) where
-    -- the conditions on x and on the elements after it have the fault of all
+    -- the first fault of x and the elements after it is that of all elements
     from_here : first_fault (each conditions i (x ∷ drop (i + 1) xs)) ≡ total
     from_here = ap (λ ys. first_fault (each conditions i ys)) (sym (drop_more xs i x below ∙ ap (λ y. y ∷ drop (i + 1) xs) (sym here))) ∙ so_far
 
-    -- if the conditions on the i-th element hold, the conditions from the next element on have the fault of all
+    -- if the conditions on the i-th element hold, the first fault from the next element on is that of all elements
     pub goes_on_at : first_fault (conditions i x) ≡ None → first_fault (each conditions (i + 1) (drop (i + 1) xs)) ≡ total
     goes_on_at = goes_on i x (drop (i + 1) xs) total from_here
 
-    -- if a condition on the i-th element is broken, its fault is the fault of all
+    -- if a condition on the i-th element is broken, its fault is the first fault of all elements
     pub ends_at : (e : WorldFault) → Stops e (first_fault (conditions i x)) → Stops e total
     ends_at = ends i x (drop (i + 1) xs) total from_here
 
--- if `front` and x ∷ xs mapped by f make a list, so do `front` with f x appended, and xs mapped by f
+-- `front` and then x ∷ xs mapped by f is the same list as `front` with f x appended and then xs mapped by f
 pub mapped_on : {A B : Type 0} (f : A → B) (front : List B) (x : A) (xs : List A) (y : B) (total : List B) → front ++ map f (x ∷ xs) ≡ total → f x ≡ y → (front ++ y ∷ []) ++ map f xs ≡ total
 mapped_on f front x xs y total so_far one = append_assoc front (y ∷ []) (map f xs) ∙ ap (λ z. front ++ z ∷ map f xs) (sym one) ∙ so_far
 

@@ -16,15 +16,15 @@ pub from_here : (vs : List Value) (i : ℕ) (v : Value) → i < length vs → v 
 from_here vs i v h e = items_view-drop vs i v h ∙ ap (λ (x : Value). item (view x) (items_view (drop (i + 1) vs))) (sym e)
 
 module _ (conditions : List ℕ → Members → Conditions) (key : List ℕ) (i : ℕ) (d : Data) (ds : Items) (total : Option WorldFault) where
-  -- if the conditions on the first element hold, the conditions on the rest have the fault of all
+  -- if the conditions on the first element hold, the first fault of the rest is that of all elements
   pub goes_on : first_fault (elements_conditions conditions key i (item d ds)) ≡ total → first_fault (element_conditions conditions (element_path key i) d) ≡ None → first_fault (elements_conditions conditions key (i + 1) ds) ≡ total
   goes_on so_far one = sym (passes (element_conditions conditions (element_path key i) d) (elements_conditions conditions key (i + 1) ds) one) ∙ so_far
 
-  -- if a condition on the first element is broken, its fault is the fault of all
+  -- if a condition on the first element is broken, its fault is the first fault of all elements
   pub ends : (e : WorldFault) → first_fault (elements_conditions conditions key i (item d ds)) ≡ total → Stops e (first_fault (element_conditions conditions (element_path key i) d)) → Stops e total
   ends e so_far one = subst (Stops e) so_far (stops_on e (element_conditions conditions (element_path key i) d) (elements_conditions conditions key (i + 1) ds) one)
 
--- if `front` and the values of all elements make a list, so do `front` with the first value appended, and the rest
+-- `front` and then the values of all elements is the same list as `front` with the first value appended and the others
 pub one_more : {A : Type 0} (record_of : List ℕ → Members → A) (key : List ℕ) (i : ℕ) (d : Data) (ds : Items) (front : List A) (x : A) (total : List A) → front ++ elements_of record_of key i (item d ds) ≡ total
     → record_of (element_path key i) (element_table (element_path key i) d) ≡ x → (front ++ x ∷ []) ++ elements_of record_of key (i + 1) ds ≡ total
 one_more record_of key i d ds front x total so_far one =

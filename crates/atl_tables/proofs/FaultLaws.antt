@@ -7,24 +7,24 @@ use Rattle.atl_tables.specs.declared.fault.WorldFault.TheVariants.{Memory}
 use Rattle.atl_tables.specs.Faults.{Conditions, fault_of, first_fault, unless, Reads}
 use Rattle.atl_tables.specs.Results.{Stops, Gives}
 
--- if a call reads r and returns an error, that is the fault of each list that begins with the fault of r
+-- if a call reads r (`Reads`) and returns an error, the error is the fault of any conditions that begin with r's fault
 pub stops_first : {X Y : Type 0} (view : X → Y) (e : WorldFault) (r : Result Y WorldFault) (fs : Conditions) → Reads view (Err e) r → Stops e (first_fault (fault_of r ∷ fs))
 stops_first view Memory r fs h = tt
 stops_first view e r fs h = rw h refl
 
--- if the first of two lists has no fault, the fault of the joined list is that of the second
+-- if the first of two lists of conditions has no fault, the fault of the joined list is that of the second
 pub passes : (fs gs : Conditions) → first_fault fs ≡ None → first_fault (fs ++ gs) ≡ first_fault gs
 passes [] gs h = refl
 passes (None ∷ fs) gs h = passes fs gs h
 passes (Some f ∷ fs) gs h = absurd (cc)
 
--- if the first of two lists has a fault, that is the fault of the joined list
+-- if the first of two lists of conditions has a fault, that is the fault of the joined list
 kept : (f : WorldFault) (fs gs : Conditions) → first_fault fs ≡ Some f → first_fault (fs ++ gs) ≡ Some f
 kept f [] gs h = absurd (cc)
 kept f (None ∷ fs) gs h = kept f fs gs h
 kept f (Some x ∷ fs) gs h = h
 
--- an error that is the fault of the first of two lists is the fault of the joined list
+-- an error that is the fault of the first of two lists of conditions is the fault of the joined list
 pub stops_on : (e : WorldFault) (fs gs : Conditions) → Stops e (first_fault fs) → Stops e (first_fault (fs ++ gs))
 stops_on Memory fs gs h = tt
 stops_on e fs gs h = kept e fs gs h
@@ -33,7 +33,7 @@ stops_on e fs gs h = kept e fs gs h
 pub stops_after : (e : WorldFault) (fs gs : Conditions) → first_fault fs ≡ None → Stops e (first_fault gs) → Stops e (first_fault (fs ++ gs))
 stops_after e fs gs h s = subst (Stops e) (sym (passes fs gs h)) s
 
--- if neither of two lists has a fault, the joined list has none
+-- if neither of two lists of conditions has a fault, the joined list has none
 pub passes_both : (fs gs : Conditions) → first_fault fs ≡ None → first_fault gs ≡ None → first_fault (fs ++ gs) ≡ None
 passes_both fs gs h s = passes fs gs h ∙ s
 
@@ -42,18 +42,18 @@ pub gives_after : {X Y : Type 0} (view : X → Y) (r : Result X WorldFault) (fs 
 gives_after view (Ok x) fs gs v h g = (passes fs gs h ∙ g.0, g.1)
 gives_after view (Err e) fs gs v h g = stops_after e fs gs h g
 
--- a call that gives a value or a fault (`Gives`) reads the result with this value, unless there is the fault (`Reads`)
+-- if a call gives the value v or the fault (`Gives`), it returns what the definition `unless fault v` gives (`Reads`)
 pub reads : {X Y : Type 0} (view : X → Y) (r : Result X WorldFault) (fault : Option WorldFault) (v : Y) → Gives view r fault v → Reads view r (unless fault v)
 reads view (Ok x) fault v h = rw (h.0, h.1) refl
 reads view (Err Memory) fault v h = tt
 reads view (Err e) fault v h = rw h refl
 
--- an error that is the fault of the first condition is the fault of the list
+-- an error that is the fault of a condition is the fault of the list that begins with this condition
 pub stops_here : (e : WorldFault) (fault : Option WorldFault) (fs : Conditions) → Stops e fault → Stops e (first_fault (fault ∷ fs))
 stops_here Memory fault fs h = tt
 stops_here e fault fs h = rw h refl
 
--- what a call gives for one condition it gives for the list of this condition alone
+-- what a call gives for the fault of one condition, it gives for the first fault of the list of this condition alone
 pub gives_last : {X Y : Type 0} (view : X → Y) (r : Result X WorldFault) (fault : Option WorldFault) (v : Y) → Gives view r fault v → Gives view r (first_fault (fault ∷ [])) v
 gives_last view r None v h = h
 gives_last view r (Some f) v h = h

@@ -7,7 +7,7 @@ use Rattle.atl_tables.specs.EachIndex.{EachIndex}
 use Rattle.atl_tables.specs.Sums.{by_number}
 use Rattle.atl_tables.proofs.GeneralLaws.{is_equal, one_more}
 
--- a map that is empty has no entry
+-- a map that equals the empty map has no entry
 pub len_none : {V : Type 0} (m : FinMap nat_cmp V) → m ≡ empty → len m ≡ 0
 len_none {V} m e = ap len e ∙ len-empty nat_cmp V
 

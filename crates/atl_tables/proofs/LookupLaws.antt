@@ -10,7 +10,7 @@ use Rattle.atl_tables.specs.Lookup.{letter_of}
 abbrev pub same_from : List ℕ → Bool → List ℕ → ℕ → Bool
 same_from name quoted word i = str_eq_ignore_ascii_case (drop i name) (map (letter_of quoted) (drop i word))
 
--- a word of another length than a name is not that name
+-- a word of another length than a name doesn't mean that name
 pub other_length : (name : List ℕ) (quoted : Bool) (word : List ℕ) → length name ≢ length word → str_eq_ignore_ascii_case name (map (letter_of quoted) word) ≡ false
 other_length [] quoted [] h = absurd (h refl)
 other_length [] quoted (b ∷ ys) h = refl
@@ -23,11 +23,11 @@ other_length (a ∷ xs) quoted (b ∷ ys) h =
 step : (name : List ℕ) (quoted : Bool) (word : List ℕ) (i : ℕ) → i < length name → i < length word → same_from name quoted word i ≡ (eq_ignore_ascii_case (get_or name i 0) (letter_of quoted (get_or word i 0)) && same_from name quoted word (i + 1))
 step name quoted word i h k = rw (drop_more name i 0 h, drop_more word i 0 k) refl
 
--- if the i-th bytes are equal, the rests from i on are equal exactly if those from i + 1 on are
+-- if the i-th bytes of a name and a word are equal, both are equal from i on exactly if they are from i + 1 on
 pub same_letter : (name : List ℕ) (quoted : Bool) (word : List ℕ) (i : ℕ) → i < length name → i < length word → eq_ignore_ascii_case (get_or name i 0) (letter_of quoted (get_or word i 0)) ≡ true → same_from name quoted word (i + 1) ≡ same_from name quoted word i
 same_letter name quoted word i h k e = sym (step name quoted word i h k ∙ ap (λ t. t && same_from name quoted word (i + 1)) e)
 
--- if the i-th bytes differ, the rests from i differ
+-- if the i-th bytes of a name and a word differ, the two differ from the i-th byte on
 pub other_letter : (name : List ℕ) (quoted : Bool) (word : List ℕ) (i : ℕ) → i < length name → i < length word → eq_ignore_ascii_case (get_or name i 0) (letter_of quoted (get_or word i 0)) ≡ false → same_from name quoted word i ≡ false
 other_letter name quoted word i h k e = step name quoted word i h k ∙ ap (λ t. t && same_from name quoted word (i + 1)) e
 

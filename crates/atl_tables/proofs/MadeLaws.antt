@@ -55,12 +55,12 @@ is_less Less h = refl
 is_less Equal h = absurd (false≢true h)
 is_less Greater h = absurd (false≢true h)
 
--- if k comes before q, then q comes after k
+-- if k compares as Less than q, then q compares as Greater than k
 above : (k q : ℕ) → is_lt (nat_cmp k q) ≡ true → nat_cmp q k ≡ Greater
 above k q h = nat_cmp_total.antisymm q k ∙ ap ordering_reverse (is_less (nat_cmp k q) h)
 
 module _ {W : Type 0} where
-  -- a number that is below all entries is below the one in their middle
+  -- a number that is below the numbers of all entries is below that of an entry in their middle
   below_last : (q : ℕ) (es fs : List (ℕ × W)) (k : ℕ) (w : W) → below_all nat_cmp q (es ++ (k, w) ∷ fs) ≡ true → nat_cmp k q ≡ Greater
   below_last q [] fs k w h = above q k (and_parts _ _ h).0
   below_last q (e ∷ es) fs k w h = below_last q es fs k w (and_parts _ _ h).1

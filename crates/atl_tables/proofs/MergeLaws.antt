@@ -38,7 +38,7 @@ by_rank P Greater xs ys zs a b c = c refl
 
 -- ---- the numbers of two merged lists
 
--- a law of truth values: a test that holds of both lists counts once
+-- a law of truth values: if t is u, "t or (a or b)" is "(t or a) or (u or b)"
 again : (t u a b : Bool) → t ≡ u → (t || (a || b)) ≡ ((t || a) || (u || b))
 again true u a b e = refl
 again false u a b e = ap (λ v. a || (v || b)) e
@@ -129,7 +129,7 @@ pub first_alone : (xs us ys : List ℕ) (r : Option ℕ) → length ys ≡ 0 →
 first_alone xs us (y ∷ ys) r e h = absurd (omega (arith, e))
 first_alone xs us [] r e h = rw (merged_alone xs, merged_alone us) h
 
--- the choice of three lists that all end with ts ends with ts
+-- a choice of three lists, each extended by ts, is the choice of the three lists, extended by ts
 all_longer : (k : Ordering) (ts xs ys zs us vs ws : List ℕ) → us ≡ xs ++ ts → vs ≡ ys ++ ts → ws ≡ zs ++ ts → match_ordering k us vs ws ≡ match_ordering k xs ys zs ++ ts
 all_longer Less ts xs ys zs us vs ws a b c = a
 all_longer Equal ts xs ys zs us vs ws a b c = b
@@ -213,14 +213,14 @@ all_put xs ys now all own left none kept h =
     sym (take-append-drop own now) ∙ ap (λ zs. zs ++ drop own now) (kept ∙ sym (ap (merged (take own xs)) none_left ∙ merged_alone (take own xs)))
     ∙ ap (λ k. merged (take own xs) (take left ys) ++ drop k now) (sym there) ∙ h
 
--- a number that a test doesn't find above another one is at most that one
+-- a is at most b, if P holds, and a false test would follow from P and b below a
 pub not_above : (P : Type 0) (a b : ℕ) → (P × (b < a) → IsTrue false) → P → a ≤ b
 not_above P a b h p = elim (cases_order a b) [
   | inl e ↦ omega (arith, e)
   | inr r ↦ elim r [ inl less ↦ omega (arith, less) | inr more ↦ absurd (false≢true (h (p, more))) ]
 ]
 
--- a number in a list is less than what all numbers of the list are less than
+-- a number in a list is below `most`, if the number at each index of the list is
 pub listed_below : (xs : List ℕ) (most n : ℕ) → ((k : ℕ) → k < length xs → get_or xs k 0 < most) → list_any (eq_by_cmp nat_cmp n) xs ≡ true → n < most
 listed_below [] most n h e = absurd (false≢true e)
 listed_below (x ∷ xs) most n h e =

@@ -44,7 +44,7 @@ module _ (all : WorldDraft) where
       let plans = subst (λ ds. EachIndex (λ i p. without_market p ≡ p) (map (region_of all) ds)) (sym read) (bare_plans rs) in
       ap (λ m. record (world_of_tables all) { regions = m }) (mapped_same without_market (regions_of all) (at_number (λ (p : RegionPlan). p.number) (λ n p. without_market p ≡ p) (map (region_of all) all.regions) plans))
 
--- if the result of x, unless there is a fault, is Ok w, then x is w
+-- if the result `unless fault x` is Ok w, then the world x is w
 given : (fault : Option WorldFault) (x w : WorldValue) → unless fault x ≡ Ok w → x ≡ w
 given None x w h = cc
 given (Some f) x w h = absurd (cc)

@@ -12,7 +12,7 @@ use Rattle.atl_tables.specs.OutputTable.{put_key, in_byte_order, amount_at, amou
 use Rattle.atl_tables.specs.declared.fault.WorldFault.{WorldFault}
 use Rattle.atl_tables.specs.declared.output_table.Output.{Output}
 
--- the entries of a table of the library, as keys and values of the definitions
+-- the entries of a table of the crate toml, as keys and values of the definitions
 abbrev pub pairs : List (String Global × Value) → List (List ℕ × Data)
 pairs es = map (λ e. (string_bytes e.0, view e.1)) es
 
@@ -28,11 +28,11 @@ entries_in_order [] h = refl
 entries_in_order (e ∷ es) h = rw (entries_in_order es h.1) (put_first e.0 (view e.1) es (is_before-sorted e.0 es h.0))
 
 module _ (at : List ℕ) (e : List ℕ × Data) (es : List (List ℕ × Data)) (n : ℕ) (one : amount_at at e ≡ Ok n) where
-  -- if the first amount has no fault, the conditions on the amounts of the rest have the fault of all
+  -- if the first amount of an output has no fault, the first fault of the other amounts is that of all amounts
   pub keys_on : (total : Option WorldFault) → first_fault (amounts_keys at (e ∷ es)) ≡ total → first_fault (amounts_keys at es) ≡ total
   keys_on total so_far = ap (λ (r : Result ℕ WorldFault). first_fault (fault_of r ∷ amounts_keys at es)) (sym one) ∙ so_far
 
-  -- if `front` and the amounts of e ∷ es make a list, so do `front` with e's amount n appended, and the amounts of es
+  -- `front` and then the amounts of e ∷ es is the same list as `front` with e's amount n appended and those of es
   pub amounts_on : (front : List Output) (total : List Output) → front ++ amounts_from at (e ∷ es) ≡ total → (front ++ record { item = e.0; amount = n } ∷ []) ++ amounts_from at es ≡ total
   amounts_on front total so_far =
       append_assoc front (record { item = e.0; amount = n } ∷ []) (amounts_from at es)

@@ -18,7 +18,7 @@ is_some-put v true (Some w) = refl
 is_some-put v false None = refl
 is_some-put v false (Some w) = refl
 
--- if a map has exactly the numbers of the first i regions, it has those of i + 1 with the i-th region's put in
+-- a map with exactly the numbers of the first i regions has those of the first i + 1 once the i-th one's is put in
 pub seen_more : {V : Type 0} (m : FinMap nat_cmp V) (v : V) (ds : List RegionDraft) (i : ℕ) (d : RegionDraft) → i < length ds → d ≡ get_or ds i d → ((n : ℕ) → is_some (get m n) ≡ has_number n (take i ds))
     → (n : ℕ) → is_some (get (insert m d.place.number v) n) ≡ has_number n (take (i + 1) ds)
 seen_more m v ds i d below here seen n =

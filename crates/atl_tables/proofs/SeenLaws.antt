@@ -10,7 +10,7 @@ use Rattle.std.specs.declared.string.String.{String}
 use Rattle.atl_tables.specs.Names.{same_name}
 use Rattle.atl_tables.specs.SeenNames.{has_name, HasNames}
 
--- true if b, and else `there`, is "there or b"
+-- a law of truth values: true if b is true, else `there`, is "there or b"
 or_of : (b there : Bool) → cond b true there ≡ (there || b)
 or_of true true = refl
 or_of true false = refl
@@ -24,22 +24,22 @@ unfolding same_name
 has_more seen grown lowered name put same other =
     rw same at (btree_set_updates_text (string_bytes lowered) seen grown true put (map to_ascii_lowercase other)) ∙ or_of (same_name name other) (has_name seen other)
 
--- if a name isn't new, it was in the set
+-- if a name isn't new to a set, it was there before
 there_before : (new there : Bool) → new ≡ not there → new ≡ false → there ≡ true
 there_before new true said h = refl
 there_before new false said h = sym h ∙ said
 
--- if a name is new, it wasn't in the set
+-- if a name is new to a set, it wasn't there before
 not_before : (new there : Bool) → new ≡ not there → new ≡ true → there ≡ false
 not_before new true said h = sym h ∙ said
 not_before new false said h = refl
 
 module _ {A Z : Type 0} (title : A → List ℕ) (all : List A) (i : ℕ) (x : A) (seen : BTreeSet (String Z)) (so_far : HasNames title (take i all) seen) where
-  -- a name that isn't new is the name of an element before the i-th
+  -- a name that isn't new to the names of the first i elements is the name of one of these
   pub stands_before : (new : Bool) → new ≡ not (has_name seen (title x)) → new ≡ false → list_any (λ y. same_name (title y) (title x)) (take i all) ≡ true
   stands_before new said h = sym (so_far (title x)) ∙ there_before new _ said h
 
-  -- a name that is new is the name of no element before the i-th
+  -- a name that is new to the names of the first i elements is the name of none of these
   pub stands_first : (new : Bool) → new ≡ not (has_name seen (title x)) → new ≡ true → list_any (λ y. same_name (title y) (title x)) (take i all) ≡ false
   stands_first new said h = sym (so_far (title x)) ∙ not_before new _ said h
 

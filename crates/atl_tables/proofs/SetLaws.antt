@@ -13,7 +13,7 @@ use Rattle.atl_tables.proofs.GeneralLaws.{key_itself}
 pub same : (s t : set.FinSet nat_cmp) → ((q : ℕ) → set.contains s q ≡ set.contains t q) → s ≡ t
 same s t h = set.same_set nat_cmp_total nat_cmp-IsAntisymmetric s t h
 
--- a number that is in a set already may be put in again
+-- putting in a number that is in the set already leaves the set as it was
 pub insert_twice : (s : set.FinSet nat_cmp) (n : ℕ) → set.contains s n ≡ true → set.insert s n ≡ s
 insert_twice s n h = same _ _ (λ q. set.contains-insert nat_cmp_total s n q ∙ elim (nat_cmp q n) as (λ r. nat_cmp q n ≡ r → (is_eq r || set.contains s q) ≡ set.contains s q) [
   | Less ↦ λ _. refl
@@ -45,7 +45,7 @@ contains_inserted s n = set.contains-insert nat_cmp_total s n n ∙ ap (λ b. b 
 
 -- ---- how many
 
--- a set with a number in it has at least one
+-- a set with a number in it, which has n numbers, has at least one: 1 ≤ n
 some : (n : ℕ) (t : set.FinSet nat_cmp) (k : ℕ) → set.len t ≡ n → set.contains t k ≡ true → 1 ≤ n
 some zero t k e h = absurd (false≢true (sym (set.contains-empty nat_cmp k) ∙ ap (λ u. set.contains u k) (sym (set.empty_of_len t e)) ∙ h))
 some (suc n) t k e h = omega arith
@@ -123,7 +123,7 @@ insert-union s t k = same _ _ (λ q.
     set.contains-union nat_cmp_total (set.insert s k) t q ∙ ap (λ b. b || set.contains t q) (set.contains-insert nat_cmp_total s k q) ∙ joined (eq_by_cmp nat_cmp q k) (set.contains s q) (set.contains t q)
     ∙ sym (set.contains-insert nat_cmp_total (set.union s t) k q ∙ ap (λ b. eq_by_cmp nat_cmp q k || b) (set.contains-union nat_cmp_total s t q)))
 
--- n or n + 1 is at most n + 1
+-- the choice of n or n + 1 is at most n + 1
 at_most : (b : Bool) (n : ℕ) → cond b n (n + 1) ≤ n + 1
 at_most true n = omega arith
 at_most false n = omega arith

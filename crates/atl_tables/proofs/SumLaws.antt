@@ -14,11 +14,11 @@ use Rattle.atl_tables.specs.Sums.{sum_over, numbers_where}
 swapped : (a b : ℕ) → a + b ≡ b + a
 swapped a b = omega arith
 
--- if b is c + d, then a + b is a + c and then d
+-- if b is c + d, then a + b is (a + c) + d
 later : (a b c d : ℕ) → b ≡ c + d → a + b ≡ (a + c) + d
 later a b c d h = omega arith
 
--- a sum of three with the outer two swapped
+-- (a + c) + b is (b + c) + a
 exchanged : (a b c : ℕ) → (a + c) + b ≡ (b + c) + a
 exchanged a b c = omega arith
 

@@ -34,7 +34,7 @@ module _ {V : Type 0} where
       set.contains-union nat_cmp_total m (set.from_list (keys v)) q
       ∙ ap (λ b. set.contains m q || b) (set.contains-from_list nat_cmp_total (keys v) q ∙ sym (contains_key-keys v q))
 
-  -- if n has a value, a number q that is n has a value or a mark
+  -- if a map has a value under n, and q is n, then q has a value or a mark
   there : (v : FinMap nat_cmp V) (m : set.FinSet nat_cmp) (n q : ℕ) → is_some (get v n) ≡ true → q ≡ n → (set.contains m q || is_some (get v q)) ≡ true
   there v m n q h e = either (set.contains m q) (is_some (get v q)) (ap (λ k. is_some (get v k)) e ∙ h)
 
@@ -116,7 +116,7 @@ module _ {V : Type 0} where
         | Greater ↦ λ _. refl
       ] refl)
 
-  -- a value that was put in is there
+  -- a map with the value x put in under n has x under n
   pub there_itself : (m : FinMap nat_cmp V) (n : ℕ) (x : V) → get (insert m n x) n ≡ Some x
   there_itself m n x = get-insert nat_cmp_total m n x n ∙ ap (λ b. cond b (Some x) (get m n)) (key_itself n)
 

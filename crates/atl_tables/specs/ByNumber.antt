@@ -10,15 +10,15 @@ use Rattle.atl_tables.specs.declared.world.Market.{Market}
 use Rattle.atl_tables.specs.declared.world.Terrain.{Terrain}
 
 -- ---- look-ups by the number of a region
--- the terrain of the region with this number, None if the world has no such region
+-- the terrain of a region, by the region's number; None if the world has no such region
 abbrev pub terrain_of : WorldValue → (region : ℕ) → Option Terrain
 terrain_of w region = option_and_then (λ p. slice_get w.terrains p.terrain) (get w.regions region)
 
--- whether the world has a region with this number, and the region's terrain is land
+-- whether the world has a region with a given number, and the region's terrain is land
 abbrev pub is_land_at : WorldValue → (region : ℕ) → Bool
 is_land_at w region = option_map_or (is_land w.terrains) (get w.regions region) false
 
--- the number of the region next to this one in a direction, None if there is none
+-- the number of the region next to a region in a direction, None if there is none
 abbrev pub neighbour : WorldValue → (region : ℕ) → Direction → Option ℕ
 neighbour w region direction = option_and_then (beside direction) (get w.regions region)
 
@@ -27,15 +27,15 @@ abbrev pub market_of : WorldValue → (region item : ℕ) → Option Market
 market_of w region item = option_and_then (λ p. get p.markets item) (get w.regions region)
 
 -- ---- look-ups by the number of a kind of structure
--- whether the kind with this number is a ship; false if there is no such kind
+-- whether a kind of structure, by its number, is a ship; false if there is no such kind
 abbrev pub is_ship : WorldValue → (kind : ℕ) → Bool
 is_ship w kind = option_map_or (λ k. k.ship) (slice_get w.kinds kind) false
 
--- the size of a complete structure of this kind, or the largest size of all if there is no such kind
+-- the size of a complete structure of a kind, by the kind's number; the largest size if there is no such kind
 abbrev pub size_of : WorldValue → (kind : ℕ) → ℕ
 size_of w kind = option_map_or (λ k. k.size) (slice_get w.kinds kind) most_size
 
 -- ---- look-up by the number of a skill
--- the money that a month of study of this skill costs each man, 0 if there is no such skill
+-- the money that a month of study of a skill, by its number, costs each man; 0 if there is no such skill
 abbrev pub fee_of : WorldValue → (skill : ℕ) → ℕ
 fee_of w skill = option_map_or (λ s. s.fee) (slice_get w.skills skill) 0

@@ -136,7 +136,7 @@ pub record AreThingDrafts (t : ThingDrafts) : Type 0 where
   pub few_skills : length t.skills ≤ most_skills
   pub few_kinds : length t.kinds ≤ most_kinds
 
--- all tables of the file keep their bounds, and there are not too many of each
+-- all tables of a world file have their numbers in range, and there are no more of each than a world may have
 pub record IsWorldDraft (t : WorldDraft) : Type 0 where
   pub rules : AreRulesDraft t.rules
   pub terrains : All IsTerrainDraft t.terrains

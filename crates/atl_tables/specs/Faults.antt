@@ -28,7 +28,8 @@ abbrev pub unless : {A : Type 0} → Option WorldFault → A → Result A WorldF
 unless None x = Ok x
 unless (Some f) x = Err f
 
--- A call returned exactly `read`, with its value mapped by `view`; or it returned Memory, and `read` can be anything.
+-- A call returned what the definition gives, which is `read`: its fault, or its value, compared by `view`; or it
+-- returned Memory, whatever `read` is.
 abbrev pub Reads : {X Y : Type 0} → (X → Y) → Result X WorldFault → Result Y WorldFault → Type 0
 Reads view (Ok x) read = read ≡ Ok (view x)
 Reads view (Err Memory) read = Unit {0}

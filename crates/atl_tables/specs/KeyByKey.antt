@@ -30,7 +30,7 @@ first >>= next = λ at t. record {
   value = value_of (next (value_of first at t)) at t;
 }
 
--- reads no key and has no condition; the value is this one
+-- a way to read a table that reads no key and has no condition, and gives the value x
 abbrev pub says : {A : Type 0} → A → Table A
 says x = λ at t. record { conditions = []; value = x }
 

@@ -5,11 +5,11 @@ use Rattle.std.specs.Coded.{Coded, code_by, coded×, coded_ℕ}
 use Rattle.std.specs.FinMap.{FinMap, code}
 use Rattle.std.specs.FinSet as set
 
--- the values by number, and the set of the marked numbers
+-- a map with marks: its values by number, and the set of the marked numbers
 pub record MarkedMapValue (V : Type 0) : Type 0 where
   pub values : FinMap nat_cmp V
   pub marks : set.FinSet nat_cmp
 
--- for proofs alone: the record encoded as the pair of its parts
+-- for proofs alone: a map with marks encoded as the pair of its values and its marks
 abbrev pub marked_map_code : {V : Type 0} → Coded V → Coded (MarkedMapValue V)
 marked_map_code {V} v = code_by (FinMap nat_cmp V × set.FinSet nat_cmp) (coded× (code coded_ℕ v) (set.code coded_ℕ)) (λ c. (c.values, c.marks)) (λ p. record { values = p.0; marks = p.1 }) (λ _. refl)

@@ -3,6 +3,6 @@ use Rattle.std.specs.Prelude.{◌≡◌, ℕ, List, Ok}
 use Rattle.atl_tables.specs.World.{old_world_of}
 use Rattle.atl_tables.specs.Worlds.{WorldValue, without_markets}
 
--- Every world that a text gives in the first format has no markets: leaving them out changes nothing.
+-- No world that a text gives in the first format has a market: leaving the markets out changes nothing.
 abbrev pub OldWorldsAreBare : Type 0
 OldWorldsAreBare = (text : List ℕ) (w : WorldValue) → old_world_of text ≡ Ok w → without_markets w ≡ w

@@ -37,7 +37,7 @@ amount_at at (key, d) = integer_in_range (path at key) 0 most_amount (as_integer
 abbrev pub amounts_keys : List ℕ → List (List ℕ × Data) → Conditions
 amounts_keys at es = map (λ e. fault_of (amount_at at e)) es
 
--- the amounts of all entries, with each item by its name
+-- what each entry gives: the item, by its name, and its amount
 abbrev pub amounts_from : List ℕ → List (List ℕ × Data) → List Output
 amounts_from at es = map (λ e. record { item = e.0; amount = value_or 0 (amount_at at e) }) es
 
@@ -64,6 +64,6 @@ twin_key_at at all i o = (if list_any (λ p. same_name p.item o.item) (take i al
 unfoldable pub known_key_at : WorldDraft → List ℕ → ℕ → Output → Conditions
 known_key_at all at i o = known (path at o.item) (item_number all o.item) ∷ []
 
--- the amount of the item with this name, 0 if no key names it
+-- how much of the item with a name an output gives in a month, 0 if no key names the item
 unfoldable pub amount_of : List Output → List ℕ → ℕ
 amount_of outputs item = option_map_or (λ o. o.amount) (find (λ o. same_name o.item item) outputs) 0

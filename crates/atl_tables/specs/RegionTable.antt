@@ -37,7 +37,7 @@ basics_keys at t =
     ∷ fault_of (money_at at t)
     ∷ []
 
--- a region's basics, with its terrain by name
+-- the number, name, terrain (by name), peasants and money that a table `[[region]]` gives
 unfoldable pub basics_from : List ℕ → Members → RegionBasics
 basics_from at t = record {
   number = value_or 0 (region_number_at at t);

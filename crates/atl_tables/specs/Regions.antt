@@ -7,7 +7,7 @@ use Rattle.atl_tables.specs.Each.{each}
 use Rattle.atl_tables.specs.Faults.{Conditions}
 use Rattle.atl_tables.specs.Keys.{path, element_path}
 
--- whether one of these regions has the number n
+-- whether some region of a list has the number n
 abbrev pub has_number : ℕ → List RegionDraft → Bool
 has_number n ds = list_any (λ d. n == d.place.number) ds
 

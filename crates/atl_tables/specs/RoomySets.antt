@@ -5,12 +5,12 @@ use Rattle.std.specs.Coded.{Coded, code_by, coded×, coded_ℕ}
 use Rattle.std.specs.FinMap.{FinMap, keys}
 use Rattle.std.specs.FinSet as set
 
--- the numbers of a set, and how many it can hold without taking memory
+-- a set with room: its numbers, and how many numbers it can hold without taking memory
 pub record RoomySet : Type 0 where
   pub numbers : set.FinSet nat_cmp
   pub room : ℕ
 
--- for proofs alone: the record encoded as the pair of its parts
+-- for proofs alone: a set with room encoded as the pair of its numbers and its room
 abbrev pub roomy_set_code : Coded RoomySet
 roomy_set_code = code_by (set.FinSet nat_cmp × ℕ) (coded× (set.code coded_ℕ) coded_ℕ) (λ m. (m.numbers, m.room)) (λ p. record { numbers = p.0; room = p.1 }) (λ _. refl)
 
@@ -18,6 +18,6 @@ roomy_set_code = code_by (set.FinSet nat_cmp × ℕ) (coded× (set.code coded_�
 abbrev pub held : {V : Type 0} → FinMap nat_cmp V → set.FinSet nat_cmp → set.FinSet nat_cmp
 held values marks = set.union marks (set.from_list (keys values))
 
--- a set of marks has room for its numbers and all that have a value, so to mark one of these takes no memory
+-- a set of marks has room for its numbers and all numbers with a value in a map, so marking one takes no memory
 abbrev pub HasRoomForMarks : {V : Type 0} → FinMap nat_cmp V → RoomySet → Type 0
 HasRoomForMarks values marks = set.len (held values marks.numbers) ≤ marks.room

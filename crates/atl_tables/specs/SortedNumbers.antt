@@ -9,13 +9,13 @@ pub record IsAt (xs : List ℕ) (n : ℕ) (i : ℕ) : Type 0 where
   pub within : i < length xs
   pub is : slice_index xs i ≡ n
 
--- all numbers of the list before the index i are less than n, and all from i on are greater
+-- the number n belongs at the index i of a list: all numbers before i are less than n, and all from i on are greater
 pub record BelongsAt (xs : List ℕ) (n : ℕ) (i : ℕ) : Type 0 where
   pub within : i ≤ length xs
   pub before : (k : ℕ) → k < i → slice_index xs k < n
   pub behind : (k : ℕ) → i ≤ k → k < length xs → n < slice_index xs k
 
--- no number is in both sets
+-- two sets are apart: no number is in both
 pub record AreApart (s t : set.FinSet nat_cmp) : Type 0 where
   pub apart : (n : ℕ) → set.contains s n ≡ true → set.contains t n ≡ false
 

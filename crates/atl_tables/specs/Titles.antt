@@ -18,19 +18,19 @@ module _ {A : Type 0} (title : A → List ℕ) where
   abbrev pub no_twins : List ℕ → List ℕ → List A → Conditions
   no_twins array key all = each (no_twin_before array key all) 0 all
 
-  -- the index of the first element with this name, ignoring ASCII case
+  -- the number of the first element with a name, which is its index; None if there is none; ASCII case is ignored
   unfoldable pub number_of : List A → List ℕ → Option ℕ
   number_of all name = position_from (λ x. same_name (title x) name) 0 all
 
--- the number of the terrain with this name, None if there is no such terrain
+-- the number of the terrain with a given name, None if there is no such terrain
 abbrev pub terrain_number : WorldDraft → List ℕ → Option ℕ
 terrain_number all name = number_of (λ d. d.name) all.terrains name
 
--- the number of the item with this name, None if there is no such item
+-- the number of the item with a given name, None if there is no such item
 abbrev pub item_number : WorldDraft → List ℕ → Option ℕ
 item_number all name = number_of (λ d. d.name) all.items name
 
--- the number of the skill with this name, None if there is no such skill
+-- the number of the skill with a given name, None if there is no such skill
 abbrev pub skill_number : WorldDraft → List ℕ → Option ℕ
 skill_number all name = number_of (λ s. s.name) all.skills name
 

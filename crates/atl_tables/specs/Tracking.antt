@@ -42,6 +42,7 @@ module _ {V : Type 0} where
   taken_out c n true = without_value c n
   taken_out c n false = record { values = map.remove c.values n; marks = set.remove c.marks n }
 
--- If r is a reference to a value, c ends with the last value of r under n, marked; if r is None, c ends as it was.
+-- A map c with marks that lends its value under n as r ends with the last value written to r, and n marked; if it lends
+-- none, it ends as it was.
 abbrev pub WritesBackMarked : (V : RattleType) → MutBor (MarkedMapValue V.Denot) → ℕ → Option (MutBor V.Denot) → Fml
 WritesBackMarked V c n r = LendsIf (the_row V) V c r (with_value c.now n) c.now

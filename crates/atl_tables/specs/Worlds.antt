@@ -33,12 +33,12 @@ pub record WorldValue : Type 0 where
   pub kinds : List Kind
   pub regions : FinMap nat_cmp RegionPlan
 
--- the world that has these parts
+-- the world made of its parts: rules, terrains, items, skills, kinds and regions
 abbrev pub world_of_parts : Rules → List Terrain → List Item → List Skill → List Kind → FinMap nat_cmp RegionPlan → WorldValue
 world_of_parts rules terrains items skills kinds regions =
     record { rules = rules; terrains = terrains; items = items; skills = skills; kinds = kinds; regions = regions }
 
--- for proofs alone: the record encoded as nested pairs of its parts
+-- for proofs alone: a world encoded as nested pairs of its parts
 abbrev pub world_code : Coded WorldValue
 world_code =
     code_by (Rules × (List Terrain × (List Item × (List Skill × (List Kind × FinMap nat_cmp RegionPlan)))))
@@ -131,7 +131,7 @@ pub record IsKind (items skills : ℕ) (k : Kind) : Type 0 where
   pub crew : k.crew ≤ most_size
   pub helps : IfSome k.helps (λ s. s < skills)
 
--- a market is in bounds and sells the item `number`, in a world that has `items` items
+-- a market is in bounds and trades the item `number`, in a world that has `items` items
 pub record IsMarket (items number : ℕ) (m : Market) : Type 0 where
   pub number_is : m.item ≡ number
   pub item : m.item < items

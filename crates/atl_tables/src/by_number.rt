@@ -10,7 +10,7 @@ use crate::limits::MOST_SIZE;
 use crate::world::{Item, Kind, Market, Terrain, World};
 
 impl World {
-    /// The terrain of the region with this number, `None` if the world has no such region.
+    /// The terrain of a region, by the region's number; `None` if the world has no such region.
     pub fn terrain_of(&self, region: u32) -> Option<&Terrain>
         ensures value { option_copied result ≡ terrain_of self.now region }
         ensures bounds { IfSome result (λ terrain. IsTerrain (length self.now.items) terrain.now) }
@@ -19,7 +19,7 @@ impl World {
         self.terrains().get(usize::from(plan.terrain))
     }
 
-    /// Whether the world has a region with this number, and the region's terrain is land.
+    /// Whether the world has a region with a given number, and the region's terrain is land.
     pub fn is_land_at(&self, region: u32) -> bool
         ensures { result ≡ is_land_at self.now region }
     {
@@ -32,7 +32,7 @@ impl World {
         }
     }
 
-    /// The number of the region next to this one in a direction, `None` if there is none.
+    /// The number of the region next to a region in a direction, `None` if there is none.
     pub fn neighbour(&self, region: u32, direction: Direction) -> Option<u32>
         ensures { result ≡ neighbour self.now region direction }
     {
@@ -48,7 +48,7 @@ impl World {
         self.region(region)?.markets.get(u32::from(item))
     }
 
-    /// The item with this number, `None` if there is no such item.
+    /// The item with a given number, `None` if there is no such item.
     pub fn item(&self, number: u16) -> Option<&Item>
         ensures value { option_copied result ≡ slice_get self.now.items number }
         ensures bounds { IfSome result (λ item. 1 ≤ item.now.raw_count) }
@@ -66,7 +66,7 @@ impl World {
         }
     }
 
-    /// The kind of structure with this number, `None` if there is no such kind.
+    /// The kind of structure with a given number, `None` if there is no such kind.
     pub fn kind(&self, number: u16) -> Option<&Kind>
         ensures { option_copied result ≡ slice_get self.now.kinds number }
     {

@@ -1,4 +1,4 @@
-//! A macro that ends a drop written by hand.
+//! A macro for drops written by hand: it takes a value apart and drops each of its fields.
 
 /// Takes a value apart and drops its fields, all of which are named: `let_go!(self: Faction {
 /// number, name })`.

@@ -19,9 +19,10 @@ use toml::{Table, Value};
 
 /// A value that is read from a table: an element of an array of tables, or a part of one table.
 pub(crate) trait Element: Drop {
-    // The conditions on its table, and the value that the table gives if they hold.
+    // The conditions on the keys of a table at a path.
     ghost conditions: { List ℕ → Members → Conditions };
 
+    // The value that a table at a path gives, if the conditions on its keys hold.
     ghost record_of: { List ℕ → Members → Self };
     // What is true of each value that was read.
     ghost is_sound: { Self → Type 0 };
@@ -56,7 +57,7 @@ fn one_element<E: Element>(
     }
 }
 
-/// All elements of the array at the path `key`, else the first fault of one.
+/// All elements of the array at the path `key`, else the first fault of an element.
 fn elements<E: Element>(alloc: Global, key: &str, values: &Array) -> Result<Vec<E>, WorldFault>
     ensures value { Gives (λ v. v.items) result
         (first_fault (elements_conditions E.conditions key.now 0 (array_view values.now)))

@@ -100,6 +100,7 @@ impl fmt::Display for WorldFault {
 
 impl Error for WorldFault {}
 
+/// A failed allocation becomes the fault `Memory`.
 impl From<AllocError> for WorldFault {
     ghost from_gives = { λ _ e. e ≡ Memory };
 
@@ -108,6 +109,7 @@ impl From<AllocError> for WorldFault {
     }
 }
 
+/// A failed allocation, which gives back a value, becomes the fault `Memory`.
 impl<T: Drop> From<AllocFailed<T>> for WorldFault {
     ghost from_gives = { λ _ e. e ≡ Memory };
 

@@ -8,6 +8,7 @@ use std::alloc::{AllocError, Global};
 
 /// A value with a number of its own, under which a map stores it.
 pub(crate) trait HasNumber: Drop {
+    // The number under which the value is stored.
     ghost place_of: { Self → ℕ };
 
     /// The number under which the value is stored.
@@ -15,8 +16,8 @@ pub(crate) trait HasNumber: Drop {
         ensures { result ≡ place_of self.now };
 }
 
-/// The map of these values, each under its own number. Of two values with the same number the
-/// first counts.
+/// Makes a map of a vector's values, each under its own number. Of two values with the same number
+/// the first counts.
 pub(crate) fn by_number<T: HasNumber>(
     alloc: Global,
     values: Vec<T>,

@@ -48,6 +48,7 @@ pub struct ItemDraft {
     pub weight: u32,
     /// The weight of goods that one item carries, at most `MOST_WEIGHT`.
     pub carry: u32,
+    /// What making one item takes.
     pub making: Recipe,
 }
 
@@ -103,6 +104,7 @@ impl Element for ItemDraft {
     }
 }
 
+/// The title of an item is its name.
 impl Titled for ItemDraft {
     ghost title_of = { λ x. x.name };
 
@@ -111,7 +113,7 @@ impl Titled for ItemDraft {
     }
 }
 
-/// The number of the first item of this name; `None` if there is none, or it is the i-th itself.
+/// The number of the first item with a name, unless it is the i-th item; else `None`.
 #[tactic(auto, unfolding(crate::specs::Titles::number_of))]
 fn other_item(items: &[ItemDraft], i: usize, name: &Text) -> Option<u16>
     requires { length items.now ≤ most_numbered }

@@ -53,7 +53,9 @@ pub struct KindDraft {
     pub name: Text,
     /// Whether the structure is a ship, else it is a building.
     pub ship: bool,
+    /// What building the structure takes.
     pub building: Building,
+    /// What the structure is good for.
     pub purpose: Purpose,
 }
 
@@ -130,6 +132,7 @@ impl Element for KindDraft {
     }
 }
 
+/// The title of a kind of structure is its name.
 impl Titled for KindDraft {
     ghost title_of = { λ x. x.name };
 

@@ -8,6 +8,7 @@ use crate::text::Text;
 use crate::titles::Titled;
 use crate::world::{Item, Kind, World};
 
+/// The title of an item is its name.
 impl Titled for Item {
     ghost title_of = { λ item. item.name };
 
@@ -16,6 +17,7 @@ impl Titled for Item {
     }
 }
 
+/// The title of a kind of structure is its name.
 impl Titled for Kind {
     ghost title_of = { λ kind. kind.name };
 
@@ -35,7 +37,7 @@ pub fn letter_of(byte: u8, quoted: bool) -> u8
     }
 }
 
-/// Whether a word means this name, ignoring ASCII case. In a word without quotes `_` is a space.
+/// Whether a word means a name, ignoring ASCII case. In a word without quotes `_` is a space.
 #[tactic(auto, using(crate::proofs::LookupLaws::other_length, crate::proofs::LookupLaws::same_letter, crate::proofs::LookupLaws::other_letter, crate::proofs::LookupLaws::end_of_both))]
 fn is_named(name: &[u8], word: &[u8], quoted: bool) -> bool
     ensures { result ≡ str_eq_ignore_ascii_case name.now (name_of word.now quoted) }
@@ -52,7 +54,7 @@ fn is_named(name: &[u8], word: &[u8], quoted: bool) -> bool
     true
 }
 
-/// The index of the first thing that a word names, `None` if there is none.
+/// The index of the first item, skill or kind of a list that a word names, `None` if there is none.
 fn index_named<T: Titled>(things: &[T], word: &[u8], quoted: bool) -> Option<usize>
     ensures value { result ≡ index_named T.title_of things.now word.now quoted }
     ensures within { IfSome result (λ i. i < length things.now) }

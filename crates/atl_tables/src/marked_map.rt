@@ -15,6 +15,7 @@ use std::marker::Model;
 /// A map from numbers to values that marks each number whose value changes. A value changes if it
 /// is put in, lent to be changed, or taken out; the marks stay until they are cleared.
 pub struct MarkedMap<V> {
+    // The values by their numbers.
     values: Numbered<V>,
     // The marked numbers, with room for one mark on each value.
     marks: Marks,
@@ -131,7 +132,7 @@ impl<V: Drop> MarkedMap<V> {
         }
     }
 
-    /// The map of these values, with nothing marked and with room to mark each of them.
+    /// Makes a `MarkedMap` of a map, with nothing marked and with room to mark each of its numbers.
     pub fn of(alloc: Global, values: Numbered<V>) -> Result<Self, AllocError>
         ensures { IfOk result (λ made. made ≡ record { values = values; marks = set.empty }) }
     {

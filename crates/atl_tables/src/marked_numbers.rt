@@ -9,7 +9,9 @@ use std::slice::Iter;
 /// The marked numbers that are left to come, in ascending order.
 #[derive(Drop)]
 pub struct MarkedNumbers<'a> {
+    // What is left of the numbers that are merged already.
     pub(crate) numbers: Iter<'a, u32>,
+    // What is left of the recent numbers, which are not merged yet.
     pub(crate) recent: Iter<'a, u32>,
 }
 

@@ -72,8 +72,8 @@ impl Element for MarketDraft {
     }
 }
 
-/// The markets of the region at a path, in the order of the file, none if it has none. Else their
-/// first fault.
+/// The markets of the region at a path, in the order of the file, which may be none. Else the first
+/// fault of a market.
 #[tactic(auto, unfolding(crate::specs::MarketTable::markets_keys, crate::specs::MarketTable::markets_from))]
 pub(crate) fn markets(
     alloc: Global,
@@ -88,6 +88,7 @@ pub(crate) fn markets(
     optional_list::<MarketDraft>(alloc, MOST_MARKETS, array.as_str(), "market", table)
 }
 
+/// The title of a market is the name of its item.
 impl Titled for MarketDraft {
     ghost title_of = { λ d. d.item };
 

@@ -13,12 +13,13 @@ use crate::sorted_numbers::SortedNumbers;
 use std::alloc::{AllocError, Global};
 use std::marker::Model;
 
-/// The most numbers that are recent: marked last, and not merged into the others yet.
+/// The most recent numbers of a `Marks`: those marked last and not merged into the others yet.
 const RECENT_LIMIT: usize = 512;
 
 /// A set of marked numbers, with room for more. To mark a number for which there is room takes no
 /// memory, and to clear the set takes time in the number of marks.
 pub struct Marks {
+    // The marked numbers except for the recent ones.
     numbers: SortedNumbers,
     // The numbers that were marked last, few enough that it takes little time to add one.
     recent: SortedNumbers,
@@ -161,8 +162,8 @@ impl Marks {
     }
 }
 
-/// Whether one more number can be added to the recent ones without merging them: there is room for
-/// it, and they are fewer than `RECENT_LIMIT`.
+/// Whether one more number can be added to the recent ones without merging them first: they are
+/// fewer than their room and `RECENT_LIMIT`.
 fn merges_recent(recent: &SortedNumbers) -> bool
     ensures { result ≡ true → set.len recent.now.numbers < recent.now.room }
 {

@@ -27,7 +27,7 @@ fn region_next_to(regions: &Numbered<RegionPlan>, number: u32, side: Direction) 
     }
 }
 
-/// Whether an optional number is this one.
+/// Whether a region number is given (`Some`) and equals another one.
 fn is_number(number: u32, other: Option<u32>) -> bool
     ensures { result ≡ is_number number other }
 {

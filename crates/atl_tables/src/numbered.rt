@@ -67,7 +67,7 @@ impl<V: Drop> Numbered<V> {
         self.entries.remove(&number);
     }
 
-    /// Takes all values out. It takes no memory.
+    /// Takes out all values. It takes no memory.
     pub fn clear(&mut self)
         ensures { self.new ≡ map.empty }
     {

@@ -25,7 +25,9 @@ use toml::Table;
 /// One entry of a terrain's output: an item by name, and how much of it a region gives in a month.
 #[derive(Drop)]
 pub struct Output {
+    /// The name of the item, as the key in the file writes it.
     pub item: Text,
+    /// How much of the item a region gives in a month, at most `MOST_AMOUNT`.
     pub amount: u32,
 }
 
@@ -109,7 +111,7 @@ pub(crate) fn known_keys(
     Ok(())
 }
 
-/// The amount of the item with this name in an output, 0 if no key names the item.
+/// How much of the item with a name an output gives in a month, 0 if no key names the item.
 #[tactic(auto, unfolding(crate::specs::OutputTable::amount_of))]
 fn amount_of(outputs: &[Output], item: &Text) -> u32
     requires { All IsOutput outputs.now }
@@ -124,7 +126,7 @@ fn amount_of(outputs: &[Output], item: &Text) -> u32
     0
 }
 
-/// The amounts of all items of the world, each at the number of its item.
+/// How much of each item of the world a terrain's output gives in a month, at the item's number.
 pub(crate) fn amounts_of(
     alloc: Global,
     items: &[ItemDraft],

@@ -184,7 +184,7 @@ fn land(
     Ok(numbers)
 }
 
-/// The world of these parts, if a region has land, else NoLand.
+/// Makes the world of its parts, if the terrain of some region is land, else NoLand.
 fn with_land(
     alloc: Global,
     rules: Rules,
@@ -209,8 +209,8 @@ fn with_land(
     Ok(World::from_parts(rules, terrains, items, skills, kinds, regions, land))
 }
 
-/// The world of these parts, if neighbours are mutual and a region has land. Else BadNeighbour or
-/// NoLand.
+/// Makes the world of its parts, if neighbours are mutual and the terrain of some region is land.
+/// Else BadNeighbour or NoLand.
 #[tactic(auto, unfolding(crate::specs::World::neighbours_are_mutual))]
 fn join(alloc: Global, all: WorldDraft, parts: WorldParts) -> Result<World, WorldFault>
     requires all { IsWorldDraft all }

@@ -55,17 +55,19 @@ pub struct Sides {
 /// A table `[[region]]` of the first format as read, with its terrain by name.
 #[derive(Drop)]
 pub struct OldRegion {
-    /// Its number, name, terrain, peasants and money.
+    /// The region's number, name, terrain, peasants and money.
     pub place: RegionBasics,
+    /// The numbers of the region's neighbours on its four sides.
     pub sides: Sides,
 }
 
 /// A table `[[region]]` as read, with its terrain and the items of its markets by name.
 pub struct RegionDraft {
-    /// Its number, name, terrain, peasants and money.
+    /// The region's number, name, terrain, peasants and money.
     pub place: RegionBasics,
+    /// The numbers of the region's neighbours on its four sides.
     pub sides: Sides,
-    /// Its markets, in the order of the file.
+    /// The region's markets, in the order of the file.
     pub markets: Sequence<MarketDraft>,
 }
 

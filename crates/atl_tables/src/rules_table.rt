@@ -73,9 +73,13 @@ impl Drop for SkillNames {
 /// The table `[rules]` as read, with skills by name.
 #[derive(Drop)]
 pub struct RulesDraft {
+    /// What men cost, what they take as tax, and what a recruit costs.
     pub prices: Prices,
+    /// Recruits, births and income.
     pub peasants: PeasantRules,
+    /// The money of a new faction, and what men weigh and carry.
     pub men: MenRules,
+    /// The skills of observation, stealth and sailing.
     pub skills: SkillNames,
 }
 

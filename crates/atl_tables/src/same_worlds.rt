@@ -6,7 +6,7 @@ ghost use Rattle.atl_tables.specs.Sums.{mapped};
 use crate::numbered::Numbered;
 use crate::world::{Item, Kind, RegionPlan, Rules, Skill, Terrain, World};
 
-/// Whether two values are equal in each of these fields: `agree!(one other: land wage)`.
+/// Whether two values are equal in each field of a list: `agree!(one other: land wage)`.
 macro_rules! agree {
     ($one:ident $other:ident: $first:ident $($field:ident)*) => {
         $one.$first == $other.$first $(&& $one.$field == $other.$field)*

@@ -31,14 +31,14 @@ impl<T: Drop> Sequence<T> {
         }
     }
 
-    /// The list of a vector's elements.
+    /// Makes a `Sequence` of a vector, without a copy.
     pub fn from_vec(items: Vec<T>) -> Self
         ensures { result ≡ items.items }
     {
         Self { items }
     }
 
-    /// The vector of the list's elements.
+    /// Makes a vector of the list, without a copy.
     pub fn into_vec(self) -> Vec<T>
         ensures { result.items ≡ self }
     {

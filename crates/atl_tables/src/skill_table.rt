@@ -28,6 +28,7 @@ impl Element for Skill {
     }
 }
 
+/// The title of a skill is its name.
 impl Titled for Skill {
     ghost title_of = { λ x. x.name };
 

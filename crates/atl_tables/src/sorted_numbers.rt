@@ -164,7 +164,7 @@ fn put_at(numbers: &mut Vec<u32>, place: usize, number: u32)
     let _ = numbers.insert(place, number);
 }
 
-/// The length of a list of numbers. Its clause `small` says that `last` is below 2^32.
+/// The length of a list of numbers; the clause `small` adds that `last` is below 2^32.
 fn count_up_to(numbers: &[u32], last: u32) -> usize
     ensures value { result ≡ length numbers.now }
     ensures small { last < number_count }
@@ -224,7 +224,8 @@ fn merge(numbers: &mut [u32], own: usize, others: &[u32])
     }
 }
 
-/// Merges the numbers of a sorted list into another one that has none of them, and room for all.
+/// Merges the numbers of a sorted list into another sorted list that has none of them, and room for
+/// all.
 fn unite(numbers: &mut Vec<u32>, others: &[u32])
     requires room { length numbers.old.items + length others.now ≤ vec_capacity numbers.old }
     requires rising { IsStrictlySortedBy nat_cmp numbers.old.items }

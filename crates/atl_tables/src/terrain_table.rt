@@ -40,6 +40,7 @@ pub struct TerrainDraft {
     pub name: Text,
     /// Whether the terrain is land, else it is water.
     pub land: bool,
+    /// What work pays in a region, for how many men, and the most money and peasants there.
     pub economy: Economy,
     /// What a region gives in a month, in the byte order of the items' names.
     pub output: Sequence<Output>,
@@ -97,6 +98,7 @@ impl Element for TerrainDraft {
     }
 }
 
+/// The title of a terrain is its name.
 impl Titled for TerrainDraft {
     ghost title_of = { λ x. x.name };
 

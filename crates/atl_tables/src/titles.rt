@@ -19,6 +19,7 @@ use std::collections::BTreeSet;
 
 /// A thing that has a name.
 pub(crate) trait Titled {
+    // The name of the thing, as bytes.
     ghost title_of: { Self → List ℕ };
 
     /// The name of the thing.
@@ -33,8 +34,8 @@ pub(crate) fn same_name(name: &Text, other: &Text) -> bool
     name.as_bytes().eq_ignore_ascii_case(other.as_bytes())
 }
 
-/// Adds a name to those seen, and returns whether it is new, ignoring ASCII case. Without memory
-/// nothing is added.
+/// Adds a name to the set `seen`, and returns whether it is new there, ignoring ASCII case. Without
+/// memory nothing is added.
 pub(crate) fn is_new(
     alloc: Global,
     seen: &mut BTreeSet<String>,
@@ -74,6 +75,7 @@ pub(crate) fn no_duplicate_names<T: Titled>(
 
 /// A table that holds things with names, where no two names may be equal.
 pub(crate) trait HasUniqueNames: Drop {
+    // The conditions that no two things in the i-th table of its array have equal names.
     ghost no_twins: { ℕ → Self → Conditions };
 
     /// Checks that the i-th table of its array holds no two things with equal names. Else TwoNames
@@ -82,8 +84,8 @@ pub(crate) trait HasUniqueNames: Drop {
         ensures { Gives (λ u. u) result (first_fault (no_twins i self.now)) (tt {0}) };
 }
 
-/// Checks that none of these tables holds two things with equal names. Else TwoNames at the first
-/// that does.
+/// Checks that no table of an array holds two things with equal names. Else TwoNames at the second
+/// of two in the first table that does.
 pub(crate) fn no_duplicates_inside<T: HasUniqueNames>(
     alloc: Global,
     holders: &[T],
@@ -96,7 +98,8 @@ pub(crate) fn no_duplicates_inside<T: HasUniqueNames>(
     Ok(())
 }
 
-/// The index of the first element with this name, ignoring ASCII case, `None` if there is none.
+/// The number of the first element with a name, which is its index; `None` if there is none. ASCII
+/// case is ignored.
 #[tactic(auto, unfolding(crate::specs::Titles::number_of))]
 pub(crate) fn number_of<T: Titled>(items: &[T], name: &Text) -> Option<u16>
     requires { length items.now ≤ most_numbered }

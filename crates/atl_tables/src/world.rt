@@ -11,7 +11,7 @@ use crate::sequence::Sequence;
 use crate::text::Text;
 use std::marker::Model;
 
-/// The numbers of the world's rules, and the skills that the rules use.
+/// The rules of a world: its costs, taxes, growth and weights, and the skills of sight and sailing.
 /// See docs/FORMATS.md, "The world file".
 #[derive(Drop, Clone, Copy, Debug)]
 pub struct Rules {
@@ -76,9 +76,9 @@ pub struct Item {
     pub weight: u32,
     /// The weight of goods that one item carries, at most `MOST_WEIGHT`.
     pub carry: u32,
-    /// The number of the skill that makes it. Without one nobody can make it.
+    /// The number of the skill that makes the item. Without one nobody can make it.
     pub skill: Option<u16>,
-    /// The level of that skill that making it takes, from 1 to `LAST_LEVEL`.
+    /// The level of its skill that making the item takes, from 1 to `LAST_LEVEL`.
     pub level: u32,
     /// The number of the item that this item is made of, another one. Without one, this item comes
     /// out of the output of terrains.
@@ -109,7 +109,7 @@ pub struct Kind {
     pub size: u32,
     /// The number of the skill that builds the structure.
     pub skill: u16,
-    /// The level of that skill that building it takes, from 1 to `LAST_LEVEL`.
+    /// The level of its skill that building the structure takes, from 1 to `LAST_LEVEL`.
     pub level: u32,
     /// The most weight of men and goods with which a ship sails, at most `MOST_AMOUNT`.
     pub capacity: u32,
@@ -143,7 +143,7 @@ pub struct RegionPlan {
     pub number: u32,
     /// The name as the file writes it. Regions may share a name.
     pub name: Text,
-    /// The number of its terrain.
+    /// The number of the region's terrain.
     pub terrain: u16,
     /// Peasants at founding, at most `MOST_AMOUNT`.
     pub peasants: u32,
@@ -157,7 +157,7 @@ pub struct RegionPlan {
     pub east: Option<u32>,
     /// The number of the region in the west, where there is one.
     pub west: Option<u32>,
-    /// Its markets, each under the number of its item.
+    /// The region's markets, each under the number of its item.
     pub markets: Numbered<Market>,
 }
 
@@ -195,7 +195,7 @@ pub struct World {
     skills: Sequence<Skill>,
     kinds: Sequence<Kind>,
     regions: Numbered<RegionPlan>,
-    // The numbers of the regions with land, in rising order.
+    // The numbers of the regions with land, in ascending order.
     land: Sequence<u32>,
 }
 
@@ -223,7 +223,7 @@ impl Model for World {
 impl World {
     ghost use Rattle.atl_tables.specs.Worlds.{IsWorld, land_of, world_of_parts};
 
-    /// The world of these parts, where `land` has the numbers of its regions with land.
+    /// Makes the world of its parts, where `land` has the numbers of its regions with land.
     pub(crate) fn from_parts(
         rules: Rules,
         terrains: Sequence<Terrain>,
@@ -296,7 +296,7 @@ impl World {
         &self.regions
     }
 
-    /// The region with this number, `None` if the world has no such region.
+    /// The region with a given number, `None` if the world has no such region.
     pub fn region(&self, number: u32) -> Option<&RegionPlan>
         ensures value { option_copied result ≡ map.get self.now.regions number }
         ensures world { IsWorld self.now }

@@ -55,14 +55,18 @@ impl Drop for WorldDraft {
 
 /// A table as read, with names not looked up yet, that becomes a record of the world.
 pub(crate) trait Draft: Drop {
+    /// The record of the world that the table becomes.
     type Record: Drop;
 
+    // The table as read is in bounds.
     ghost is_draft: { Self → Type 0 };
-    // The conditions on its names, its record if they hold, and what is true of that at its index.
+    // The conditions that each name in the i-th table is the name of a thing.
     ghost unknown: { WorldDraft → ℕ → Self → Conditions };
 
+    // The record that the table becomes, if the conditions on its names hold.
     ghost record_of: { WorldDraft → Self → Self.Record };
 
+    // What is true of the record at its index.
     ghost is_sound: { WorldDraft → ℕ → Self.Record → Type 0 };
 
     /// The record of the i-th table of its array, with numbers in place of names. Else UnknownName

@@ -11,10 +11,12 @@ use Rattle.atl_tables.proofs.FaultLaws.{exits, stops_here}
 use Rattle.atl_tables.proofs.EachLaws.{goes_on_at, ends_at}
 use Rattle.atl_tables.proofs.output_table.known_keys.Goals as goal
 
+-- if a key of an output names no item, the fault of the name is the fault of the key's condition
 unknown_here : (e : WorldFault) (all : WorldDraft) (at : List ℕ) (i : ℕ) (o : Output) → Stops e (known (path at o.item) (item_number all o.item)) → Stops e (first_fault (known_key_at all at i o))
 unfolding known_key_at
 unknown_here e all at i o h = stops_here e (known (path at o.item) (item_number all o.item)) [] h
 
+-- if a key of an output names an item, the key's condition has no fault
 known_here : (all : WorldDraft) (at : List ℕ) (i : ℕ) (o : Output) → known (path at o.item) (item_number all o.item) ≡ None → first_fault (known_key_at all at i o) ≡ None
 unfolding known_key_at
 known_here all at i o h = rw h refl

@@ -11,7 +11,7 @@ use Rattle.atl_tables.proofs.EachLaws.{goes_on_at, ends_at}
 use Rattle.atl_tables.proofs.SeenLaws.{stands_before, stands_first, has_one_more}
 use Rattle.atl_tables.proofs.output_table.no_duplicate_keys.Goals as goal
 
--- what the test says of a key
+-- the condition on the i-th key of an output is broken (TwoNames) exactly if an earlier key is equal
 by_test : (at : List ℕ) (all : List Output) (i : ℕ) (o : Output) (b : Bool) → list_any (λ p. same_name p.item o.item) (take i all) ≡ b → first_fault (twin_key_at at all i o) ≡ cond b (Some (TwoNames (path at o.item))) None
 unfolding twin_key_at
 by_test at all i o true h = rw h

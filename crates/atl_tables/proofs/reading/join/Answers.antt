@@ -14,16 +14,20 @@ use Rattle.atl_tables.proofs.FaultLaws.{exits, stops_on, gives_after}
 use Rattle.atl_tables.proofs.WorldLaws.{is_world}
 use Rattle.atl_tables.proofs.reading.join.Goals as goal
 
+-- the condition that some region has land
 abbrev land : WorldDraft → Conditions
 land all = is_some_land (land_of (world_of_tables all))
 
+-- the map of the regions of a world's parts is the map of the regions that the tables give
 regions_are : (all : WorldDraft) (p : WorldParts) (plans : List RegionPlan) → p ≡ world_parts_of all → plans ≡ p.regions → by_number (λ r. r.number) plans ≡ regions_of all
 unfolding regions_of
 regions_are all p plans e q = ap (by_number (λ r. r.number)) (q ∙ ap (λ (x : WorldParts). x.regions) e)
 
+-- the world that is made of the parts, the skills of the tables, and a map of regions
 abbrev made_of : WorldDraft → WorldParts → FinMap nat_cmp RegionPlan → WorldValue
 made_of all p regions = world_of_parts p.rules p.terrains p.items all.skills p.kinds regions
 
+-- the world that is made of the tables' own parts and regions is the world that the tables describe
 planet_is : (all : WorldDraft) (p : WorldParts) (regions : FinMap nat_cmp RegionPlan) → p ≡ world_parts_of all → regions ≡ regions_of all → made_of all p regions ≡ world_of_tables all
 unfolding world_of_tables
 planet_is all p regions e q = ap (made_of all p) q ∙ ap (λ (x : WorldParts). made_of all x (regions_of all)) e

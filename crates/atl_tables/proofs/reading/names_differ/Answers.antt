@@ -9,12 +9,15 @@ use Rattle.atl_tables.specs.declared.world_draft.WorldDraft.{WorldDraft}
 use Rattle.atl_tables.proofs.FaultLaws.{exits, stops_on, stops_after, gives_after}
 use Rattle.atl_tables.proofs.reading.names_differ.Goals as goal
 
+-- the conditions that region numbers are unique
 abbrev numbers : WorldDraft → Conditions
 numbers all = duplicate_numbers all.regions
 
+-- the conditions that the keys of each terrain's output are unique
 abbrev outputs : WorldDraft → Conditions
 outputs all = each terrain_twins 0 all.terrains
 
+-- the conditions that the items of each region's markets are unique
 abbrev markets : WorldDraft → Conditions
 markets all = each market_twins 0 all.regions
 

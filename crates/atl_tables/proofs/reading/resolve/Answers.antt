@@ -11,18 +11,23 @@ use Rattle.atl_tables.specs.declared.world_draft.WorldDraft.{WorldDraft}
 use Rattle.atl_tables.proofs.FaultLaws.{exits, stops_on, stops_after, passes_both}
 use Rattle.atl_tables.proofs.reading.resolve.Goals as goal
 
+-- the conditions that the skills that the rules name are known
 abbrev rules : WorldDraft → Conditions
 rules all = rules_known all
 
+-- the conditions that the items in the outputs of terrains are known
 abbrev terrains : WorldDraft → Conditions
 terrains all = each (terrain_known all) 0 all.terrains
 
+-- the conditions that the skills and raw items that items name are known
 abbrev items : WorldDraft → Conditions
 items all = each (item_known all) 0 all.items
 
+-- the conditions that the materials and skills that kinds of structures name are known
 abbrev kinds : WorldDraft → Conditions
 kinds all = each (kind_known all) 0 all.kinds
 
+-- the conditions that the terrains and market items that regions name are known
 abbrev regions : WorldDraft → Conditions
 regions all = each (region_known all) 0 all.regions
 

@@ -12,15 +12,19 @@ use Rattle.atl_tables.specs.declared.format.Format.{Format}
 use Rattle.atl_tables.proofs.FaultLaws.{exits, stops_on, stops_after, passes_both}
 use Rattle.atl_tables.proofs.reading.tables.Goals as goal
 
+-- the conditions on the keys of the table of rules
 abbrev rules : Members → Conditions
 rules doc = rules_conditions doc
 
+-- the conditions on the keys of the tables of terrains
 abbrev terrains : Members → Conditions
 terrains doc = list_conditions terrain_keys (codes "terrain") (array_at most_terrains (codes "terrain") doc)
 
+-- the conditions on the keys of the tables of items, skills and kinds
 abbrev things : Members → Conditions
 things doc = things_conditions doc
 
+-- the conditions on the keys of the tables of regions in a format
 abbrev regions : Format → Members → Conditions
 regions format doc = regions_conditions format doc
 

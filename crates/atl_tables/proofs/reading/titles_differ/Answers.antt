@@ -6,15 +6,19 @@ use Rattle.atl_tables.specs.declared.world_draft.WorldDraft.{WorldDraft}
 use Rattle.atl_tables.proofs.FaultLaws.{exits, stops_on, stops_after, gives_after}
 use Rattle.atl_tables.proofs.reading.titles_differ.Goals as goal
 
+-- the conditions that the names of terrains are unique
 abbrev terrains : WorldDraft → Conditions
 terrains all = no_twins (λ d. d.name) (codes "terrain") (codes "name") all.terrains
 
+-- the conditions that the names of items are unique
 abbrev items : WorldDraft → Conditions
 items all = no_twins (λ d. d.name) (codes "item") (codes "name") all.items
 
+-- the conditions that the names of skills are unique
 abbrev skills : WorldDraft → Conditions
 skills all = no_twins (λ s. s.name) (codes "skill") (codes "name") all.skills
 
+-- the conditions that the names of kinds are unique
 abbrev kinds : WorldDraft → Conditions
 kinds all = no_twins (λ d. d.name) (codes "kind") (codes "name") all.kinds
 

@@ -9,7 +9,7 @@ use Rattle.atl_tables.proofs.EachLaws.{goes_on_at, ends_at}
 use Rattle.atl_tables.proofs.SeenLaws.{stands_before, stands_first, has_one_more}
 use Rattle.atl_tables.proofs.titles.no_duplicate_names.Goals as goal
 
--- what the test says of an element
+-- the condition on the name of the i-th element is broken (TwoNames) exactly if an earlier element has the name
 by_test : {A : Type 0} (title : A → List ℕ) (array key : List ℕ) (all : List A) (i : ℕ) (x : A) (b : Bool) → list_any (λ y. same_name (title y) (title x)) (take i all) ≡ b
     → first_fault (no_twin_before title array key all i x) ≡ cond b (Some (TwoNames (path (element_path array i) key))) None
 unfolding no_twin_before
