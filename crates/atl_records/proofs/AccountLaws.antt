@@ -33,7 +33,7 @@ at_place (Item i) = item_at (2 + i) i (omega arith)
 pub same_thing : (t u : Thing) → thing_index t ≡ thing_index u → t ≡ u
 same_thing t u h = sym (at_place t) ∙ ap thing_at h ∙ at_place u
 
--- equal Some's have equal entries
+-- if Some d is Some e, the entries d and e are equal
 inside : (d e : Entry) → Some d ≡ Some e → d ≡ e
 inside d e h = cc
 
@@ -68,7 +68,7 @@ account_same a b is =
       | Greater ↦ λ _ e. greater_equal e
     ] refl is
 
--- two accounts are equal, or do not compare equal
+-- two accounts are equal, or account_cmp doesn't call them equal
 pub cases_account : (a b : Account) → (a ≡ b) ⊎ (eq_by_cmp account_cmp a b ≡ false)
 cases_account a b =
     elim (account_cmp a b) as (λ o. account_cmp a b ≡ o → (a ≡ b) ⊎ (is_eq o ≡ false)) [

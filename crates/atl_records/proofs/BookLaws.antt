@@ -29,7 +29,7 @@ zero_not z h = elim (is_zero z) as (λ b. is_zero z ≡ b → b ≡ false) [ tru
 pub not_zero : (z : ℤ) → is_zero z ≡ false → z ≢ pos 0
 not_zero z h is = false≢true (sym h ∙ ap is_zero is)
 
--- how the books list an amount: None where it is 0
+-- how the books list an amount: Some of it, or None where it is 0
 abbrev pub listed : ℤ → Option ℤ
 listed z = cond (is_zero z) None (Some z)
 
@@ -56,7 +56,7 @@ module _ (books : BooksValue) (e : Entry) (t : Thing) (z : ℤ) where
         | false ↦ get-insert account_total books.amounts (e, t) z a
       ]
 
-  -- once an amount is set, it is read back under its account, and others are as before
+  -- once an amount is set, its account has it, and the other accounts have their amounts as before
   pub amount-with_amount : (f : Entry) (u : Thing) → amount_in (with_amount books e t z) f u ≡ cond (eq_by_cmp account_cmp (f, u) (e, t)) z (amount_in books f u)
   amount-with_amount f u =
       ap (λ o. unwrap_or o (pos 0)) (get-with_amount (f, u)) ∙ elim (eq_by_cmp account_cmp (f, u) (e, t)) as (λ b. unwrap_or (cond b (listed z) (get books.amounts (f, u))) (pos 0) ≡ cond b z (amount_in books f u)) [
@@ -64,11 +64,11 @@ module _ (books : BooksValue) (e : Entry) (t : Thing) (z : ℤ) where
         | false ↦ refl
       ]
 
-  -- the amount that was set is read back
+  -- an account has the amount that was set for it
   pub its_amount : amount_in (with_amount books e t z) e t ≡ z
   its_amount = amount-with_amount e t ∙ ap (λ b. cond b z (amount_in books e t)) (account_itself (e, t))
 
-  -- the amounts of other accounts stay
+  -- once an amount is set, the other accounts have their amounts as before
   pub other_amount : (f : Entry) (u : Thing) → eq_by_cmp account_cmp (f, u) (e, t) ≡ false → amount_in (with_amount books e t z) f u ≡ amount_in books f u
   other_amount f u apart = amount-with_amount f u ∙ ap (λ b. cond b z (amount_in books f u)) apart
 
@@ -100,7 +100,7 @@ share_of t u n = cond (thing_index t == thing_index u) n (pos 0)
 abbrev under : Entry → ℤ → Entry → ℤ
 under e n f = cond (entry_index f == entry_index e) n (pos 0)
 
--- adding 0 changes nothing
+-- an amount plus 0 is the amount
 nothing : (z : ℤ) → z ≡ z +ℤ pos 0
 nothing z = omega (arith, ints)
 
@@ -113,7 +113,7 @@ sum_of-raised : (a b : Entry → ℤ) (es : List Entry) → sum_of (map (λ e. a
 sum_of-raised a b [] = nothing (pos 0)
 sum_of-raised a b (e ∷ es) = ap (λ z. (a e +ℤ b e) +ℤ z) (sum_of-raised a b es) ∙ regroup (a e) (b e) (sum_of (map a es)) (sum_of (map b es))
 
--- a booking under one entry counts once in the sum over all entries
+-- what a booking of n adds to the amounts under all entries (`under`) is n together
 once : (e : Entry) (n : ℤ) → sum_of (map (under e n) all_entries) ≡ n
 once Founding n = omega (arith, ints)
 once _ n = omega (arith, ints)
@@ -134,7 +134,7 @@ module _ (books : BooksValue) (e : Entry) (u : Thing) (n : ℤ) where
             ∙ ap (λ b. amount_in books f u +ℤ cond b n (pos 0)) (sym tested)
       ]
 
-  -- a booking of a thing raises the sum of its amounts by what is booked
+  -- a booking of n of a thing raises the sum of the thing's amounts by n
   raised_sum : booked (after_booking books e u n) u ≡ booked books u +ℤ n
   unfolding booked
   raised_sum =
@@ -156,7 +156,7 @@ module _ (books : BooksValue) (e : Entry) (u : Thing) (n : ℤ) where
             (λ i. sum_of (map (λ f. each f i) all_entries)) ∙ nothing (booked books t) ∙ ap (λ b. booked books t +ℤ cond b n (pos 0)) (sym tested)
       ]
 
-  -- a booking changes an amount by what is booked, or not at all
+  -- a booking of n changes each amount of the books by n, or not at all
   pub amount-after_booking : (f : Entry) (t : Thing) → (amount_in (after_booking books e u n) f t ≡ amount_in books f t +ℤ n) ⊎ (amount_in (after_booking books e u n) f t ≡ amount_in books f t)
   amount-after_booking f t =
       elim (cases_account (f, t) (e, u)) [
@@ -167,11 +167,11 @@ module _ (books : BooksValue) (e : Entry) (u : Thing) (n : ℤ) where
 
 -- ---- books with nothing in them
 
--- every amount of empty books is 0
+-- every amount of books that were just made (`no_amounts`) is 0
 pub amount-no_amounts : (things : ℕ) (e : Entry) (t : Thing) → amount_in (no_amounts things) e t ≡ pos 0
 amount-no_amounts things e t = ap (λ o. unwrap_or o (pos 0)) (get-empty {X = ℤ} account_cmp (e, t))
 
--- the sum of a thing whose amounts are all 0 is 0
+-- the sum of a thing's amounts, if all are 0, is 0
 none_booked : (books : BooksValue) (t : Thing) → ((e : Entry) → amount_in books e t ≡ pos 0) → booked books t ≡ pos 0
 unfolding booked
 none_booked books t none i = sum_of (map (λ e. none e i) all_entries)
@@ -219,15 +219,15 @@ same_books things a b are also same =
 
 -- ---- how great the amounts are
 
--- an amount within bound, raised by n, is within bound + n
+-- an amount within bound, raised by n, is within each bound from bound + n on
 grows : (z y : ℤ) (bound n more : ℕ) → y ≡ z +ℤ pos n → IsWithin bound z → bound + n ≤ more → IsWithin more y
 grows z y bound n more e h l = record { most = omega (arith, ints, h.most); least = omega (arith, ints, h.least) }
 
--- an amount within bound is within each larger bound
+-- an amount within bound is within each bound from bound + n on
 stays : (z y : ℤ) (bound n more : ℕ) → y ≡ z → IsWithin bound z → bound + n ≤ more → IsWithin more y
 stays z y bound n more e h l = record { most = omega (arith, ints, h.most); least = omega (arith, ints, h.least) }
 
--- amounts within bound are within bound + n once n is booked
+-- if all amounts are within bound, then all are within each bound from bound + n on once n is booked
 pub IsWithin-after_booking : (books : BooksValue) (e : Entry) (u : Thing) (n bound more : ℕ) → ((f : Entry) (t : Thing) → IsWithin bound (amount_in books f t)) → bound + n ≤ more → (f : Entry) (t : Thing)
     → IsWithin more (amount_in (after_booking books e u (pos n)) f t)
 IsWithin-after_booking books e u n bound more old l f t =
@@ -236,6 +236,6 @@ IsWithin-after_booking books e u n bound more old l f t =
       | inr is ↦ stays _ _ bound n more is (old f t) l
     ]
 
--- an amount within at most 4 * 10^18 is small
+-- an amount within a bound of at most 4 * 10^18 is small (`IsSmall`)
 pub IsSmall-within : (z : ℤ) (bound : ℕ) → IsWithin bound z → bound ≤ 4000000000000000000 → IsSmall z
 IsSmall-within z bound h l = (omega (arith, ints, h.most), omega (arith, ints, h.least))

@@ -13,7 +13,7 @@ use Rattle.atl_tables.proofs.SumLaws.{chosen-cons}
 use Rattle.atl_records.specs.Every.{EachOf, Every, IsThere}
 use Rattle.std.proofs.lemmas.Bool.Decides.{nat_tests}
 
--- a test that holds as a type is true
+-- a truth value that holds is true
 pub is_true : (b : Bool) → T b → b ≡ true
 is_true true h = refl
 is_true false h = absurd h
@@ -29,7 +29,7 @@ module _ {V : Type 0} where
   pub every-empty : (P : ℕ → V → Type 0) → Every P (empty {X = V} {R = nat_cmp})
   every-empty P n v is = none_some v (sym (get-empty nat_cmp n) ∙ is)
 
-  -- if P holds of a value put in, and of every value before, it holds of every value
+  -- if P holds of every value of a map, and of a value put in under k, it holds of every value after that
   pub every-insert : (P : ℕ → V → Type 0) (m : FinMap nat_cmp V) (k : ℕ) (v : V) → P k v → Every P m → Every P (insert m k v)
   every-insert P m k v here old n x is =
       elim (nat_cmp n k) as (λ o. nat_cmp n k ≡ o → cond (is_eq o) (Some v) (get m n) ≡ Some x → P n x) [
@@ -55,7 +55,7 @@ module _ {V : Type 0} where
         | Greater ↦ λ e. let l = ranked k k Greater (sym e) in absurd (omega arith)
       ] refl)
 
-  -- a number that had a value still has one once another is put in
+  -- a number that has a value in a map still has one once a value is put in under k
   pub there-insert : (m : FinMap nat_cmp V) (k n : ℕ) (v : V) → IsThere m n → IsThere (insert m k v) n
   there-insert m k n v (x, is) =
       there_by m k n v (elim (nat_cmp n k) as (λ o. (y : V) × (cond (is_eq o) (Some v) (get m n) ≡ Some y)) [ Less ↦ (x, is) | Equal ↦ (v, refl) | Greater ↦ (x, is) ])
@@ -81,7 +81,7 @@ module _ {V : Type 0} where
         | Greater ↦ λ g. absurd (false≢true g)
       ] (and_parts _ _ h).0
 
-  -- what is found after the first entry of a sorted list is found in the whole list
+  -- a value that is found after the first entry of a sorted list is found in the whole list
   pub later : (e : ℕ × V) (es : List (ℕ × V)) (n : ℕ) (v : V) → is_sorted nat_cmp (e ∷ es) ≡ true → find nat_cmp n es ≡ Some v → find nat_cmp n (e ∷ es) ≡ Some v
   later e es n v s is =
       elim (nat_cmp n e.0) as (λ o. nat_cmp n e.0 ≡ o → cond (is_eq o) (Some e.1) (find nat_cmp n es) ≡ Some v) [
@@ -90,7 +90,7 @@ module _ {V : Type 0} where
         | Greater ↦ λ _. is
       ] refl
 
-  -- the number of the first entry is found with its value
+  -- the number of a list's first entry is found in the list, with the entry's value
   pub first : (e : ℕ × V) (es : List (ℕ × V)) → find nat_cmp e.0 (e ∷ es) ≡ Some e.1
   first e es =
       elim (nat_cmp e.0 e.0) as (λ o. nat_cmp e.0 e.0 ≡ o → cond (is_eq o) (Some e.1) (find nat_cmp e.0 es) ≡ Some e.1) [
@@ -173,14 +173,14 @@ module _ {V : Type 0} where
     listed [] s d i h = absurd (omega arith)
     listed (e ∷ es) s d i h = subst (λ (ns : List ℕ). i < length ns → Passing (e ∷ es) (get_or ns i d)) (sym (chosen-cons p e es)) (listed_in (p e.1) e es refl s d (listed es (and_parts _ _ s).1 d) i) h
 
-    -- a number that is listed has a value that passes
+    -- each number that `numbers_where` lists has a value in the map, which passes the test
     pub passes-listed : (m : FinMap nat_cmp V) (i d : ℕ) → i < length (numbers_where p m) → (v : V) × (get m (get_or (numbers_where p m) i d) ≡ Some v) × (p v ≡ true)
     passes-listed m i d h = let (v, is, t) = listed (entries m) (sorted m) d i h in (v, get-entries m (get_or (numbers_where p m) i d) ∙ is, t)
 
 -- ---- a map with f at each value
 
 module _ {V W : Type 0} (f : V → W) where
-  -- a mapped value is f of a value that was there
+  -- if an option mapped by f has the value x, the option has a value of which f is x
   under : (o : Option V) (x : W) → option_map f o ≡ Some x → (v : V) × (o ≡ Some v) × (f v ≡ x)
   under None x is = none_some x is
   under (Some v) x is = let same : f v ≡ x = cc in (v, refl, same)
@@ -203,10 +203,10 @@ module _ {V W : Type 0} (f : V → W) where
 
 -- ---- numbers compared
 
--- a number equals itself, as a test
+-- the test `==` of a number and itself is true
 pub same_number : (a : ℕ) → (a == a) ≡ true
 same_number a = grind (arith, nat_tests)
 
--- different numbers are not equal, as a test
+-- the test `==` of two different numbers is false
 pub other_number : (a b : ℕ) → a ≢ b → (a == b) ≡ false
 other_number a b ne = grind (arith, nat_tests)

@@ -18,7 +18,7 @@ use Rattle.atl_records.proofs.AccountLaws.{account_total, account_same, account_
 use Rattle.atl_records.proofs.BookLaws.{amount_listed, get-with_amount, listed, listed_some, same_value}
 use Rattle.atl_records.proofs.EveryEntryLaws.{entry_in_place, entry_small}
 
--- ---- accounts among those of so many things
+-- ---- accounts among those of the first things
 
 -- an or is true if its second part is
 or_later : (x y : Bool) → y ≡ true → (x || y) ≡ true
@@ -69,7 +69,7 @@ any_accounts things e t h = any_flat (eq_by_cmp account_cmp (e, t)) (accounts_un
 
 -- ---- the books that rows stand for
 
--- filled books list the given amount of each chosen account, and other accounts as before
+-- books that are `filled` list the given amount of each chosen account, and the other accounts as before
 get-filled : (amount : Account → ℤ) (chosen : List Account) (books : BooksValue) (a : Account) → get (filled amount chosen books).amounts a ≡ cond (list_any (eq_by_cmp account_cmp a) chosen) (listed (amount a)) (get books.amounts a)
 get-filled amount [] books a = refl
 get-filled amount (c ∷ others) books a =
@@ -172,7 +172,7 @@ module _ (rows : List (List ℤ)) (grid : IsGrid rows) (e : Entry) (t : Thing) (
             ];
       }
 
-  -- the written cell is z, and each other one stays
+  -- once z is written into a cell, this cell is z, and the other cells are as before
   cell-with_cell : (a : Account) → cell (with_cell rows e t z) a ≡ cond (eq_by_cmp account_cmp a (e, t)) z (cell rows a)
   cell-with_cell a =
       let choice = λ (b : Bool). cond b z (cell rows a) in
@@ -221,7 +221,7 @@ booked-as_books rows t grid there =
 pub grid_there : (rows : List (List ℤ)) (books : BooksValue) (t : Thing) → as_books rows ≡ books → thing_index t < books.things → thing_index t < length rows
 grid_there rows books t is there = let size = ap (λ (b : BooksValue). b.things) (sym is) ∙ things-as_books rows in omega (arith, size, there)
 
--- the row read at the index of a thing's row is the thing's row
+-- a row that is read at the index of a thing is the thing's row
 row_read : (rows : List (List ℤ)) (t : Thing) (place : ℕ) (row : List ℤ) → row ≡ get_or rows place row → place ≡ thing_index t → thing_index t < length rows → row ≡ row_of rows t
 row_read rows t place row is at there = is ∙ ap (λ k. get_or rows k row) at ∙ get_or_default rows (thing_index t) row [] there
 

@@ -12,7 +12,7 @@ use Rattle.atl_records.specs.Limits.{holding_limit}
 use Rattle.atl_records.proofs.EveryLaws.{every-insert, get-insert_other}
 use Rattle.atl_records.proofs.RemovedLaws.{every-remove, get-remove_other}
 
--- if P holds of every amount, and of the one that is set unless it is 0, it holds of every amount after setting
+-- if P holds of every amount of a map, and of an amount not 0 that is set, it holds of every amount after that
 pub every_amount : (P : ℕ → ℕ → Type 0) (items : FinMap nat_cmp ℕ) (i amount : ℕ) → (1 ≤ amount → P i amount) → Every P items → Every P (with_amount_of items i amount)
 every_amount P items i amount here old = by_zero (amount == 0) refl
   where
@@ -21,7 +21,7 @@ every_amount P items i amount here old = by_zero (amount == 0) refl
     by_zero true is = every-remove items i P old
     by_zero false is = let some : 1 ≤ amount = grind (arith, nat_tests) in every-insert P items i amount (here some) old
 
--- once amount i is set, it is read back, and each other amount is as before
+-- once the amount under i is set, it is there, and the amount under each other number is as before
 pub set_amount : (items : FinMap nat_cmp ℕ) (i amount j : ℕ) → amount_of (with_amount_of items i amount) j ≡ cond (eq_by_cmp nat_cmp j i) amount (amount_of items j)
 set_amount items i amount j = by_zero (amount == 0) refl
   where
@@ -51,25 +51,25 @@ amount_within h i is = by_option (get h.items i) refl
     by_option None e = omega arith
     by_option (Some amount) e = (is.items i amount e).1
 
--- numbers that compare equal are equal
+-- if nat_cmp calls two numbers equal, they are equal
 pub alike : (i j : ℕ) → eq_by_cmp nat_cmp j i ≡ true → j ≡ i
 alike i j is = let same : (j == i) ≡ true = unsigned_ties j i ∙ is in grind (arith, nat_tests)
 
 -- ---- the amount that was set, and each other one
 
 module _ (items : FinMap nat_cmp ℕ) (i amount : ℕ) where
-  -- the amount that is set is read back
+  -- once the amount under i is set, it is there
   pub set_same : amount_of (with_amount_of items i amount) i ≡ amount
   set_same = let same : (i == i) ≡ true = grind (arith, nat_tests) in set_amount items i amount i ∙ ap (λ b. cond b amount (amount_of items i)) (sym (unsigned_ties i i) ∙ same)
 
-  -- each other number has its amount as before
+  -- once the amount under i is set, each other number has its amount as before
   pub set_other : (j : ℕ) → j ≢ i → amount_of (with_amount_of items i amount) j ≡ amount_of items j
   set_other j apart = elim (cases_Bool (eq_by_cmp nat_cmp j i)) [
     | inl same ↦ absurd (apart (alike i j same))
     | inr other ↦ set_amount items i amount j ∙ ap (λ b. cond b amount (amount_of items j)) other
   ]
 
-  -- each other number is listed as before
+  -- once the amount under i is set, each other number is listed as before
   pub get-set_other : (j : ℕ) → j ≢ i → get (with_amount_of items i amount) j ≡ get items j
   get-set_other j apart = by_zero (amount == 0)
     where

@@ -31,7 +31,8 @@ unreached_level_is_above_0 (suc n) men days h = omega arith
 pub added : (sum x rest whole all : ℕ) → whole ≡ x + rest → sum + whole ≡ all → (sum + x) + rest ≡ all
 added sum x rest whole all h e = omega (arith, h, e)
 
--- the sum of one item more is within the bound for one number more; an item not in the world adds 0
+-- a bound of most_u32 * most_weight for each item below `low` on a sum still holds after the next item adds its x, with
+-- some `next` in place of `low`; an item that no world has adds 0
 pub fits_next : (low sum x : ℕ) (e : ℕ × ℕ) (es : List (ℕ × ℕ)) → is_sorted nat_cmp (e ∷ es) ≡ true → low ≤ most_items → sum ≤ (most_u32 * most_weight) * low → low ≤ e.0 → x ≤ (most_u32 * most_weight) → (most_items ≤ e.0 → x ≡ 0)
     → (next : ℕ) × (next ≤ most_items) × (sum + x ≤ (most_u32 * most_weight) * next) × BeginsFrom next es
 fits_next low sum x e es sorted few fits from small far =
@@ -40,6 +41,6 @@ fits_next low sum x e es sorted few fits from small far =
       | inr h ↦ (low, few, let none : x ≡ 0 = far h in omega (arith, fits, none), begins_same low e es sorted from)
     ]
 
--- an amount of what weighs or carries 0 adds 0
+-- an amount of pieces that each weigh or carry 0 adds 0
 pub no_more : (amount each : ℕ) → each ≡ 0 → amount * each ≡ 0
 no_more amount each h = grind arith

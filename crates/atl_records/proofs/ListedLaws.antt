@@ -19,20 +19,20 @@ use Rattle.atl_records.proofs.GridLaws.{any_accounts}
 
 -- ---- sorted accounts
 
--- account a is less than each account of the list
+-- account a is less than each account of a list, by account_cmp
 abbrev pub Behind : Account → List Account → Type 0
 Behind a chosen = AllByRecursion (λ c. account_cmp a c ≡ Less) chosen
 
--- the list of accounts is strictly sorted by account_cmp
+-- a list of accounts is strictly sorted by account_cmp
 abbrev pub Rise : List Account → Type 0
 Rise [] = ⊤
 Rise (a ∷ others) = Behind a others × Rise others
 
--- an account with a lower entry is less
+-- an account whose entry has a lower index is less by account_cmp
 less_entry : (a b : Account) → entry_index a.0 < entry_index b.0 → account_cmp a b ≡ Less
 less_entry a b h = ap (λ o. ordering_then o (nat_cmp (thing_index a.1) (thing_index b.1))) (sym (nat_cmp_is (entry_index a.0) (entry_index b.0) Less h))
 
--- of two accounts of one entry the one with the lower thing is less
+-- of two accounts of one entry, the one whose thing has the lower number is less by account_cmp
 less_thing : (e : Entry) (i k : ℕ) → i < k → account_cmp (e, thing_at i) (e, thing_at k) ≡ Less
 less_thing e i k h =
     ap (λ o. ordering_then o (nat_cmp (thing_index (thing_at i)) (thing_index (thing_at k)))) (tied_itself nat_cmp_total (entry_index e)) ∙ (λ j. nat_cmp (place_at i j) (place_at k j)) ∙ sym (nat_cmp_is i k Less h)
@@ -47,7 +47,7 @@ rise_append : (xs ys : List Account) → Rise xs → Rise ys → AllByRecursion 
 rise_append [] ys h k all = k
 rise_append (x ∷ xs) ys h k all = (all_append (λ c. account_cmp x c ≡ Less) xs ys h.0 all.0, rise_append xs ys h.1 k all.1)
 
--- if P holds of an entry's account with every thing, it holds of its accounts with some things
+-- if P holds of an entry's account with every thing, it holds of all of its accounts in a list
 all_under : (P : Account → Type 0) (e : Entry) (numbers : List ℕ) → ((i : ℕ) → P (e, thing_at i)) → AllByRecursion P (map (λ i. (e, thing_at i)) numbers)
 all_under P e [] h = tt
 all_under P e (i ∷ numbers) h = (h i, all_under P e numbers h)
@@ -77,7 +77,7 @@ module _ (things : ℕ) where
       all_append (λ c. account_cmp a c ≡ Less) (accounts_under things d) (flat_map (accounts_under things) es) (all_under (λ c. account_cmp a c ≡ Less) d (range_with_len 0 things) (λ i. less_entry a (d, thing_at i) before))
       (behind_flat a es parts.1)
 
-  -- the accounts of sorted entries are sorted
+  -- the accounts of entries in ascending order, one entry after the other, are sorted
   flat_rise : (es : List Entry) → are_rising es ≡ true → Rise (flat_map (accounts_under things) es)
   unfolding are_rising
   flat_rise [] h = tt
@@ -86,7 +86,7 @@ module _ (things : ℕ) where
       rise_append (accounts_under things e) (flat_map (accounts_under things) es) (under_rise e 0 things) (flat_rise es parts.1)
       (all_under (λ x. Behind x (flat_map (accounts_under things) es)) e (range_with_len 0 things) (λ i. behind_flat (e, thing_at i) es parts.0))
 
-  -- all accounts are sorted
+  -- the accounts of all entries with the first things are sorted by account_cmp
   accounts_rise : Rise (accounts things)
   unfolding are_rising
   accounts_rise = flat_rise all_entries refl
@@ -97,7 +97,7 @@ amounts_sorted m = is_true _ (entries_sorted m)
 
 -- ---- amounts that are listed
 
--- None or None is None
+-- a choice of None and an option that is None is None
 none_either : (b : Bool) (o : Option ℤ) → o ≡ None → cond b o None ≡ None
 none_either true o h = h
 none_either false o h = refl
@@ -160,7 +160,7 @@ entries-amounts things books are =
 
 -- ---- what is so of each amount
 
--- an account that is less does not compare equal
+-- an account that account_cmp calls less than another doesn't compare equal to it
 less_apart : (a b : Account) → is_lt (account_cmp a b) ≡ true → eq_by_cmp account_cmp a b ≡ false
 less_apart a b h = elim (account_cmp a b) as (λ o. is_lt o ≡ true → is_eq o ≡ false) [ Less ↦ λ _. refl | Equal ↦ λ not. absurd (false≢true not) | Greater ↦ λ _. refl ] h
 
@@ -171,7 +171,7 @@ none_before a (e ∷ es) h =
     let parts = and_parts (is_lt (account_cmp a e.0)) (below_all account_cmp a es) h in
     ap (λ b. cond b (Some e.1) (find account_cmp a es)) (less_apart a e.0 parts.0) ∙ none_before a es parts.1
 
--- what is found after the first entry of a sorted list is found in the whole list
+-- an amount that is found after the first entry of a sorted list is found in the whole list
 later_found : (e : Account × ℤ) (es : List (Account × ℤ)) (a : Account) (z : ℤ) → below_all account_cmp e.0 es ≡ true → find account_cmp a es ≡ Some z → find account_cmp a (e ∷ es) ≡ Some z
 later_found e es a z h is =
     elim (cases_account a e.0) [

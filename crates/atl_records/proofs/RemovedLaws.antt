@@ -1,4 +1,4 @@
--- Laws of a map from which a value is removed, or into which one is put.
+-- Laws of a map by number after a value is removed or put in: the other values, what holds of each, counts and sums.
 use Rattle.std.proofs.Common.{◌≡◌, ◌≢◌, ℕ, ◌≤◌, ◌-◌, ◌+◌, Bool, true, false, cond, Some, None, refl, sym, ap, ◌∙◌, arith}
 use Rattle.std.specs.declared.cmp.Ordering.TheVariants.{Less, Equal, Greater}
 use Rattle.std.specs.Ordering.{nat_cmp, is_eq}
@@ -21,7 +21,7 @@ module _ {V : Type 0} (m : FinMap nat_cmp V) (k : ℕ) where
         | Greater ↦ λ _. refl
       ] refl
 
-  -- a removed number has no value
+  -- once a number is removed from a map, it has no value there
   pub get-remove_same : get (remove m k) k ≡ None
   get-remove_same =
       get-remove nat_cmp_total m k k ∙ elim (nat_cmp k k) as (λ o. nat_cmp k k ≡ o → cond (is_eq o) None (get m k) ≡ None) [
@@ -39,7 +39,7 @@ module _ {V : Type 0} (m : FinMap nat_cmp V) (k : ℕ) where
         | Greater ↦ λ o e. (λ same. let l = ranked n k Greater (sym o) in absurd (omega arith), e)
       ] refl (sym (get-remove nat_cmp_total m k n) ∙ is)
 
-  -- if P holds of every value, it still does once one is removed
+  -- if P holds of every value of a map, it still does once a value is removed
   pub every-remove : (P : ℕ → V → Type 0) → Every P m → Every P (remove m k)
   every-remove P old n v is = old n v (still n v is).1
 
@@ -47,7 +47,7 @@ module _ {V : Type 0} (m : FinMap nat_cmp V) (k : ℕ) where
   pub fewer : len (remove m k) ≤ len m
   fewer = let is = len-remove nat_cmp_total m k in less (contains_key m k) (len (remove m k)) (len m) is
     where
-      -- a number, or one less, is at most that number
+      -- the choice of y - 1 or y is at most y
       less : (b : Bool) (x y : ℕ) → x ≡ cond b (y - 1) y → x ≤ y
       less true x y h = omega arith
       less false x y h = omega arith

@@ -11,7 +11,7 @@ unit_amount Money h = h.money
 unit_amount People h = h.men
 unit_amount (Item i) h = amount_of h.items i
 
--- how much of a thing a region holds: its money, its peasants, or the stock of an item in its market
+-- how much of a thing a region holds: its money, its peasants, or its pieces of an item in stock
 abbrev pub region_amount : Thing → Region → ℕ
 region_amount Money r = r.money
 region_amount People r = r.peasants

@@ -1,4 +1,4 @@
--- The books: of each thing a signed amount under each entry. See docs/RULES.md, "Books".
+-- The books: a signed amount of each thing under each entry. See docs/RULES.md, "Books".
 use Rattle.std.specs.Prelude.{◌≡◌, ◌≢◌, ◌<◌, ◌==◌, ℕ, zero, suc, ℤ, pos, negsuc, ◌+ℤ◌, ◌≤ℤ◌, ◌+◌, ◌*◌, ◌^◌, Bool, false, List, [], ◌∷◌, find, map, refl, Option, Some, unwrap_or, if◌then◌else◌}
 use Rattle.std.specs.declared.cmp.Ordering.{Ordering}
 use Rattle.std.specs.Ordering.{nat_cmp, ordering_then}
@@ -66,7 +66,7 @@ pub record BooksValue : Type 0 where
   pub things : ℕ
   pub amounts : FinMap account_cmp ℤ
 
--- the encoding of books as a pair of their two fields
+-- for proofs alone: books encoded as the pair of their two fields
 abbrev pub books_code : Coded BooksValue
 books_code =
     code_by (ℕ × FinMap account_cmp ℤ) (coded× coded_ℕ (code (coded× entry.the_row.coded thing.the_row.coded) coded_ℤ))
@@ -74,7 +74,7 @@ books_code =
     (λ p. record { things = p.0; amounts = p.1 })
     (λ _. refl)
 
--- the amount booked of a thing under an entry, 0 where none is listed
+-- the amount of a thing under an entry of the books, 0 where none is listed
 abbrev pub amount_in : BooksValue → Entry → Thing → ℤ
 amount_in books e t = unwrap_or (get books.amounts (e, t)) (pos 0)
 
@@ -91,7 +91,7 @@ with_amount books e t amount = record books { amounts = if is_zero amount then r
 abbrev pub after_booking : BooksValue → Entry → Thing → ℤ → BooksValue
 after_booking books e t n = with_amount books e t (amount_in books e t +ℤ n)
 
--- books that count this many things, with every amount 0
+-- the books of as many things as `things`, with every amount 0
 abbrev pub no_amounts : ℕ → BooksValue
 no_amounts things = record { things = things; amounts = empty }
 
@@ -104,7 +104,7 @@ sum_of (x ∷ xs) = x +ℤ sum_of xs
 unfoldable pub booked : BooksValue → Thing → ℤ
 booked books t = sum_of (map (λ e. amount_in books e t) all_entries)
 
--- the books count this many things, and each listed amount is of one of them and is not 0
+-- books have as many things as `things`, and each listed amount is of one of them and is not 0
 pub record AreBooks (things : ℕ) (books : BooksValue) : Type 0 where
   pub count : books.things ≡ things
   pub listed : (e : Entry) (t : Thing) (amount : ℤ) → get books.amounts (e, t) ≡ Some amount → (thing_index t < things) × (amount ≢ pos 0)

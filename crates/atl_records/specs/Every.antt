@@ -3,15 +3,15 @@ use Rattle.std.specs.Prelude.{◌≡◌, ℕ, List, [], ◌∷◌, ⊤, Some}
 use Rattle.std.specs.Ordering.{nat_cmp}
 use Rattle.std.specs.FinMap.{FinMap, get}
 
--- P holds of each number of the map with its value
+-- P holds of each number of a map together with its value
 abbrev pub Every : {V : Type 0} → (ℕ → V → Type 0) → FinMap nat_cmp V → Type 0
 Every P m = (n : ℕ) → (v : _) → get m n ≡ Some v → P n v
 
--- the map has a value under the number
+-- a map has a value under the number n
 abbrev pub IsThere : {V : Type 0} → FinMap nat_cmp V → ℕ → Type 0
 IsThere {V} m n = (v : V) × (get m n ≡ Some v)
 
--- P holds of each entry of the list, a number and its value
+-- P holds of each entry of a list, which is a number with its value
 abbrev pub EachOf : {V : Type 0} → (ℕ → V → Type 0) → List (ℕ × V) → Type 0
 EachOf P [] = ⊤
 EachOf P (e ∷ es) = P e.0 e.1 × EachOf P es

@@ -6,7 +6,7 @@ use Rattle.atl_records.specs.Books.{Account, BooksValue, all_entries, entry_inde
 use Rattle.atl_records.specs.declared.books.Entry.{Entry}
 use Rattle.atl_records.specs.declared.books.Thing.{Thing}
 
--- at most possible_things rows, each of entry_count amounts
+-- the rows are a grid: at most possible_things of them, each of entry_count amounts
 pub record IsGrid (rows : List (List ℤ)) : Type 0 where
   pub few : length rows ≤ possible_things
   pub wide : All (λ row. length row ≡ entry_count) rows
@@ -19,7 +19,7 @@ row_of rows t = slice_index_or rows (thing_index t) []
 abbrev pub cell : List (List ℤ) → Account → ℤ
 cell rows a = slice_index_or (row_of rows a.1) (entry_index a.0) (pos 0)
 
--- the rows with another amount in an account's row and column
+-- the rows with another amount in the row and column of an account (its thing and its entry)
 abbrev pub with_cell : List (List ℤ) → Entry → Thing → ℤ → List (List ℤ)
 with_cell rows e t amount = slice_set rows (thing_index t) (slice_set (row_of rows t) (entry_index e) amount)
 
@@ -31,12 +31,12 @@ accounts_under things e = map (λ i. (e, thing_at i)) (range_with_len 0 things)
 abbrev pub accounts : ℕ → List Account
 accounts things = flat_map (accounts_under things) all_entries
 
--- the books with the amount of each listed account set
+-- the books with the amount of each account of a list set to what `amount` gives
 abbrev pub filled : (Account → ℤ) → List Account → BooksValue → BooksValue
 filled amount [] books = books
 filled amount (a ∷ others) books = with_amount (filled amount others books) a.0 a.1 (amount a)
 
--- the books that rows stand for: a thing for each row, and the amount of each account in its cell
+-- the books that the code's rows mean: a thing for each row, and the amount of each account in its cell
 unfoldable pub as_books : List (List ℤ) → BooksValue
 as_books rows = record { things = length rows; amounts = (filled (cell rows) (accounts (length rows)) (no_amounts (length rows))).amounts }
 

@@ -14,7 +14,7 @@ pub record HoldingValue : Type 0 where
   pub items : FinMap nat_cmp ℕ
   pub days : FinMap nat_cmp ℕ
 
--- the encoding of a holding as nested pairs of its fields
+-- for proofs alone: a holding encoded as nested pairs of its fields
 abbrev pub holding_code : Coded HoldingValue
 holding_code =
     code_by (List ℕ × (ℕ × (ℕ × (Bool × (FinMap nat_cmp ℕ × FinMap nat_cmp ℕ)))))

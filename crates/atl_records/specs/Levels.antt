@@ -17,11 +17,11 @@ abbrev pub greatest : (ℕ → Bool) → ℕ → ℕ
 greatest passes zero = 0
 greatest passes (suc n) = if passes (suc n) then suc n else greatest passes n
 
--- the days of study that this many men together need for a level: 15 * level * (level + 1) each
+-- the days of study that `men` men together need for a level: 15 * level * (level + 1) each
 abbrev pub days_for : ℕ → ℕ → ℕ
 days_for level men = level_days * level * (level + 1) * men
 
--- the level of men with these days together: the greatest from 0 to 5 for which the days are enough; 0 without men
+-- the level of men by their days of study together: the greatest from 0 to 5 for which these are enough; 0 without men
 unfoldable pub level_of : ℕ → ℕ → ℕ
 level_of days men = if men == 0 then 0 else greatest (λ level. nat_le (days_for level men) days) last_level
 
@@ -49,15 +49,15 @@ abbrev pub measure_of : Measure → WorldValue → ℕ → ℕ
 measure_of Weight w item = weight_of w item
 measure_of Carry w item = carry_of w item
 
--- the sum of amount times weight, or amount times carry, over the items held
+-- the weight of a unit's goods, or the weight that they carry: amount times weight (or carry), summed over the items
 abbrev pub goods_measure : Measure → WorldValue → HoldingValue → ℕ
 goods_measure m w h = sum_by (λ e. e.1 * measure_of m w e.0) (entries h.items)
 
--- the sum of amount times weight over the items held
+-- the weight of a unit's goods: the sum of amount times weight over the items that it holds
 abbrev pub goods_of : WorldValue → HoldingValue → ℕ
 goods_of w h = sum_by (λ e. e.1 * weight_of w e.0) (entries h.items)
 
--- the sum of amount times carry over the items held
+-- the weight that a unit's goods carry: the sum of amount times carry over the items that it holds
 abbrev pub carried_by_goods : WorldValue → HoldingValue → ℕ
 carried_by_goods w h = sum_by (λ e. e.1 * carry_of w e.0) (entries h.items)
 

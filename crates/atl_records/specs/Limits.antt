@@ -53,7 +53,7 @@ most_u32 = 4294967295
 abbrev pub possible_things : ℕ
 possible_things = 2 + (most_u16 + 1)
 
--- the most entries of a map by numbers of 32 bits
+-- how many numbers of 32 bits there are, which bounds the entries of a map by number
 abbrev pub most_numbered : ℕ
 most_numbered = most_u32 + 1
 

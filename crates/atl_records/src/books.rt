@@ -74,7 +74,7 @@ impl Entry {
         self as u32
     }
 
-    /// The entry of a number; None where there is none.
+    /// The entry with a given number from 1 to 16; None for any other number.
     pub fn of_number(number: u32) -> Option<Entry>
         ensures { result ≡ entry_numbered number }
     {
@@ -84,7 +84,7 @@ impl Entry {
             .find(|entry| entry.number() == number)
     }
 
-    /// The index of the entry in a row of amounts, from 0.
+    /// The index of the entry in each row of the books, from 0.
     fn place(self) -> usize
         ensures place { result ≡ entry_index self }
         ensures small { result < entry_count }
@@ -118,7 +118,7 @@ impl Thing {
         }
     }
 
-    /// The index of the thing's row of amounts.
+    /// The index of the thing's row in the books, from 0.
     fn place(self) -> usize
         ensures place { result ≡ thing_index self }
         ensures small { result < possible_things }
@@ -127,15 +127,15 @@ impl Thing {
     }
 }
 
-/// The number of an account in the dirty set of the books:
-/// 16 times the thing's number, plus the entry's number, less 1.
+/// The number of an account (an entry with a thing) in the dirty set of the books: 16 times the
+/// thing's number, plus the entry's number, less 1.
 pub fn amount_number(entry: Entry, thing: Thing) -> u32
     ensures { result ≡ amount_number entry thing }
 {
     ENTRY_COUNT as u32 * thing.number() + entry.number() - 1
 }
 
-/// The sum of a thing's row of amounts.
+/// The sum of a row of the books: the amounts of one thing under all entries.
 fn row_sum(row: &[i64; ENTRY_COUNT]) -> i128
     ensures { result ≡ sum_of row.now }
 {
@@ -150,6 +150,7 @@ fn row_sum(row: &[i64; ENTRY_COUNT]) -> i128
 /// thing's entries is what all units and regions hold. See docs/RULES.md, "Books".
 #[derive(Drop)]
 pub struct Books {
+    // A row for each thing, at its number, with an amount for each entry.
     rows: Vec<[i64; ENTRY_COUNT]>,
 }
 
@@ -168,7 +169,7 @@ impl Model for Books {
 }
 
 impl Books {
-    /// Books that count this many things, with all amounts 0. The things are money, people, and at
+    /// Books of as many things as `things`, with all amounts 0. Things are money, people, and at
     /// most one item for each number of 16 bits. AllocError without memory.
     pub fn new(alloc: Global, things: usize) -> Result<Books, AllocError>
         requires { things ≤ possible_things }
@@ -190,7 +191,7 @@ impl Books {
         }
     }
 
-    /// How many things there are: money, people, and the items of the world.
+    /// How many things the books have amounts of: money, people, and the items of the world.
     pub fn len(&self) -> usize
         ensures value { result ≡ self.now.things }
         ensures few { result ≤ possible_things }

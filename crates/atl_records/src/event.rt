@@ -18,7 +18,7 @@ pub enum EventVerb {
 impl EventVerb {
     ghost use Rattle.atl_records.specs.Events.{event_keyword};
 
-    /// The keyword in capitals, as reports print it.
+    /// The keyword of the order, or `UPKEEP`, in capitals as reports print it.
     pub fn keyword(self) -> &'static str
         ensures { result.now ≡ event_keyword self }
     {
@@ -65,7 +65,7 @@ pub enum EventFault {
     Complete = 15,
     /// No further structure may be begun.
     StructureLimit = 16,
-    /// There is no region in that direction that can be entered in this way.
+    /// There is no region in that direction, or none that the order (MOVE or SAIL) can enter.
     NoWay = 17,
     /// The load is more than can be carried.
     TooHeavy = 18,
@@ -75,7 +75,7 @@ pub enum EventFault {
     NoCrew = 20,
     /// No unit of the list learns in the region.
     NotLearning = 21,
-    /// The teacher's level is above that of no unit that learns.
+    /// No unit of the list that learns has a level below the teacher's.
     CannotTeach = 22,
     /// The unit can't pay the fee.
     NoFee = 23,
@@ -101,7 +101,7 @@ impl EventFault {
         self as u8
     }
 
-    /// The fault's name, as reports print it.
+    /// The name of the fault, such as `NoWay`, as reports print it.
     pub fn name(self) -> &'static str
         ensures { result.now ≡ event_fault_name self }
     {
@@ -113,7 +113,7 @@ impl EventFault {
         )
     }
 
-    /// The fault with this number; None where there is none.
+    /// The fault with a given number from 1 to 24; None for any other number.
     pub fn of_number(number: u8) -> Option<EventFault>
         ensures { result ≡ find (λ fault. event_fault_number fault == number) event_faults }
     {
@@ -124,7 +124,7 @@ impl EventFault {
     }
 }
 
-/// The number and the name, as `17 NoWay`.
+/// Writes the fault's number and name, as `17 NoWay`.
 impl fmt::Display for EventFault {
     fn fmt<W: fmt::Write>(&self, f: &mut fmt::Formatter<W>) -> fmt::Result {
         write!(f, "{} {}", self.number(), self.name())
@@ -141,7 +141,7 @@ pub enum Outcome {
     Done(u64),
     /// The order was not carried out, for the fault with this number (`EventFault::number`).
     Fault(u8),
-    /// This many men starved.
+    /// Men of a unit starved; the number says how many.
     Starved(u64),
 }
 

@@ -41,7 +41,8 @@ impl Model for Holding {
     ghost invariant = { λ a. IsHolding (record { name = a.name; men = a.men; money = a.money; guard = a.guard; items = a.items; days = a.days }) };
 }
 
-/// The amount under a number, 0 where there is none.
+/// The amount that a map has under a number (pieces of an item, days of a skill), 0 where it has
+/// none.
 pub fn amount_under(amounts: &Numbered<u32>, number: u32) -> u32
     ensures { result ≡ amount_of amounts.now number }
 {
@@ -51,8 +52,8 @@ pub fn amount_under(amounts: &Numbered<u32>, number: u32) -> u32
     }
 }
 
-/// Sets the amount under a number. An amount of 0 takes the number off the list, which takes no
-/// memory. Without memory nothing changes.
+/// Sets the amount that a map has under a number (pieces of an item, days of a skill). An amount of
+/// 0 takes the number out, which takes no memory. Without memory nothing changes.
 pub fn put_amount(amounts: &mut Numbered<u32>, number: u32, amount: u32) -> Result<(), AllocError>
     ensures ok { OnOk result (amounts.new ≡ with_amount_of amounts.old number amount) }
     ensures err { OnErr result (amounts.new ≡ amounts.old) }
@@ -99,7 +100,7 @@ impl Holding {
         &self.name
     }
 
-    /// How many men there are, from 0 to MEN_LIMIT.
+    /// How many men the unit has, from 0 to MEN_LIMIT.
     pub fn men(&self) -> u32
         ensures value { result ≡ self.now.men }
         ensures fits { self.now.men ≤ men_limit }
@@ -107,7 +108,7 @@ impl Holding {
         self.men
     }
 
-    /// How much money there is, from 0 to HOLDING_LIMIT.
+    /// How much money the unit has, from 0 to HOLDING_LIMIT.
     pub fn money(&self) -> u32
         ensures value { result ≡ self.now.money }
         ensures fits { self.now.money ≤ holding_limit }
@@ -115,7 +116,7 @@ impl Holding {
         self.money
     }
 
-    /// Whether the guard flag is set. Only a unit with men guards by it.
+    /// Whether the unit's guard flag is set. A unit guards only if it has men too.
     pub fn guard(&self) -> bool
         ensures { result ≡ self.now.guard }
     {
@@ -150,14 +151,15 @@ impl Holding {
         amount_under(&self.days, skill)
     }
 
-    /// Sets the name. It takes no memory.
+    /// Sets the unit's name. It takes no memory.
     pub fn set_name(&mut self, name: Text)
         ensures { self.new ≡ record self.old { name = name } }
     {
         self.name = name;
     }
 
-    /// Sets the number of men, at most MEN_LIMIT. The days of study stay. It takes no memory.
+    /// Sets how many men the unit has, at most MEN_LIMIT. The days of study stay. It takes no
+    /// memory.
     pub fn set_men(&mut self, men: u32)
         requires { men ≤ men_limit }
         ensures { self.new ≡ record self.old { men = men } }
@@ -210,7 +212,7 @@ impl Holding {
         self.days.insert(skill, days)
     }
 
-    /// Sets the money, at most HOLDING_LIMIT. It takes no memory.
+    /// Sets how much money the unit has, at most HOLDING_LIMIT. It takes no memory.
     pub fn set_money(&mut self, money: u32)
         requires { money ≤ holding_limit }
         ensures { self.new ≡ record self.old { money = money } }
@@ -218,15 +220,15 @@ impl Holding {
         self.money = money;
     }
 
-    /// Sets or clears the guard flag. It takes no memory.
+    /// Sets or clears the unit's guard flag. It takes no memory.
     pub fn set_guard(&mut self, guard: bool)
         ensures { self.new ≡ record self.old { guard = guard } }
     {
         self.guard = guard;
     }
 
-    /// Replaces the days of study in all skills by these, over all men and not 0. It takes no
-    /// memory.
+    /// Replaces the unit's days of study in all skills by new ones, which are over all men and not
+    /// 0. It takes no memory.
     pub fn set_all_days(&mut self, days: Numbered<u32>)
         ensures { self.new ≡ record self.old { days = days } }
     {

@@ -9,7 +9,8 @@ use crate::limits::LEVEL_DAYS;
 use atl_tables::World;
 use atl_tables::limits::LAST_LEVEL;
 
-/// Whether days of study are enough for this many men to have a level, which is at most 5.
+/// Whether the days of study of all men of a unit together are enough for a level, which is at most
+/// 5.
 fn is_reached(level: u32, days: u32, men: u32) -> bool
     requires { level ≤ last_level }
     ensures { result ≡ nat_le (days_for level men) days }
@@ -17,7 +18,7 @@ fn is_reached(level: u32, days: u32, men: u32) -> bool
     u64::from(LEVEL_DAYS * level * (level + 1)) * u64::from(men) <= u64::from(days)
 }
 
-/// The level of this many men with this many days of study together: the greatest number `n` from 0
+/// The level of `men` men who have `days` days of study together: the greatest number `n` from 0
 /// to 5 with `15 * n * (n + 1) * men` at most the days, and 0 without men. It takes no memory. See
 /// docs/RULES.md, "Levels and loads".
 #[tactic(auto, unfolding(crate::specs::Levels::level_of))]
@@ -97,7 +98,7 @@ enum Measure {
     Carry,
 }
 
-/// What one piece of an item weighs or carries, by the measure.
+/// The weight of one piece of an item, or the weight that it carries, as the measure says.
 fn item_measure(world: &World, item: u32, of: Measure) -> u32
     ensures value { result ≡ measure_of of world.now item }
     ensures small { result ≤ most_weight }

@@ -12,13 +12,13 @@ pub const LAST_UNIT: u32 = 999_999_999;
 /// The most structures ever begun; they are numbered from 1 up to this one.
 pub const MOST_STRUCTURES: u32 = 10_000;
 
-/// How many entries the books have.
+/// How many entries the books have: 16.
 pub const ENTRY_COUNT: usize = Entry::ALL.len();
 
 /// How many entries the books have in the first format: all but those of markets.
 pub const FIRST_ENTRY_COUNT: usize = 13;
 
-/// The number of the first item among the things of the books: money has 0, and people have 1.
+/// The number of the world's first item among the things of the books; money has 0, people have 1.
 pub const FIRST_ITEM: usize = 2;
 
 /// The number of the last month that can be closed; the first is 1.

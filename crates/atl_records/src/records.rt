@@ -7,11 +7,11 @@ use std::fmt;
 /// A player's faction. Names and pass texts obey the rules of docs/RULES.md, "Names and pass
 /// texts".
 pub struct Faction {
-    /// From 1 to atl_orders' LAST_FACTION, in the order of joining.
+    /// The faction's number, from 1 to atl_orders' LAST_FACTION, in the order of joining.
     pub number: u32,
-    /// The name that it joined under, which no other faction ever takes.
+    /// The name that it joined under, under which no other faction ever joins.
     pub joined_as: Text,
-    /// The name that is shown.
+    /// The name that reports show.
     pub name: Text,
     /// The pass text that its player sends with each command.
     pub pass: Text,
@@ -27,13 +27,13 @@ impl Drop for Faction {
 
 /// People of one faction in one region, who share what they hold.
 pub struct Unit {
-    /// The number of its faction.
+    /// The number of the unit's faction.
     pub faction: u32,
     /// The number of the region where it is.
     pub region: u32,
     /// The number of the structure that it is inside, or 0 where it is inside none.
     pub structure: u32,
-    /// Its name, men, money, items and days of study.
+    /// What the unit holds: its name, men, money, guard flag, items and days of study.
     pub holding: Holding,
 }
 
@@ -43,7 +43,7 @@ impl Drop for Unit {
     }
 }
 
-/// What a region holds besides its units.
+/// What a region holds besides its units: peasants, money, and the stocks of its markets.
 pub struct Region {
     /// The people that are of no faction, from 0 to atl_tables' MOST_AMOUNT.
     pub peasants: u32,
@@ -77,7 +77,7 @@ impl Region {
 pub struct Structure {
     /// The index of its kind in the list of the world's kinds.
     pub kind: u16,
-    /// The name that is shown.
+    /// The name that reports show.
     pub name: Text,
     /// The number of the region where it is.
     pub region: u32,
@@ -87,11 +87,11 @@ pub struct Structure {
     pub owner: u32,
 }
 
-/// Why a faction does not join. The campaign, its marks too, is then unchanged.
+/// Why a faction does not join. The campaign, with its dirty set, is then unchanged.
 /// See docs/RULES.md, "Joining".
 #[derive(Drop, Clone, Copy, Debug, PartialEq, Eq)]
 pub enum JoinFault {
-    /// Some faction joined under this name.
+    /// Another faction joined under this name.
     NameTaken,
     /// The last faction has joined, there are MOST_UNITS units, or the last unit number is used.
     Full,
