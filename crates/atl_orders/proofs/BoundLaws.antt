@@ -34,7 +34,7 @@ IsStateInBounds (Forming parent alias) = IsNumber parent × IsAlias alias
 IsStateInBounds (Skipping None) = Unit {0}
 IsStateInBounds (Skipping (Some n)) = IsNumber n
 
--- the effect of a line is in bounds
+-- the effect of a line is in bounds: the order that it gives, if any, and the unit that this is for
 abbrev IsEffect : WorldValue → Effect → Type 0
 IsEffect world nothing = Unit {0}
 IsEffect world (faulty fault) = Unit {0}
@@ -119,7 +119,7 @@ module _ (world : WorldValue) (given : ℕ → Bool) where
 -- ---- all lines, the header, and the whole text
 
 module _ (world : WorldValue) where
-  -- the order of an effect in bounds is in bounds
+  -- if the effect of a line is in bounds, the order that it gives is
   entry_sound : (n : ℕ) (effect : Effect) → IsEffect world effect → All (IsEntry world) (entry_of (n, effect))
   entry_sound n nothing h = All-nil (IsEntry world)
   entry_sound n (faulty fault) h = All-nil (IsEntry world)
@@ -178,7 +178,7 @@ line_headed : (n : ℕ) (rest : List (List ℕ)) (f : Option ℕ) → ((k : ℕ)
 line_headed n rest None h = tt
 line_headed n rest (Some k) h = (h k refl, omega arith)
 
--- what a choice of two results gives is in bounds, if both results are
+-- a choice of two results for a header is in bounds, if both results are
 test_headed : (t : Bool) (a b : Result HeaderValue MailFault) → HoldsOf IsHeaded a → HoldsOf IsHeaded b → HoldsOf IsHeaded (cond t a b)
 test_headed true a b h k = h
 test_headed false a b h k = k
@@ -194,7 +194,7 @@ behind_sound : (world : WorldValue) (r : Result HeaderValue MailFault) → Holds
 behind_sound world (Err fault) h = tt
 behind_sound world (Ok head) h = record { faction = h.0; entries = body_sound world head.rest head.next Nowhere no_alias tt; lines = body_rises world head.rest head.next 0 Nowhere no_alias h.1 }
 
--- what is read is in bounds, whether the text is too long or not
+-- the reading of a text is in bounds, whether the text is too long or not, if what its lines give is in bounds
 test_sound : (world : WorldValue) (t : Bool) (r : Result Reading MailFault) → HoldsOf (IsReading world) r → HoldsOf (IsReading world) (cond t (Err TooLong) r)
 test_sound world true r h = tt
 test_sound world false r h = h
@@ -204,6 +204,6 @@ reading_sound : (world : WorldValue) (text : List ℕ) → HoldsOf (IsReading wo
 unfolding reading
 reading_sound world text = test_sound world (nat_lt most_bytes (length text)) _ (behind_sound world (header_from 1 (lines text)) (header_sound (lines text) 1))
 
--- everything that a text gives is in bounds: faction, orders and line numbers
+-- whatever mailing a text gives is in bounds: its faction, its orders and its line numbers
 pub readings_keep_bounds : ReadingsKeepBounds
 readings_keep_bounds world text r e = subst (HoldsOf (IsReading world)) e (reading_sound world text)

@@ -8,7 +8,7 @@ use Rattle.std.proofs.lemmas.Bool.{eq-eqb, ne_eqb}
 use Rattle.atl_orders.specs.Letters.{carriage_return}
 use Rattle.atl_orders.specs.Lines.{is_feed, with_front, pieces, without_return, lines}
 
--- the first piece of a text and the others, by whether its first byte is the line feed
+-- a text b ∷ bs with a line feed is split at its first one, whether that is b or in bs, if bs is split so
 feed_step : (t : Bool) (b : ℕ) (bs : List ℕ) (m : ℕ) → cond (not t) (1 + m) 0 < suc (length bs) → (m < length bs → pieces bs ≡ take m bs ∷ pieces (drop (m + 1) bs)) → cond t ([] ∷ pieces bs) (with_front b (pieces bs)) ≡ take (cond (not t) (1 + m) 0) (b ∷ bs) ∷ pieces (drop (cond (not t) (1 + m) 0 + 1) (b ∷ bs))
 feed_step true b bs m h rest = refl
 feed_step false b bs m h rest =
@@ -22,7 +22,7 @@ unfolding pieces
 pieces-feed [] h = absurd (omega arith)
 pieces-feed (b ∷ bs) h = feed_step (is_feed b) b bs (position_or_len is_feed bs) h (pieces-feed bs)
 
--- a text without a line feed is one piece, by its first byte and the rest
+-- a text b ∷ bs without a line feed is one piece, if bs is one
 last_step : (t : Bool) (b : ℕ) (bs : List ℕ) (m : ℕ) → suc (length bs) ≤ cond (not t) (1 + m) 0 → (length bs ≤ m → pieces bs ≡ bs ∷ []) → cond t ([] ∷ pieces bs) (with_front b (pieces bs)) ≡ (b ∷ bs) ∷ []
 last_step true b bs m h rest = absurd (omega arith)
 last_step false b bs m h rest = ap (with_front b) (rest (omega arith))
@@ -41,7 +41,7 @@ lines-feed text h = ap (map without_return) (pieces-feed text h)
 pub lines-last : (text : List ℕ) → length text ≤ position_or_len is_feed text → lines text ≡ without_return text ∷ []
 lines-last text h = ap (map without_return) (pieces-last text h)
 
--- a carriage return at the end of a line is cut off
+-- without_return cuts a carriage return off the end of a line
 pub return_cut : (line : List ℕ) (n : ℕ) → length line ≡ n + 1 → get_or line n 0 ≡ carriage_return → without_return line ≡ take n line
 return_cut [] n e h = absurd (omega arith)
 return_cut (b ∷ []) zero e h = ap (λ t. cond t [] (b ∷ [])) (eq-eqb b carriage_return h)
@@ -49,13 +49,13 @@ return_cut (b ∷ []) (suc n) e h = absurd (omega arith)
 return_cut (b ∷ c ∷ bs) zero e h = absurd (omega arith)
 return_cut (b ∷ c ∷ bs) (suc n) e h = ap (λ l. b ∷ l) (return_cut (c ∷ bs) n (omega arith) h)
 
--- a line whose last byte is no carriage return is kept, whatever its length
+-- without_return keeps a line that, if it has n + 1 bytes, has no carriage return at index n
 kept : (line : List ℕ) → ((n : ℕ) → length line ≡ n + 1 → get_or line n 0 ≢ carriage_return) → without_return line ≡ line
 kept [] h = refl
 kept (b ∷ []) h = ap (λ t. cond t [] (b ∷ [])) (ne_eqb b carriage_return (h 0 (omega arith)))
 kept (b ∷ c ∷ bs) h = ap (λ l. b ∷ l) (kept (c ∷ bs) (λ n e. h (suc n) (omega arith)))
 
--- a line whose last byte is no carriage return is kept
+-- without_return keeps a line whose last byte is no carriage return
 pub return_kept : (line : List ℕ) → (0 < length line → get_or line (length line - 1) 0 ≢ carriage_return) → without_return line ≡ line
 return_kept line h = kept line (λ n e g. h (omega arith) (ap (λ k. get_or line k 0) (omega arith) ∙ g))
 
@@ -73,7 +73,7 @@ take_front text n = record { back = drop n text; whole = sym (take-append-drop n
 pub front_further : (text mid front : List ℕ) → StartsWith text mid → StartsWith mid front → StartsWith text front
 front_further text mid front a b = record { back = b.back ++ a.back; whole = a.whole ∙ ap (λ l. l ++ a.back) b.whole ∙ append_assoc front b.back a.back }
 
--- a line with which the rest `left` of a text starts ends at the index by the lengths of text, rest and line
+-- a line at the start of the rest `left` of a text ends at the text's length, less that of `left`, plus the line's own
 pub line_place : (text left line : List ℕ) → EndsWith text left → StartsWith left line → EndsAt text (length text - length left + length line) line
 line_place text left line e s =
     let a : length text ≡ length e.front + length left = ap length e.whole ∙ length-append e.front left in

@@ -36,7 +36,7 @@ after : {A B : Type 0} (P : A → Type 0) (Q : B → Type 0) (r : Result A LineF
 after P Q (Ok x) f h g = g x h
 after P Q (Err e) f h g = tt
 
--- if P holds of an option's value, P holds of the result that is this value, or a fault without it
+-- if P holds of an option's value, P holds of the result that has this value, or a fault if there is no value
 found : {X : Type 0} (P : X → Type 0) (fault : LineFault) (o : Option X) → ((x : X) → o ≡ Some x → P x) → Holds P (or_fault fault o)
 found P fault None g = tt
 found P fault (Some x) g = g x refl
@@ -46,7 +46,7 @@ either : {X : Type 0} (P : X → Type 0) (t : Bool) (a b : Result X LineFault) �
 either P true a b h k = h
 either P false a b h k = k
 
--- the condition that always holds is true of every result
+-- a condition that every value meets holds of every result
 anything : {X : Type 0} (r : Result X LineFault) → Holds (λ _. Unit {0}) r
 anything (Ok x) = tt
 anything (Err e) = tt
@@ -62,11 +62,11 @@ chosen false v n most f h = cc
 last_test : (a b : Bool) (v most : ℕ) → (a && b && nat_le v most) ≡ true → v ≤ most
 last_test a b v most h = grind (arith, nat_tests)
 
--- a number that a word writes is at most `most`
+-- a number that `number_of` gives with the limit `most` is at most `most`
 pub number_within : (most : ℕ) (bytes : List ℕ) (n : ℕ) → number_of most bytes ≡ Some n → n ≤ most
 number_within most bytes n h = chosen (nat_lt 0 (length bytes) && list_all is_ascii_digit bytes && nat_le (digits_value 10 bytes) most) (digits_value 10 bytes) n most (last_test (nat_lt 0 (length bytes)) (list_all is_ascii_digit bytes) (digits_value 10 bytes) most) h
 
--- a number that isn't 0 is at least 1
+-- the number of an option that is None if k is 0, else Some k, is k, and at least 1
 positive : (t : Bool) (k n : ℕ) → eqb k 0 ≡ t → cond t None (Some k) ≡ Some n → (1 ≤ n) × (k ≡ n)
 positive true k n e h = cc
 positive false k n e h = let same : k ≡ n = cc in let some : 1 ≤ k = grind (arith, nat_tests) in (omega arith, same)
@@ -76,7 +76,7 @@ pub from_one : (most : ℕ) (o : Option ℕ) (n : ℕ) → ((k : ℕ) → o ≡ 
 from_one most None n f h = cc
 from_one most (Some k) n f h = let p = positive (eqb k 0) k n refl h in let m : k ≤ most = f k refl in let e : k ≡ n = p.1 in (p.0, omega arith)
 
--- the number of a word that isn't 0 is from 1 to `most`
+-- a number that a word writes, if it is at most `most` and not 0, is from 1 to `most`
 word_number : (most : ℕ) (fault : LineFault) (w : WordText) → Holds (IsWithin most) (or_fault fault (not_zero (number_of most w.bytes)))
 word_number most fault w = found (IsWithin most) fault (not_zero (number_of most w.bytes)) (λ n h. from_one most (number_of most w.bytes) n (number_within most w.bytes) h)
 
@@ -84,7 +84,7 @@ word_number most fault w = found (IsWithin most) fault (not_zero (number_of most
 abbrev pub Counted : Type 0
 Counted = ℕ × List WordText
 
--- a number that is read is from 1 to `most`
+-- a number that `count_at` reads is from 1 to `most`
 pub count_holds : (most : ℕ) (fault : LineFault) (ws : List WordText) → Holds (λ (x : Counted). IsWithin most x.0) (count_at most fault ws)
 unfolding count_at
 count_holds most fault [] = tt
@@ -105,7 +105,7 @@ unit_holds (w ∷ ws) =
     (after (λ (x : Counted). IsAlias x.0) _ (alias_at ws) _ (count_holds last_alias BadAlias ws) (λ n h. h))
     (after (λ (x : Counted). IsNumber x.0) _ (number_at (w ∷ ws)) _ (count_holds most_number BadNumber (w ∷ ws)) (λ n h. h))
 
--- a list of units with one more in front has all in range, if both have
+-- a unit that was read, in front of units that were read, gives units in range, if all of these are
 and_then : (unit : Result UnitRef LineFault) (units : Result (List UnitRef) LineFault) → Holds IsUnitRef unit → Holds (All IsUnitRef) units → Holds (All IsUnitRef) (and_then_units unit units)
 and_then unit units h k = after IsUnitRef _ unit _ h (λ u p. after (All IsUnitRef) _ units _ k (λ us q. All-cons IsUnitRef u us p q))
 
@@ -140,7 +140,7 @@ unfolding item_at
 item_holds world [] = tt
 item_holds world (w ∷ ws) = found _ UnknownThing _ (λ i h. place_within _ world.items w.bytes w.quoted i h)
 
--- an amount and an item
+-- an amount, and the number of an item
 abbrev Goods : Type 0
 Goods = ℕ × ℕ
 
@@ -165,11 +165,11 @@ kind_holds world (w ∷ ws) = found _ UnknownThing _ (λ i h. place_within _ wor
 
 -- ---- what the words after a verb name
 
--- the operands of a result are in bounds, in this world
+-- the operands of a result, if it is no fault, are in bounds in a world
 abbrev AreSound : WorldValue → Result OperandsValue LineFault → Type 0
 AreSound world r = Holds (AreOperandsOf world) r
 
--- the order of a result is in bounds, in this world
+-- the order of a result, if it is no fault, is in bounds in a world
 abbrev pub Sound : WorldValue → Result OrderValue LineFault → Type 0
 Sound world r = Holds (IsOrderOf world) r
 
@@ -196,7 +196,7 @@ module _ (world : WorldValue) where
   unfolding read_unit
   unit_sound ws = after _ (AreOperandsOf world) (unit_at ws) _ (unit_holds ws) (λ u h. h)
 
-  -- one unit or more, all in range
+  -- a list of one unit or more, all in range
   abbrev Units : List UnitRef → Type 0
   Units units = (0 < length units) × All IsUnitRef units
 

@@ -13,17 +13,17 @@ one_reading : (a b : Reading) → ◌≡◌ {A = Result Reading MailFault} (Ok a
 one_reading a b e = cc
 
 module _ (world : WorldValue) (text : List ℕ) (r : Reading) where
-  -- a text that is short enough, and whose header gives the reading, is a mailing of its faction
+  -- a text that isn't too long, and of which reading from its header on gives r, is a mailing of r's faction
   sent : (header_value : Result HeaderValue MailFault) → header_from 1 (lines text) ≡ header_value → length text ≤ most_bytes → after_header world header_value ≡ Ok r → IsMailingOf r.faction text
   sent (Ok h) is short e = record { short = short; header = (h.next, h.rest, is ∙ ap (λ n. Ok (record { faction = n; next = h.next; rest = h.rest })) (ap (λ (x : Reading). x.faction) (one_reading _ r e))) }
   sent (Err fault) is short e = cc
 
-  -- a text that is read is a mailing of the faction that its header names, by the test whether it is too long
+  -- a text that is read as r is a mailing of r's faction, whether the test for its length is true or false
   tested : (long : Bool) → nat_lt most_bytes (length text) ≡ long → cond long (Err TooLong) (after_header world (header_from 1 (lines text))) ≡ Ok r → IsMailingOf r.faction text
   tested true is e = cc
   tested false is e = sent (header_from 1 (lines text)) refl (grind (arith, nat_tests)) e
 
-  -- a text that is read is a mailing of the faction that the reading has
+  -- a text that is read as r is a mailing of r's faction
   pub read_is_mailing : reading world text ≡ Ok r → IsMailingOf r.faction text
   unfolding reading
   read_is_mailing e = tested (nat_lt most_bytes (length text)) refl e

@@ -27,11 +27,11 @@ data Found (n : ℕ) (all : List (List ℕ)) : Type 0 where
   one : (before : List (List ℕ)) (header : List ℕ) (behind : List (List ℕ)) → HaveHeader all before header behind
       → header_from n all ≡ header_line (length before + n) behind (faction_of (words header)) → Found n all
 
--- the number of a line after one more line
+-- k lines after line n + 1 is k + 1 lines after line n
 later : (n k : ℕ) → k + (n + 1) ≡ suc k + n
 later n k = omega arith
 
--- the number n of the first line, with none before it
+-- no lines after line n is line n
 from_none : (n : ℕ) → 0 + n ≡ n
 from_none n = omega arith
 
@@ -42,24 +42,24 @@ more n line rest h e (one before header behind is f) =
     one (line ∷ before) header behind (record { whole = ap (λ l. line ∷ l) is.whole; leads = is.leads; first = All-cons IsOutside line before h is.first })
     (e ∙ f ∙ ap (λ k. header_line k behind (faction_of (words header))) (later n (length before)))
 
--- the first header of lines, by whether the first line is one
+-- lines have no header or a first one (`Found`), whether their first line is one or not, if this holds of the rest
 tested : (t : Bool) (n : ℕ) (line : List ℕ) (rest : List (List ℕ)) → is_header line ≡ t → header_from n (line ∷ rest) ≡ cond t (header_line n rest (faction_of (words line))) (header_from (n + 1) rest) → Found (n + 1) rest → Found n (line ∷ rest)
 tested true n line rest h e f = one [] line rest (record { whole = refl; leads = h; first = All-nil IsOutside }) (e ∙ ap (λ k. header_line k rest (faction_of (words line))) (sym (from_none n)))
 tested false n line rest h e f = more n line rest h e f
 
--- lines have no header or a first one, and `header_from` gives NoHeader or what the header gives
+-- any lines have no header or a first one, and `header_from` gives NoHeader or what that header gives (`Found`)
 found : (n : ℕ) (all : List (List ℕ)) → Found n all
 unfolding header_from
 found n [] = none (All-nil IsOutside) refl
 found n (line ∷ rest) = tested (is_header line) n line rest refl refl (found (n + 1) rest)
 
--- lines without a header give NoHeader
+-- `header_from` gives NoHeader for lines without a header
 no_one : (n : ℕ) (all : List (List ℕ)) → HaveNoHeader all → header_from n all ≡ Err NoHeader
 unfolding header_from
 no_one n [] a = refl
 no_one n (line ∷ rest) a = rw (All-head IsOutside line rest a) (no_one (n + 1) rest (All-tail IsOutside line rest a))
 
--- lines with a header give what the first header gives
+-- `header_from` gives for lines with a header what their first header gives
 first_one : (n : ℕ) (before : List (List ℕ)) (header : List ℕ) (behind : List (List ℕ)) → HaveNoHeader before → is_header header ≡ true → header_from n (before ++ header ∷ behind) ≡ header_line (length before + n) behind (faction_of (words header))
 unfolding header_from
 first_one n [] header behind a h = rw h (ap (λ k. header_line k behind (faction_of (words header))) (sym (from_none n)))
@@ -67,7 +67,7 @@ first_one n (line ∷ before) header behind a h = rw (All-head IsOutside line be
 
 -- ---- a whole text
 
--- the number of the line after a header
+-- the line after a header with k lines above it has the number k + 2
 numbered : (k : ℕ) → k + 1 + 1 ≡ k + 2
 numbered k = omega arith
 
@@ -101,7 +101,7 @@ module _ (world : WorldValue) (text : List ℕ) where
   short_is : length text ≤ most_bytes → nat_lt most_bytes (length text) ≡ false
   short_is h = grind (arith, nat_tests)
 
-  -- a text with a header gives what its first header gives
+  -- `header_from` gives for the lines of a text with a header what its first header gives
   first_is : (before : List (List ℕ)) (header : List ℕ) (behind : List (List ℕ)) → HaveHeader (lines text) before header behind → header_from 1 (lines text) ≡ header_line (length before + 1) behind (faction_of (words header))
   first_is before header behind is = ap (header_from 1) is.whole ∙ first_one 1 before header behind is.first is.leads
 

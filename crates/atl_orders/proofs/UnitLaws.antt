@@ -11,15 +11,15 @@ use Rattle.atl_orders.specs.Operands.{or_fault, not_zero, count_at, unit_at, uni
 use Rattle.atl_orders.specs.Views.{with_units}
 use Rattle.std.proofs.lemmas.List.{append_assoc, append-nil}
 
--- a number that was read, and the words after it
+-- the result of reading a number, with the words after it
 abbrev paired : List WordText → ℕ → Result (ℕ × List WordText) LineFault
 paired ws n = Ok (n, ws)
 
--- a unit made from a number, and the words after it
+-- the result of reading a unit, made from a number that was read, with the words after it
 abbrev as_unit : (ℕ → UnitRef) → ℕ × List WordText → Result (UnitRef × List WordText) LineFault
 as_unit c n = Ok (c n.0, n.1)
 
--- a unit that was read, and the words after it
+-- the result of reading a unit, with the words after it
 abbrev found : UnitRef → List WordText → Result (UnitRef × List WordText) LineFault
 found u rest = Ok (u, rest)
 
@@ -28,16 +28,16 @@ none : (u : UnitRef) (rest : List WordText) → unit_at [] ≡ found u rest → 
 unfolding unit_at
 none u rest h = cc
 
--- the unit that was read, and then the units that the words after it name
+-- a unit that was read, in front of the units that the words after it name; or their fault
 abbrev pub then_units : UnitRef × List WordText → Result (List UnitRef) LineFault
 then_units x = units_of x.1 >>= λ us. Ok (x.0 ∷ us)
 
--- to read a unit by its number in front of the others is to read the unit, and then the others
+-- reading a unit by its number in front of further units gives what reading the unit and then these units gives
 number_step : (o : Option ℕ) (ws : List WordText) → and_then_units (or_fault BadNumber o >>= λ n. Ok (Number n)) (units_of ws) ≡ (or_fault BadNumber o >>= paired ws >>= as_unit Number) >>= then_units
 number_step None ws = refl
 number_step (Some n) ws = refl
 
--- to read a unit by its alias in front of the others is to read the unit, and then the others
+-- reading a unit by its alias in front of further units gives what reading the unit and then these units gives
 alias_step : (o : Option ℕ) (ws : List WordText) → and_then_units (or_fault BadAlias o >>= λ n. Ok (Alias n)) (units_of ws) ≡ (or_fault BadAlias o >>= paired ws >>= as_unit Alias) >>= then_units
 alias_step None ws = refl
 alias_step (Some n) ws = refl
@@ -63,12 +63,12 @@ pub one_more : (front : List UnitRef) (ws : List WordText) (u : UnitRef) (rest :
 one_more front [] u rest h = absurd (none u rest h)
 one_more front (w ∷ ws) u rest h = started (units_of rest) front u ∙ ap (with_units front) (sym (units_step w ws ∙ ap (λ r. r >>= then_units) h))
 
--- a loop that reads units ends with the fault of a unit
+-- if reading the next unit gives a fault, the words left give this fault, whatever units were read before
 pub fault_stays : (front : List UnitRef) (ws : List WordText) (f : LineFault) → 0 < length ws → unit_at ws ≡ Err f → with_units front (units_of ws) ≡ Err f
 fault_stays front [] f p h = absurd (omega arith)
 fault_stays front (w ∷ ws) f p h = ap (with_units front) (units_step w ws ∙ ap (λ r. r >>= then_units) h)
 
--- a loop that reads units ends with the units read so far, if no word is left
+-- if no word is left, the units are those that were read so far
 pub no_more : (front : List UnitRef) (ws : List WordText) → ws ≡ [] → with_units front (units_of ws) ≡ Ok front
 unfolding units_of
 no_more front [] h = ap (λ l. Ok l) (append-nil front)
@@ -84,7 +84,7 @@ chosen : (t : Bool) (a b : Result (UnitRef × List WordText) LineFault) (u : Uni
 chosen true a b u rest n p q h = p h
 chosen false a b u rest n p q h = q h
 
--- the fault of a word that is missing
+-- the result of reading a unit where its word is missing
 abbrev missing : Result (UnitRef × List WordText) LineFault
 missing = Err MissingWord
 
@@ -92,7 +92,7 @@ missing = Err MissingWord
 no_unit : (rest : List WordText) (u : UnitRef) (n : ℕ) → missing ≡ found u rest → length rest ≤ n
 no_unit rest u n h = cc
 
--- the words after a unit are fewer than before it
+-- the words after a unit that was read are fewer than the words before it was read
 pub rest_shorter : (ws : List WordText) (u : UnitRef) (rest : List WordText) → unit_at ws ≡ found u rest → length rest < length ws
 unfolding unit_at count_at
 rest_shorter [] u rest h = cc

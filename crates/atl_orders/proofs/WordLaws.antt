@@ -15,24 +15,24 @@ use Rattle.atl_orders.specs.Letters.{semicolon}
 use Rattle.atl_orders.specs.Words.{is_blank, is_quote, ends_word, words_after, words}
 use Rattle.atl_orders.specs.Standing.{IsPartOf, EndsWith, EndsAt}
 
--- ---- the index of the first that passes, or the length
+-- ---- the index of the first element that passes a test, or the length
 
 -- n, as an option that has n only if n is less than m, with the default m, is n, if n is at most m
 placed : (t : Bool) (n m : ℕ) → nat_lt n m ≡ t → n ≤ m → unwrap_or (cond t (Some n) None) m ≡ n
 placed true n m h l = refl
 placed false n m h l = grind (arith, nat_tests)
 
--- the index of the first that passes, or the length, is at most the length
+-- the index of the first element that passes a test, or the list's length without one, is at most the length
 pub found_within : {X : Type 0} (p : X → Bool) (xs : List X) → position_or_len p xs ≤ length xs
 found_within p xs = prefix_len-le-length (λ x. not (p x)) xs
 
--- the position, or else the length, is `position_or_len`
+-- the index of the first element that passes a test, or the list's length without one, is `position_or_len`
 pub found_or_len : {X : Type 0} (p : X → Bool) (xs : List X) → unwrap_or (position p xs) (length xs) ≡ position_or_len p xs
 found_or_len p xs = placed (nat_lt (position_or_len p xs) (length xs)) (position_or_len p xs) (length xs) refl (found_within p xs)
 
 -- ---- words
 
--- the words after the first `skip` bytes are those of the rest
+-- words_after gives the words of what is left of a line after its first `skip` bytes
 pub words_after-drop : (skip : ℕ) (line : List ℕ) → words_after skip line ≡ words (drop skip line)
 unfolding words_after
 words_after-drop zero line = refl
@@ -49,17 +49,17 @@ pub words-blank : (b : ℕ) (bs : List ℕ) → is_blank b ≡ true → words (b
 unfolding words_after
 words-blank b bs h = cond-true (is_blank b) _ _ h
 
--- a comment has no words
+-- a line that begins with a semicolon has no words
 pub words-comment : (bs : List ℕ) → words (semicolon ∷ bs) ≡ []
 unfolding words_after
 words-comment bs = refl
 
--- the first word after an opening quote ends at the next quote
+-- the first word of a line that begins with a quote ends at the next quote, and the other words come after that
 pub words-quoted : (bs : List ℕ) → words (quote ∷ bs) ≡ record { bytes = before_first is_quote bs; quoted = true } ∷ words (drop 1 (drop (position_or_len is_quote bs) bs))
 unfolding words_after
 words-quoted bs = ap (λ ws. record { bytes = before_first is_quote bs; quoted = true } ∷ ws) (words_after-drop (position_or_len is_quote bs + 1) bs ∙ ap words (sym (drop-drop 1 (position_or_len is_quote bs) bs)))
 
--- a byte that doesn't end a word is a part of it
+-- what follows a word of 1 + n bytes in a line, if its first byte b doesn't end words, is bs without its first n bytes
 drop-bare : (t : Bool) (n b : ℕ) (bs : List ℕ) → t ≡ false → drop (cond (not t) (1 + n) 0 - 1) bs ≡ drop (cond (not t) (1 + n) 0) (b ∷ bs)
 drop-bare true n b bs h = absurd (true≢false h)
 drop-bare false n b bs h =
@@ -81,7 +81,7 @@ pub words-bare_line : (line : List ℕ) → 0 < length line → ends_word (get_o
 words-bare_line [] p h = absurd (omega arith)
 words-bare_line (b ∷ bs) p h = words-bare b bs h
 
--- what follows a closing quote, if it is there, is the rest without its first byte
+-- the rest of a line after a closing quote, if it is there, is the rest from the quote on without its first byte
 pub behind_closing : (bs : List ℕ) (closing : ℕ) → closing ≡ min (length bs) 1 → take (length bs - closing) (drop closing bs) ≡ drop 1 bs
 behind_closing bs closing e = take_rest bs closing ∙ ap (λ n. drop n bs) (e ∙ min_comm (length bs) 1) ∙ drop_min 1 bs
 
@@ -93,15 +93,15 @@ digit_value_of b h = grind (arith, nat_tests)
 pub one_digit_more : (bytes : List ℕ) (i : ℕ) → i < length bytes → is_ascii_digit (get_or bytes i 0) ≡ true → digits_value 10 (take (i + 1) bytes) ≡ digits_value 10 (take i bytes) * 10 + (get_or bytes i 0 - 48)
 one_digit_more bytes i h digit = digits_value_more 10 bytes i h ∙ ap (λ n. digits_value 10 (take i bytes) * 10 + n) (digit_value_of (get_or bytes i 0) digit)
 
--- from a semicolon on there are no words
+-- the rest of a line from a semicolon on has no words
 pub comment_at : (line : List ℕ) (i : ℕ) → i < length line → get_or line i 0 ≡ semicolon → words (drop i line) ≡ []
 comment_at line i h e = at_drop_more words line i 0 h ∙ ap (λ b. words (b ∷ drop (i + 1) line)) e ∙ words-comment (drop (i + 1) line)
 
--- from a blank on the words are those after it
+-- the rest of a line from a blank on has the words of the rest after the blank
 pub blank_at : (line : List ℕ) (i : ℕ) → i < length line → is_blank (get_or line i 0) ≡ true → words (drop (i + 1) line) ≡ words (drop i line)
 blank_at line i h e = sym (at_drop_more words line i 0 h ∙ words-blank (get_or line i 0) (drop (i + 1) line) e)
 
--- from the end of a line on there are no words
+-- the rest of a line from its end on has no words
 pub end_of_words : (line : List ℕ) (i : ℕ) → length line ≤ i → words (drop i line) ≡ []
 end_of_words line i h = at_drop_all words line i h ∙ words-nil
 

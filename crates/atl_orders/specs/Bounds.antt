@@ -10,7 +10,7 @@ use Rattle.atl_orders.specs.declared.order.Operands.TheVariants as operands
 use Rattle.atl_orders.specs.Orders.{OperandsValue, OrderValue}
 use Rattle.atl_orders.specs.Mailing.{EntryValue, Reading, reading}
 
--- a number is from 1 to most
+-- a number is from 1 to `most`
 abbrev pub IsWithin : ℕ → ℕ → Type 0
 IsWithin most n = (1 ≤ n) × (n ≤ most)
 
@@ -27,7 +27,7 @@ abbrev pub IsUnitRef : UnitRef → Type 0
 IsUnitRef (Number n) = IsNumber n
 IsUnitRef (Alias alias) = IsAlias alias
 
--- the operands of an order are in bounds: numbers in range, names by the rule, and things that this world has
+-- the operands of an order are in bounds: numbers in range, names by the rule, and things that a world has
 abbrev pub AreOperandsOf : WorldValue → OperandsValue → Type 0
 AreOperandsOf world operands.Nothing = Unit {0}
 AreOperandsOf world (operands.Alias alias) = IsAlias alias
@@ -45,16 +45,16 @@ AreOperandsOf world (operands.Kind (Some kind)) = kind < length world.kinds
 AreOperandsOf world (operands.Skill skill) = skill < length world.skills
 AreOperandsOf world (operands.Item item) = item < length world.items
 
--- the operands of an order are in bounds, in this world
+-- an order is in bounds: its operands have numbers in range, names by the rule, and things that a world has
 abbrev pub IsOrderOf : WorldValue → OrderValue → Type 0
 IsOrderOf world order_value = AreOperandsOf world order_value.operands
 
--- an order is in bounds, in this world, and the reference to the unit that it is for is in range
+-- an order of a mailing is in bounds: its operands, and the reference to the unit that it is for
 pub record IsEntry (world : WorldValue) (e : EntryValue) : Type 0 where
   pub target : IsUnitRef e.target
   pub order : IsOrderOf world e.order_value
 
--- the line numbers of the orders are strictly ascending, and all are above n
+-- the line numbers of a mailing's orders are strictly ascending, and all are above n
 abbrev pub LinesRise : ℕ → List EntryValue → Type 0
 LinesRise n [] = Unit {0}
 LinesRise n (e ∷ es) = (n < e.line) × LinesRise e.line es

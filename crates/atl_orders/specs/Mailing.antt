@@ -50,7 +50,7 @@ faction_of [] = None
 faction_of (w ∷ []) = None
 faction_of (w ∷ v ∷ ws) = not_zero (number_of last_faction v.bytes)
 
--- what a header gives: its faction, and the lines after it, of which the first has the number `next`
+-- what a header gives: its faction's number, and the lines after it, of which the first has the number `next`
 pub record HeaderValue : Type 0 where
   pub faction : ℕ
   pub next : ℕ
@@ -61,7 +61,7 @@ abbrev pub header_line : ℕ → List (List ℕ) → Option ℕ → Result Heade
 header_line n rest None = Err BadHeader
 header_line n rest (Some faction) = Ok (record { faction = faction; next = n + 1; rest = rest })
 
--- what the first header of these lines gives, else NoHeader or BadHeader; the first line has the number n
+-- what the first header in a list of lines gives, else NoHeader or BadHeader; the first line has the number n
 unfoldable pub header_from : ℕ → List (List ℕ) → Result HeaderValue MailFault
 header_from n [] = Err NoHeader
 header_from n (line ∷ rest) =
@@ -89,7 +89,7 @@ reading world text =
     if nat_lt most_bytes (length text) then Err TooLong
     else after_header world (header_from 1 (lines text))
 
--- a text is a mailing of this faction: it isn't too long, and its header names the faction
+-- a text is a mailing of a faction: it isn't too long, and its header names the faction
 pub record IsMailingOf (faction : ℕ) (text : List ℕ) : Type 0 where
   pub short : length text ≤ most_bytes
   pub header : (next : ℕ) × (rest : List (List ℕ)) × (header_from 1 (lines text) ≡ Ok (record { faction = faction; next = next; rest = rest }))
@@ -104,11 +104,12 @@ entry_value text e = record { line = e.line; target = e.target; order_value = or
 abbrev pub reading_of : Mailing → Reading
 reading_of m = record { faction = m.faction; entries = map (entry_value m.text) m.entries; faults = m.faults }
 
--- a mailing is exactly what its own text gives with this world
+-- a mailing that the code returned is exactly what its own text gives with a world
 abbrev pub IsReadWith : WorldValue → Mailing → Type 0
 IsReadWith world m = reading world m.text ≡ Ok (reading_of m)
 
--- A call returned exactly `read`, with its value mapped by `view`; or it returned Memory, and `read` can be anything.
+-- A call returned what the definition gives, which is `read`: its fault, or its value, compared by `view`; or it
+-- returned Memory, whatever `read` is.
 abbrev pub Reads : {X Y : Type 0} → (X → Y) → Result X MailFault → Result Y MailFault → Type 0
 Reads view (Ok x) read = read ≡ Ok (view x)
 Reads view (Err Memory) read = Unit {0}

@@ -12,7 +12,7 @@ use Rattle.atl_orders.specs.declared.fault.LineFault.{LineFault}
 use Rattle.atl_orders.specs.declared.fault.LineFault.TheVariants.{BadNumber, UnknownThing, MissingWord, BadAlias, BadDirection}
 use Rattle.atl_orders.specs.Words.{WordText, is_word, number_of}
 
--- the value of an option as a result, or this fault if there is none
+-- the value of an option as a result, or `fault` if it has none
 abbrev pub or_fault : {X : Type 0} → LineFault → Option X → Result X LineFault
 or_fault fault None = Err fault
 or_fault fault (Some x) = Ok x
@@ -27,7 +27,7 @@ abbrev pub word_at : List WordText → Result (WordText × List WordText) LineFa
 word_at [] = Err MissingWord
 word_at (w ∷ ws) = Ok (w, ws)
 
--- the next word as a number from 1 to most, and the words after it; else MissingWord or this fault
+-- the next word as a number from 1 to `most`, and the words after it; else MissingWord or `fault`
 unfoldable pub count_at : ℕ → LineFault → List WordText → Result (ℕ × List WordText) LineFault
 count_at most fault ws = do
   w ← word_at ws
@@ -92,11 +92,11 @@ direction_at ws = do
 
 -- ---- units up to the line's end
 
--- the unit whose number, from 1 to 999,999,999, this word writes; else BadNumber
+-- the unit whose number, from 1 to 999,999,999, a word writes; else BadNumber
 abbrev pub numbered : WordText → Result UnitRef LineFault
 numbered w = or_fault BadNumber (not_zero (number_of most_number w.bytes)) >>= λ n. Ok (Number n)
 
--- the unit whose alias, from 1 to 9,999, this word after NEW writes; else BadAlias
+-- the unit whose alias, from 1 to 9,999, a word after NEW writes; else BadAlias
 abbrev pub new_unit_ref : WordText → Result UnitRef LineFault
 new_unit_ref w = or_fault BadAlias (not_zero (number_of last_alias w.bytes)) >>= λ n. Ok (Alias n)
 

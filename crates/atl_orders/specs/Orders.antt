@@ -145,7 +145,7 @@ read_operands world shapes.Kind ws = read_kind world ws
 read_operands world shapes.Skill ws = read_skill world ws
 read_operands world shapes.Item ws = read_item world ws
 
--- the order with this verb and these operands
+-- the order that has a verb and its operands
 abbrev pub order_of : Verb → OperandsValue → OrderValue
 order_of verb named = record { verb = verb; operands = named }
 

@@ -35,11 +35,15 @@ keyword_of w =
 
 -- the effect of a line: nothing, a fault, or an order for a unit
 pub data Effect : Type 0 where
+  -- no order and no fault
   nothing : Effect
+  -- the fault of the line
   faulty : LineFault → Effect
+  -- an order, and the unit that it is for
   says : UnitRef → OrderValue → Effect
 
--- what reading a line gives: its effect, the reader's state after it (`place`), and the aliases given so far
+-- the step of a line: what reading it gives, which is its effect, the reader's state after it (`place`), and the
+-- aliases given so far
 pub record LineStep : Type 0 where
   pub effect : Effect
   pub place : ReaderState
@@ -69,7 +73,7 @@ end_step (At n) given = record { effect = faulty EndAlone; place = At n; given =
 end_step (Forming parent alias) given = record { effect = nothing; place = At parent; given = given }
 end_step (Skipping parent) given = record { effect = nothing; place = outside parent; given = given }
 
--- the order FORM with this alias
+-- the order FORM with an alias
 abbrev pub form_value : ℕ → OrderValue
 form_value alias = order_of verbs.Form (operands.Alias alias)
 
@@ -88,7 +92,7 @@ form_step (At n) given ws = block_step n given (alias_at ws)
 form_step (Forming parent alias) given ws = record { effect = faulty NestedForm; place = Forming parent alias; given = given }
 form_step (Skipping parent) given ws = record { effect = faulty NestedForm; place = Skipping parent; given = given }
 
--- the effect of an order's line for this unit: the order, or the fault of its words
+-- the effect of an order's line, given the unit that it is for: the order, or the fault of its words
 abbrev pub effect_for : UnitRef → Result OrderValue LineFault → Effect
 effect_for unit (Ok order_value) = says unit order_value
 effect_for unit (Err fault) = faulty fault

@@ -24,11 +24,11 @@ use Rattle.atl_orders.specs.Orders.{OrderValue, said_by}
 use Rattle.atl_orders.specs.Reading.{is_plain, keyword_of, Effect, nothing, faulty, says, form_value, target, outside, LineStep, line_step}
 use Rattle.atl_orders.specs.Mailing.{EntryValue, entry_of, fault_of, effects, faction_of, Reading, reading}
 
--- a step: the effect of a line, the reader's state after it, and the aliases given so far
+-- the step of a line (`LineStep`) made of its effect, the reader's state after it, and the aliases given so far
 abbrev pub step : Effect → ReaderState → (ℕ → Bool) → LineStep
 step effect place given = record { effect = effect; place = place; given = given }
 
--- the reader's state after the open block, None if no block is open
+-- the reader's state once the open block is closed, None if no block is open
 abbrev pub outer : ReaderState → Option ReaderState
 outer Nowhere = None
 outer (At n) = None
@@ -41,35 +41,43 @@ Leads w k = keyword_of w ≡ Some k
 
 -- the rules for a line with words, by the first word w: the line has the step s
 pub data WordsSay (world : WorldValue) (place : ReaderState) (given : ℕ → Bool) (w : WordText) (ws : List WordText) (s : LineStep) : Type 0 where
-  -- UNIT: further orders are for its unit, and an open block ends; on a fault they are for no unit
+  -- UNIT with a number: further orders are for the unit of this number, and an open block ends
   unit_named : Leads w keywords.Unit → (n : ℕ) (rest : List WordText) → number_at ws ≡ Ok (n, rest)
       → s ≡ step nothing (At n) given → WordsSay world place given w ws s
+  -- UNIT with a faulty number: the line has this fault, further orders are for no unit, and an open block ends
   unit_faulty : Leads w keywords.Unit → (fault : LineFault) → number_at ws ≡ Err fault
       → s ≡ step (faulty fault) Nowhere given → WordsSay world place given w ws s
-  -- END: the open block is closed
+  -- END in a block: the block is closed
   block_closed : Leads w keywords.End → (out : ReaderState) → outer place ≡ Some out
       → s ≡ step nothing out given → WordsSay world place given w ws s
+  -- END outside of blocks: EndAlone
   end_alone : Leads w keywords.End → outer place ≡ None
       → s ≡ step (faulty EndAlone) place given → WordsSay world place given w ws s
-  -- FORM: inside a block it is faulty, and the block stays open; any other fault opens a block that is skipped
+  -- FORM in a block: NestedForm, and the block stays open
   form_nested : Leads w keywords.Form → (out : ReaderState) → outer place ≡ Some out
       → s ≡ step (faulty NestedForm) place given → WordsSay world place given w ws s
+  -- FORM where no unit is named: NoUnit, and a block opens that is skipped
   form_nowhere : Leads w keywords.Form → place ≡ Nowhere
       → s ≡ step (faulty NoUnit) (Skipping None) given → WordsSay world place given w ws s
+  -- FORM with a faulty alias: the line has this fault, and a block opens that is skipped
   form_faulty : Leads w keywords.Form → (n : ℕ) → place ≡ At n → (fault : LineFault) → alias_at ws ≡ Err fault
       → s ≡ step (faulty fault) (Skipping (Some n)) given → WordsSay world place given w ws s
+  -- FORM with an alias that was given before: BadAlias, and a block opens that is skipped
   form_again : Leads w keywords.Form → (n : ℕ) → place ≡ At n
       → (alias : ℕ) (rest : List WordText) → alias_at ws ≡ Ok (alias, rest) → given alias ≡ true
       → s ≡ step (faulty BadAlias) (Skipping (Some n)) given → WordsSay world place given w ws s
+  -- FORM with a new alias: the order FORM for the named unit; the alias is given now, and the new unit's block opens
   form_new : Leads w keywords.Form → (n : ℕ) → place ≡ At n
       → (alias : ℕ) (rest : List WordText) → alias_at ws ≡ Ok (alias, rest) → given alias ≡ false
       → s ≡ step (says (Number n) (form_value alias)) (Forming n alias) (with_alias given alias) → WordsSay world place given w ws s
-  -- an order of the order table: it is for the unit that is named, if there is one and its words have no fault
+  -- an order where no unit is named, or in a block that is skipped: NoUnit
   order_nowhere : (verb : Verb) → Leads w (keywords.Order verb) → target place ≡ None
       → s ≡ step (faulty NoUnit) place given → WordsSay world place given w ws s
+  -- an order whose words have a fault: the line has this fault
   order_faulty : (verb : Verb) → Leads w (keywords.Order verb) → (unit : UnitRef) → target place ≡ Some unit
       → (fault : LineFault) → said_by world verb ws ≡ Err fault
       → s ≡ step (faulty fault) place given → WordsSay world place given w ws s
+  -- an order whose words have no fault: it is for the named unit, or in a block for the new unit
   order_said : (verb : Verb) → Leads w (keywords.Order verb) → (unit : UnitRef) → target place ≡ Some unit
       → (order_value : OrderValue) → said_by world verb ws ≡ Ok order_value
       → s ≡ step (says unit order_value) place given → WordsSay world place given w ws s
@@ -77,21 +85,27 @@ pub data WordsSay (world : WorldValue) (place : ReaderState) (given : ℕ → Bo
   unknown : keyword_of w ≡ None
       → s ≡ step (faulty UnknownOrder) place given → WordsSay world place given w ws s
 
--- the rules for one line: the line has the step s
+-- the rules for one line of a mailing: the line has the step s
 pub data LineSays (world : WorldValue) (place : ReaderState) (given : ℕ → Bool) (line : List ℕ) (s : LineStep) : Type 0 where
+  -- a line with a byte that no line may have: BadByte
   bad_byte : list_all is_plain line ≡ false
       → s ≡ step (faulty BadByte) place given → LineSays world place given line s
+  -- a line without words, such as a comment: nothing
   no_word : list_all is_plain line ≡ true → words line ≡ []
       → s ≡ step nothing place given → LineSays world place given line s
+  -- a line with words: what the rules for its words (`WordsSay`) say
   some_words : list_all is_plain line ≡ true → (w : WordText) (ws : List WordText) → words line ≡ w ∷ ws
       → WordsSay world place given w ws s → LineSays world place given line s
 
 -- the rules for the lines after the header: which orders and which faulty lines they give; the first line's number,
 -- the reader's state and the given aliases come in front of the lines
 pub data BodySays (world : WorldValue) : ℕ → ReaderState → (ℕ → Bool) → List (List ℕ) → List EntryValue → List FaultyLine → Type 0 where
+  -- where no line is left: no orders and no faulty lines
   text_ended : (n : ℕ) (place : ReaderState) (given : ℕ → Bool) → BodySays world n place given [] [] []
+  -- a line that begins with `#END`: no orders and no faulty lines, from this line on
   orders_ended : (n : ℕ) (place : ReaderState) (given : ℕ → Bool) (line : List ℕ) (rest : List (List ℕ))
       → begins (codes "#END") (words line) ≡ true → BodySays world n place given (line ∷ rest) [] []
+  -- any other line: its order or its fault, and then those of the lines after it
   one_line : (n : ℕ) (place : ReaderState) (given : ℕ → Bool) (line : List ℕ) (rest : List (List ℕ))
       → begins (codes "#END") (words line) ≡ false
       → (s : LineStep) → LineSays world place given line s
@@ -102,11 +116,11 @@ pub data BodySays (world : WorldValue) : ℕ → ReaderState → (ℕ → Bool) 
 abbrev pub is_header : List ℕ → Bool
 is_header line = begins (codes "#ATLANTIS") (words line)
 
--- no line is a header
+-- no line of a list is a header
 abbrev pub HaveNoHeader : List (List ℕ) → Type 0
 HaveNoHeader lines = All (λ line. is_header line ≡ false) lines
 
--- `header` is the first header of these lines, with the lines `before` above it and the lines `behind` below it
+-- `header` is the first header in a list of lines, with the lines `before` above it and the lines `behind` below it
 pub record HaveHeader (lines before : List (List ℕ)) (header : List ℕ) (behind : List (List ℕ)) : Type 0 where
   pub whole : lines ≡ before ++ header ∷ behind
   pub leads : is_header header ≡ true
@@ -114,14 +128,18 @@ pub record HaveHeader (lines before : List (List ℕ)) (header : List ℕ) (behi
 
 -- the rules for a whole text: it is read as `read`, a mailing or a fault
 pub data TextSays (world : WorldValue) (text : List ℕ) (read : Result Reading MailFault) : Type 0 where
+  -- a text of more than most_bytes bytes: TooLong
   too_long : most_bytes < length text
       → read ≡ Err TooLong → TextSays world text read
+  -- a text without a header: NoHeader
   no_header : length text ≤ most_bytes → HaveNoHeader (lines text)
       → read ≡ Err NoHeader → TextSays world text read
+  -- a text whose first header names no faction: BadHeader
   bad_header : length text ≤ most_bytes
       → (before : List (List ℕ)) (header : List ℕ) (behind : List (List ℕ)) → HaveHeader (lines text) before header behind
       → faction_of (words header) ≡ None
       → read ≡ Err BadHeader → TextSays world text read
+  -- a text whose first header names a faction: a mailing of this faction, with what the lines below the header give
   mailing : length text ≤ most_bytes
       → (before : List (List ℕ)) (header : List ℕ) (behind : List (List ℕ)) → HaveHeader (lines text) before header behind
       → (faction : ℕ) → faction_of (words header) ≡ Some faction

@@ -7,7 +7,7 @@ pub record StartsWith (text front : List ℕ) : Type 0 where
   pub back : List ℕ
   pub whole : text ≡ front ++ back
 
--- the bytes are a part of the line, and from their first byte on the line has `behind` bytes
+-- bytes are a part of a line, and from their first byte on the line has `behind` bytes
 pub record IsPartOf (line bytes : List ℕ) (behind : ℕ) : Type 0 where
   pub front : List ℕ
   pub back : List ℕ
@@ -19,7 +19,7 @@ pub record EndsWith (line rest : List ℕ) : Type 0 where
   pub front : List ℕ
   pub whole : line ≡ front ++ rest
 
--- `rest` is a part of the text, and ends at the index `place` of the text
+-- `rest` is a part of a text, and ends at the index `place` of the text
 pub record EndsAt (text : List ℕ) (place : ℕ) (rest : List ℕ) : Type 0 where
   pub front : List ℕ
   pub back : List ℕ

@@ -35,15 +35,15 @@ abbrev pub view_of_result : {X Y : Type 0} → (X → Y) → Result X LineFault 
 view_of_result view (Ok x) = Ok (view x)
 view_of_result view (Err e) = Err e
 
--- a call returned exactly `read`, with its value mapped by `view`
+-- a call returned what the definition gives, which is `read`: its fault, or its value, compared by `view`
 abbrev pub Gives : {X Y : Type 0} → (X → Y) → Result X LineFault → Result Y LineFault → Type 0
 Gives view result read = read ≡ view_of_result view result
 
--- the units `front` and then those of the result `units`; or the fault of that result
+-- the units `front`, and then those of the result `units`; or the fault of `units`
 abbrev pub with_units : List UnitRef → Result (List UnitRef) LineFault → Result (List UnitRef) LineFault
 with_units front units = units >>= λ us. Ok (front ++ us)
 
--- the aliases that FORM lines have given, as the code keeps them, as a test of each number
+-- the set of given aliases that the code holds, as a test of each number
 abbrev pub alias_set : Aliases → ℕ → Bool
 alias_set aliases k = slice_index_or aliases.given.items k false
 

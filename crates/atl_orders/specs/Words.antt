@@ -34,15 +34,15 @@ words_after zero (b ∷ bs) =
     else if is_quote b then record { bytes = before_first is_quote bs; quoted = true } ∷ words_after (position_or_len is_quote bs + 1) bs
     else record { bytes = before_first ends_word (b ∷ bs); quoted = false } ∷ words_after (position_or_len ends_word (b ∷ bs) - 1) bs
 
--- the words of a line
+-- the words of a line, up to a comment
 abbrev pub words : List ℕ → List WordText
 words line = words_after zero line
 
--- whether a word is this keyword, in any case
+-- whether a word is a keyword, ignoring ASCII case
 abbrev pub is_word : List ℕ → WordText → Bool
 is_word name w = str_eq_ignore_ascii_case w.bytes name
 
--- whether the first of the words is this keyword, in any case
+-- whether the first word of a line is a keyword, ignoring ASCII case
 abbrev pub begins : List ℕ → List WordText → Bool
 begins name [] = false
 begins name (w ∷ ws) = is_word name w

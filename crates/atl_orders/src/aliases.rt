@@ -6,7 +6,7 @@ ghost use Rattle.atl_orders.specs.Limits.{last_alias};
 use crate::limits::LAST_ALIAS;
 use std::alloc::{AllocError, Global};
 
-/// A vector of `count` flags, all false.
+/// A vector of `count` flags, one for each number from 0 on, all false: no alias is given.
 fn no_aliases(alloc: Global, count: usize) -> Result<Vec<bool>, AllocError>
     ensures len { IfOk result (λ flags. vec_len flags ≡ count) }
     ensures clear { IfOk result (λ flags. (k : ℕ) → slice_index_or flags.items k false ≡ false) }
@@ -18,6 +18,7 @@ fn no_aliases(alloc: Global, count: usize) -> Result<Vec<bool>, AllocError>
 /// The set of the aliases, from 1 to 9,999, that the FORM lines so far have given.
 #[derive(Drop)]
 pub struct Aliases {
+    // Whether each number up to `LAST_ALIAS` is an alias that was given.
     given: Vec<bool>,
     ghost each: { vec_len given ≡ last_alias + 1 },
 }
@@ -26,7 +27,7 @@ impl Aliases {
     ghost use Rattle.atl_orders.specs.Aliasing.{no_alias, with_alias};
     ghost use Rattle.atl_orders.specs.Views.{alias_set};
 
-    /// The empty set.
+    /// The empty set of aliases, with memory for all of them.
     pub fn new(alloc: Global) -> Result<Aliases, AllocError>
         ensures { IfOk result (λ made. alias_set made ≡ no_alias) }
     {

@@ -8,7 +8,7 @@ use std::alloc::{AllocError, AllocFailed};
 use std::error::Error;
 use std::fmt;
 
-/// What is wrong with a line of a mailing. The line gives no order, and the other lines count.
+/// The fault of a line of a mailing: why it gives no order. The other lines count.
 /// See docs/FORMATS.md, "Line faults".
 #[derive(Drop, Clone, Copy, Debug, PartialEq, Eq)]
 pub enum LineFault {
@@ -47,7 +47,7 @@ impl LineFault {
         self as u8
     }
 
-    /// The fault's name, as reports print it.
+    /// The name of the fault, such as `BadNumber`, as reports print it.
     pub fn name(self) -> &'static str
         ensures { result.now ≡ fault_name self }
     {
@@ -94,7 +94,7 @@ pub enum MailFault {
 impl MailFault {
     ghost use Rattle.atl_orders.specs.Faulting.{mail_fault_number};
 
-    /// The number of a refused text, from 1 to 3; `Memory` has none.
+    /// The number of the fault, from 1 to 3; `Memory` has none.
     pub fn number(self) -> Option<u8>
         ensures { result ≡ mail_fault_number self }
     {
@@ -119,6 +119,7 @@ impl fmt::Display for MailFault {
 
 impl Error for MailFault {}
 
+/// A failed allocation becomes the fault `Memory`.
 impl From<AllocError> for MailFault {
     ghost from_gives = { λ _ e. e ≡ Memory };
 
@@ -127,6 +128,7 @@ impl From<AllocError> for MailFault {
     }
 }
 
+/// A failed allocation, which gives back a value, becomes the fault `Memory`.
 impl<T: Drop> From<AllocFailed<T>> for MailFault {
     ghost from_gives = { λ _ e. e ≡ Memory };
 

@@ -9,14 +9,14 @@ ghost use Rattle.atl_orders.specs.Standing.{StartsWith, EndsWith};
 
 use crate::letters::{CARRIAGE_RETURN, LINE_FEED};
 
-/// The index of the first line feed, `None` if there is none.
+/// The index of the first line feed in a text, `None` if it has none.
 fn first_feed(bytes: &[u8]) -> Option<usize>
     ensures { result ≡ position is_feed bytes.now }
 {
     bytes.iter().position(|byte| *byte == LINE_FEED)
 }
 
-/// The index of the first line feed, or the length if there is none.
+/// The index of the first line feed in a text, or the text's length if it has none.
 #[tactic(auto, using(crate::proofs::WordLaws::found_or_len, crate::proofs::WordLaws::found_within))]
 fn feed_at(bytes: &[u8]) -> usize
     ensures value { result ≡ position_or_len is_feed bytes.now }

@@ -94,7 +94,7 @@ fn part(text: &[u8], start: usize, end: usize) -> &[u8]
     &behind[..end.saturating_sub(start).min(behind.len())]
 }
 
-/// The bytes of the name that a word means: in a word without quotes `_` is a space.
+/// A copy of a word's bytes as the name that the word means: in one without quotes `_` is a space.
 fn letters_of(alloc: Global, bytes: &[u8], quoted: bool) -> Result<Vec<u8>, AllocError>
     ensures { IfOk result (λ letters. letters.items ≡ name_of bytes.now quoted) }
 {
@@ -104,7 +104,8 @@ fn letters_of(alloc: Global, bytes: &[u8], quoted: bool) -> Result<Vec<u8>, Allo
         .collect(alloc)
 }
 
-/// The faction that a header names, from 1 to `LAST_FACTION`, `None` if it names none.
+/// The number of the faction that a header line names, from 1 to `LAST_FACTION`; `None` if it names
+/// none.
 fn faction_of(line: &[u8]) -> Option<u32>
     ensures { result ≡ faction_of (words line.now) }
 {
@@ -172,7 +173,9 @@ pub fn is_mailing_of(faction: u32, text: &[u8]) -> bool
 
 /// The orders and the faulty lines that the lines after a header give.
 struct Body {
+    /// The orders, in the order of their lines.
     entries: Sequence<Entry>,
+    /// The faulty lines, in their order.
     faults: Sequence<FaultyLine>,
 }
 
@@ -185,7 +188,7 @@ impl Drop for Body {
 impl Body {
     ghost use Rattle.atl_orders.specs.Views.{body_entries};
 
-    /// The mailing of this faction, with this text and these orders and faulty lines.
+    /// Makes a mailing of the body's orders and faulty lines, with its faction and its text.
     fn into_mailing(self, faction: u32, text: Sequence<u8>) -> Mailing
         ensures { result ≡ record
             { faction = faction; text = text; entries = self.entries; faults = self.faults } }

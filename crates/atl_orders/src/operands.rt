@@ -14,7 +14,7 @@ use crate::words::{Word, is_same, next_word, number};
 use atl_tables::{Direction, Sequence, World};
 use std::alloc::{AllocError, Global};
 
-/// The next word, and the rest of the line after it; else MissingWord.
+/// The next word of a line, and the rest of the line after it; else MissingWord.
 pub fn word_at(line: &[u8]) -> Result<(Word<'_>, &[u8]), LineFault>
     ensures word { Gives (λ x. (word_text x.0, words x.1.now)) result (word_at (words line.now)) }
     ensures stands { IfOk result (λ x. IsPartOf line.now x.0.bytes.now x.0.behind) }
@@ -23,8 +23,8 @@ pub fn word_at(line: &[u8]) -> Result<(Word<'_>, &[u8]), LineFault>
     next_word(line).ok_or(LineFault::MissingWord)
 }
 
-/// The next word as a number from 1 to `most`, and the rest of the line. Else MissingWord or this
-/// fault.
+/// The next word as a number from 1 to `most`, and the rest of the line. Else MissingWord or
+/// `fault`.
 #[tactic(auto, unfolding(crate::specs::Operands::count_at))]
 fn count_at(line: &[u8], most: u32, fault: LineFault) -> Result<(u32, &[u8]), LineFault>
     requires { most ≤ most_number }

@@ -46,7 +46,7 @@ pub enum Operands<N = Span> {
     Nothing,
     /// The alias of a new unit, from 1 to `LAST_ALIAS`.
     Alias(u32),
-    /// Whether to set the flag, else to clear it.
+    /// Whether GUARD sets the unit's guard flag, else clears it.
     Flag(bool),
     /// A number: of a structure, a faction or men.
     Number(u32),
@@ -103,5 +103,6 @@ impl<N: Drop> Drop for Operands<N> {
 pub struct Order<N: Drop = Span> {
     /// The word that the order begins with.
     pub verb: Verb,
+    /// What the words after the verb name.
     pub operands: Operands<N>,
 }

@@ -190,8 +190,8 @@ fn read_item(world: &World, cursor: Cursor) -> Result<Operands, LineFault>
     Ok(Operands::Item(item))
 }
 
-/// What the words after a verb name, by the shape of its words in the order table. Else their first
-/// fault. Only units take memory; after AllocError nothing is known of the words.
+/// Reads the words after a verb by the verb's shape in the order table. Else their first fault.
+/// Only units take memory; after AllocError nothing is known of the words.
 fn read_operands(
     alloc: Global,
     world: &World,

@@ -20,7 +20,7 @@ use atl_tables::World;
 use atl_tables::letters::{SPACE, TILDE};
 use std::alloc::{AllocError, Global};
 
-/// The keyword that a line begins with.
+/// The keyword that a line of a mailing begins with: UNIT, END, FORM, or that of another order.
 #[derive(Drop, Clone, Copy, Debug, PartialEq, Eq)]
 pub enum Keyword {
     Unit,
@@ -51,7 +51,7 @@ pub enum LineResult {
     Says(UnitRef, Order),
 }
 
-/// Whether a line has only bytes that a mailing may have.
+/// Whether a line has no bytes but those that a line may have: tab, and from 32 to 126.
 fn is_plain(line: &[u8]) -> bool
     ensures { result ≡ list_all is_plain line.now }
 {
@@ -75,7 +75,7 @@ fn keyword_of(word: Word) -> Option<Keyword>
     }
 }
 
-/// What a UNIT line gives, and the next state, by the words after its keyword.
+/// What a UNIT line gives, and the reader's next state, by the words after its keyword.
 #[tactic(auto, unfolding(crate::specs::Reading::unit_step))]
 fn unit_line(line: &[u8]) -> (LineResult, ReaderState)
     ensures { (given : _) (text : List ℕ) → unit_step given (number_at (words line.now))
@@ -87,7 +87,7 @@ fn unit_line(line: &[u8]) -> (LineResult, ReaderState)
     }
 }
 
-/// What an END line gives, and the next state: the open block ends, else EndAlone.
+/// What an END line gives, and the reader's next state: the open block ends, else EndAlone.
 #[tactic(auto, unfolding(crate::specs::Reading::end_step))]
 fn end_line(place: ReaderState) -> (LineResult, ReaderState)
     ensures { (given : _) (text : List ℕ) → end_step place given
@@ -104,8 +104,8 @@ fn end_line(place: ReaderState) -> (LineResult, ReaderState)
     }
 }
 
-/// What a FORM line gives, and the next state, by the words after its keyword. It may add its
-/// alias.
+/// What a FORM line gives, and the reader's next state, by the words after its keyword. A FORM
+/// without fault adds its alias to `aliases`.
 #[tactic(auto, unfolding(crate::specs::Reading::form_step, crate::specs::Reading::block_step))]
 fn form_line(place: ReaderState, aliases: &mut Aliases, line: &[u8]) -> (LineResult, ReaderState)
     ensures { (text : List ℕ)
@@ -180,7 +180,8 @@ fn order_line(
     }
 }
 
-/// What a whole line gives, and the next state of the reader. It may add to the aliases.
+/// What a line of a mailing gives, and the reader's next state. A FORM without fault adds its alias
+/// to `aliases`.
 #[tactic(auto, using(crate::proofs::WordLaws::place_behind, crate::proofs::WordLaws::ends_shorter), unfolding(crate::specs::Reading::line_step, crate::specs::Reading::words_step, crate::specs::Reading::keyword_step))]
 pub fn read_line(
     alloc: Global,

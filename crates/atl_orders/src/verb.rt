@@ -72,24 +72,29 @@ pub enum Shape {
 pub enum Slot {
     /// The verbs that take the whole month.
     MonthLong,
+    /// SELL.
     Selling,
+    /// BUY.
     Buying,
+    /// TAX.
     Taxing,
+    /// RECRUIT.
     Recruiting,
 }
 
-/// A row of the order table. See docs/RULES.md, "Orders" and "Orders of a month".
+/// A row of the order table: what is fixed for one verb. See docs/RULES.md, "Orders" and "Orders of
+/// a month".
 #[derive(Drop, Clone, Copy, Debug)]
 pub struct Row {
     /// The keyword in capitals, as reports print it.
     pub keyword: &'static str,
-    /// What the words after it name.
+    /// What the words after the keyword name.
     pub shape: Shape,
     /// The slot that an order takes, if it takes one.
     pub slot: Option<Slot>,
 }
 
-/// The row of the order table with these three columns.
+/// A row of the order table with a keyword, a shape and a slot.
 fn table_row(keyword: &'static str, shape: Shape, slot: Option<Slot>) -> Row
     ensures { row_value result ≡ row keyword.now shape slot }
 {

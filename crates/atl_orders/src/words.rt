@@ -12,7 +12,7 @@ ghost use Rattle.atl_orders.specs.Standing.{IsPartOf, EndsWith};
 use crate::letters::{SEMICOLON, TAB};
 use atl_tables::letters::{QUOTE, SPACE};
 
-/// A word of a line.
+/// A word of a line: a part of the line without blanks, or in quotes.
 #[derive(Drop, Clone, Copy, Debug)]
 pub struct Word<'a> {
     /// The word's bytes, without the quotes around them.
@@ -34,7 +34,7 @@ pub struct Cursor<'a> {
     pub end: usize,
 }
 
-/// Whether a word is this keyword, ignoring ASCII case.
+/// Whether a word is a keyword, ignoring ASCII case.
 pub fn is_same(word: &[u8], name: &[u8]) -> bool
     ensures { result ≡ str_eq_ignore_ascii_case word.now name.now }
 {
@@ -48,14 +48,14 @@ fn is_quote(byte: u8) -> bool
     byte == QUOTE
 }
 
-/// The index of the first quotation mark, `None` if there is none.
+/// The index of the first quotation mark in a line, `None` if it has none.
 fn first_quote(bytes: &[u8]) -> Option<usize>
     ensures { result ≡ position is_quote bytes.now }
 {
     bytes.iter().position(|byte| is_quote(*byte))
 }
 
-/// The index of the first quotation mark, or the length if there is none.
+/// The index of the first quotation mark in a line, or the line's length if it has none.
 #[tactic(auto, using(crate::proofs::WordLaws::found_or_len, crate::proofs::WordLaws::found_within))]
 fn quote_at(bytes: &[u8]) -> usize
     ensures value { result ≡ position_or_len is_quote bytes.now }
@@ -149,7 +149,7 @@ pub fn next_word(line: &[u8]) -> Option<(Word<'_>, &[u8])>
     None
 }
 
-/// Whether the first word of a line is this keyword, in any case.
+/// Whether the first word of a line is a keyword, ignoring ASCII case.
 pub fn begins(line: &[u8], name: &[u8]) -> bool
     ensures { result ≡ begins name.now (words line.now) }
 {
