@@ -6,7 +6,7 @@ use atl_test_worlds::SMALL;
 /// (`none`: a good world).
 pub(crate) type Change = (&'static str, &'static str, &'static str);
 
-/// Edits of the small world; the first two replace all of it.
+/// Edits of the small world's text; the first two replace all of it.
 pub(crate) static SMALL_CHANGES: [Change; 26] = [
     (SMALL, "a = = b", "1 NotToml"),
     (SMALL, "", "2 Missing rules"),
@@ -64,7 +64,7 @@ pub(crate) static SMALL_CHANGES: [Change; 26] = [
     ),
 ];
 
-/// Edits of the small world cut off above its region: the key `region`.
+/// Edits of the small world's text without its region: the key `region`, missing or faulty.
 pub(crate) static HEAD_CHANGES: [Change; 4] = [
     ("[rules]", "region = 3\n[rules]", "3 WrongType region"),
     ("[rules]", "region = []\n[rules]", "4 OutOfRange region"),
@@ -72,7 +72,8 @@ pub(crate) static HEAD_CHANGES: [Change; 4] = [
     ("[rules]", "region = [1]\n[rules]", "3 WrongType region[0]"),
 ];
 
-/// Edits of the small world cut off above its terrain: the key `terrain`.
+/// Edits of the small world's text without terrain and region: the key `terrain`, missing or
+/// faulty.
 pub(crate) static RULES_CHANGES: [Change; 4] = [
     ("[rules]", "terrain = 3\n[rules]", "3 WrongType terrain"),
     ("[rules]", "terrain = []\n[rules]", "4 OutOfRange terrain"),
@@ -473,8 +474,8 @@ pub(crate) static MARKET_CHANGES: [Change; 12] = [
     ),
 ];
 
-/// Edits of the world with two equal markets: equal names and names of nothing, by which counts
-/// first.
+/// Edits of the world with two equal markets: names that come twice and names of nothing, and which
+/// of their faults counts first.
 pub(crate) static TWIN_CHANGES: [Change; 3] = [
     (
         "item = \"wood\"",
@@ -493,8 +494,8 @@ pub(crate) static TWIN_CHANGES: [Change; 3] = [
     ),
 ];
 
-/// Edits that give a region without markets a key `market`: a value of another type, or an inline
-/// array.
+/// Edits that give a region without markets the key `market` with a value of another type, or with
+/// an inline array.
 pub(crate) static ARRAY_CHANGES: [Change; 13] = [
     (
         "money = 500",
@@ -574,8 +575,8 @@ pub(crate) static TOO_MANY_MARKETS: [Change; 1] = [(
     "4 OutOfRange region[0].market",
 )];
 
-/// An edit: a piece of the text, what replaces it, and the first fault then in the second format
-/// and in the first.
+/// An edit: a piece of the world text, what replaces it, and the first fault of the new text in the
+/// second format and in the first.
 pub(crate) type TwoFaults = (&'static str, &'static str, &'static str, &'static str);
 
 /// Edits of the world with one market that make a fault of the market, which the first format

@@ -22,7 +22,7 @@ fn made_in_each_way(rt: &impl Abort, alloc: Global, text: &str) -> Result<(), Fa
     assert_text(rt, alloc, &Text::from_utf8(alloc, text.as_bytes())?, text)
 }
 
-/// Texts to make: empty, one letter, with a space, and beyond ASCII.
+/// The texts of which each `Text` is made: empty, one letter, with a space, and beyond ASCII.
 static TEXTS: [&str; 4] = ["", "a", "Big Bob", "\u{e9}\u{1f600}"];
 
 /// Each way of making a `Text` keeps its bytes, and so does a copy.

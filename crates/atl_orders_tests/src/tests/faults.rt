@@ -21,8 +21,8 @@ fn before(header: &str) -> &'static str {
     }
 }
 
-/// The fault that the first format reports where the second reports `fault`: none for a market's,
-/// which it ignores.
+/// The fault that the first format reports where the second reports `fault`: the same, but `none`
+/// for a fault of a market, since the first format ignores markets.
 fn old_fault(fault: &str) -> &str {
     if fault.contains(".market") {
         "none"
@@ -110,7 +110,7 @@ fn markets_are(
     assert_changes(rt, alloc, text.as_str(), changes)
 }
 
-/// Asserts both faults of each row of `TWO_FAULTS`.
+/// Asserts the first fault of each edit of `TWO_FAULTS`, in the second format and in the first.
 fn later_faults_are(rt: &impl Abort, alloc: Global) -> Result<(), Fail> {
     let one = with_markets(alloc, 1)?;
     for (from, to, second, first) in TWO_FAULTS.iter() {
@@ -176,7 +176,7 @@ struct Long {
     end: &'static str,
 }
 
-/// Nothing to append; the other values set what differs.
+/// A `Long` that appends nothing; the other ones take from it the pieces that they don't set.
 const EMPTY: Long = Long {
     front: "",
     open: "",
@@ -215,8 +215,8 @@ const MANY_KINDS: Long = Long {
     ..EMPTY
 };
 
-/// What is appended, how often, and the first fault: at the limit of a list the names come twice,
-/// beyond it there are too many.
+/// What is appended to the small world, how often, and the first fault: up to the limit of a list
+/// names come twice, beyond it there are too many.
 static MANY: [(Long, usize, &str); 11] = [
     (MANY_REGIONS, 1, "5 TwoNames region[1].number"),
     (MANY_REGIONS, 9_999, "5 TwoNames region[1].number"),
@@ -231,7 +231,7 @@ static MANY: [(Long, usize, &str); 11] = [
     (MANY_KINDS, 101, "4 OutOfRange kind"),
 ];
 
-/// Tables inside tables, n deep.
+/// The text of tables inside tables, n deep.
 const TABLES: Long = Long {
     front: "a = ",
     open: "{ a = ",
@@ -240,7 +240,7 @@ const TABLES: Long = Long {
     end: "",
 };
 
-/// Arrays inside arrays, n deep.
+/// The text of arrays inside arrays, n deep.
 const ARRAYS: Long = Long {
     front: "a = ",
     open: "[",
@@ -248,7 +248,7 @@ const ARRAYS: Long = Long {
     ..EMPTY
 };
 
-/// A header of a table whose key has n + 1 parts.
+/// The text of a table's header whose key has n + 1 parts.
 const HEADER: Long = Long {
     front: "[a",
     open: ".a",
@@ -256,7 +256,7 @@ const HEADER: Long = Long {
     ..EMPTY
 };
 
-/// A header of an array of tables whose key has n + 1 parts.
+/// The text of the header of an array of tables, whose key has n + 1 parts.
 const ARRAY_HEADER: Long = Long {
     front: "[[a",
     open: ".a",
@@ -264,7 +264,7 @@ const ARRAY_HEADER: Long = Long {
     ..EMPTY
 };
 
-/// A dotted key with n + 1 parts.
+/// The text of a dotted key with n + 1 parts.
 const DOTTED: Long = Long {
     front: "b",
     open: ".b",
@@ -272,7 +272,7 @@ const DOTTED: Long = Long {
     ..EMPTY
 };
 
-/// A dotted key of n + 1 parts below a header of n + 1 parts.
+/// The text of a dotted key of n + 1 parts below a table's header of n + 1 parts.
 const DOTTED_BELOW: Long = Long {
     front: "[a",
     open: ".a",
@@ -281,8 +281,8 @@ const DOTTED_BELOW: Long = Long {
     end: " = 1\n",
 };
 
-/// What is appended, n, and the first fault. Keys that the format doesn't name are ignored. A key
-/// of 80 parts below a header of 80 is 160 deep.
+/// What is appended to the small world, how deep (n), and the first fault. Keys that the format
+/// doesn't name are ignored. A key of 80 parts below a header of 80 is 160 deep.
 static NESTED: [(Long, usize, &str); 16] = [
     (TABLES, 80, "none"),
     (TABLES, 81, "1 NotToml"),
@@ -302,7 +302,7 @@ static NESTED: [(Long, usize, &str); 16] = [
     (DOTTED_BELOW, 79, "none"),
 ];
 
-/// The small world with `long` appended, its pieces repeated `times` times.
+/// The text of the small world with `long` appended, its pieces repeated `times` times.
 fn long_text(alloc: Global, long: &Long, times: usize) -> Result<String, Fail> {
     let Long {
         front,
@@ -316,7 +316,7 @@ fn long_text(alloc: Global, long: &Long, times: usize) -> Result<String, Fail> {
     Ok(format!(in alloc; "{SMALL}{front}{open}{inside}{close}{end}")?)
 }
 
-/// Asserts the first fault of each row's text.
+/// Asserts the first fault of the text that each row appends to the small world.
 fn long_texts_are(
     rt: &impl Abort,
     alloc: Global,
@@ -342,7 +342,7 @@ fn nested_texts(rt: HostRuntime) -> Result<(), Fail> {
     long_texts_are(&rt, rt.alloc(), &NESTED)
 }
 
-/// The small world with `count` regions, numbered from 1, instead of its own.
+/// The text of the small world with `count` regions, numbered from 1, instead of its own.
 fn with_regions(alloc: Global, count: u32) -> Result<String, Fail> {
     let mut text = String::from_str(alloc, before("[[region]]"))?;
     for number in 1..=count {

@@ -6,7 +6,7 @@ use std::alloc::Global;
 use std::process::Abort;
 use std::test::Fail;
 
-/// Items, skills and kinds whose names have one word, two words, or an underscore.
+/// The text of items, skills and kinds whose names have one word, two words, or an underscore.
 const NAMED: &str = r#"[[item]]
 name = "wood"
 weight = 0

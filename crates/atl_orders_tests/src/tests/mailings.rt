@@ -8,7 +8,7 @@ use std::alloc::Global;
 use std::process::Abort;
 use std::test::Fail;
 
-/// Appends each order of a mailing: its line, its unit, its verb and its operands.
+/// Appends each order of a mailing to a text: its line, its unit, its verb and its operands.
 fn tell_orders(alloc: Global, mailing: &Mailing, told: &mut String) -> Result<(), Fail> {
     for entry in mailing.entries.as_slice().iter() {
         let order = format!(in alloc; "{}: {:?} {:?}", entry.line, entry.target, entry.order.verb)?;
@@ -19,7 +19,7 @@ fn tell_orders(alloc: Global, mailing: &Mailing, told: &mut String) -> Result<()
     Ok(())
 }
 
-/// Appends each faulty line of a mailing: its number and its fault.
+/// Appends each faulty line of a mailing to a text: its number and its fault.
 fn tell_faults(alloc: Global, mailing: &Mailing, told: &mut String) -> Result<(), Fail> {
     for faulty in mailing.faults.as_slice().iter() {
         let fault = format!(in alloc; "{}: {};", faulty.line, faulty.fault)?;
@@ -28,7 +28,7 @@ fn tell_faults(alloc: Global, mailing: &Mailing, told: &mut String) -> Result<()
     Ok(())
 }
 
-/// The orders of a mailing as text, followed by its faulty lines.
+/// A mailing that was read as text: its orders, followed by its faulty lines.
 fn told_of(alloc: Global, mailing: &Mailing) -> Result<String, Fail> {
     let mut told = String::new(alloc);
     tell_orders(alloc, mailing, &mut told)?;
@@ -53,7 +53,7 @@ fn told(alloc: Global, world: &World, text: &[u8]) -> Result<String, Fail> {
     }
 }
 
-/// Asserts what a text is read as.
+/// Asserts which orders and faults, or which refusal, a text is read as.
 fn assert_read(
     rt: &impl Abort,
     alloc: Global,
@@ -251,13 +251,15 @@ static TEXTS: [(&str, &str); 10] = [
         "#ATLANTIS 1\nWORK\nUNIT 1\nEND\nFORM 1\nFORM 2\nEND\nFORM 1\nTAX\nEND\nGIVE 2 0 wood\n",
         "5: Number(1) Form Alias(1);2: 1 NoUnit;4: 9 EndAlone;6: 8 NestedForm;8: 7 BadAlias;9: 1 NoUnit;11: 3 BadNumber;",
     ),
-    // An alias is known before its FORM; orders in a block are the new unit's, behind it the parent's; a block without a unit
-    // outside; a UNIT line ends a block; lines behind `#END` are ignored.
+    // An alias is known before its FORM; orders in a block are the new unit's, after it the
+    // parent's; a block without a unit outside; a UNIT line ends a block; lines after `#END` are
+    // ignored.
     (
         "#END\n#atlantis \"0001\"\nFORM 2\nWORK\nEND\nEND\nUNIT 4\nPAY NEW 2 5\nFORM 2\nTAX\nEND\nFORM 3\nUNIT 4\nLEAVE\nUNIT 0\nTAX\n\"#END\" now\nTAX",
         "8: Number(4) Pay UnitAndNumber { to: Alias(2), number: 5 };9: Number(4) Form Alias(2);10: Alias(2) Tax Nothing;12: Number(4) Form Alias(3);14: Number(4) Leave Nothing;3: 1 NoUnit;4: 1 NoUnit;6: 9 EndAlone;15: 3 BadNumber;16: 1 NoUnit;",
     ),
-    // A carriage return before a line feed and at the end of the text is dropped, another one is a bad byte.
+    // A carriage return before a line feed and at the end of the text is dropped, another one is a
+    // bad byte.
     (
         "#ATLANTIS 1\r\nUNIT 1\r\n\tWORK\t\r\n\r\nTAX\r\r\nL\rEAVE\n;\nLEAVE\r",
         "3: Number(1) Work Nothing;8: Number(1) Leave Nothing;5: 6 BadByte;6: 6 BadByte;",
@@ -286,7 +288,7 @@ static LONG: [(&str, &str, usize, &str, &str); 8] = [
     ("", "x\n", 32_768, "", "refused 2"),
 ];
 
-/// Asserts what each whole text is read as.
+/// Asserts which orders and faults, or which refusal, each whole text is read as.
 fn texts_tell(
     rt: &impl Abort,
     alloc: Global,
@@ -299,7 +301,7 @@ fn texts_tell(
     Ok(())
 }
 
-/// The text of a front, a piece `times` times, and an end.
+/// A text made of a front, a piece that comes `times` times, and an end.
 fn repeated(
     alloc: Global,
     front: &str,
@@ -311,7 +313,7 @@ fn repeated(
     Ok(format!(in alloc; "{front}{middle}{end}")?)
 }
 
-/// Asserts what each long text is read as.
+/// Asserts which orders and faults, or which refusal, each long text is read as.
 fn long_texts_tell(
     rt: &impl Abort,
     alloc: Global,
@@ -355,8 +357,8 @@ fn words_of(alloc: Global, mailing: &Mailing) -> Result<String, Fail> {
     Ok(words)
 }
 
-/// Mailings, and what `words_of` says of each. A name is the text at its span, with `_` as a space
-/// where it is bare.
+/// Mailings, and the keywords and new names of the orders of each, as `words_of` prints them. A
+/// name is the text at its span, with `_` as a space where it is bare.
 static WORDS: [(&str, &str); 3] = [
     (
         "#ATLANTIS 1\nUNIT 7\nBOARD 1\nFORM 1\nEND\nRECRUIT 3",
@@ -372,7 +374,7 @@ static WORDS: [(&str, &str); 3] = [
     ),
 ];
 
-/// Asserts what `words_of` says of each mailing.
+/// Asserts the keywords and new names of the orders of each mailing of `WORDS`.
 fn words_are(rt: &impl Abort, alloc: Global, world: &World) -> Result<(), Fail> {
     for (text, wanted) in WORDS.iter() {
         let mailing = read_mailing(alloc, world, text.as_bytes())?;
@@ -415,13 +417,13 @@ fn spans_name(rt: &impl Abort, alloc: Global, world: &World) -> Result<(), Fail>
     Ok(())
 }
 
-/// The number of the faction that sent a mailing.
+/// The number of the faction in the mailing that a text is read as.
 fn faction_of(alloc: Global, world: &World, text: &[u8]) -> Result<usize, Fail> {
     let mailing = read_mailing(alloc, world, text)?;
     Ok(mailing.faction as usize)
 }
 
-/// Asserts all tables of this module, and the faction of two mailings.
+/// Asserts how all mailings in the tables of this module are read, and the faction of two more.
 fn all_is_read(rt: &impl Abort, alloc: Global, world: &World) -> Result<(), Fail> {
     forms_tell(rt, alloc, world)?;
     all_texts_tell(rt, alloc, world)?;

@@ -7,7 +7,7 @@ use std::alloc::Global;
 use std::process::Abort;
 use std::test::Fail;
 
-/// Asserts the markets of region 1 for the items 0 and 1, and of region 2 for item 0.
+/// Asserts which markets a world has in region 1 for the items 0 and 1, and in region 2 for item 0.
 fn markets_are(
     rt: &impl Abort,
     alloc: Global,
@@ -20,7 +20,7 @@ fn markets_are(
     assert_shown(rt, alloc, "markets", &told, wanted)
 }
 
-/// The wanted markets if region 1 has one for item 0 alone.
+/// What `markets_are` wants if region 1 has a market for item 0, and there is no other market.
 const OF_WOOD: &str =
     "[Some(Market { item: 0, price: 7, pays: 5, limit: 30, restock: 20 }), None, None]";
 

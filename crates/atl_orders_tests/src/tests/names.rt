@@ -3,13 +3,13 @@
 use atl_tables::{name_ok, pass_ok};
 use std::process::Abort;
 
-/// 40 bytes without a space.
+/// A text of 40 bytes, the most that a name may have, without a space.
 const FORTY: &str = "1234567890123456789012345678901234567890";
 
-/// 40 bytes, some of them spaces.
+/// A text of 40 bytes, the most that a name may have, with spaces.
 const SPACED: &str = "123456789 123456789 123456789 1234567890";
 
-/// 41 bytes, one more than a name may have.
+/// A text of 41 bytes, one more than a name may have.
 const FORTY_ONE: &str = "12345678901234567890123456789012345678901";
 
 /// Texts, whether each may be a name, and whether it may be a pass text.

@@ -6,11 +6,11 @@ use std::alloc::Global;
 use std::process::Abort;
 use std::test::Fail;
 
-/// The path of a key, a line of the world with one market, and the least and greatest value
-/// (docs/FORMATS.md, "The world file").
+/// The range of a key: its path, a line of the world with one market, and the key's least and
+/// greatest value (docs/FORMATS.md, "The world file").
 type Range = (&'static str, &'static str, u32, u32);
 
-/// Keys that must be there; the line is the key's own.
+/// The ranges of the keys that must be there; the line of each row is the key's own.
 static NEEDED: [Range; 25] = [
     ("rules.maintenance", "maintenance = 10", 1, 1_000),
     ("rules.tax_per_man", "tax_per_man = 10", 0, 1_000),
@@ -54,7 +54,7 @@ static NEEDED: [Range; 25] = [
     ),
 ];
 
-/// Keys that may be missing; the line is one that the key can follow.
+/// The ranges of the keys that may be missing; the line of each row is one that the key can follow.
 static OPTIONAL: [Range; 4] = [
     ("item[0].level", "carry = 0", 1, 5),
     ("item[0].raw_count", "carry = 0", 1, 1_000),
@@ -62,7 +62,7 @@ static OPTIONAL: [Range; 4] = [
     ("kind[0].crew", "level = 1", 0, 999_999),
 ];
 
-/// The last part of a path.
+/// The key at the end of a path, as `wage` of `terrain[0].wage`.
 fn key_of(path: &str) -> &str {
     match path.rsplit_once(".") {
         Some((_, key)) => key,
@@ -70,7 +70,7 @@ fn key_of(path: &str) -> &str {
     }
 }
 
-/// The text up to the number, which replaces the row's line.
+/// What replaces a row's line, up to the number: the key, below the line if the key is not needed.
 fn front_of(alloc: Global, row: &Range, needed: bool) -> Result<String, Fail> {
     let (path, line, _, _) = *row;
     let key = key_of(path);
@@ -81,7 +81,7 @@ fn front_of(alloc: Global, row: &Range, needed: bool) -> Result<String, Fail> {
     }
 }
 
-/// Asserts the fault at the row's key after its line was replaced by `to`.
+/// Asserts that replacing a row's line by `to` makes a fault at the row's key.
 fn fault_is(
     rt: &impl Abort,
     alloc: Global,
@@ -148,6 +148,8 @@ fn have_ranges(
     Ok(())
 }
 
+/// Each number of a world file takes both ends of its range, and neither what is beyond nor 1.5; a
+/// needed one may not be missing.
 #[test]
 fn numbers_have_ranges(rt: HostRuntime) -> Result<(), Fail> {
     let text = with_markets(rt.alloc(), 1)?;

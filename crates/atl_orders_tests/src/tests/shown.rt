@@ -19,7 +19,7 @@ struct Shown {
     regions: &'static [(u32, &'static str)],
 }
 
-/// What the small world holds.
+/// All that the small world must hold once read.
 static SMALL_SHOWN: Shown = Shown {
     rules: "[Rules { maintenance: 10, tax_per_man: 10, recruit_price: 50, recruit_fraction: 4, growth: 0, income: 1, \
         start_money: 1000, man_weight: 10, man_carry: 5, observation: None, stealth: None, sailing: None }]",
@@ -39,7 +39,7 @@ static SMALL_SHOWN: Shown = Shown {
     ],
 };
 
-/// What the island holds.
+/// All that the island must hold once read.
 static ISLE_SHOWN: Shown = Shown {
     rules: "[Rules { maintenance: 10, tax_per_man: 10, recruit_price: 50, recruit_fraction: 4, growth: 0, income: 1, \
         start_money: 1000, man_weight: 10, man_carry: 5, observation: Some(5), stealth: Some(4), sailing: Some(3) }]",
@@ -96,8 +96,8 @@ fn lists_are(rt: &impl Abort, alloc: Global, world: &World, wanted: &Shown) -> R
     assert_shown(rt, alloc, "kinds", world.kinds(), wanted.kinds)
 }
 
-/// A region's number, name, terrain, peasants and money, and its neighbours to the north, south,
-/// east and west.
+/// A region as text: its number, name, terrain, peasants and money, and its neighbours to the
+/// north, south, east and west.
 fn plan_text(alloc: Global, plan: &RegionPlan) -> Result<String, Fail> {
     let exits = [plan.north, plan.south, plan.east, plan.west];
     Ok(format!(in alloc;

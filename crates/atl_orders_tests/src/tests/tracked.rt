@@ -7,19 +7,24 @@ use std::alloc::Global;
 use std::process::Abort;
 use std::test::Fail;
 
-/// A call of a `MarkedMap`.
+/// A call of a `MarkedMap`, with the number and the value that it takes, if any.
 #[derive(Drop, Clone, Copy)]
 enum Step {
     /// Inserts a value under a number that has none.
     Insert(u32, u32),
+    /// Puts a value under a number, in place of any that is there.
     Put(u32, u32),
     /// Overwrites a value through `get_mut`, if there is one.
     Change(u32, u32),
+    /// Takes out the value under a number, if there is one, and marks the number.
     Remove(u32),
     /// Takes a value out together with its mark.
     TakeOut(u32),
+    /// Marks a number, if it has a value.
     Mark(u32),
+    /// Clears all marks.
     Unmark,
+    /// Takes out all values and marks their numbers.
     Clear,
 }
 
@@ -85,7 +90,7 @@ fn changes_value(map: &mut MarkedMap<u32>, number: u32, value: u32) {
     }
 }
 
-/// Makes the call of a step.
+/// Makes the call that a step names, on a map.
 fn does(map: &mut MarkedMap<u32>, step: Step) -> Result<(), Fail> {
     match step {
         Step::Insert(number, value) => inserts(map, number, value)?,
@@ -128,7 +133,7 @@ fn assert_steps(
     Ok(())
 }
 
-/// Asserts what the map is after `CHANGES`.
+/// Asserts the values and the marks of the map after the calls of `CHANGES`.
 fn is_changed(rt: &impl Abort, alloc: Global, map: &MarkedMap<u32>) -> Result<(), Fail> {
     assert!(rt; map.get(20) == Some(&6));
     assert!(rt; map.get(5).is_none());
@@ -162,7 +167,7 @@ fn marks_of_what_is_gone(rt: HostRuntime) -> Result<(), Fail> {
     goes_round(&rt, rt.alloc(), &mut map)
 }
 
-/// How many numbers the map of the last test has: one less than the prime 1009.
+/// How many numbers the map of the test `marks_in_any_order` has: one less than the prime 1009.
 const MANY: u32 = 1008;
 
 /// Marks each number from 1 to `MANY` once, in descending order or in a scattered one.

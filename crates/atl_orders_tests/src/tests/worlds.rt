@@ -30,7 +30,7 @@ limit = 30
 restock = 20
 "#;
 
-/// The text of the items, skills and kinds that the orders of the tests name.
+/// The text of the items, skills and kinds that the orders in the tests of mailings name.
 pub(crate) const THINGS: &str = r#"[[item]]
 name = "wood"
 weight = 5
