@@ -4,8 +4,8 @@
 
 pub mod month;
 
-/// The text of a world with one region: a beginner's money, its jobs, its peasants, and text to
-/// append.
+/// Makes the text of a world with one region, of a beginner's money, the region's jobs and
+/// peasants, and text to append.
 macro_rules! vale {
     ($start_money:literal, $places:literal, $peasants:literal, $more:literal) => {
         concat!(
@@ -106,8 +106,8 @@ carry = 0
 "#
 );
 
-/// The text of an island of three land regions and one of sea, with text to insert after its first
-/// and its third region.
+/// Makes the text of a world that is an island of three land regions and one of sea, of texts to
+/// insert after its first and its third region.
 macro_rules! isle {
     ($of_first:literal, $of_third:literal) => {
         concat!(
