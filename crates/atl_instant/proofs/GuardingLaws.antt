@@ -77,7 +77,7 @@ module _ (c : CampaignValue) (n : ℕ) (u : Unit) (is : get c.units n ≡ Some u
   abbrev Agree : Unit → Unit → Type 0
   Agree x y = guards x ≡ true → guards y ≡ true → x.region ≡ y.region → x.faction ≡ y.faction
 
-  -- all units that guard a region still are of one faction
+  -- all units that guard a region still are of one faction, if no other faction guards the region of unit n
   guards_kept : is_guarded_against c u.region u.faction ≡ false → AreOfOneFaction guards c → AreOfOneFaction guards flagged
   guards_kept none old =
       let own = own_guards c u.region u.faction none in

@@ -56,6 +56,7 @@ module _ (w : WorldValue) (c : CampaignValue) (n : ℕ) (u : Unit) (is : get c.u
   abbrev with_hold : HoldingValue → CampaignValue
   with_hold h = record c { units = insert c.units n (record u { holding = h }) }
 
+  -- if two sums with one addend in common are equal, their other addends are equal
   same_total : (a b h : ℕ) → a + h ≡ b + h → a ≡ b
   same_total a b h e = omega arith
 

@@ -185,5 +185,3 @@ told_readings m t (Some outcome) = refl
 -- an order leaves the readings of the month as they are
 pub order_readings : (step : OrderMeaning) (w : WorldValue) (p : CampaignValue × MonthValue) (t : Task) → (one_order step w p t).1.readings ≡ p.1.readings
 order_readings step w p t = told_readings p.1 t (order_result (step w p.1.aliases t) p.0 t.faction t.unit).1
-
--- ---- what is so in any case is so where a call answers Ok

@@ -121,6 +121,7 @@ items_within : (es : List (ℕ × ℕ)) (e : Entry) (s : Thing) → moving_items
 items_within [] e s = omega arith
 items_within (x ∷ xs) e s = under_sum e s (moves_only x.1 Lost (Item x.0) e s) (moving_items xs e s) (part_of s (Item x.0) x.1) (owing_items xs s) (one_moves x.1 (Item x.0) e s) (items_within xs e s)
 
+-- an amount that counts only where a test is true adds nothing where the test is false
 nothing_more : (b : Bool) (x y : ℕ) → b ≡ false → cond b x 0 + y ≡ y
 nothing_more true x y e = cc
 nothing_more false x y e = omega arith

@@ -137,7 +137,7 @@ men_changed f stay c d k same n u there =
     by_number true = stay u
     by_number false = record { faction = refl; men = refl }
 
--- all units have their men after one is replaced by one with its men
+-- all units have their men after one unit is replaced by a unit of its faction with as many men
 pub men_put : (c d : CampaignValue) (k : ℕ) (v x : Unit) → get c.units k ≡ Some v → HasItsMen v x → d.units ≡ insert c.units k x → HaveTheirMen c d
 men_put c d k v x here stay same n u there = elim (cases_eq n k) [
   | inl own ↦
@@ -202,7 +202,7 @@ none_ordered is_of arrangement m f none k d l same =
     let h = orders_are_in_mailings is_of arrangement m.aliases m.readings k d l in
     none_some h.reading (sym none ∙ ap (get m.readings) (sym same) ∙ h.of_faction)
 
--- by the event of an order no men starved
+-- the event of an order reports no men who starved
 pub told_of_order : (events : List Event) (t : Task) (outcome : Outcome) (n : ℕ) → starved_in (events ++ event_for t outcome ∷ []) n ≡ starved_in events n
 told_of_order events t outcome n =
     sum_by_push (λ (e : Event). if e.unit == n then men_starved_by e.verb e.outcome else 0) events (event_for t outcome) ∙ by_unit (t.unit == n) (starved_in events n)
@@ -242,7 +242,7 @@ module _ (step : OrderMeaning) where
   orders_readings w p [] = refl
   orders_readings w p (t ∷ ts) = orders_readings w (one_order step w p t) ts ∙ order_readings step w p t
 
-  -- by the event of an order no men starved
+  -- one order adds no men who starved to the events
   order_told : (w : WorldValue) (p : CampaignValue × MonthValue) (t : Task) (n : ℕ) → starved_in (one_order step w p t).1.events n ≡ starved_in p.1.events n
   order_told w p t n = by_outcome (order_result (step w p.1.aliases t) p.0 t.faction t.unit).1
     where
@@ -250,7 +250,7 @@ module _ (step : OrderMeaning) where
       by_outcome None = refl
       by_outcome (Some outcome) = told_of_order p.1.events t outcome n
 
-  -- by the events of orders no men starved
+  -- orders carried out one by one add no men who starved to the events
   orders_told : (w : WorldValue) (p : CampaignValue × MonthValue) (ts : List Task) (n : ℕ) → starved_in (fold (one_order step w) p ts).1.events n ≡ starved_in p.1.events n
   orders_told w p [] n = refl
   orders_told w p (t ∷ ts) n = orders_told w (one_order step w p t) ts n ∙ order_told w p t n
@@ -261,7 +261,7 @@ module _ (step : OrderMeaning) where
     unfolding meaning_by_orders
     carried_readings w c m = orders_readings w (c, m) (values (orders_of is_of ByUnit m.aliases m.readings))
 
-    -- by the events of a phase that carries out its orders one by one no men starved
+    -- a phase that carries out its orders one by one adds no men who starved to the events
     pub carried_told : (w : WorldValue) (c : CampaignValue) (m : MonthValue) (n : ℕ) → starved_in (meaning_by_orders step is_of w c m).1.events n ≡ starved_in m.events n
     unfolding meaning_by_orders
     carried_told w c m n = orders_told w (c, m) (values (orders_of is_of ByUnit m.aliases m.readings)) n
