@@ -159,7 +159,8 @@ guard_spares w c n u is k x there apart =
 
 -- ---- the phase
 
--- orders of GUARD 1 satisfy `IsOrderly`: they book nothing, and a unit without an own GUARD 1 is no worse off
+-- GUARD 1 keeps a steady campaign steady and books nothing,
+-- and a unit without an own GUARD 1 is no worse off (`IsOrderly`)
 pub guard_orderly : IsOrderly guard_step IsSteady (λ c e t. 0) (λ e t. 0) guard_concerns IsNoWorse
 guard_orderly = record {
   well = λ w a c t x steady fit own. well w c t x steady own t.order_value.operands;

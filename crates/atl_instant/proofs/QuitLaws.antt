@@ -200,7 +200,7 @@ pub record BooksOff (w : WorldValue) (off : Thing → ℕ) (moving : BookBound) 
   pub near : (e : Entry) (s : Thing) → IsNear (moving e s) (amount_in c.books e s) (amount_in d.books e s)
   pub same : d ≡ record c { books = d.books }
 
--- two bookings as gone, each of which satisfies `BooksOff`, satisfy it together for the sum of what they book
+-- two bookings as gone, each within its bound (`BooksOff`), are one of the sum of both, within the sum of the bounds
 off_twice : {o p : Thing → ℕ} {i j : BookBound} (w : WorldValue) (a b c : CampaignValue) → BooksOff w o i a b → BooksOff w p j b c → BooksOff w (λ s. o s + p s) (both_move i j) a c
 off_twice {o} {p} {i} {j} w a b c one two = record {
   steady = two.steady;
@@ -212,7 +212,7 @@ off_twice {o} {p} {i} {j} w a b c one two = record {
     grouped : (x y z : ℤ) (m n : ℕ) → x ≡ y +ℤ pos m → y ≡ z +ℤ pos n → x ≡ z +ℤ pos (m + n)
     grouped x y z m n e f = omega (arith, ints, e, f)
 
--- to book an amount of a thing as gone satisfies `BooksOff`, if the thing is of the world and the campaign steady
+-- to book an amount of a thing as gone keeps a steady campaign steady (`BooksOff`), if the thing is of the world
 pub off_one : (w : WorldValue) (c : CampaignValue) (t : Thing) (amount : ℕ) → thing_index t < things_of w → IsSteady w c → BooksOff w (λ s. part_of s t amount) (moves_only amount (loss_entry t) t) c (with_loss c t amount)
 off_one w c t amount inside steady = record {
   steady = steady-amount w c (loss_entry t) t (neg_ℤ (pos amount)) inside steady;
@@ -227,7 +227,7 @@ off_one w c t amount inside steady = record {
     less z true a = omega (arith, ints)
     less z false a = omega (arith, ints)
 
--- to book items as lost, one after another, satisfies `BooksOff`, if they are of the world and the campaign is steady
+-- to book items as lost, one after another, keeps a steady campaign steady (`BooksOff`), if they are of the world
 off_items : (w : WorldValue) (c : CampaignValue) (es : List (ℕ × ℕ)) → EachOf (λ i a. i < length w.items) es → IsSteady w c → BooksOff w (owing_items es) (moving_items es) c (fold with_item_loss c es)
 off_items w c [] known steady = record {
   steady = steady;
@@ -242,7 +242,7 @@ off_items w c ((i, a) ∷ es) known steady =
     let one = off_one w c (Item i) a (omega (arith, known.0)) steady in
     off_twice w c (with_item_loss c (i, a)) (fold with_item_loss (with_item_loss c (i, a)) es) one (off_items w (with_item_loss c (i, a)) es known.1 one.steady)
 
--- to book all that a unit has as gone satisfies `BooksOff`, if its items are of the world and the campaign is steady
+-- to book all that a unit has as gone keeps a steady campaign steady (`BooksOff`), if its items are of the world
 pub off_all : (w : WorldValue) (c : CampaignValue) (h : HoldingValue) → Every (λ i a. i < length w.items) h.items → IsSteady w c → BooksOff w (owing h) (held_moves h) c (with_all_losses c h)
 off_all w c h known steady =
     let men = with_loss c People h.men in
@@ -477,7 +477,7 @@ reserve_within w c steady e t = by_test (entry_index e == entry_index (loss_entr
     by_test true = few (sum_over (λ (u : Unit). unit_amount t u.holding) c.units) (length (entries c.units)) (all_within true holding_limit (λ h is. within_limit t h is)) (omega (arith, len-entries c.units, steady.numbers.few_units))
     by_test false = none (sum_over (λ (u : Unit). 0) c.units) (length (entries c.units)) (all_within false 0 (λ h is. omega arith))
 
--- orders of QUIT satisfy `IsOrderly`: they book what leaves, and a unit whose faction doesn't quit is no worse off
+-- QUIT keeps a steady campaign steady, and a unit whose faction doesn't quit is no worse off (`IsOrderly`)
 pub quit_orderly : IsOrderly quit_step IsSteady quit_reserve quit_moves quit_concerns IsNoWorse
 quit_orderly = record {
   well = λ w a c t x steady fit own. well w c x steady t.order_value.operands;

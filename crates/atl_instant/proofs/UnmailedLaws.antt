@@ -71,12 +71,12 @@ less_twice x y z u v t l k one two = record {
 some_left : (x y z a b : ℕ) → x ≤ y → y ≤ z → b ≡ a - (y - x) → z - x < a → z - y < b
 some_left x y z a b l k e some = omega arith
 
--- a faction that sent no mailing has none after a phase that satisfies `LeavesUnmailed`
+-- a faction that sent no mailing still has none after a phase that keeps the mailings (`LeavesUnmailed`)
 still_none : {first : Meaning} {early : Frame} → LeavesUnmailed first early → (w : WorldValue) (c : CampaignValue) (m : MonthValue) (f g : ℕ) → g ≡ f → get m.readings f ≡ None → get (first w c m).1.readings g ≡ None
 still_none one w c m f g same none = ap (λ (r : FinMap nat_cmp Reading). get r g) (one.readings w c m) ∙ ap (get m.readings) same ∙ none
 
 module _ {first second : Meaning} {early late : Frame} where
-  -- two phases that each satisfy `LeavesUnmailed` satisfy it in turn
+  -- two phases in turn leave units of factions without a mailing what is theirs (`LeavesUnmailed`), if each does
   pub both_leave : LeavesUnmailed first early → LeavesUnmailed second late → LeavesUnmailed (then_also first second) (both_keep first early late)
   both_leave one two = record {
     readings = λ w c m. two.readings w (first w c m).0 (first w c m).1 ∙ one.readings w c m;
@@ -88,7 +88,7 @@ module _ {first second : Meaning} {early late : Frame} where
         record { unit = b.unit; there = b.there; spared = less_twice _ _ _ u a.unit b.unit (one.told w c m n) (two.told w between.0 between.1 n) a.spared b.spared };
   }
 
-  -- if one phase satisfies `LeavesUnmailed`, and the next one `ClosesUnmailed`, both in turn satisfy `ClosesUnmailed`
+  -- a phase that `LeavesUnmailed` and then one that `ClosesUnmailed` are in turn one that `ClosesUnmailed`
   pub then_closes : LeavesUnmailed first early → ClosesUnmailed second late → ClosesUnmailed (then_also first second) (both_keep first early late)
   then_closes one two = record {
     told = λ w c m n. omega (arith, one.told w c m n, two.told w (first w c m).0 (first w c m).1 n);
@@ -170,7 +170,7 @@ items_of_no_worse u v h = record { name = h.name; items = h.items }
 abbrev pub UnmailedAre : Unaffected → MonthValue → CampaignValue → CampaignValue → Type 0
 UnmailedAre spares m before after = Every (λ n u. get m.readings u.faction ≡ None → IsUnaffected spares after n u) before.units
 
--- a unit that keeps its men, name and items satisfies `IsLessBy` for 0 men
+-- a unit that keeps its men, name and items has 0 men less (`IsLessBy`)
 whole : (x y : ℕ) (u v : Unit) → y ≡ x → HasItsMen u v → HasItsItems u v → IsLessBy (y - x) u v
 whole x y u v same men items = record { faction = men.faction; name = items.name; men = nobody u.holding.men v.holding.men men.men; items = items.items }
   where
@@ -273,8 +273,8 @@ module _ (step : OrderMeaning) where
         let ts = values (orders_of is_of ByUnit m.aliases m.readings) in
         orders_spare spares w c m ts n u there (recursion_from_All (λ t. t.faction ≢ u.faction) ts (none_ordered is_of ByUnit m u.faction none))
 
-    -- a phase satisfies `LeavesUnmailed`, if its step satisfies `SparesMen`,
-    -- and units of factions without a mailing keep their items
+    -- A phase leaves units of factions without a mailing what is theirs (`LeavesUnmailed`), if each of its steps leaves
+    -- units of other factions their men (`SparesMen`), and units of factions without a mailing keep their items.
     pub carried_leaves : {keeps : Frame} → SparesMen step → ((w : WorldValue) (c d : CampaignValue) (m : MonthValue) → keeps w m c d → UnmailedAre HasItsItems m c d) → LeavesUnmailed (meaning_by_orders step is_of) keeps
     carried_leaves {keeps} spares items =
         whole_leaves {meaning = meaning_by_orders step is_of} {keeps = keeps} carried_readings carried_told
