@@ -87,6 +87,7 @@ each_so : (w : WorldValue) (c : CampaignValue) (m : MonthValue) (ts : List Task)
 each_so w c m [] among = tt
 each_so w c m (t ∷ ts) among = ((λ s says can. record { order = t; stands = among.0; for_unit = refl; says = says; can = can }), each_so w c m ts among.1)
 
+-- exactly those units are learning that learn by an order of STUDY that counts
 pub units_learn_by_orders : UnitsLearnByOrders
 unfolding learners
 units_learn_by_orders w c m =
