@@ -114,7 +114,7 @@ pub(crate) const NOBODY: Scene = Scene {
     books: &[],
 };
 
-/// The campaign's own row.
+/// The campaign row of a scene, in a sequence of its own.
 fn heads(alloc: Global, scene: &Scene) -> Result<Sequence<StoredCampaignRow>, Fail> {
     let mut all = Sequence::new(alloc);
     all.push(StoredCampaignRow {
