@@ -141,7 +141,7 @@ module _ (aliases : Aliases) (a : Arrangement) where
 -- ---- as they are collected, and as the map lists them
 
 module _ {X : Type 0} (as_task : X → Task) where
-  -- the values of mapped entries are the mapped values
+  -- mapping the value of each entry and listing the values gives the same as listing the values and mapping them
   values-tasks : (es : List (List ℕ × X)) → map (λ e. e.1) (map (with_value (slice_cmp nat_cmp) as_task) es) ≡ map as_task (map (λ e. e.1) es)
   values-tasks [] = refl
   values-tasks (e ∷ es) = ap (λ ts. as_task e.1 ∷ ts) (values-tasks es)

@@ -59,7 +59,7 @@ module _ (w : WorldValue) (c : CampaignValue) (n : ℕ) (u : Unit) (s : ℕ) (is
   abbrev next : ℕ
   next = heir c old_place n
 
-  -- the unit inside structure s
+  -- unit n as it is inside structure s
   abbrev moved : Unit
   moved = record u { structure = s }
 
@@ -71,7 +71,7 @@ module _ (w : WorldValue) (c : CampaignValue) (n : ℕ) (u : Unit) (s : ℕ) (is
   abbrev gone_out : CampaignValue
   gone_out = after_handover begun old_place n next
 
-  -- the campaign after the unit, besides, became the owner of the structure that it entered, if nobody owned this
+  -- the campaign after the unit also became the owner of the structure that it entered, if nobody owned this
   abbrev gone_in : CampaignValue
   gone_in = after_handover gone_out s 0 n
 

@@ -183,14 +183,14 @@ all_owed h (Item j) =
     sum true d m n k e f = cc
     sum false true m n k e f = cc
 
--- the bound on the bookings for what a unit holds (`held_moves`) is at most `loss_under`
+-- what a leaving unit moves in the books is at most what it holds, under the entry for its loss (`loss_under`)
 pub moves_what_leaves : (h : HoldingValue) (e : Entry) (s : Thing) → held_moves h e s ≤ loss_under e s h
 moves_what_leaves h e s =
     subst (λ n. held_moves h e s ≤ under e s n) (all_owed h s)
     (under_sum e s (moves_only h.men Left People e s) (moves_only h.money Lost Money e s + moving_items (entries h.items) e s) (part_of s People h.men) (part_of s Money h.money + owing_items (entries h.items) s) (one_moves h.men People e s)
     (under_sum e s (moves_only h.money Lost Money e s) (moving_items (entries h.items) e s) (part_of s Money h.money) (owing_items (entries h.items) s) (one_moves h.money Money e s) (items_within (entries h.items) e s)))
 
--- ---- a campaign in which so much is booked as gone
+-- ---- a campaign in which amounts of things are booked as gone
 
 -- The campaign d is c with `off` of each thing booked as gone, and only the books differ.
 -- It is steady, what the books have of a thing falls by `off`, and no amount of the books moves further than `moving`.

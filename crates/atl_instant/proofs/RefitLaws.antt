@@ -74,7 +74,7 @@ module _ (c : CampaignValue) (units : FinMap nat_cmp Unit) (structures : FinMap 
   }
 
 module _ (w : WorldValue) (c : CampaignValue) (n : ℕ) (u : Unit) (s : ℕ) (is : get c.units n ≡ Some u) (structures : FinMap nat_cmp Structure) (g : ℕ → Structure → Structure) where
-  -- the unit inside structure s
+  -- unit n as it is inside structure s
   abbrev pub moved_unit : Unit
   moved_unit = record u { structure = s }
 
@@ -86,7 +86,7 @@ module _ (w : WorldValue) (c : CampaignValue) (n : ℕ) (u : Unit) (s : ℕ) (is
   abbrev pub refitted : CampaignValue
   refitted = record c { units = units; structures = structures }
 
-  -- g gives the structures, each relabelled and with its right owner.
+  -- A refit: g gives the structures, each relabelled and with its right owner.
   -- The unit is inside a structure of its region, or none, and on water inside a ship.
   pub record IsRefit : Type 0 where
     pub at : (k : ℕ) → get structures k ≡ option_map (g k) (get c.structures k)
@@ -217,7 +217,7 @@ module _ (w : WorldValue) (c : CampaignValue) (n : ℕ) (u : Unit) (is : get c.u
   abbrev as_it_was : Unit
   as_it_was = record u { structure = u.structure }
 
-  -- to put the unit in as it was changes no unit
+  -- putting unit n into the map as it was changes no unit
   units_stay : insert c.units n as_it_was ≡ c.units
   units_stay = put_same c.units n u as_it_was is refl
 

@@ -46,7 +46,8 @@ pub record CanSend (n : ℕ) (itself : Bool) (u v : Unit) : Type 0 where
   pub enough : n ≤ u.holding.men
   pub room : itself ≡ false → v.holding.men + n ≤ men_limit
 
--- where a transfer has no fault, both units are in one region and faction, with enough men and enough room (`CanSend`)
+-- Where a transfer has no fault, both units are in one region and faction, the sender has enough men, and the receiver
+-- has room for them unless it is the sender itself (`CanSend`).
 pub can_send : (n : ℕ) (itself : Bool) (u v : Unit) → transfer_fault n itself u (Some v) ≡ None → CanSend n itself u v
 can_send n itself u v is =
     let other = not (v.faction == u.faction) in
