@@ -107,6 +107,7 @@ module _ (w : WorldValue) (c : CampaignValue) (n : ℕ) (u : Unit) (q : Region) 
     together : KeepsTogether u q (leave q recruits) more (neg_ℤ (pos cost))
     together = record { money = omega (arith, ints, payable); people = omega (arith, enough); items = λ i. refl }
 
+    -- recruiting keeps the campaign early and its books balanced, and books only the cost of the recruits
     recruits_leave_well : LeavesWell IsEarly (recruit_moves holding_limit) w c after
     recruits_leave_well =
         let within = early.steady.numbers.regions u.region q around in

@@ -1,5 +1,5 @@
--- Laws of the shares of a pot: no share is above its want, all is given, each is within one of its part; and of the
--- remainder.
+-- Laws of the shares of a pot: no share is above its want, the whole pot is given if the wants exceed it, and each
+-- share is within one of its exact part; and of the remainder that the code carries from share to share.
 use Rattle.std.proofs.Common.{◌≡◌, ℕ, ◌+◌, ◌-◌, ◌*◌, ◌/◌, ◌%◌, ◌<◌, ◌≤◌, List, [], ◌∷◌, ◌++◌, length, get_or, min, inl, inr, zero, suc, sum, refl, ap, sym, ◌∙◌, add-zero, zero-add, arith}
 use Rattle.std.proofs.Math.Nat.{mul-div-le, mul-add, add-mul-div_left, div-add-mod, mod-lt, mul-div_left, mul-zero, zero-div, div-lt_iff_lt-mul, lt-mul-div-succ, div-le_of_le-mul, mul-le-mul_left, le-div_iff_mul-le, mul_comm}
 use Rattle.std.proofs.lemmas.List.Sums.{sum_by-cons, sum_by-append}

@@ -87,7 +87,7 @@ module _ (p : PotMeaning) (w : WorldValue) (c : CampaignValue) where
   abbrev unless_fault : Task → Option Unit → Result Unit EventFault
   unless_fault t o = option_map_or (λ v. option_map_or Err (p.fault w v t) (Ok v)) o (Err NotYours)
 
-  -- a unit that is returned for an order carries it out
+  -- the unit that `unit_for` returns for an order carries the order out (`CarriesOut`)
   pub carries_out : (t : Task) (u : Unit) → unit_for p w c t ≡ Ok u → CarriesOut t u
   unfolding unit_for
   carries_out t u is = by_unit (get c.units t.unit) refl is

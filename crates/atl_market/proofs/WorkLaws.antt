@@ -57,7 +57,7 @@ module _ (w : WorldValue) (c : CampaignValue) (n : ℕ) (u : Unit) (money : ℕ)
   abbrev more : HoldingValue
   more = paid c n u money
 
-  -- the campaign in which the unit holds that, without booking
+  -- the campaign in which the unit has its wages, not booked yet
   abbrev given : CampaignValue
   given = richer c n u money
 

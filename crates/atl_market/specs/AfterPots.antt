@@ -65,8 +65,8 @@ with_recruits w u recruits = record u { holding = with_paid_recruits u.holding r
 abbrev pub with_less_peasants : RegionChange
 with_less_peasants q joined = record q { peasants = q.peasants - joined }
 
--- The law of RECRUIT: all recruits join at once. A unit has its recruits more and their price less; a region has all of
--- them less.
+-- The law of RECRUIT: all recruits join at once. A unit has its recruits more and their price less; a region has all
+-- recruits of its units less.
 abbrev pub RecruitsAtOnce : Type 0
 RecruitsAtOnce =
     (w : WorldValue) (c : CampaignValue) (os : List Task)
