@@ -48,7 +48,7 @@ use Rattle.atl_action.specs.Study.{after_study, days_after, is_helpful, study, s
 use Rattle.atl_action.specs.Bounds.{study_reserve}
 use Rattle.atl_action.specs.Teach.{TaughtMen}
 
--- ---- a unit that pays, and reaches so many days
+-- ---- a unit that pays, and reaches a number of days
 
 module _ (w : WorldValue) (c : CampaignValue) (n : ℕ) (u : Unit) (s cost days : ℕ) (is : get c.units n ≡ Some u) (steady : IsSteady w c) (payable : cost ≤ u.holding.money) where
   -- what the unit holds after it paid the cost and has the new days of the skill

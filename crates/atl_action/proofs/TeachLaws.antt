@@ -73,7 +73,7 @@ before_others n p (k ∷ ns) all = subst (AreOthers n) (sym (before_cons p k ns)
     by_test true rest = tt
     by_test false rest = (all.0, rest)
 
--- ---- so many men of the first unit are taught, and then those of the rest
+-- ---- men of the first unit are taught, and then men of the others
 
 -- the first unit of a lesson gets as many of its men taught as `given`, the lesser of `want` and `places`
 first_is_dealt : (had given want places : ℕ) → given ≡ min places want → (had + given) + 0 ≡ had + (min (0 + want) places - min 0 places)
