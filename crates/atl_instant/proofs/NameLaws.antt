@@ -60,7 +60,7 @@ module _ (w : WorldValue) (c : CampaignValue) (n : ℕ) (u : Unit) (is : get c.u
   same_total : (a b h : ℕ) → a + h ≡ b + h → a ≡ b
   same_total a b h e = omega arith
 
-  -- Another holding of unit n keeps the campaign early and in balance (`StepsWell`),
+  -- Another holding that unit n may have keeps the campaign early and in balance (`StepsWell`),
   -- if the unit holds as much of each thing, and its guard flag isn't newly set.
   held_well : (h : HoldingValue) → MayHold w u h → (h.guard ≡ true → u.holding.guard ≡ true) → ((t : Thing) → unit_amount t h ≡ unit_amount t u.holding) → Well (with_hold h)
   held_well h may flag same = unbooked_well w c (with_hold h)
