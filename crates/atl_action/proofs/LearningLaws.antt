@@ -81,12 +81,13 @@ module _ (w : WorldValue) (c : CampaignValue) where
       let next = with_learner w c learning t in
       ((λ s says can. kept ts next t.unit (added t learning s says can)), each_all ts next)
 
--- the unit of each order of STUDY that counts satisfies `IsLearning` with the order's skill,
--- if the unit learns by the order
+-- Each unit that learns by an order of STUDY that counts learns the order's skill as `IsLearning` says:
+-- it has men, and the fee for all of them.
 each_so : (w : WorldValue) (c : CampaignValue) (m : MonthValue) (ts : List Task) → AllByRecursion (Contains (study_tasks m)) ts → AllByRecursion (IfLearns w c (IsLearning w c m)) ts
 each_so w c m [] among = tt
 each_so w c m (t ∷ ts) among = ((λ s says can. record { order = t; stands = among.0; for_unit = refl; says = says; can = can }), each_so w c m ts among.1)
 
+-- exactly those units are learning that learn by an order of STUDY that counts
 pub units_learn_by_orders : UnitsLearnByOrders
 unfolding learners
 units_learn_by_orders w c m =

@@ -42,6 +42,7 @@ held_same u v same Money = same.money
 held_same u v same People = same.men
 held_same u v same (Item i) = ap (λ items. amount_of items i) same.items
 
+-- if a sum stays the same while one of its addends does, the other addend stays the same
 cancelled : (a b p q : ℕ) → a + p ≡ b + q → q ≡ p → a ≡ b
 cancelled a b p q e f = omega arith
 
@@ -77,7 +78,7 @@ module _ (structure to : ℕ) where
   abbrev pub gone : Unit → Unit
   gone x = flag_off (put_there x)
 
-  -- the unit, gone if b is true
+  -- the unit, put into region `to` with its flag cleared (`gone`) if b is true, and otherwise as it was
   abbrev pub gone_if : Bool → Unit → Unit
   gone_if b x = if b then gone x else x
 
@@ -92,7 +93,7 @@ module _ (structure to : ℕ) where
       (people_changed put_there (λ x. record { faction = refl; name = refl; men = refl; money = refl; items = refl; days = refl }) m n)
       (people_changed flag_off (λ x. record { faction = refl; name = refl; men = refl; money = refl; items = refl; days = refl }) (changed put_there m n) n)
 
-  -- a look-up of unit k after its location and then its flag were changed
+  -- changing the location and then the flag of unit n changes unit k by `gone` if k is n, and otherwise not at all
   elsewhere_by : (m : FinMap nat_cmp Unit) (n k : ℕ) (b : Bool) → (k == n) ≡ b → (o : Option Unit) → option_map (at_number flag_off (changed put_there m n) n k) (option_map (at_number put_there m n k) o) ≡ option_map (gone_if (k == n)) o
   elsewhere_by m n k b t None = refl
   elsewhere_by m n k true t (Some x) = rw t refl

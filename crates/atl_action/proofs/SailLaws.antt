@@ -206,6 +206,7 @@ module _ (w : WorldValue) (c : CampaignValue) (ship to : ℕ) (steady : IsSteady
       let unit : u ≡ v = cc in
       sym (equal_passes u.structure ship inside) ∙ ap (λ (y : Unit). y.structure == ship) unit ∙ t
 
+  -- unit k goes along by the list of the units inside the ship exactly if it is inside the ship
   units_by : (k : ℕ) (o : Option Unit) → get c.units k ≡ o → option_map (gone_if ship to (list_any (λ n. k == n) ns)) o ≡ option_map (f k) o
   units_by k None there = refl
   units_by k (Some v) there = ap (λ b. Some (gone_if ship to b v)) (member_by k v there (v.structure == ship) (list_any (λ n. k == n) ns) refl refl)
@@ -214,6 +215,7 @@ module _ (w : WorldValue) (c : CampaignValue) (ship to : ℕ) (steady : IsSteady
   units_at : (k : ℕ) → get units k ≡ option_map (f k) (get c.units k)
   units_at k = all_at ship to c.units ns k ∙ units_by k (get c.units k) refl
 
+  -- a unit that goes along exactly if it is inside the ship stays inside its structure
   inside_by : (v : Unit) (b : Bool) → (v.structure == ship) ≡ b → (gone_if ship to b v).structure ≡ v.structure
   inside_by v true t = sym (is_equal v.structure ship t)
   inside_by v false t = refl
@@ -258,16 +260,19 @@ module _ (w : WorldValue) (c : CampaignValue) (ship to : ℕ) (steady : IsSteady
   ship_some zero = none_some x (sym steady.next.structures.first ∙ ap (get c.structures) (sym zero) ∙ is)
 
   module _ (floats : is_ship w x ≡ true) (whole : x.done ≡ size_of w x.kind) (there_to : IsThere c.regions to) where
+    -- each unit is in a region that is there, and in a structure of that region, after the ship sailed (`IsPut`)
     put_by : (k : ℕ) (v : Unit) → get c.units k ≡ Some v → (b : Bool) → (v.structure == ship) ≡ b → IsPut w c units structures f g (gone_if ship to b v)
     put_by k v there true t = record { region = there_to; structure = λ some. (shifted x, at_ship, refl) }
     put_by k v there false t =
         let p = steady.known.units k v there in
         record { region = p.region; structure = λ some. let (s, was, near) = p.structure some in (s, at_other v.structure (is_unequal v.structure ship t) ∙ was, near) }
 
+    -- each structure is in a region that is there after the ship sailed
     built_by : (q : ℕ) (y : Structure) → get c.structures q ≡ Some y → (b : Bool) → IsThere c.regions (if b then shifted y else y).region
     built_by q y there true = there_to
     built_by q y there false = (steady.known.structures q y there).region
 
+    -- each unit on water is inside a ship after the ship sailed
     aboard_by : (k : ℕ) (v : Unit) → get c.units k ≡ Some v → (b : Bool) → (v.structure == ship) ≡ b → is_land_at w (gone_if ship to b v).region ≡ false
         → (s : Structure) × (get structures (gone_if ship to b v).structure ≡ Some s) × (is_ship w s ≡ true)
     aboard_by k v there true t wet = (shifted x, at_ship, floats)
@@ -275,6 +280,7 @@ module _ (w : WorldValue) (c : CampaignValue) (ship to : ℕ) (steady : IsSteady
         let (s, was, afloat) = steady.water.units k v there wet in
         (s, at_other v.structure (is_unequal v.structure ship t) ∙ was, afloat)
 
+    -- each structure on water is a complete ship after the ship sailed
     afloat_by : (q : ℕ) (y : Structure) → get c.structures q ≡ Some y → (b : Bool) → (q == ship) ≡ b → is_land_at w (if b then shifted y else y).region ≡ false → (is_ship w y ≡ true) × (y.done ≡ size_of w y.kind)
     afloat_by q y there true t wet =
         let one : Some x ≡ Some y = sym is ∙ ap (get c.structures) (sym (is_equal q ship t)) ∙ there in
@@ -282,6 +288,7 @@ module _ (w : WorldValue) (c : CampaignValue) (ship to : ℕ) (steady : IsSteady
         (subst (λ z. is_ship w z ≡ true) same floats, subst (λ z. z.done ≡ size_of w z.kind) same whole)
     afloat_by q y there false t wet = steady.water.structures q y there wet
 
+    -- units and structures after the ship sailed are all that a steady campaign needs (`AreTravelled`)
     are : AreTravelled w c units structures f g
     are = record {
       units_at = units_at;
@@ -309,7 +316,7 @@ module _ (w : WorldValue) (c : CampaignValue) (ship to : ℕ) (steady : IsSteady
 
   -- ---- what stays of each unit
 
-  -- a unit that is inside the ship goes along, another one stays, and each satisfies `IsAtMostMoved`
+  -- a unit inside the ship goes along, and any other stays; so each at most goes with its structure (`IsAtMostMoved`)
   carried_by : (v : Unit) (b : Bool) → (v.structure == ship) ≡ b → IsAtMostMoved v (gone_if ship to b v)
   carried_by v true t =
       let here : v.structure ≡ ship = is_equal v.structure ship t in
@@ -327,7 +334,7 @@ module _ (w : WorldValue) (c : CampaignValue) (ship to : ℕ) (steady : IsSteady
       }
   carried_by v false t = record { faction = refl; structure = refl; region = λ none. refl; name = refl; guard = λ none. refl; no_flag = λ off. off; men = omega arith; money = omega arith; items = λ i. omega arith; days = λ s. omega arith }
 
-  -- after sailing each unit is still there and satisfies `IsAtMostMoved`
+  -- after sailing each unit is still there, and at most went along with its structure (`IsAtMostMoved`)
   pub sailed_spares : (k : ℕ) (v : Unit) → get c.units k ≡ Some v → IsUnaffected IsAtMostMoved (after_sailing c ship to) k v
   sailed_spares k v there =
       subst (λ d. IsUnaffected IsAtMostMoved d k v) (sym sailed_is)
@@ -359,11 +366,11 @@ module _ (w : WorldValue) (c : CampaignValue) (ship to : ℕ) (steady : IsSteady
 
 -- ---- an order
 
--- an unchanged unit satisfies `IsAtMostMoved`
+-- an unchanged unit at most went along with its structure (`IsAtMostMoved`)
 carried_same : (v : Unit) → IsAtMostMoved v v
 carried_same v = record { faction = refl; structure = refl; region = λ none. refl; name = refl; guard = λ none. refl; no_flag = λ off. off; men = omega arith; money = omega arith; items = λ i. omega arith; days = λ s. omega arith }
 
--- if a unit satisfies `IsAtMostMoved` in each of two changes, it does so in both together
+-- a unit that at most went along in each of two changes at most went along in both together (`IsAtMostMoved`)
 carried_twice : (u v x : Unit) → IsAtMostMoved u v → IsAtMostMoved v x → IsAtMostMoved u x
 carried_twice u v x one two = record {
   faction = two.faction ∙ one.faction;
@@ -390,7 +397,7 @@ region_there w r is = by_plan (get w.regions r) refl is
     by_plan None there t = false_true t
     by_plan (Some p) there t = (p, there)
 
--- the region of a way is one of the world
+-- the region that a ship sails to, if it isn't refused as no way, is one of the world
 way_there : (w : WorldValue) (from : ℕ) (to : Option ℕ) → not (is_way w from to) ≡ false → IsThere w.regions (unwrap_or to 0)
 way_there w from None t = false_true (sym t)
 way_there w from (Some r) t = region_there w r (and_parts (is_region w r) (not (is_land_at w from && is_land_at w r)) (not-false (is_way w from (Some r)) t)).0
@@ -431,13 +438,13 @@ sail_well w c n u direction steady =
     sail_cases (λ p. StepsWell IsSteady books_nothing w c p.0) w c n u direction (λ outcome. well_same w c steady)
     (λ to x at floats whole there. sailed_well w c u.structure to steady x at floats whole ((steady.known.regions to).1 there))
 
--- by an order of SAIL each unit at most goes along
+-- an order of SAIL at most takes each unit along with the structure that it is inside (`IsAtMostMoved`)
 sail_spares : (w : WorldValue) (c : CampaignValue) (n : ℕ) (u : Unit) (direction : Direction) → IsSteady w c → (k : ℕ) (v : Unit) → get c.units k ≡ Some v → IsUnaffected IsAtMostMoved (sail w n direction c u).0 k v
 sail_spares w c n u direction steady k v there =
     sail_cases (λ p. IsUnaffected IsAtMostMoved p.0 k v) w c n u direction (λ outcome. record { unit = v; there = there; spared = carried_same v })
     (λ to x at floats whole near. sailed_spares w c u.structure to steady x at k v there)
 
--- orders of SAIL satisfy `IsOrderly`: they book nothing, and each unit satisfies `IsAtMostMoved` after each
+-- SAIL keeps a steady campaign steady, books nothing, and at most moves each unit with its structure (`IsOrderly`)
 pub sail_orderly : IsOrderly sail_step IsSteady books_nothing moves_nothing concerns_nobody IsAtMostMoved
 sail_orderly = record {
   well = λ w a c t x steady fit own. well w c t.unit x steady t.order_value.operands;
@@ -454,7 +461,7 @@ sail_orderly = record {
     spared w c n x steady k v there (operands.Direction direction) = sail_spares w c n x direction steady k v there
     spared w c n x steady k v there other = tt
 
--- each unit satisfies `IsAtMostMoved`, if each unit does that no order concerns: no order of SAIL concerns a unit
+-- each unit at most went along (`IsAtMostMoved`), if each that no order concerns did, as no order of SAIL concerns one
 pub all_carried : (w : WorldValue) (m : MonthValue) (c d : CampaignValue) → spares_others concerns_nobody IsAtMostMoved is_sailing w m c d → AreAtMostMoved c d
 all_carried w m c d keeps n u there = keeps n u there (λ k d l nobody. nobody)
 

@@ -129,6 +129,7 @@ module _ (w : WorldValue) (taught : TaughtMen) (n : ℕ) (u : Unit) where
   all_stay (t ∷ ts) p v there own others = all_stay ts (step p t) v (one_stays p.0 p.1 t v there own others.0) own others.1
 
   module _ (skill : ℕ) (order : Task) (for_unit : order.unit ≡ n) (own : order.faction ≡ u.faction) (says : order.order_value ≡ order_of verbs.Study (operands.Skill skill)) where
+    -- the verb of the unit's own order is STUDY
     studies : Studies order
     studies = ap (λ (o : OrderValue). is_studying o.verb) says
 
@@ -136,6 +137,7 @@ module _ (w : WorldValue) (taught : TaughtMen) (n : ℕ) (u : Unit) where
     apart : (t : Task) → share_slot t order ≡ false → Studies t → IsOther t
     apart t never other unit faction = both_own t order never other studies (unit ∙ sym for_unit) (faction ∙ sym own)
 
+    -- orders of STUDY that share no slot with the unit's own order aren't for unit n, or not from its faction
     all_apart : (ts : List Task) → AllByRecursion (λ t. share_slot order t ≡ false) ts → AllByRecursion Studies ts → AllByRecursion IsOther ts
     all_apart [] all others = tt
     all_apart (t ∷ ts) all others = (one_apart, all_apart ts all.1 others.1)
@@ -143,6 +145,7 @@ module _ (w : WorldValue) (taught : TaughtMen) (n : ℕ) (u : Unit) where
         one_apart : IsOther t
         one_apart unit faction = both_own order t all.0 studies others.0 (for_unit ∙ sym unit) (own ∙ sym faction)
 
+    -- the effect of the unit's own order
     abbrev deed : OrderEffect
     deed = study w (taught n) n skill
 
@@ -155,6 +158,7 @@ module _ (w : WorldValue) (taught : TaughtMen) (n : ℕ) (u : Unit) where
         ∙ ap (λ o. (effect_on deed d o).0) (ap (of_faction u.faction) there ∙ ap (λ b. if b then Some u else None) (equal_itself u.faction))
 
     module _ (c : CampaignValue) (begun : get c.units n ≡ Some u) where
+      -- unit n is still there, and of its faction, after its own order
       behind_it : (v : Unit) × (get (deed c u).0.units n ≡ Some v) × (v.faction ≡ u.faction)
       behind_it =
           study_cases (λ d. (v : Unit) × (get d.units n ≡ Some v) × (v.faction ≡ u.faction)) w (taught n) c n skill u (u, begun, refl)

@@ -48,7 +48,7 @@ use Rattle.atl_action.specs.Study.{after_study, days_after, is_helpful, study, s
 use Rattle.atl_action.specs.Bounds.{study_reserve}
 use Rattle.atl_action.specs.Teach.{TaughtMen}
 
--- ---- a unit that pays, and reaches so many days
+-- ---- a unit that pays, and reaches a number of days
 
 module _ (w : WorldValue) (c : CampaignValue) (n : ℕ) (u : Unit) (s cost days : ℕ) (is : get c.units n ≡ Some u) (steady : IsSteady w c) (payable : cost ≤ u.holding.money) where
   -- what the unit holds after it paid the cost and has the new days of the skill
@@ -113,7 +113,7 @@ module _ (w : WorldValue) (c : CampaignValue) (n : ℕ) (u : Unit) (s cost days 
       let all : HasRoom (sum_over (λ (x : Unit). x.holding.money) c.units) (amount_in c.books Study Money) = room Study Money in
       record { above = omega (arith, ints, all.above, less); below = omega (arith, ints, all.below, less) }
 
-  -- the bookings use what the remaining bound of STUDY falls
+  -- the booking of the fee moves no amount further than the remaining bound of STUDY falls (`UsesBound`)
   drawn : (e : Entry) (t : Thing) → UsesBound (study_reserve c e t) (study_reserve behind e t) (amount_in c.books e t) (amount_in behind.books e t)
   drawn e t =
       drawn_near (moves_only cost Study Money e t) (study_reserve c e t) (study_reserve behind e t) (amount_in c.books e t) (amount_in behind.books e t)
@@ -189,7 +189,7 @@ money_most w c steady e t = by_amount (amount_number e t == amount_number Study 
     by_amount true a b l = l
     by_amount false a b l = omega arith
 
--- orders of STUDY satisfy `IsOrderly`: they book the fee, and a unit without an own order of STUDY is unchanged
+-- STUDY keeps a steady campaign steady and books the fee, and a unit without an own STUDY is unchanged (`IsOrderly`)
 pub study_orderly : (taught : TaughtMen) → IsOrderly (study_step taught) IsSteady study_reserve study_moves IsOwnOrder IsUnchanged
 study_orderly taught = record {
   well = λ w a c t x steady fit own. well w c t.unit x own.there steady t.order_value.operands fit;

@@ -35,7 +35,7 @@ filtered_distinct p (k ∷ ns) all = by_test (p k) (filtered_distinct p ns all.1
     by_test true rest = (filtered_others k p ns all.0, rest)
     by_test false rest = rest
 
--- the numbers of a list other than n are others
+-- no number is n in a list from which n was filtered out
 without : (n : ℕ) (ns : List ℕ) → AreOthers n (filter (λ k. not (k == n)) ns)
 without n [] = tt
 without n (k ∷ ns) = by_test (k == n) refl (without n ns)
@@ -56,7 +56,7 @@ not_listed : (n : ℕ) (ns : List ℕ) → AreOthers n ns → list_any (λ k. n 
 not_listed n [] all = refl
 not_listed n (k ∷ ns) all = ap (λ b. b || list_any (λ k. n == k) ns) all.0 ∙ not_listed n ns all.1
 
--- the elements before the first that passes a test, of a list with one more in front
+-- before the first element that passes a test: nothing if that is n, else n and what is before it in the rest
 before_cons : (p : ℕ → Bool) (n : ℕ) (ns : List ℕ) → before_first p (n ∷ ns) ≡ if p n then [] else n ∷ before_first p ns
 before_cons p n ns = by_test (p n)
   where
@@ -73,7 +73,7 @@ before_others n p (k ∷ ns) all = subst (AreOthers n) (sym (before_cons p k ns)
     by_test true rest = tt
     by_test false rest = (all.0, rest)
 
--- ---- so many men of the first unit are taught, and then those of the rest
+-- ---- men of the first unit are taught, and then men of the others
 
 -- the first unit of a lesson gets as many of its men taught as `given`, the lesser of `want` and `places`
 first_is_dealt : (had given want places : ℕ) → given ≡ min places want → (had + given) + 0 ≡ had + (min (0 + want) places - min 0 places)

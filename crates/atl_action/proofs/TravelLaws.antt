@@ -16,7 +16,7 @@ use Rattle.atl_records.specs.Holdings.{IsHolding}
 use Rattle.atl_state.specs.Campaign.{CampaignValue, numbers_of}
 use Rattle.atl_instant.proofs.RefitLaws.{in_range_replaced, named_replaced, numbered_replaced, under}
 
--- Before and after it is the same unit, but for its region, structure and guard flag.
+-- The unit after is the unit before, but for its region, structure and guard flag.
 pub record IsSameUnit (before after : Unit) : Type 0 where
   pub faction : after.faction ≡ before.faction
   pub name : after.holding.name ≡ before.holding.name
@@ -25,7 +25,7 @@ pub record IsSameUnit (before after : Unit) : Type 0 where
   pub items : after.holding.items ≡ before.holding.items
   pub days : after.holding.days ≡ before.holding.days
 
--- Before and after it is the same structure, but for its region and its owner.
+-- The structure after is the structure before, but for its region and its owner.
 pub record IsSameStructure (before after : Structure) : Type 0 where
   pub kind : after.kind ≡ before.kind
   pub done : after.done ≡ before.done
@@ -60,19 +60,23 @@ module _ (w : WorldValue) (c : CampaignValue) (units : FinMap nat_cmp Unit) (str
     pub guarding : Every (λ k u. guards (f k u) ≡ true → f k u ≡ u) c.units
 
   module _ (are : AreTravelled) where
+    -- P holds of each unit of the travelled campaign, if it holds of f of each unit of c
     every_unit : (P : ℕ → Unit → Type 0) → Every (λ k u. P k (f k u)) c.units → Every P units
     every_unit P h k x there =
         let (u, was, same) = under (f k) (get c.units k) x (sym (are.units_at k) ∙ there) in
         subst (P k) same (h k u was)
 
+    -- P holds of each structure of the travelled campaign, if it holds of g of each structure of c
     every_structure : (P : ℕ → Structure → Type 0) → Every (λ k y. P k (g k y)) c.structures → Every P structures
     every_structure P h k x there =
         let (y, was, same) = under (g k) (get c.structures k) x (sym (are.structures_at k) ∙ there) in
         subst (P k) same (h k y was)
 
+    -- a number without a unit stays without
     no_unit : (k : ℕ) → get c.units k ≡ None → get units k ≡ None
     no_unit k none = are.units_at k ∙ ap (option_map (f k)) none
 
+    -- a number without a structure stays without
     no_structure : (k : ℕ) → get c.structures k ≡ None → get structures k ≡ None
     no_structure k none = are.structures_at k ∙ ap (option_map (g k)) none
 
@@ -104,7 +108,7 @@ module _ (w : WorldValue) (c : CampaignValue) (units : FinMap nat_cmp Unit) (str
           owner = λ some. let (v, here, inside) = (are.owned k y was).owned some in (v, here);
         })
 
-    -- the next numbers of units and structures stay free
+    -- factions, units and structures stay numbered as the rule says (`AreNumbered`)
     next_kept : AreNumbered c → AreNumbered travelled
     next_kept = numbered_replaced c units structures are.structure_count no_unit no_structure
 
@@ -118,6 +122,7 @@ module _ (w : WorldValue) (c : CampaignValue) (units : FinMap nat_cmp Unit) (str
           (rw s.kind a.0, rw (s.done, s.kind) a.1));
     }
 
+    -- two units that both guard one region are of one faction
     abbrev Agree : Unit → Unit → Type 0
     Agree x y = guards x ≡ true → guards y ≡ true → x.region ≡ y.region → x.faction ≡ y.faction
 

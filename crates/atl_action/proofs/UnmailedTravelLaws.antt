@@ -69,7 +69,7 @@ sailing_men w c f n x other = tt
 sail_spares : SparesMen sail_step
 sail_spares w a c t x own = sailing_men w c t.faction t.unit x t.order_value.operands
 
--- a unit that satisfies `IsAtMostMoved` keeps its name and its items
+-- a unit that at most went along with its structure (`IsAtMostMoved`) keeps its name and its items
 items_of_carried : (u v : Unit) → IsAtMostMoved u v → HasItsItems u v
 items_of_carried u v h = record { name = h.name; items = h.items }
 

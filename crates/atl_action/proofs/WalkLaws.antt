@@ -63,7 +63,7 @@ module _ (w : WorldValue) (c : CampaignValue) (n : ℕ) (u : Unit) (to : ℕ) (i
   abbrev next : ℕ
   next = heir c old_place n
 
-  -- the units with unit n in region `to`, outside structures
+  -- the units, of which unit n is in region `to`, outside structures, with its guard flag cleared
   abbrev units : FinMap nat_cmp Unit
   units = elsewhere 0 to c.units n
 
@@ -104,27 +104,33 @@ module _ (w : WorldValue) (c : CampaignValue) (n : ℕ) (u : Unit) (to : ℕ) (i
   not_first q y there zero = none_some y (sym steady.next.structures.first ∙ ap (get c.structures) (sym zero) ∙ there)
 
   module _ (structures : FinMap nat_cmp Structure) where
+    -- the campaign with unit n in region `to`, and with these structures
     abbrev behind : CampaignValue
     behind = travelled w c units structures f (λ q y. y)
 
+    -- a structure that unit n doesn't own keeps its right owner after the walk
     still_owned : (q : ℕ) (y : Structure) → get c.structures q ≡ Some y → y.owner ≢ n → IsOwned behind q y
     still_owned q y there other = owner_stays c behind n away q y (steady.owners q y there) other (λ none v at inside. not_first q y there (sym inside ∙ outside v at))
 
+    -- the structure that unit n left is rightly owned by its next owner
     left_owned : old_place ≢ 0 → (y : Structure) → IsOwned behind old_place (owned_by next y)
     left_owned some = heir_owns c behind n away old_place some low (λ v at inside. some (sym inside ∙ outside v at))
 
     -- g gives the structures, which stay in their regions
     module _ (g : ℕ → Structure → Structure) (at : (k : ℕ) → get structures k ≡ option_map (g k) (get c.structures k)) (count : len structures ≡ len c.structures)
         (same : Every (λ k y. IsSameStructure y (g k y) × ((g k y).region ≡ y.region)) c.structures) (owned : Every (λ k y. IsOwned behind k (g k y)) c.structures) where
+      -- each structure of c is in the campaign after the walk, as g makes it
       forth : (k : ℕ) (y : Structure) → get c.structures k ≡ Some y → get structures k ≡ Some (g k y)
       forth k y there = at k ∙ ap (option_map (g k)) there
 
+      -- each unit is in a region that is there, and in a structure of that region, after the walk (`IsPut`)
       put_by : (k : ℕ) (x : Unit) → get c.units k ≡ Some x → (b : Bool) → IsPut w c units structures f g (gone_if 0 to b x)
       put_by k x there true = record { region = (steady.known.regions to).1 (land_is_there w to land); structure = λ some. absurd (some refl) }
       put_by k x there false =
           let p = steady.known.units k x there in
           record { region = p.region; structure = λ some. let (s, was, near) = p.structure some in (g x.structure s, forth x.structure s was, (same x.structure s was).1 ∙ near) }
 
+      -- each unit on water is inside a ship after the walk
       aboard_by : (k : ℕ) (x : Unit) → get c.units k ≡ Some x → (b : Bool) → is_land_at w (gone_if 0 to b x).region ≡ false
           → (s : Structure) × (get structures (gone_if 0 to b x).structure ≡ Some s) × (is_ship w s ≡ true)
       aboard_by k x there true wet = absurd (true≢false (sym land ∙ wet))
@@ -132,6 +138,7 @@ module _ (w : WorldValue) (c : CampaignValue) (n : ℕ) (u : Unit) (to : ℕ) (i
           let (s, was, ship) = steady.water.units k x there wet in
           (g x.structure s, forth x.structure s was, rw (same x.structure s was).0.kind ship)
 
+      -- units and structures after the walk are all that a steady campaign needs (`AreTravelled`)
       are : AreTravelled w c units structures f g
       are = record {
         units_at = units_at;
@@ -149,6 +156,7 @@ module _ (w : WorldValue) (c : CampaignValue) (n : ℕ) (u : Unit) (to : ℕ) (i
         guarding = λ k x there. guards_stay 0 to (k == n) x;
       }
 
+      -- the walk keeps a steady campaign steady, in its month and with balanced books (`StepsWell`)
       behind_well : StepsWell IsSteady books_nothing w c behind
       behind_well =
           stays_well IsSteady w c behind (steady-travelled w c units structures f g are steady)
@@ -210,6 +218,7 @@ module _ (w : WorldValue) (c : CampaignValue) (n : ℕ) (u : Unit) (to : ℕ) (i
       (λ q y there. given_same (q == old_place) (y.owner == n) (q == 0) y (other_number q 0 (not_first q y there)))
       (λ q y there. given_owned some q y there (q == old_place) (y.owner == n) (q == 0) refl refl (other_number q 0 (not_first q y there)))
 
+  -- the handovers of the walk change nothing but structures
   off_is : gone_off ≡ record begun { structures = gone_off.structures }
   off_is = handed_is gone_out 0 0 n ∙ ap (λ (d : CampaignValue). record d { structures = gone_off.structures }) (handed_is begun old_place n next)
 
@@ -261,7 +270,7 @@ walk_stays w c n u direction k apart =
     walk_cases (λ d. get d.units k ≡ get c.units k) w c n u direction refl (λ to land.
     changed_else (λ (x : Unit). record x { holding = record x.holding { guard = false } }) (with_place c n to 0).units n k apart (get (with_place c n to 0).units n) ∙ place_stays c n to 0 k apart)
 
--- orders of MOVE satisfy `IsOrderly`: they book nothing, and a unit without an own order of MOVE is no worse off
+-- MOVE keeps a steady campaign steady and books nothing, and a unit without an own MOVE is no worse off (`IsOrderly`)
 pub walk_orderly : IsOrderly walk_step IsSteady books_nothing moves_nothing IsOwnOrder IsNoWorse
 walk_orderly = record {
   well = λ w a c t x steady fit own. well w c t.unit x own.there steady t.order_value.operands;

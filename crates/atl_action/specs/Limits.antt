@@ -9,10 +9,10 @@ pupils_per_teacher = 10
 abbrev pub month_days : ℕ
 month_days = 30
 
--- the days that each man who is taught gains besides
+-- the days that each man who is taught gains in a month, on top of those of study
 abbrev pub taught_days : ℕ
 taught_days = 30
 
--- the days that each man gains besides, inside a structure that helps the skill
+-- the days that each man gains in a month inside a structure that helps the skill, on top of those of study
 abbrev pub helped_days : ℕ
 helped_days = 10

@@ -16,7 +16,7 @@ use Rattle.atl_action.specs.Learners.{learners, study_tasks}
 use Rattle.atl_action.specs.Study.{learn_meaning, study}
 use Rattle.atl_action.specs.Teach.{after_lessons}
 
--- for unit n an order of STUDY of this skill counts, from this faction, its own
+-- an order of STUDY of this skill counts for unit n, and this faction wrote it
 pub record IsOwnStudy (m : MonthValue) (n faction skill : ℕ) : Type 0 where
   pub order : Task
   pub stands : Contains (study_tasks m) order

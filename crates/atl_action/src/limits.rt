@@ -7,8 +7,9 @@ pub(crate) const PUPILS_PER_TEACHER: u32 = 10;
 /// The days that each man gains by a month of study.
 pub(crate) const MONTH_DAYS: u64 = 30;
 
-/// The days that each man who is taught gains besides.
+/// The days that each man who is taught gains in a month, on top of those of study.
 pub(crate) const TAUGHT_DAYS: u64 = 30;
 
-/// The days that each man gains besides, inside a structure that helps the skill.
+/// The days that each man gains in a month inside a structure that helps the skill, on top of those
+/// of study.
 pub(crate) const HELPED_DAYS: u64 = 10;

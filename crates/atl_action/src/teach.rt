@@ -19,7 +19,7 @@ use atl_state::{Campaign, Event, EventFault, Outcome, level};
 use atl_tables::Numbered;
 use std::alloc::{AllocError, Global};
 
-/// The verb TEACH, which this phase carries out before STUDY.
+/// The verb TEACH, whose orders the phase of TEACH and STUDY carries out first.
 struct TeachVerbs;
 
 impl PhaseVerbs for TeachVerbs {
@@ -111,7 +111,7 @@ fn below_of(
     Ok(list)
 }
 
-/// The numbers without repetitions, each where it is first listed.
+/// The listed numbers without repetitions, each where it is first listed.
 /// It takes n log n steps for n numbers.
 fn first_mentions(alloc: Global, numbers: &[u32]) -> Result<Vec<u32>, AllocError>
     ensures { IfOk result (λ list. list.items ≡ first_mentions numbers.now) }

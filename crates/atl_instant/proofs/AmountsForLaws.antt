@@ -12,6 +12,7 @@ use Rattle.atl_records.specs.Holdings.{amount_of}
 use Rattle.atl_records.proofs.EveryLaws.{found_of}
 use Rattle.atl_instant.specs.Amounts.{amounts_for}
 
+-- a number that isn't 0 is at least 1
 at_least_one : (n : ℕ) → (n == 0) ≡ false → 1 ≤ n
 at_least_one n some = grind (arith, nat_tests)
 

@@ -81,7 +81,7 @@ then_changes a b d n f g one two = record {
 abbrev goods_of : HoldingValue → FinMap nat_cmp ℕ × FinMap nat_cmp ℕ
 goods_of h = (h.items, h.days)
 
--- a setter that changes neither items nor days, and marks the row of the unit, is a `ChangesHolding`
+-- a setter that changes neither items nor days, and marks the unit's row, marks all that it changes (`ChangesHolding`)
 row_changes : (f : HoldingValue → HoldingValue) → ((h : HoldingValue) → goods_of (f h) ≡ goods_of h) → (c d : MarkedCampaign) (n : ℕ)
     → d.value ≡ unit_changed (λ u. record u { holding = f u.holding }) c.value n → d.marks ≡ mark_unit_row c n → ChangesHolding c d n f
 row_changes f same c d n what marks =
@@ -92,15 +92,15 @@ row_changes f same c d n what marks =
       goods = ap (λ (m : Marks). m.goods) marks;
     }
 
--- the setter of a unit's men is a `ChangesHolding`
+-- setting a unit's men changes nothing else of its holding, and marks the change (`ChangesHolding`)
 pub men_changes : (c d : MarkedCampaign) (n men : ℕ) → d.value ≡ with_men c.value n men → d.marks ≡ mark_unit_row c n → ChangesHolding c d n (λ h. record h { men = men })
 men_changes c d n men = row_changes (λ h. record h { men = men }) (λ h. refl) c d n
 
--- the setter of a unit's money is a `ChangesHolding`
+-- setting a unit's money changes nothing else of its holding, and marks the change (`ChangesHolding`)
 pub money_changes : (c d : MarkedCampaign) (n money : ℕ) → d.value ≡ with_money c.value n money → d.marks ≡ mark_unit_row c n → ChangesHolding c d n (λ h. record h { money = money })
 money_changes c d n money = row_changes (λ h. record h { money = money }) (λ h. refl) c d n
 
--- the setter of one item of a unit is a `ChangesHolding`
+-- setting a unit's amount of one item changes nothing else of its holding, and marks the change (`ChangesHolding`)
 pub item_changes : (c d : MarkedCampaign) (n item amount : ℕ) → d.value ≡ with_item c.value n item amount → d.marks ≡ mark_item c n item → ChangesHolding c d n (λ h. record h { items = with_amount_of h.items item amount })
 item_changes c d n item amount what marks = record {
   value = what;
@@ -108,7 +108,7 @@ item_changes c d n item amount what marks = record {
   goods = ap (λ (m : Marks). m.goods) marks;
 }
 
--- the setter of a unit's days of one skill is a `ChangesHolding`
+-- setting a unit's days of one skill changes nothing else of its holding, and marks the change (`ChangesHolding`)
 pub skill_changes : (c d : MarkedCampaign) (n skill days : ℕ) → d.value ≡ with_skill c.value n skill days → d.marks ≡ mark_skill c n skill → ChangesHolding c d n (λ h. record h { days = with_amount_of h.days skill days })
 skill_changes c d n skill days what marks = record {
   value = what;

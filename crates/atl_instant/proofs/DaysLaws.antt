@@ -58,7 +58,7 @@ module _ (days : FinMap nat_cmp ℕ) (f : ℕ → ℕ → ℕ) (s : ℕ) where
           let none : amount_of days s ≡ 0 = ap (λ (o : Option ℕ). unwrap_or o 0) there in
           others none ∙ ap (f s) (sym none)
 
--- of 0 days 0 go
+-- if a unit has 0 days of a skill, 0 days go with n of its men
 nobody_goes : (n men : ℕ) → days_going n men 0 ≡ 0
 nobody_goes n men = ap (λ k. k / men) (zero-mul n) ∙ zero-div men
 
@@ -76,15 +76,16 @@ none_listed days s none = by_option (get days s) (contains_key-keys days s ∙ n
     by_option None is = refl
     by_option (Some d) is = cc
 
+-- if the disjunction of two tests is false, both are false
 neither : (a b : Bool) → (a || b) ≡ false → (a ≡ false) × (b ≡ false)
 neither true b h = cc
 neither false b h = (refl, h)
 
--- where there are 0 days, 0 stay
+-- if a unit has 0 days of a skill, 0 stay with it
 none_stay : (d g : ℕ) → d ≡ 0 → d - g ≡ 0
 none_stay d g e = omega (arith, e)
 
--- where there are 0 days and 0 come, there are 0 after
+-- if a unit has 0 days of a skill, and 0 come, it has 0 then
 none_come : (d g : ℕ) → d ≡ 0 → g ≡ 0 → d + g ≡ 0
 none_come d g e f = omega (arith, e, f)
 
@@ -104,7 +105,7 @@ days_go_with_men n other h s = record {
 
 -- ---- what the code sets one by one
 
--- a map without days of 0 has none after days are set one by one
+-- a map in which no skill has 0 days lists none with 0 days after days are set one by one
 every_set : (f : ℕ → ℕ → ℕ) (es : List (ℕ × ℕ)) (left : FinMap nat_cmp ℕ) → Every (λ s d. 1 ≤ d) left → Every (λ s d. 1 ≤ d) (fold (λ (m : FinMap nat_cmp ℕ) (e : ℕ × ℕ). with_amount_of m e.0 (f e.0 e.1)) left es)
 every_set f [] left old = old
 every_set f (e ∷ es) left old = every_set f es (with_amount_of left e.0 (f e.0 e.1)) (every_amount (λ s d. 1 ≤ d) left e.0 (f e.0 e.1) (λ some. some) old)

@@ -14,7 +14,7 @@ use Rattle.atl_records.proofs.EveryLaws.{every-insert, get-insert_other, none_so
 use Rattle.atl_state.proofs.RegionLaws.{changed-known, same_len}
 
 module _ (c : CampaignValue) (n : ℕ) (x : Faction) (name : List ℕ) (is : get c.factions n ≡ Some x) where
-  -- the faction with the other name
+  -- faction n with the other name
   abbrev renamed : Faction
   renamed = record x { name = name }
 
@@ -34,7 +34,7 @@ module _ (c : CampaignValue) (n : ℕ) (x : Faction) (name : List ℕ) (is : get
   there : (k : ℕ) → IsThere c.factions k → IsThere factions k
   there k h = there-insert c.factions n k renamed h
 
-  -- there are as many factions
+  -- there are as many factions as before
   same_count : len factions ≡ len c.factions
   same_count = same_len c.factions n x renamed is
 
@@ -83,7 +83,7 @@ module _ (c : CampaignValue) (n : ℕ) (x : Faction) (name : List ℕ) (is : get
     posts = posted-there there old.posts;
   }
 
-  -- the next numbers stay free
+  -- factions, units and structures stay numbered as the rule says (`AreNumbered`)
   next_kept : AreNumbered c → AreNumbered shown
   next_kept old = record {
     factions = record { first = none_kept 0 old.factions.first; count = old.factions.count ∙ ap (λ l. l + 1) (sym same_count); free = λ k l. none_kept k (old.factions.free k l) };

@@ -37,32 +37,32 @@ module _ (w : WorldValue) (c : CampaignValue) (early : IsEarly w c) where
         ap (λ g. with_unit_begun c (new_unit c.next_unit g (region_of c n) (inside c n))) (sym own)
         ∙ ap (λ (o : Option Unit). with_unit_begun c (new_unit c.next_unit u.faction (option_map_or (λ x. x.region) o 0) (option_map_or (λ x. x.structure) o 0))) is
 
-    -- the change satisfies `StepsWell` and books nothing, and each unit that was there is unchanged
+    -- the changed campaign is early and in balance, nothing is booked (`StepsWell`), and each old unit is unchanged
     abbrev Fine : CampaignValue → Type 0
     Fine d = StepsWell IsEarly books_nothing w c d × Every (λ k v. get d.units k ≡ Some v) c.units
 
-    -- an unchanged campaign satisfies `Fine`
+    -- an unchanged campaign stays early and leaves each unit as it was (`Fine`)
     same_fine : Fine c
     same_fine = (well_same w c early, λ k v there. there)
 
-    -- if the unit limit isn't reached, the campaign with a unit formed by a unit of faction f satisfies `Fine`
+    -- below the unit limit, forming a unit keeps the campaign early and the other units as they were (`Fine`)
     formed_fine : (u : Unit) → get c.units n ≡ Some u → (u.faction ≡ f) → is_unit_limit c ≡ false → Fine (with_formed_unit c f n)
     formed_fine u is own limit = subst Fine (sym (formed_is u is own)) (begun_well w c n u is early limit, begun_stays w c n u is early)
 
-    -- the campaign after FORM for a unit that is there satisfies `Fine`,
-    -- whatever its faction is and whether the unit limit is reached
+    -- FORM for a unit that is there keeps the campaign early and the other units as they were (`Fine`),
+    -- whatever the unit's faction is and whether the unit limit is reached
     by_limit : (u : Unit) → get c.units n ≡ Some u → (a b : Bool) → is_of_faction f (Some u) ≡ a → is_unit_limit c ≡ b
         → Fine (unless c (first_fault ((not a, NotYours) ∷ (b, UnitLimit) ∷ [])) (with_formed_unit c f n, Done c.next_unit)).0
     by_limit u is false b own limit = same_fine
     by_limit u is true true own limit = same_fine
     by_limit u is true false own limit = formed_fine u is (is_equal u.faction f own) limit
 
-    -- the campaign after FORM satisfies `Fine`, whether unit n is there or not
+    -- FORM keeps the campaign early and the other units as they were (`Fine`), whether unit n is there or not
     by_unit : (o : Option Unit) → get c.units n ≡ o → Fine (unless c (first_fault ((not (is_of_faction f o), NotYours) ∷ (is_unit_limit c, UnitLimit) ∷ [])) (with_formed_unit c f n, Done c.next_unit)).0
     by_unit None is = same_fine
     by_unit (Some u) is = by_limit u is (is_of_faction f (Some u)) (is_unit_limit c) refl refl
 
-    -- the campaign after an order of FORM satisfies `Fine`
+    -- an order of FORM keeps the campaign early and the other units as they were (`Fine`)
     form_fine : Fine (form_by c f n).0
     form_fine = by_unit (get c.units n) refl
 

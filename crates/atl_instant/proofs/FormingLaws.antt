@@ -119,7 +119,7 @@ module _ (w : WorldValue) (c : CampaignValue) (p : ℕ) (u : Unit) (is : get c.u
         posts = k.posts;
       }
 
-  -- the next numbers stay free
+  -- factions, units and structures stay numbered as the rule says (`AreNumbered`)
   next_kept : AreNumbered begun
   next_kept = record {
     factions = old.next.factions;
@@ -179,6 +179,7 @@ module _ (w : WorldValue) (c : CampaignValue) (p : ℕ) (u : Unit) (is : get c.u
   nothing_held People = refl
   nothing_held (Item i) = ap (λ o. unwrap_or o 0) (get-empty nat_cmp i)
 
+  -- an amount that is the sum of another and 0 equals the other
   none_more : (a b h : ℕ) → a ≡ b + h → h ≡ 0 → a ≡ b
   none_more a b h e none = omega arith
 

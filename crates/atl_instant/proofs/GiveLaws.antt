@@ -192,8 +192,8 @@ module _ (w : WorldValue) (c : CampaignValue) (early : IsEarly w c) (from to : �
 
 -- ---- the phase
 
--- orders of GIVE and PAY satisfy `IsOrderly`:
--- they book nothing, and a unit without an own order of these is no worse off
+-- GIVE and PAY keep an early campaign early and book nothing,
+-- and a unit without an own order of these is no worse off (`IsOrderly`)
 pub give_orderly : IsOrderly give_step IsEarly (λ c e t. 0) (λ e t. 0) IsOwnOrder IsNoWorse
 give_orderly = record {
   well = λ w a c t x early fit own. well w a c t x early own t.order_value.operands fit;

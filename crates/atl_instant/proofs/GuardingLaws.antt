@@ -77,7 +77,7 @@ module _ (c : CampaignValue) (n : ℕ) (u : Unit) (is : get c.units n ≡ Some u
   abbrev Agree : Unit → Unit → Type 0
   Agree x y = guards x ≡ true → guards y ≡ true → x.region ≡ y.region → x.faction ≡ y.faction
 
-  -- all units that guard a region still are of one faction
+  -- all units that guard a region still are of one faction, if no other faction guards the region of unit n
   guards_kept : is_guarded_against c u.region u.faction ≡ false → AreOfOneFaction guards c → AreOfOneFaction guards flagged
   guards_kept none old =
       let own = own_guards c u.region u.faction none in
@@ -159,7 +159,8 @@ guard_spares w c n u is k x there apart =
 
 -- ---- the phase
 
--- orders of GUARD 1 satisfy `IsOrderly`: they book nothing, and a unit without an own GUARD 1 is no worse off
+-- GUARD 1 keeps a steady campaign steady and books nothing,
+-- and a unit without an own GUARD 1 is no worse off (`IsOrderly`)
 pub guard_orderly : IsOrderly guard_step IsSteady (λ c e t. 0) (λ e t. 0) guard_concerns IsNoWorse
 guard_orderly = record {
   well = λ w a c t x steady fit own. well w c t x steady own t.order_value.operands;

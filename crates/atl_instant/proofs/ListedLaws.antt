@@ -35,13 +35,16 @@ module _ {X : Type 0} where
   place_of : (xs : List X) (x : X) → Contains xs x → (i : ℕ) × (slice_get xs i ≡ Some x)
   place_of xs x h = (h.0, slice_get-get_or xs h.0 x h.1 ∙ ap Some h.2)
 
+-- if a test b is true, the proposition `T b` holds
 is_true : (b : Bool) → b ≡ true → T b
 is_true b h = subst T (sym h) tt
 
+-- if the proposition `T b` holds, the test b is true
 is_so : (b : Bool) → T b → b ≡ true
 is_so true h = refl
 is_so false h = absurd h
 
+-- a comparison that passes `is_lt` is Less
 less : (r : Ordering) → is_lt r ≡ true → r ≡ Less
 less Less h = refl
 less Equal h = absurd (false≢true h)

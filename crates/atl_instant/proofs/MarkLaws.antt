@@ -23,7 +23,7 @@ pub booked_marks : (a b d : MarkedCampaign) (e : Entry) (t : Thing) (z : ℤ) �
 booked_marks a b d e t z before what marks =
     marks-trans a b d before (marks_by b d (record { value = with_amount b.value e t z; marks = mark_amount b e t }) what marks (marks-amount b e t z))
 
--- placing a unit marks all that changes, by whether the unit is there
+-- placing a unit marks all that changes, whether the unit is there or not
 marks_place_at : (c : MarkedCampaign) (n r s : ℕ) (o : Option Unit) → MarksChanges c (place_marked_at c n r s o)
 marks_place_at c n r s None = marks-refl c
 marks_place_at c n r s (Some u) = by_test (u.structure == s)

@@ -96,7 +96,7 @@ same_month_twice a b c one two = record {
   factions = λ n there. one.factions n (two.factions n there);
 }
 
--- if two phases each satisfy `LeavesWell`, both in turn do, within the sum of their bounds
+-- two phases in turn keep books balanced and amounts within the sum of their bounds, if each does so (`LeavesWell`)
 pub both_leave_well : {between leaves : Condition} (j k : BookBound) (w : WorldValue) (a b c : CampaignValue) → LeavesWell between j w a b → LeavesWell leaves k w b c → LeavesWell leaves (both_move j k) w a c
 both_leave_well j k w a b c one two = record {
   leaves_it = two.leaves_it;
@@ -110,21 +110,21 @@ pub both_keep_well : (first : Meaning) (early late : Frame) (w : WorldValue) (m 
     → (b, n) ≡ first w a m → early w m a b → late w n b c → both_keep first early late w m a c
 both_keep_well first early late w m n a b c is one two = rw (sym is) (one, two)
 
--- a phase that satisfies `LeavesWell` within a bound satisfies it within a greater one
+-- a phase that keeps its promises within a bound on the books (`LeavesWell`) keeps them within a greater bound
 pub well_within : {leaves : Condition} (j k : BookBound) (w : WorldValue) (a b : CampaignValue) → MovesLess j k → LeavesWell leaves j w a b → LeavesWell leaves k w a b
 well_within j k w a b l h = record { leaves_it = h.leaves_it; same_month = h.same_month; balances = h.balances; near = λ e t. near_more (j e t) (k e t) (amount_in a.books e t) (amount_in b.books e t) (l e t) (h.near e t) }
 
--- an unchanged campaign satisfies `LeavesWell`, if it has the condition
+-- an unchanged campaign keeps its books within any bound and in balance (`LeavesWell`), if it has the condition
 pub well_unchanged : {leaves : Condition} (moving : BookBound) (w : WorldValue) (c : CampaignValue) → leaves w c → LeavesWell leaves moving w c c
 well_unchanged moving w c h = record { leaves_it = h; same_month = same_month c; balances = λ b. b; near = λ e t. near_same (moving e t) (amount_in c.books e t) }
 
--- steps of one kind in turn, each of which satisfies `LeavesWell` within one bound
+-- steps of one kind in turn, each of which keeps the books in balance and within one bound (`LeavesWell`)
 module _ {A : Type 0} {leaves : Condition} (moving : BookBound) (w : WorldValue) (step : CampaignValue → A → CampaignValue) (each : (c : CampaignValue) (x : A) → leaves w c → LeavesWell leaves moving w c (step c x)) where
   -- the bound of one step and then of the others is within the bound of all steps
   more : {B : Type 0} (x : B) (xs : List B) → MovesLess (both_move moving (moved_times (length xs) moving)) (moved_times (length (x ∷ xs)) moving)
   more x xs e t = let one : length (x ∷ xs) * moving e t ≡ length xs * moving e t + moving e t = suc-mul (length xs) (moving e t) in omega arith
 
-  -- if each step satisfies `LeavesWell` within a bound, the steps in turn do, within this bound times their number
+  -- the steps in turn keep the books in balance, and within the bound of one step times their number (`LeavesWell`)
   pub fold_leaves_well : (c : CampaignValue) (xs : List A) → leaves w c → LeavesWell leaves (moved_times (length xs) moving) w c (fold step c xs)
   fold_leaves_well c [] h = well_unchanged (moved_times 0 moving) w c h
   fold_leaves_well c (x ∷ xs) h =

@@ -35,7 +35,7 @@ pub factions_read : (ms : List Mailing) → map (λ r. r.faction) (map reading_o
 factions_read [] = refl
 factions_read (m ∷ ms) = ap (λ fs. m.faction ∷ fs) (factions_read ms)
 
--- so the keys of the readings of mailings are the factions of the mailings
+-- the keys of the mailings' readings under their factions are the factions of the mailings
 pub keys_of-read : (ms : List Mailing) → keys_of (map by_its_faction (map reading_of ms)) ≡ map (λ m. m.faction) ms
 keys_of-read ms = keys_of-factions (map reading_of ms) ∙ factions_read ms
 

@@ -56,8 +56,8 @@ module _ (c : CampaignValue) (from to : ℕ) (u v : Unit) (h k : HoldingValue) (
       sum : (a b x p q r s : ℕ) → a + q ≡ b + s → b + p ≡ x + r → r + s ≡ p + q → a ≡ x
       sum a b x p q r s e f g = omega arith
 
-  -- if the campaign is early then, and both units hold as much together,
-  -- the move satisfies `StepsWell` and books nothing
+  -- A move books nothing and keeps the campaign early, its month and its balance (`StepsWell`), if the campaign is
+  -- early after it, and both units hold as much together as before.
   pub steps-moved : (w : WorldValue) → IsEarly w moved → BothHold → StepsWell IsEarly (λ d e t. 0) w c moved
   steps-moved w early both = record {
     holds_still = early;

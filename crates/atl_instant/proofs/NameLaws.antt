@@ -46,7 +46,7 @@ name_other w n text (operands.Flag false) a b = absurd (b refl)
 name_other w n text other a b = refl
 
 module _ (w : WorldValue) (c : CampaignValue) (n : ℕ) (u : Unit) (is : get c.units n ≡ Some u) (early : IsEarly w c) where
-  -- the change satisfies `StepsWell`, and books nothing
+  -- the changed campaign is early, of the same month, in balance (`StepsWell`), and nothing is booked
   abbrev Well : CampaignValue → Type 0
   Well d = StepsWell IsEarly books_nothing w c d
 
@@ -56,11 +56,12 @@ module _ (w : WorldValue) (c : CampaignValue) (n : ℕ) (u : Unit) (is : get c.u
   abbrev with_hold : HoldingValue → CampaignValue
   with_hold h = record c { units = insert c.units n (record u { holding = h }) }
 
+  -- if two sums with one addend in common are equal, their other addends are equal
   same_total : (a b h : ℕ) → a + h ≡ b + h → a ≡ b
   same_total a b h e = omega arith
 
-  -- to change what unit n holds satisfies `StepsWell`, if it holds as much of each thing,
-  -- and its guard flag isn't newly set
+  -- Another holding that unit n may have keeps the campaign early and in balance (`StepsWell`),
+  -- if the unit holds as much of each thing, and its guard flag isn't newly set.
   held_well : (h : HoldingValue) → MayHold w u h → (h.guard ≡ true → u.holding.guard ≡ true) → ((t : Thing) → unit_amount t h ≡ unit_amount t u.holding) → Well (with_hold h)
   held_well h may flag same = unbooked_well w c (with_hold h)
       (record { steady = steady-unit_amount w c n u h is may early.steady; flags = of_one_faction_kept w c n u h is (λ x. x.holding.guard) flag early.flags })
@@ -81,7 +82,7 @@ module _ (w : WorldValue) (c : CampaignValue) (n : ℕ) (u : Unit) (is : get c.u
         guard = guard;
       }
 
-  -- naming the unit satisfies `StepsWell`, if the name is good
+  -- naming the unit keeps the campaign early and in balance (`StepsWell`), if the name is good
   unit_name_well : (name : List ℕ) → IsTrue (name_ok name) → Well (with_unit_name c n name)
   unit_name_well name ok =
       let h = record u.holding { name = name } in
@@ -93,7 +94,7 @@ module _ (w : WorldValue) (c : CampaignValue) (n : ℕ) (u : Unit) (is : get c.u
       same People = refl
       same (Item i) = refl
 
-  -- clearing the unit's guard flag satisfies `StepsWell`
+  -- clearing the unit's guard flag keeps the campaign early and in balance (`StepsWell`)
   flag_well : Well (with_guard c n false)
   flag_well =
       let h = record u.holding { guard = false } in
@@ -107,7 +108,7 @@ module _ (w : WorldValue) (c : CampaignValue) (n : ℕ) (u : Unit) (is : get c.u
 
   -- ---- the names of its faction and of a structure
 
-  -- naming the unit's faction satisfies `StepsWell`, if the name is good
+  -- naming the unit's faction keeps the campaign early and in balance (`StepsWell`), if the name is good
   faction_well : (name : List ℕ) → IsTrue (name_ok name) → Well (with_faction_name c u.faction name)
   faction_well name ok =
       let (x, there) = (early.steady.known.units n u is).faction in
@@ -119,7 +120,7 @@ module _ (w : WorldValue) (c : CampaignValue) (n : ℕ) (u : Unit) (is : get c.u
   abbrev titled : List ℕ → Structure → Structure
   titled name s = record s { name = name }
 
-  -- naming a structure satisfies `StepsWell`, if the name is good
+  -- naming a structure keeps the campaign early and in balance (`StepsWell`), if the name is good
   structure_name_well : (k : ℕ) (name : List ℕ) → IsTrue (name_ok name) → Well (with_structure_name c k name)
   structure_name_well k name ok =
       unbooked_well w c (with_structure_name c k name)
@@ -135,7 +136,7 @@ module _ (w : WorldValue) (c : CampaignValue) (n : ℕ) (u : Unit) (is : get c.u
       owned q y true o = record { owned = o.owned; ownerless = o.ownerless }
       owned q y false o = o
 
-  -- an order to name structure k, which may have a fault, satisfies `StepsWell`, if the name is good
+  -- an order to name structure k keeps the campaign early and in balance (`StepsWell`), if the name is good
   structure_well : (k : ℕ) (ship : Bool) (name : List ℕ) → IsTrue (name_ok name) → Well (structure_name_result w c n k ship name).0
   structure_well k ship name ok = by_fault (structure_fault w n ship (get c.structures k))
     where
@@ -145,14 +146,14 @@ module _ (w : WorldValue) (c : CampaignValue) (n : ℕ) (u : Unit) (is : get c.u
 
   -- ---- an order
 
-  -- NAME satisfies `StepsWell`, whatever it names, if the name is good
+  -- NAME keeps the campaign early and in balance (`StepsWell`), whatever it names, if the name is good
   named_well : (what : NameKind) (name : List ℕ) → IsTrue (name_ok name) → Well (name_result w c n u.faction u.structure what name).0
   named_well kinds.Unit name ok = unit_name_well name ok
   named_well kinds.Faction name ok = faction_well name ok
   named_well kinds.Building name ok = structure_well u.structure false name ok
   named_well kinds.Ship name ok = structure_well u.structure true name ok
 
-  -- an order of NAME or GUARD 0 satisfies `StepsWell`
+  -- an order of NAME or GUARD 0 keeps the campaign early and in balance (`StepsWell`)
   order_well : (o : OperandsValue) → AreOperandsOf w o → IfSome (name_effect w n o) (λ deed. Well (deed c u).0)
   order_well (operands.Name what name) fit = named_well what name fit
   order_well (operands.Flag false) fit = flag_well
@@ -186,8 +187,8 @@ module _ (w : WorldValue) (c : CampaignValue) (n : ℕ) (u : Unit) (k : ℕ) (ap
   order_stays (operands.Flag false) = changed_else (λ (x : Unit). record x { holding = record x.holding { guard = false } }) c.units n k apart (get c.units n)
   order_stays other = tt
 
--- orders of NAME and GUARD 0 satisfy `IsOrderly`:
--- they book nothing, and a unit without an own order of these is no worse off
+-- NAME and GUARD 0 keep an early campaign early and book nothing,
+-- and a unit without an own order of these is no worse off (`IsOrderly`)
 pub name_orderly : IsOrderly name_step IsEarly books_nothing moves_nothing name_concerns IsNoWorse
 name_orderly = record {
   well = λ w a c t x early fit own. order_well w c t.unit x own.there early t.order_value.operands fit;

@@ -37,7 +37,7 @@ use Rattle.atl_instant.proofs.PhaseOrderLaws.{orders_are_in_mailings}
 pub drawn_same : (r : ℕ) (a : ℤ) → UsesBound r r a a
 drawn_same r a = record { above = omega (arith, ints); below = omega (arith, ints) }
 
--- an amount and its remaining bound satisfy `UsesBound`, if both stay the same
+-- an amount that stays uses nothing of its remaining bound (`UsesBound`), if the bound stays the same
 pub not_drawn : (r s : ℕ) (a b : ℤ) → s ≡ r → b ≡ a → UsesBound r s a b
 not_drawn r s a b e f = record { above = omega (arith, ints, e, f); below = omega (arith, ints, e, f) }
 
@@ -59,11 +59,11 @@ room_drawn r s a b h room = record { above = omega (arith, ints, h.above, room.a
 
 -- ---- steps
 
--- an unchanged campaign satisfies `StepsWell`
+-- an unchanged campaign keeps its condition, month, balance and remaining bound (`StepsWell`)
 pub well_same : {holds : Condition} {reserve : RemainingBound} (w : WorldValue) (c : CampaignValue) → holds w c → StepsWell holds reserve w c c
 well_same {holds} {reserve} w c h = record { holds_still = h; same_month = same_month c; balances = λ b. b; drawn = λ e t. drawn_same (reserve c e t) (amount_in c.books e t) }
 
--- if two steps each satisfy `StepsWell`, both in turn do
+-- two steps in turn keep condition, month and balance within the remaining bound (`StepsWell`), if each does
 pub well_twice : {holds : Condition} {reserve : RemainingBound} (w : WorldValue) (a b c : CampaignValue) → StepsWell holds reserve w a b → StepsWell holds reserve w b c → StepsWell holds reserve w a c
 well_twice {holds} {reserve} w a b c one two = record {
   holds_still = two.holds_still;
@@ -81,7 +81,7 @@ well_twice {holds} {reserve} w a b c one two = record {
 pub room_left : {holds : Condition} {reserve : RemainingBound} (w : WorldValue) (a b : CampaignValue) → StepsWell holds reserve w a b → HaveRoom (reserve a) a → HaveRoom (reserve b) b
 room_left {holds} {reserve} w a b well room e t = room_drawn (reserve a e t) (reserve b e t) (amount_in a.books e t) (amount_in b.books e t) (well.drawn e t) (room e t)
 
--- steps that satisfy `StepsWell` together satisfy `LeavesWell`, if the remaining bound is within the bound of the phase
+-- steps within their remaining bound (`StepsWell`) are within a bound of the phase that is as large (`LeavesWell`)
 pub leaves_well : {holds : Condition} {reserve : RemainingBound} {moving : BookBound} (w : WorldValue) (a b : CampaignValue) → ((e : Entry) (t : Thing) → reserve a e t ≤ moving e t) → StepsWell holds reserve w a b → LeavesWell holds moving w a b
 leaves_well {holds} {reserve} {moving} w a b l h = record {
   leaves_it = h.holds_still;
@@ -128,16 +128,16 @@ pub told_some : (deed : OrderEffect) (c d : CampaignValue) (faction n : ℕ) (o 
 told_some deed c d faction n o is = ap with_some is
 
 module _ (step : OrderMeaning) {holds : Condition} {reserve : RemainingBound} {moving : BookBound} {concerns : Affects} {spares : Unaffected} (orderly : IsOrderly step holds reserve moving concerns spares) (w : WorldValue) where
-  -- if a step satisfies `IsOrderly`, the campaign after an order satisfies `StepsWell`
+  -- an order keeps the condition, the month and the balance of the books (`StepsWell`), if its phase is `IsOrderly`
   pub order_well : (a : Aliases) (c : CampaignValue) (t : Task) → holds w c → IsOrderOf w t.order_value → StepsWell holds reserve w c (order_result (step w a t) c t.faction t.unit).0
   order_well a c t h fit = ordered_cases (StepsWell holds reserve w c) (step w a t) c t (well_same w c h) (λ x own. orderly.well w a c t x h fit own)
 
-  -- if a step satisfies `IsOrderly`, an order spares each unit that it doesn't concern
+  -- an order spares each unit that it doesn't concern, if its phase is `IsOrderly`
   order_spares : (a : Aliases) (c : CampaignValue) (t : Task) → holds w c → (n : ℕ) (u : Unit) → get c.units n ≡ Some u → (concerns t n u.faction → ⊥) → IsUnaffected spares (order_result (step w a t) c t.faction t.unit).0 n u
   order_spares a c t h n u there other =
       ordered_cases (λ d. IsUnaffected spares d n u) (step w a t) c t (record { unit = u; there = there; spared = orderly.sparing.same u }) (λ x own. orderly.spared w a c t x h own n u there other)
 
-  -- if a step satisfies `IsOrderly`, orders spare a unit that none of them concerns
+  -- orders spare a unit that none of them concerns, if their phase is `IsOrderly`
   orders_spare_one : (c : CampaignValue) (m : MonthValue) (ts : List Task) → holds w c → AllByRecursion (λ t. IsOrderOf w t.order_value) ts → (n : ℕ) (u : Unit) → get c.units n ≡ Some u → AllByRecursion (λ t. concerns t n u.faction → ⊥) ts
       → IsUnaffected spares (fold (one_order step w) (c, m) ts).0 n u
   orders_spare_one c m [] h fit n u there others = record { unit = u; there = there; spared = orderly.sparing.same u }
@@ -148,7 +148,7 @@ module _ (step : OrderMeaning) {holds : Condition} {reserve : RemainingBound} {m
       let rest = orders_spare_one next.0 next.1 ts (order_well m.aliases c t h fit.0).holds_still fit.1 n one.unit one.there (subst (λ f. AllByRecursion (λ t. concerns t n f → ⊥) ts) (sym same_faction) others.1) in
       record { unit = rest.unit; there = rest.there; spared = orderly.sparing.again u one.unit rest.unit one.spared rest.spared }
 
-  -- if a step satisfies `IsOrderly`, orders spare each unit that none of them concerns
+  -- orders spare each unit that none of them concerns, if their phase is `IsOrderly`
   pub orders_spare : (c : CampaignValue) (m : MonthValue) (ts : List Task) → holds w c → All (λ t. IsOrderOf w t.order_value) ts → AreUnaffected concerns spares ts c (fold (one_order step w) (c, m) ts).0
   orders_spare c m ts h fit n u there others =
       orders_spare_one c m ts h (recursion_from_All (λ t. IsOrderOf w t.order_value) ts fit) n u there (recursion_from_All (λ t. concerns t n u.faction → ⊥) ts others)
@@ -185,5 +185,3 @@ told_readings m t (Some outcome) = refl
 -- an order leaves the readings of the month as they are
 pub order_readings : (step : OrderMeaning) (w : WorldValue) (p : CampaignValue × MonthValue) (t : Task) → (one_order step w p t).1.readings ≡ p.1.readings
 order_readings step w p t = told_readings p.1 t (order_result (step w p.1.aliases t) p.0 t.faction t.unit).1
-
--- ---- what is so in any case is so where a call answers Ok

@@ -44,6 +44,7 @@ places_tie : (a : Arrangement) (t u : Task) → key_of a t ≡ key_of a u → t.
 places_tie ByUnit t u e = ap (λ key. get_or key 3 0) e
 places_tie ByFaction t u e = ap (λ key. get_or key 3 0) e
 
+-- a test that can't be true is false
 refuted : (b : Bool) → (b ≡ true → ⊥) → b ≡ false
 refuted true h = absurd (h refl)
 refuted false h = refl
@@ -140,26 +141,31 @@ module _ (aliases : Aliases) (a : Arrangement) where
 -- ---- as they are collected, and as the map lists them
 
 module _ {X : Type 0} (as_task : X → Task) where
-  -- the values of mapped entries are the mapped values
+  -- mapping the value of each entry and listing the values gives the same as listing the values and mapping them
   values-tasks : (es : List (List ℕ × X)) → map (λ e. e.1) (map (with_value (slice_cmp nat_cmp) as_task) es) ≡ map as_task (map (λ e. e.1) es)
   values-tasks [] = refl
   values-tasks (e ∷ es) = ap (λ ts. as_task e.1 ∷ ts) (values-tasks es)
 
   module _ (key : Task → List ℕ) where
+    -- an element, after the key of its order
     abbrev keyed : X → List ℕ × X
     keyed o = (key (as_task o), o)
 
+    -- an order, after its key
     abbrev paired : Task → List ℕ × Task
     paired t = (key t, t)
 
+    -- the keys of elements after their keys are the keys of their orders
     keys-keyed : (os : List X) → keys_of (map keyed os) ≡ map key (map as_task os)
     keys-keyed [] = refl
     keys-keyed (o ∷ os) = ap (λ ks. key (as_task o) ∷ ks) (keys-keyed os)
 
+    -- elements after their keys, each mapped to its order, are the orders after their keys
     pairs-keyed : (os : List X) → map (with_value (slice_cmp nat_cmp) as_task) (map keyed os) ≡ map paired (map as_task os)
     pairs-keyed [] = refl
     pairs-keyed (o ∷ os) = ap (λ es. paired (as_task o) ∷ es) (pairs-keyed os)
 
+    -- elements after their keys, without the keys, are the elements
     unkeyed : (os : List X) → map (λ e. e.1) (map keyed os) ≡ os
     unkeyed [] = refl
     unkeyed (o ∷ os) = ap (λ ps. o ∷ ps) (unkeyed os)

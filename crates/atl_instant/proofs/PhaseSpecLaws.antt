@@ -36,19 +36,19 @@ moved_within (phase ∷ next ∷ rest) each e t = counted (may_move phase.moved 
 abbrev pub PhaseLeavesUnmailed : PhaseSpec → Type 0
 PhaseLeavesUnmailed phase = LeavesUnmailed phase.meaning phase.keeps
 
--- each phase but the last leaves the units of factions without a mailing, and the last one `ClosesUnmailed`
+-- all phases leave units of factions without a mailing what is theirs; after the last, a unit may have starved out
 abbrev pub CloseTogether : List PhaseSpec → Type 0
 CloseTogether [] = ⊥
 CloseTogether (phase ∷ []) = ClosesUnmailed phase.meaning phase.keeps
 CloseTogether (phase ∷ next ∷ rest) = PhaseLeavesUnmailed phase × CloseTogether (next ∷ rest)
 
--- phases in turn satisfy `ClosesUnmailed`, if each but the last `LeavesUnmailed`, and the last `ClosesUnmailed`
+-- phases in turn leave units of factions without a mailing what is theirs, if each does (`CloseTogether`)
 pub closed_together : (phases : List PhaseSpec) → CloseTogether phases → ClosesUnmailed (meaning_of phases) (keeps_of phases)
 closed_together [] none = absurd none
 closed_together (phase ∷ []) closes = closes
 closed_together (phase ∷ next ∷ rest) each = then_closes each.0 (closed_together (next ∷ rest) each.1)
 
--- phases that each satisfy `LeavesUnmailed` satisfy it together
+-- phases in turn leave units of factions without a mailing what is theirs, if each does (`LeavesUnmailed`)
 pub leave_together : (phases : List PhaseSpec) → EachPhase PhaseLeavesUnmailed phases → LeavesUnmailed (meaning_of phases) (keeps_of phases)
 leave_together [] each = record {
   readings = λ w c m. refl;

@@ -117,7 +117,7 @@ module _ (is_of : Verb → Bool) (ms : List Mailing) (places : List OrderIndex) 
         ∙ ap (λ us. map task_of list ++ us) (sym (opened i p h at ∙ ap (λ b. cond b (task_at ms p ∷ rest_from (i + 1)) (rest_from (i + 1))) (read_verb p o true task verb)))
         ∙ before
 
-    -- an order without one is left out
+    -- an order without a verb of the phase is left out
     pub left : (new : List PhaseOrder) → is_of o.order.now.verb ≡ false → new ≡ list → map task_of new ++ rest_from (i + 1) ≡ ts
     left new verb is =
         ap (λ os. map task_of os ++ rest_from (i + 1)) is

@@ -46,27 +46,27 @@ place_other w a f n text (operands.Unit to) l b d = absurd (d to refl)
 place_other w a f n text other l b d = refl
 
 module _ (w : WorldValue) (c : CampaignValue) (n : ℕ) (u : Unit) (is : get c.units n ≡ Some u) (early : IsEarly w c) where
-  -- the change satisfies `StepsWell`, and books nothing
+  -- the changed campaign is early, of the same month, in balance (`StepsWell`), and nothing is booked
   abbrev Well : CampaignValue → Type 0
   Well d = StepsWell IsEarly books_nothing w c d
 
-  -- an unchanged campaign satisfies `StepsWell`
+  -- an unchanged campaign stays early and in balance (`StepsWell`)
   unchanged : Well c
   unchanged = well_same w c early
 
   -- ---- LEAVE
 
-  -- if a unit inside a structure on land leaves the structure, this satisfies `StepsWell`
+  -- a unit that leaves its structure on land keeps the campaign early and in balance (`StepsWell`)
   left_place : (u.structure == 0) ≡ false → is_land_at w u.region ≡ true → Well (with_place c n u.region 0)
   left_place some dry = place_well w c n u 0 is early (λ none. is_unequal u.structure 0 some none) (λ not_none. absurd (not_none refl)) (λ wet. absurd (true≢false (sym dry ∙ wet)))
 
-  -- LEAVE satisfies `StepsWell`, whether the unit is inside a structure, and whether the region is land
+  -- LEAVE keeps the campaign early and in balance (`StepsWell`), inside a structure or not, on land or on water
   without_leaver : (a b : Bool) → (u.structure == 0) ≡ a → is_land_at w u.region ≡ b → Well (unless c (first_fault ((a, NotInside) ∷ (not b, AtSea) ∷ [])) (with_place c n u.region 0, Done 0)).0
   without_leaver true b some dry = unchanged
   without_leaver false false some dry = unchanged
   without_leaver false true some dry = left_place some dry
 
-  -- an order of LEAVE satisfies `StepsWell`
+  -- an order of LEAVE keeps the campaign early and in balance (`StepsWell`)
   left_well : Well (leave w n c u).0
   unfolding leave
   left_well = without_leaver (u.structure == 0) (is_land_at w u.region) refl refl
@@ -74,27 +74,27 @@ module _ (w : WorldValue) (c : CampaignValue) (n : ℕ) (u : Unit) (is : get c.u
   -- ---- ENTER
 
   module _ (s : ℕ) where
-    -- if a unit enters another structure of its region, this satisfies `StepsWell`
+    -- a unit that enters another structure of its region keeps the campaign early and in balance (`StepsWell`)
     entered_place : (x : Structure) → get c.structures s ≡ Some x → (x.region == u.region) ≡ true → (u.structure == s) ≡ false → Well (with_place c n u.region s)
     entered_place x there near other =
         let here : x.region ≡ u.region = is_equal x.region u.region near in
         place_well w c n u s is early (λ same. is_unequal u.structure s other same) (λ some. (x, there, here))
         (λ wet. (x, there, (early.steady.water.structures s x there (ap (is_land_at w) here ∙ wet)).0))
 
-    -- ENTER of a structure that is there satisfies `StepsWell`, whether it is in the region,
-    -- and whether the unit is inside already
+    -- ENTER of a structure that is there keeps the campaign early and in balance (`StepsWell`),
+    -- whether it is in the region, and whether the unit is inside already
     entered_by : (x : Structure) → get c.structures s ≡ Some x → (a b : Bool) → (x.region == u.region) ≡ a → (u.structure == s) ≡ b
         → Well (unless c (first_fault ((not a, NotHere) ∷ [])) (if b then c else with_place c n u.region s, Done 0)).0
     entered_by x there false b near same = unchanged
     entered_by x there true true near same = unchanged
     entered_by x there true false near same = entered_place x there near same
 
-    -- ENTER satisfies `StepsWell`, whether the structure is there or not
+    -- ENTER keeps the campaign early and in balance (`StepsWell`), whether the structure is there or not
     entered_at : (o : Option Structure) → get c.structures s ≡ o → Well (unless c (first_fault ((not (is_in u.region o), NotHere) ∷ [])) (with_unit_inside c n u.region u.structure s, Done 0)).0
     entered_at None there = unchanged
     entered_at (Some x) there = entered_by x there (x.region == u.region) (u.structure == s) refl refl
 
-    -- an order of ENTER satisfies `StepsWell`
+    -- an order of ENTER keeps the campaign early and in balance (`StepsWell`)
     entered_well : Well (enter n s c u).0
     unfolding enter
     entered_well = entered_at (get c.structures s) refl
@@ -107,7 +107,7 @@ module _ (w : WorldValue) (c : CampaignValue) (n : ℕ) (u : Unit) (is : get c.u
     inside_to None there same some = absurd (some (sym same))
     inside_to (Some v) there same some = (v, there, same)
 
-    -- if unit `to` is inside the structure of unit n, making it the owner satisfies `StepsWell`
+    -- making unit `to` owner of the structure that it shares with unit n keeps the campaign early (`StepsWell`)
     new_owner : (u.structure == 0) ≡ false → (inside c to == u.structure) ≡ true → Well (with_owner c u.structure to)
     new_owner some near =
         unbooked_well w c (with_owner c u.structure to)
@@ -128,7 +128,7 @@ module _ (w : WorldValue) (c : CampaignValue) (n : ℕ) (u : Unit) (is : get c.u
             }
         owned q y false here old = old
 
-    -- PROMOTE satisfies `StepsWell`, by the tests of its faults
+    -- PROMOTE keeps the campaign early and in balance (`StepsWell`), whichever of its faults applies
     promoted_by : (a b d : Bool) → (u.structure == 0) ≡ a → (inside c to == u.structure) ≡ d
         → Well (unless c (first_fault ((a, NotInside) ∷ (not b, NotOwner) ∷ (not d, NotHere) ∷ [])) (with_owner c u.structure to, Done 0)).0
     promoted_by true b d some near = unchanged
@@ -136,12 +136,12 @@ module _ (w : WorldValue) (c : CampaignValue) (n : ℕ) (u : Unit) (is : get c.u
     promoted_by false true false some near = unchanged
     promoted_by false true true some near = new_owner some near
 
-    -- an order of PROMOTE satisfies `StepsWell`
+    -- an order of PROMOTE keeps the campaign early and in balance (`StepsWell`)
     promoted_well : Well (promote n to c u).0
     unfolding promote
     promoted_well = promoted_by (u.structure == 0) (is_owned_by (get c.structures u.structure) n) (inside c to == u.structure) refl refl
 
-  -- an order of LEAVE, ENTER or PROMOTE satisfies `StepsWell`
+  -- an order of LEAVE, ENTER or PROMOTE keeps the campaign early and in balance (`StepsWell`)
   order_well : (a : Aliases) (f : ℕ) (o : OperandsValue) → IfSome (place_effect w a f n o) (λ deed. Well (deed c u).0)
   order_well a f operands.Nothing = left_well
   order_well a f (operands.Number s) = entered_well s
@@ -173,8 +173,8 @@ module _ (w : WorldValue) (a : Aliases) (c : CampaignValue) (f n : ℕ) (u : Uni
   order_stays (operands.Unit to) = unless_stays (promote_fault c n (unit_of a f to) u) (with_owner c u.structure (unit_of a f to)) refl
   order_stays other = tt
 
--- orders of LEAVE, ENTER and PROMOTE satisfy `IsOrderly`:
--- they book nothing, and units without an own order of these are no worse off
+-- LEAVE, ENTER and PROMOTE keep an early campaign early and book nothing,
+-- and units without an own order of these are no worse off (`IsOrderly`)
 pub place_orderly : IsOrderly place_step IsEarly books_nothing moves_nothing IsOwnOrder IsNoWorse
 place_orderly = record {
   well = λ w a c t x early fit own. order_well w c t.unit x own.there early a t.faction t.order_value.operands;

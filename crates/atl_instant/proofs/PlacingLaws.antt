@@ -59,7 +59,7 @@ module _ (w : WorldValue) (c : CampaignValue) (n : ℕ) (u : Unit) (s : ℕ) (is
   abbrev next : ℕ
   next = heir c old_place n
 
-  -- the unit inside structure s
+  -- unit n as it is inside structure s
   abbrev moved : Unit
   moved = record u { structure = s }
 
@@ -71,7 +71,7 @@ module _ (w : WorldValue) (c : CampaignValue) (n : ℕ) (u : Unit) (s : ℕ) (is
   abbrev gone_out : CampaignValue
   gone_out = after_handover begun old_place n next
 
-  -- the campaign after the unit, besides, became the owner of the structure that it entered, if nobody owned this
+  -- the campaign after the unit also became the owner of the structure that it entered, if nobody owned this
   abbrev gone_in : CampaignValue
   gone_in = after_handover gone_out s 0 n
 
@@ -120,7 +120,7 @@ module _ (w : WorldValue) (c : CampaignValue) (n : ℕ) (u : Unit) (s : ℕ) (is
   away : (k : ℕ) → k ≢ n → get behind.units k ≡ get c.units k
   away k other = get-insert_other c.units n k moved other
 
-  -- the unit is inside structure s
+  -- unit n is inside structure s after it went
   stands : (v : Unit) → get behind.units n ≡ Some v → v.structure ≡ s
   stands v there = sym (ap (λ (x : Unit). x.structure) (same_Some moved v (sym (get-insert_same c.units n moved) ∙ there)))
 
@@ -128,6 +128,7 @@ module _ (w : WorldValue) (c : CampaignValue) (n : ℕ) (u : Unit) (s : ℕ) (is
   still_owned : (q : ℕ) (y : Structure) → get c.structures q ≡ Some y → y.owner ≢ n → (y.owner ≡ 0 → s ≢ q) → IsOwned behind q y
   still_owned q y there other free = owner_stays c behind n away q y (steady.owners q y there) other (λ none v here inside. free none (sym (stands v here) ∙ inside))
 
+  -- the structure that a unit, if it is there, is inside; otherwise that of the second unit
   structure_in : Option Unit → Unit → ℕ
   structure_in (Some x) v = x.structure
   structure_in None v = v.structure
@@ -156,6 +157,7 @@ module _ (w : WorldValue) (c : CampaignValue) (n : ℕ) (u : Unit) (s : ℕ) (is
   -- ---- the campaign
 
   module _ (inside : s ≢ 0 → (x : Structure) × (get c.structures s ≡ Some x) × (x.region ≡ u.region)) (afloat : is_land_at w u.region ≡ false → (x : Structure) × (get c.structures s ≡ Some x) × (is_ship w x ≡ true)) where
+    -- the campaign `behind` is a refit (`IsRefit`)
     refit : IsRefit w c n u s is gone_in.structures owner_behind
     refit = record {
       at = at;
@@ -179,8 +181,8 @@ module _ (w : WorldValue) (c : CampaignValue) (n : ℕ) (u : Unit) (s : ℕ) (is
     placed_total = total-refitted w c n u s is gone_in.structures owner_behind
 
 module _ (w : WorldValue) (c : CampaignValue) (n : ℕ) (u : Unit) (s : ℕ) (is : get c.units n ≡ Some u) (early : IsEarly w c) (apart : u.structure ≢ s) where
-  -- a move to another structure of the region, or on land to none, satisfies `StepsWell`;
-  -- on water the structure must be a ship
+  -- A move to another structure of the region, or on land to none, keeps an early campaign early and in balance
+  -- (`StepsWell`). On water the structure must be a ship.
   pub place_well : (s ≢ 0 → (x : Structure) × (get c.structures s ≡ Some x) × (x.region ≡ u.region)) → (is_land_at w u.region ≡ false → (x : Structure) × (get c.structures s ≡ Some x) × (is_ship w x ≡ true)) → StepsWell IsEarly books_nothing w c (with_place c n u.region s)
   place_well inside afloat =
       let steady = early.steady in

@@ -121,6 +121,7 @@ items_within : (es : List (ℕ × ℕ)) (e : Entry) (s : Thing) → moving_items
 items_within [] e s = omega arith
 items_within (x ∷ xs) e s = under_sum e s (moves_only x.1 Lost (Item x.0) e s) (moving_items xs e s) (part_of s (Item x.0) x.1) (owing_items xs s) (one_moves x.1 (Item x.0) e s) (items_within xs e s)
 
+-- an amount that counts only where a test is true adds nothing where the test is false
 nothing_more : (b : Bool) (x y : ℕ) → b ≡ false → cond b x 0 + y ≡ y
 nothing_more true x y e = cc
 nothing_more false x y e = omega arith
@@ -182,14 +183,14 @@ all_owed h (Item j) =
     sum true d m n k e f = cc
     sum false true m n k e f = cc
 
--- the bound on the bookings for what a unit holds (`held_moves`) is at most `loss_under`
+-- what a leaving unit moves in the books is at most what it holds, under the entry for its loss (`loss_under`)
 pub moves_what_leaves : (h : HoldingValue) (e : Entry) (s : Thing) → held_moves h e s ≤ loss_under e s h
 moves_what_leaves h e s =
     subst (λ n. held_moves h e s ≤ under e s n) (all_owed h s)
     (under_sum e s (moves_only h.men Left People e s) (moves_only h.money Lost Money e s + moving_items (entries h.items) e s) (part_of s People h.men) (part_of s Money h.money + owing_items (entries h.items) s) (one_moves h.men People e s)
     (under_sum e s (moves_only h.money Lost Money e s) (moving_items (entries h.items) e s) (part_of s Money h.money) (owing_items (entries h.items) s) (one_moves h.money Money e s) (items_within (entries h.items) e s)))
 
--- ---- a campaign in which so much is booked as gone
+-- ---- a campaign in which amounts of things are booked as gone
 
 -- The campaign d is c with `off` of each thing booked as gone, and only the books differ.
 -- It is steady, what the books have of a thing falls by `off`, and no amount of the books moves further than `moving`.
@@ -199,7 +200,7 @@ pub record BooksOff (w : WorldValue) (off : Thing → ℕ) (moving : BookBound) 
   pub near : (e : Entry) (s : Thing) → IsNear (moving e s) (amount_in c.books e s) (amount_in d.books e s)
   pub same : d ≡ record c { books = d.books }
 
--- two bookings as gone, each of which satisfies `BooksOff`, satisfy it together for the sum of what they book
+-- two bookings as gone, each within its bound (`BooksOff`), are one of the sum of both, within the sum of the bounds
 off_twice : {o p : Thing → ℕ} {i j : BookBound} (w : WorldValue) (a b c : CampaignValue) → BooksOff w o i a b → BooksOff w p j b c → BooksOff w (λ s. o s + p s) (both_move i j) a c
 off_twice {o} {p} {i} {j} w a b c one two = record {
   steady = two.steady;
@@ -211,7 +212,7 @@ off_twice {o} {p} {i} {j} w a b c one two = record {
     grouped : (x y z : ℤ) (m n : ℕ) → x ≡ y +ℤ pos m → y ≡ z +ℤ pos n → x ≡ z +ℤ pos (m + n)
     grouped x y z m n e f = omega (arith, ints, e, f)
 
--- to book an amount of a thing as gone satisfies `BooksOff`, if the thing is of the world and the campaign steady
+-- to book an amount of a thing as gone keeps a steady campaign steady (`BooksOff`), if the thing is of the world
 pub off_one : (w : WorldValue) (c : CampaignValue) (t : Thing) (amount : ℕ) → thing_index t < things_of w → IsSteady w c → BooksOff w (λ s. part_of s t amount) (moves_only amount (loss_entry t) t) c (with_loss c t amount)
 off_one w c t amount inside steady = record {
   steady = steady-amount w c (loss_entry t) t (neg_ℤ (pos amount)) inside steady;
@@ -226,7 +227,7 @@ off_one w c t amount inside steady = record {
     less z true a = omega (arith, ints)
     less z false a = omega (arith, ints)
 
--- to book items as lost, one after another, satisfies `BooksOff`, if they are of the world and the campaign is steady
+-- to book items as lost, one after another, keeps a steady campaign steady (`BooksOff`), if they are of the world
 off_items : (w : WorldValue) (c : CampaignValue) (es : List (ℕ × ℕ)) → EachOf (λ i a. i < length w.items) es → IsSteady w c → BooksOff w (owing_items es) (moving_items es) c (fold with_item_loss c es)
 off_items w c [] known steady = record {
   steady = steady;
@@ -241,7 +242,7 @@ off_items w c ((i, a) ∷ es) known steady =
     let one = off_one w c (Item i) a (omega (arith, known.0)) steady in
     off_twice w c (with_item_loss c (i, a)) (fold with_item_loss (with_item_loss c (i, a)) es) one (off_items w (with_item_loss c (i, a)) es known.1 one.steady)
 
--- to book all that a unit has as gone satisfies `BooksOff`, if its items are of the world and the campaign is steady
+-- to book all that a unit has as gone keeps a steady campaign steady (`BooksOff`), if its items are of the world
 pub off_all : (w : WorldValue) (c : CampaignValue) (h : HoldingValue) → Every (λ i a. i < length w.items) h.items → IsSteady w c → BooksOff w (owing h) (held_moves h) c (with_all_losses c h)
 off_all w c h known steady =
     let men = with_loss c People h.men in
@@ -476,7 +477,7 @@ reserve_within w c steady e t = by_test (entry_index e == entry_index (loss_entr
     by_test true = few (sum_over (λ (u : Unit). unit_amount t u.holding) c.units) (length (entries c.units)) (all_within true holding_limit (λ h is. within_limit t h is)) (omega (arith, len-entries c.units, steady.numbers.few_units))
     by_test false = none (sum_over (λ (u : Unit). 0) c.units) (length (entries c.units)) (all_within false 0 (λ h is. omega arith))
 
--- orders of QUIT satisfy `IsOrderly`: they book what leaves, and a unit whose faction doesn't quit is no worse off
+-- QUIT keeps a steady campaign steady, and a unit whose faction doesn't quit is no worse off (`IsOrderly`)
 pub quit_orderly : IsOrderly quit_step IsSteady quit_reserve quit_moves quit_concerns IsNoWorse
 quit_orderly = record {
   well = λ w a c t x steady fit own. well w c x steady t.order_value.operands;

@@ -71,7 +71,7 @@ abbrev OwnSince : CampaignValue → Condition
 OwnSince begun w c = IsSteady w c × ((t : Task) → is_own c t ≡ true → is_own begun t ≡ true)
 
 module _ (begun : CampaignValue) where
-  -- an order of QUIT satisfies `StepsWell` with `OwnSince` as the condition
+  -- an order of QUIT keeps the condition `OwnSince`, the month and the balance of the books (`StepsWell`)
   since_well : (w : WorldValue) (c : CampaignValue) (x : Unit) → OwnSince begun w c → (s : OperandsValue) → IfSome (quit_effect s) (λ deed. StepsWell (OwnSince begun) quit_reserve w c (deed c x).0)
   since_well w c x since (operands.Number number) =
       let well = quit_well w c number x since.0 in
@@ -83,7 +83,7 @@ module _ (begun : CampaignValue) where
       }
   since_well w c x since other = tt
 
-  -- orders of QUIT satisfy `IsOrderly` with the condition `OwnSince`, and concern units as `QuitsFrom` says
+  -- QUIT keeps `OwnSince`, and a unit that it doesn't concern by `QuitsFrom` is no worse off (`IsOrderly`)
   since_orderly : IsOrderly quit_step (OwnSince begun) quit_reserve quit_moves (QuitsFrom begun) IsNoWorse
   since_orderly = record {
     well = λ w a c t x since fit own. since_well w c x since t.order_value.operands;

@@ -23,7 +23,7 @@ use Rattle.atl_state.specs.Totals.{total}
 use Rattle.atl_records.proofs.EveryLaws.{every-insert, get-insert_other, none_some}
 use Rattle.atl_state.proofs.RegionLaws.{same_len}
 
--- Before and after it is the same structure, but for its owner and its name, which is good if it was good before.
+-- The structure after is the structure before, but for owner and name; the name is good if it was good before.
 pub record IsRelabelled (before after : Structure) : Type 0 where
   pub kind : after.kind ≡ before.kind
   pub region : after.region ≡ before.region
@@ -63,7 +63,8 @@ module _ (c : CampaignValue) (units : FinMap nat_cmp Unit) (structures : FinMap 
   pub named_replaced : Every (λ k x. IsTrue (name_ok x.holding.name)) units → Every (λ k x. IsTrue (name_ok x.name)) structures → AreNamed c → AreNamed replaced
   named_replaced new_units new_structures old = record { pass = old.pass; factions = old.factions; joined = old.joined; units = new_units; structures = new_structures }
 
-  -- the next numbers stay free, if each number without a unit or a structure stays without
+  -- Factions, units and structures stay numbered as the rule says (`AreNumbered`).
+  -- Each number that had no unit or no structure must still have none.
   pub numbered_replaced : len structures ≡ len c.structures → ((k : ℕ) → get c.units k ≡ None → get units k ≡ None) → ((k : ℕ) → get c.structures k ≡ None → get structures k ≡ None)
       → AreNumbered c → AreNumbered replaced
   numbered_replaced count no_unit no_structure old = record {
@@ -73,7 +74,7 @@ module _ (c : CampaignValue) (units : FinMap nat_cmp Unit) (structures : FinMap 
   }
 
 module _ (w : WorldValue) (c : CampaignValue) (n : ℕ) (u : Unit) (s : ℕ) (is : get c.units n ≡ Some u) (structures : FinMap nat_cmp Structure) (g : ℕ → Structure → Structure) where
-  -- the unit inside structure s
+  -- unit n as it is inside structure s
   abbrev pub moved_unit : Unit
   moved_unit = record u { structure = s }
 
@@ -85,7 +86,7 @@ module _ (w : WorldValue) (c : CampaignValue) (n : ℕ) (u : Unit) (s : ℕ) (is
   abbrev pub refitted : CampaignValue
   refitted = record c { units = units; structures = structures }
 
-  -- g gives the structures, each relabelled and with its right owner.
+  -- A refit: g gives the structures, each relabelled and with its right owner.
   -- The unit is inside a structure of its region, or none, and on water inside a ship.
   pub record IsRefit : Type 0 where
     pub at : (k : ℕ) → get structures k ≡ option_map (g k) (get c.structures k)
@@ -96,13 +97,13 @@ module _ (w : WorldValue) (c : CampaignValue) (n : ℕ) (u : Unit) (s : ℕ) (is
     pub afloat : is_land_at w u.region ≡ false → (x : Structure) × (get c.structures s ≡ Some x) × (is_ship w x ≡ true)
 
   module _ (refit : IsRefit) where
-    -- P holds of each structure then, if it holds of g of each structure before
+    -- P holds of each structure after the refit, if it holds of g of each structure before
     every_structure : (P : ℕ → Structure → Type 0) → Every (λ k y. P k (g k y)) c.structures → Every P structures
     every_structure P h k x there =
         let (y, was, same) = under (g k) (get c.structures k) x (sym (refit.at k) ∙ there) in
         subst (P k) same (h k y was)
 
-    -- each structure is there then, as g makes it
+    -- each structure that was there before is there after the refit, as g makes it
     forth : (k : ℕ) (y : Structure) → get c.structures k ≡ Some y → get structures k ≡ Some (g k y)
     forth k y there = refit.at k ∙ ap (option_map (g k)) there
 
@@ -140,7 +141,7 @@ module _ (w : WorldValue) (c : CampaignValue) (n : ℕ) (u : Unit) (s : ℕ) (is
       posts = old.posts;
     }
 
-    -- the next numbers stay free
+    -- factions, units and structures stay numbered as the rule says (`AreNumbered`)
     next_kept : AreNumbered c → AreNumbered refitted
     next_kept =
         numbered_replaced c units structures refit.count
@@ -165,9 +166,11 @@ module _ (w : WorldValue) (c : CampaignValue) (n : ℕ) (u : Unit) (s : ℕ) (is
     -- Units that pass a test are of one faction in each region after the refit, if they were before.
     -- The moved unit passes the test only if it did before.
     module _ (test : Unit → Bool) (only : test moved_unit ≡ true → test u ≡ true) where
+      -- two units that pass the test in one region are of one faction
       abbrev Agree : Unit → Unit → Type 0
       Agree x y = test x ≡ true → test y ≡ true → x.region ≡ y.region → x.faction ≡ y.faction
 
+      -- units that pass the test still are of one faction in each region
       pub of_one_faction_refitted : AreOfOneFaction test c → AreOfOneFaction test refitted
       of_one_faction_refitted old =
           every-insert (λ k x. Every (λ m y. Agree x y) units) c.units n moved_unit
@@ -194,6 +197,7 @@ module _ (w : WorldValue) (c : CampaignValue) (n : ℕ) (u : Unit) (s : ℕ) (is
     pub early-refitted : IsEarly w c → IsEarly w refitted
     early-refitted old = record { steady = steady-refitted old.steady; flags = of_one_faction_refitted (λ x. x.holding.guard) (λ g. g) old.flags }
 
+  -- if two sums with one addend in common are equal, so are the sums with another addend in its place
   cancelled : (a b h r : ℕ) → a + h ≡ b + h → a + r ≡ b + r
   cancelled a b h r e = omega arith
 
@@ -213,7 +217,7 @@ module _ (w : WorldValue) (c : CampaignValue) (n : ℕ) (u : Unit) (is : get c.u
   abbrev as_it_was : Unit
   as_it_was = record u { structure = u.structure }
 
-  -- to put the unit in as it was changes no unit
+  -- putting unit n into the map as it was changes no unit
   units_stay : insert c.units n as_it_was ≡ c.units
   units_stay = put_same c.units n u as_it_was is refl
 

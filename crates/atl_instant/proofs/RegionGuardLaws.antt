@@ -104,7 +104,7 @@ module _ (c : CampaignValue) where
 
 -- ---- what the map says
 
--- a list with an element that passes a test has some that does
+-- `list_any` of a test is true for a list with an element that passes the test
 any_listed : (p : ℕ → Bool) (ns : List ℕ) (k : ℕ) → IsListed k ns → p k ≡ true → list_any p ns ≡ true
 any_listed p [] k listed t = absurd listed
 any_listed p (n ∷ ns) k (inl same) t = ap (λ b. b || list_any p ns) (ap p (sym same) ∙ t)
@@ -162,6 +162,7 @@ fault_told c m are u few held few_is held_is =
 
 -- ---- once a unit begins to guard
 
+-- a number that isn't 0 is above 0
 has_men : (n : ℕ) → (n == 0) ≡ false → nat_lt 0 n ≡ true
 has_men n some = grind (arith, nat_tests)
 

@@ -85,9 +85,11 @@ module _ (w : WorldValue) (is_of : Verb → Bool) (a : Arrangement) (aliases : A
   Stands t = (r : Reading) → get readings t.faction ≡ Some r → stands (tasks_of aliases t.faction r) t ≡ true
 
   module _ (f : ℕ) (r : Reading) (there : get readings f ≡ Some r) where
+    -- whether an order counts in the mailing r of faction f, and has a verb of the phase
     abbrev passes : Task → Bool
     passes t = is_of t.order_value.verb && stands (tasks_of aliases f r) t
 
+    -- if the orders of a list that pass `passes` count in their mailings, those of the list with one more order do
     kept : (t : Task) → t.faction ≡ f → (ts : List Task) → AllByRecursion Stands (filter passes ts) → (b : Bool) → passes t ≡ b → AllByRecursion Stands (cond b (t ∷ filter passes ts) (filter passes ts))
     kept t own ts all true is = (
       (λ x at.
@@ -97,6 +99,7 @@ module _ (w : WorldValue) (is_of : Verb → Bool) (a : Arrangement) (aliases : A
     )
     kept t own ts all false is = all
 
+    -- each order of some entries that passes `passes` counts in the mailing of faction f
     stand_from : (place : ℕ) (es : List EntryValue) → AllByRecursion Stands (filter passes (tasks_from aliases f place es))
     stand_from place [] = tt
     stand_from place (e ∷ es) =
@@ -138,9 +141,11 @@ module _ (w : WorldValue) (is_of : Verb → Bool) (a : Arrangement) (aliases : A
         let said = sym one.there.says ∙ ap (λ (e : EntryValue). e.order_value) entry ∙ two.there.says in
         λ i. record { faction = faction i; unit = unit i; line = line i; place = place i; order_value = said i }
 
+    -- the comparison of the keys of orders
     abbrev order : List ℕ → List ℕ → Ordering
     order = slice_cmp nat_cmp
 
+    -- no key is less than itself
     not_below : (k : List ℕ) → is_lt (order k k) ≡ true → ⊥
     not_below k less = by_order (order k k) (nat_list_cmp_total.antisymm k k) less
       where
@@ -149,6 +154,7 @@ module _ (w : WorldValue) (is_of : Verb → Bool) (a : Arrangement) (aliases : A
         by_order Equal same l = cc
         by_order Greater same l = cc
 
+    -- a kept order shares no slot with kept orders of greater keys
     apart_from : (e : List ℕ × Task) (es : List (List ℕ × Task)) → IsKept e.0 e.1 → AllByRecursion (λ x. IsKept x.0 x.1) es → below_all order e.0 es ≡ true → AllByRecursion (λ o. share_slot e.1 o ≡ false) (map (λ x. x.1) es)
     apart_from e [] here all low = tt
     apart_from e (x ∷ es) here all low =
@@ -159,6 +165,7 @@ module _ (w : WorldValue) (is_of : Verb → Bool) (a : Arrangement) (aliases : A
           apart_from e es here all.1 parts.1,
         )
 
+    -- no two kept orders share a slot, if they are sorted by their keys
     all_apart : (es : List (List ℕ × Task)) → AllByRecursion (λ x. IsKept x.0 x.1) es → is_sorted order es ≡ true → IsDistinct share_slot (map (λ x. x.1) es)
     unfolding IsDistinct
     all_apart [] all rise = tt

@@ -76,6 +76,7 @@ module _ (slot : Slot) (aliases : Aliases) (faction : ℕ) (text : List ℕ) whe
       noted_at lines (slot_number other) (unit_of aliases faction e.target) e.line (slot_number slot) unit (rest_from (i + 1) es unit)
       ∙ ap (max (line_in lines (slot_number slot) unit)) (sym (opened es i e (Some other) unit h is b))
 
+  -- under a test that is false a line doesn't count
   neither : (c : Bool) (line n : ℕ) → max (if c && false then line else 0) n ≡ n
   neither true line n = omega arith
   neither false line n = omega arith

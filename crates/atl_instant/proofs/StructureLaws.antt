@@ -29,7 +29,7 @@ module _ {V : Type 0} (f : V → V) (m : FinMap nat_cmp V) (k : ℕ) where
   mapped_here q t None = refl
   mapped_here q t (Some v) = ap (λ b. Some (if b then f v else v)) (sym t)
 
-  -- nothing under any other number is `at_number`
+  -- if q isn't k, mapping by `at_number` changes nothing
   mapped_else : (q : ℕ) → (q == k) ≡ false → (o : Option V) → o ≡ option_map (at_number q) o
   mapped_else q t None = refl
   mapped_else q t (Some v) = ap (λ b. Some (if b then f v else v)) (sym t)
@@ -44,7 +44,7 @@ module _ {V : Type 0} (f : V → V) (m : FinMap nat_cmp V) (k : ℕ) where
   changed_else q apart None = refl
   changed_else q apart (Some v) = get-insert_other m k q (f v) apart
 
-  -- a look-up after a change of the value under k
+  -- a look-up after a change of the value under k finds the old value, mapped by `at_number`
   pub get-changed : (q : ℕ) → get (changed f m k) q ≡ option_map (at_number q) (get m q)
   get-changed q = elim (cases_eq q k) [
     | inl same ↦
@@ -53,7 +53,7 @@ module _ {V : Type 0} (f : V → V) (m : FinMap nat_cmp V) (k : ℕ) where
     | inr apart ↦ changed_else q apart (get m k) ∙ mapped_else q (other_number q k apart) (get m q)
   ]
 
-  -- the number of values stays, by whether there is a value
+  -- a change of the value under k leaves the number of values as it is, whether there is a value or not
   len_by : (o : Option V) → get m k ≡ o → len (changed_at f m k o) ≡ len m
   len_by None is = refl
   len_by (Some v) is = same_len m k v (f v) is
@@ -69,6 +69,7 @@ abbrev pub handed_on : (k from to q : ℕ) → Structure → Structure
 handed_on k from to q y = if q == k && y.owner == from then owned_by to y else y
 
 module _ (c : CampaignValue) (k from to : ℕ) where
+  -- the campaign after structure k got the owner `to`, if the test is true; otherwise the campaign as it was
   abbrev after : Bool → CampaignValue
   after b = if b then with_owner c k to else c
 
@@ -77,7 +78,7 @@ module _ (c : CampaignValue) (k from to : ℕ) where
   here_by y is true = changed_here (owned_by to) c.structures k (get c.structures k) refl ∙ ap (option_map (owned_by to)) is
   here_by y is false = is
 
-  -- structure k after the handover
+  -- a look-up of structure k after the handover finds it as `handed_on` gives it
   here : (o : Option Structure) → get c.structures k ≡ o → get (after (is_owned_by o from)).structures k ≡ option_map (handed_on k from to k) o
   here None is = is
   here (Some y) is = here_by y is (y.owner == from) ∙ ap (λ b. Some (if b && y.owner == from then owned_by to y else y)) (sym (equal_passes k k refl))
@@ -87,6 +88,7 @@ module _ (c : CampaignValue) (k from to : ℕ) where
   else_by q apart true = changed_else (owned_by to) c.structures k q apart (get c.structures k)
   else_by q apart false = refl
 
+  -- under a number other than k `handed_on` changes nothing
   unmoved : (q : ℕ) → q ≢ k → (o : Option Structure) → o ≡ option_map (handed_on k from to q) o
   unmoved q apart None = refl
   unmoved q apart (Some y) = ap (λ b. Some (if b && y.owner == from then owned_by to y else y)) (sym (other_number q k apart))

@@ -46,7 +46,8 @@ pub record CanSend (n : ℕ) (itself : Bool) (u v : Unit) : Type 0 where
   pub enough : n ≤ u.holding.men
   pub room : itself ≡ false → v.holding.men + n ≤ men_limit
 
--- if a transfer has no fault, sender and receiver satisfy `CanSend`
+-- Where a transfer has no fault, both units are in one region and faction, the sender has enough men, and the receiver
+-- has room for them unless it is the sender itself (`CanSend`).
 pub can_send : (n : ℕ) (itself : Bool) (u v : Unit) → transfer_fault n itself u (Some v) ≡ None → CanSend n itself u v
 can_send n itself u v is =
     let other = not (v.faction == u.faction) in
@@ -257,7 +258,7 @@ module _ (w : WorldValue) (c : CampaignValue) (early : IsEarly w c) (from to n :
 
 -- ---- the phase
 
--- orders of TRANSFER satisfy `IsOrderly`: they book nothing, and a unit without an own TRANSFER is no worse off
+-- TRANSFER keeps an early campaign early and books nothing, and a unit without an own one is no worse off (`IsOrderly`)
 pub transfer_orderly : IsOrderly transfer_step IsEarly (λ c e t. 0) (λ e t. 0) IsOwnOrder IsNoWorse
 transfer_orderly = record {
   well = λ w a c t x early fit own. well w a c t x early own t.order_value.operands;

@@ -71,12 +71,12 @@ less_twice x y z u v t l k one two = record {
 some_left : (x y z a b : ℕ) → x ≤ y → y ≤ z → b ≡ a - (y - x) → z - x < a → z - y < b
 some_left x y z a b l k e some = omega arith
 
--- a faction that sent no mailing has none after a phase that satisfies `LeavesUnmailed`
+-- a faction that sent no mailing still has none after a phase that keeps the mailings (`LeavesUnmailed`)
 still_none : {first : Meaning} {early : Frame} → LeavesUnmailed first early → (w : WorldValue) (c : CampaignValue) (m : MonthValue) (f g : ℕ) → g ≡ f → get m.readings f ≡ None → get (first w c m).1.readings g ≡ None
 still_none one w c m f g same none = ap (λ (r : FinMap nat_cmp Reading). get r g) (one.readings w c m) ∙ ap (get m.readings) same ∙ none
 
 module _ {first second : Meaning} {early late : Frame} where
-  -- two phases that each satisfy `LeavesUnmailed` satisfy it in turn
+  -- two phases in turn leave units of factions without a mailing what is theirs (`LeavesUnmailed`), if each does
   pub both_leave : LeavesUnmailed first early → LeavesUnmailed second late → LeavesUnmailed (then_also first second) (both_keep first early late)
   both_leave one two = record {
     readings = λ w c m. two.readings w (first w c m).0 (first w c m).1 ∙ one.readings w c m;
@@ -88,7 +88,7 @@ module _ {first second : Meaning} {early late : Frame} where
         record { unit = b.unit; there = b.there; spared = less_twice _ _ _ u a.unit b.unit (one.told w c m n) (two.told w between.0 between.1 n) a.spared b.spared };
   }
 
-  -- if one phase satisfies `LeavesUnmailed`, and the next one `ClosesUnmailed`, both in turn satisfy `ClosesUnmailed`
+  -- a phase that `LeavesUnmailed` and then one that `ClosesUnmailed` are in turn one that `ClosesUnmailed`
   pub then_closes : LeavesUnmailed first early → ClosesUnmailed second late → ClosesUnmailed (then_also first second) (both_keep first early late)
   then_closes one two = record {
     told = λ w c m n. omega (arith, one.told w c m n, two.told w (first w c m).0 (first w c m).1 n);
@@ -137,7 +137,7 @@ men_changed f stay c d k same n u there =
     by_number true = stay u
     by_number false = record { faction = refl; men = refl }
 
--- all units have their men after one is replaced by one with its men
+-- all units have their men after one unit is replaced by a unit of its faction with as many men
 pub men_put : (c d : CampaignValue) (k : ℕ) (v x : Unit) → get c.units k ≡ Some v → HasItsMen v x → d.units ≡ insert c.units k x → HaveTheirMen c d
 men_put c d k v x here stay same n u there = elim (cases_eq n k) [
   | inl own ↦
@@ -170,7 +170,7 @@ items_of_no_worse u v h = record { name = h.name; items = h.items }
 abbrev pub UnmailedAre : Unaffected → MonthValue → CampaignValue → CampaignValue → Type 0
 UnmailedAre spares m before after = Every (λ n u. get m.readings u.faction ≡ None → IsUnaffected spares after n u) before.units
 
--- a unit that keeps its men, name and items satisfies `IsLessBy` for 0 men
+-- a unit that keeps its men, name and items has 0 men less (`IsLessBy`)
 whole : (x y : ℕ) (u v : Unit) → y ≡ x → HasItsMen u v → HasItsItems u v → IsLessBy (y - x) u v
 whole x y u v same men items = record { faction = men.faction; name = items.name; men = nobody u.holding.men v.holding.men men.men; items = items.items }
   where
@@ -202,7 +202,7 @@ none_ordered is_of arrangement m f none k d l same =
     let h = orders_are_in_mailings is_of arrangement m.aliases m.readings k d l in
     none_some h.reading (sym none ∙ ap (get m.readings) (sym same) ∙ h.of_faction)
 
--- by the event of an order no men starved
+-- the event of an order reports no men who starved
 pub told_of_order : (events : List Event) (t : Task) (outcome : Outcome) (n : ℕ) → starved_in (events ++ event_for t outcome ∷ []) n ≡ starved_in events n
 told_of_order events t outcome n =
     sum_by_push (λ (e : Event). if e.unit == n then men_starved_by e.verb e.outcome else 0) events (event_for t outcome) ∙ by_unit (t.unit == n) (starved_in events n)
@@ -242,7 +242,7 @@ module _ (step : OrderMeaning) where
   orders_readings w p [] = refl
   orders_readings w p (t ∷ ts) = orders_readings w (one_order step w p t) ts ∙ order_readings step w p t
 
-  -- by the event of an order no men starved
+  -- one order adds no men who starved to the events
   order_told : (w : WorldValue) (p : CampaignValue × MonthValue) (t : Task) (n : ℕ) → starved_in (one_order step w p t).1.events n ≡ starved_in p.1.events n
   order_told w p t n = by_outcome (order_result (step w p.1.aliases t) p.0 t.faction t.unit).1
     where
@@ -250,7 +250,7 @@ module _ (step : OrderMeaning) where
       by_outcome None = refl
       by_outcome (Some outcome) = told_of_order p.1.events t outcome n
 
-  -- by the events of orders no men starved
+  -- orders carried out one by one add no men who starved to the events
   orders_told : (w : WorldValue) (p : CampaignValue × MonthValue) (ts : List Task) (n : ℕ) → starved_in (fold (one_order step w) p ts).1.events n ≡ starved_in p.1.events n
   orders_told w p [] n = refl
   orders_told w p (t ∷ ts) n = orders_told w (one_order step w p t) ts n ∙ order_told w p t n
@@ -261,7 +261,7 @@ module _ (step : OrderMeaning) where
     unfolding meaning_by_orders
     carried_readings w c m = orders_readings w (c, m) (values (orders_of is_of ByUnit m.aliases m.readings))
 
-    -- by the events of a phase that carries out its orders one by one no men starved
+    -- a phase that carries out its orders one by one adds no men who starved to the events
     pub carried_told : (w : WorldValue) (c : CampaignValue) (m : MonthValue) (n : ℕ) → starved_in (meaning_by_orders step is_of w c m).1.events n ≡ starved_in m.events n
     unfolding meaning_by_orders
     carried_told w c m n = orders_told w (c, m) (values (orders_of is_of ByUnit m.aliases m.readings)) n
@@ -273,8 +273,8 @@ module _ (step : OrderMeaning) where
         let ts = values (orders_of is_of ByUnit m.aliases m.readings) in
         orders_spare spares w c m ts n u there (recursion_from_All (λ t. t.faction ≢ u.faction) ts (none_ordered is_of ByUnit m u.faction none))
 
-    -- a phase satisfies `LeavesUnmailed`, if its step satisfies `SparesMen`,
-    -- and units of factions without a mailing keep their items
+    -- A phase leaves units of factions without a mailing what is theirs (`LeavesUnmailed`), if each of its steps leaves
+    -- units of other factions their men (`SparesMen`), and units of factions without a mailing keep their items.
     pub carried_leaves : {keeps : Frame} → SparesMen step → ((w : WorldValue) (c d : CampaignValue) (m : MonthValue) → keeps w m c d → UnmailedAre HasItsItems m c d) → LeavesUnmailed (meaning_by_orders step is_of) keeps
     carried_leaves {keeps} spares items =
         whole_leaves {meaning = meaning_by_orders step is_of} {keeps = keeps} carried_readings carried_told

@@ -49,7 +49,7 @@ form_readings : (p : CampaignValue × MonthValue) (ts : List Task) → (fold for
 form_readings p [] = refl
 form_readings p (t ∷ ts) = form_readings (form_order p t) ts
 
--- by the events of orders of FORM no men starved
+-- orders of FORM add no men who starved to the events
 form_told : (p : CampaignValue × MonthValue) (ts : List Task) (n : ℕ) → starved_in (fold form_order p ts).1.events n ≡ starved_in p.1.events n
 form_told p [] n = refl
 form_told p (t ∷ ts) n = form_told (form_order p t) ts n ∙ told_of_order p.1.events t (form_by p.0 t.faction t.unit).1 n

@@ -29,7 +29,7 @@ AreByFaction mailings = IsStrictlySortedBy nat_cmp (map (λ m. m.faction) mailin
 abbrev pub Lines : Type 0
 Lines = FinMap nat_cmp (FinMap nat_cmp ℕ)
 
--- the greatest line in a slot for a unit; 0 where there is none
+-- the greatest line noted for a unit in a slot; 0 where none is noted
 abbrev pub line_in : Lines → (slot unit : ℕ) → ℕ
 line_in lines slot unit = unwrap_or (get (group_of lines slot) unit) 0
 
@@ -52,7 +52,7 @@ all_tasks is_of aliases readings = flat_map (λ r. tasks_for is_of (tasks_of ali
 
 -- ---- all verbs, and those of a phase
 
--- the verbs of a phase that takes all orders
+-- a test that every verb passes, for a phase that takes all orders
 abbrev pub every_verb : Verb → Bool
 every_verb verb = true
 

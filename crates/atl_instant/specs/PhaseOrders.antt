@@ -58,7 +58,7 @@ slot_number Buying = 2
 slot_number Taxing = 3
 slot_number Recruiting = 4
 
--- whether there is a second slot, and it is the first one
+-- whether the second slot is there (`Some`), and is the same as the first
 abbrev pub is_slot : Slot → Option Slot → Bool
 is_slot slot None = false
 is_slot slot (Some other) = slot_number slot == slot_number other

@@ -48,7 +48,7 @@ with_item_loss c (item, amount) = with_loss c (Item item) amount
 abbrev pub with_all_losses : CampaignValue → HoldingValue → CampaignValue
 with_all_losses c h = fold with_item_loss (with_loss (with_loss c People h.men) Money h.money) (entries h.items)
 
--- the campaign without unit n, if it is there, and with all that it had booked as gone
+-- the campaign after unit n was removed, and all that it had was booked as gone; unchanged where it isn't there
 abbrev pub without_leaver : CampaignValue → (n : ℕ) → Option Unit → CampaignValue
 without_leaver c n None = c
 without_leaver c n (Some u) = without_unit (with_all_losses c u.holding) n
@@ -59,7 +59,7 @@ after_leaving c n = without_leaver c n (get c.units n)
 
 -- ---- one order
 
--- why a unit's faction can't quit by this number: WrongNumber where it is another one; None where it can
+-- the fault of QUIT with this faction number: WrongNumber where the unit's faction has another one; None otherwise
 abbrev pub quit_fault : (number : ℕ) → Unit → Option EventFault
 quit_fault number u = first_fault ((not (number == u.faction), WrongNumber) ∷ [])
 

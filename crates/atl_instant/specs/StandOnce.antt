@@ -14,7 +14,7 @@ use Rattle.atl_instant.specs.Month.{Aliases}
 use Rattle.atl_instant.specs.Fit.{AreFit}
 use Rattle.atl_instant.specs.PhaseOrders.{Task, is_slot, orders_of}
 
--- whether both verbs have a slot, and the same one
+-- whether both slots are there (`Some`), and are the same
 abbrev pub are_of_slot : Option Slot → Option Slot → Bool
 are_of_slot None other = false
 are_of_slot (Some slot) other = is_slot slot other

@@ -29,7 +29,7 @@ use std::alloc::{AllocError, Global};
 #[derive(Drop, Clone, Copy)]
 pub struct FormPhase;
 
-/// Whether no further unit can be formed: there are 100,000, or the last unit number is given.
+/// Whether no further unit can be formed: there are 100,000 units, or the last number is taken.
 fn is_unit_limit(campaign: &Campaign) -> bool
     ensures { result ≡ is_unit_limit campaign.now.value }
 {
@@ -68,7 +68,8 @@ fn new_unit(
     })
 }
 
-/// Adds a new unit of a faction, where its parent is, to the campaign. Returns its number.
+/// Adds a new unit of a faction to the campaign, in the region and the structure of its parent, the
+/// unit that forms it. Returns its number.
 fn begin(
     alloc: Global,
     campaign: &mut Campaign,

@@ -91,7 +91,7 @@ fn set_held(campaign: &mut Campaign, number: u32, gift: Gift, amount: u32) -> Re
     }
 }
 
-/// Moves this amount from one unit to another, if both are there.
+/// Moves this amount of the gift from one unit to another, if both are there.
 fn hand_over(
     campaign: &mut Campaign,
     from: u32,

@@ -20,9 +20,9 @@ use std::marker::Model;
 /// words of the dice, and the events of the orders so far. Nothing shows in which order the
 /// mailings were given.
 pub struct Month {
-    // By faction, no two of one faction.
+    // Sorted by faction, no two of one faction.
     mailings: Vec<Mailing>,
-    // By faction, and then by alias.
+    // The unit that FORM made for each alias, by faction and then by alias.
     aliases: Numbered<Numbered<u32>>,
     words: Vec<u32>,
     events: Vec<Event>,
@@ -57,8 +57,8 @@ impl Model for Month {
 }
 
 impl Month {
-    /// A month before its first phase, with these mailings, no two of one faction, and these words.
-    /// It takes no memory.
+    /// A month before its first phase, with these mailings, no two of one faction, and these words
+    /// of the dice. It takes no memory.
     pub fn new(alloc: Global, mut mailings: Vec<Mailing>, words: Vec<u32>) -> Month
         requires { HaveOwnFactions mailings.items }
         ensures { result ≡ record {
@@ -86,7 +86,7 @@ impl Month {
         &self.words
     }
 
-    /// The events so far.
+    /// The events of the orders carried out so far.
     pub fn events(&self) -> &[Event]
         ensures { result.now ≡ self.now.events }
     {

@@ -17,7 +17,7 @@ use std::alloc::{AllocError, Global};
 pub(crate) struct OrderIndex {
     /// The unit that the order is for; 0 for an alias under which no unit was made.
     pub unit: u32,
-    /// The line of the mailing.
+    /// The line of the order in its mailing.
     pub line: u32,
     /// The faction that sent the mailing.
     pub faction: u32,
@@ -42,7 +42,8 @@ impl OrderIndex {
     }
 }
 
-/// Adds the indices of those orders of a mailing that count by these last lines.
+/// Adds to the list the indices of a mailing's orders that count. `lines` has the greatest line of
+/// each slot and unit in that mailing.
 fn add_standing(
     aliases: &Numbered<Numbered<u32>>,
     mailings: &[Mailing],

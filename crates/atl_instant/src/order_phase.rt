@@ -63,7 +63,8 @@ pub trait OrderPhase: PhaseVerbs {
             campaign.old.value order.entry.faction order.entry.unit) }
         ensures marks { OnOk result (MarksChanges campaign.old campaign.new) };
 
-    /// Does nothing. Its clause is `IsOrderly`: what each order keeps, and which units it spares.
+    /// Does nothing. Its clause is the law that the phase's orders satisfy `IsOrderly`: what each
+    /// order keeps, and which units it spares.
     fn is_orderly(&self)
         ensures { IsOrderly (step self.now) holds reserve moving concerns spares };
 }

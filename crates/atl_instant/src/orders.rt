@@ -18,7 +18,7 @@ use std::alloc::{AllocError, Global};
 
 /// The verbs of the orders that a phase carries out.
 pub trait PhaseVerbs {
-    // Whether a verb is one of them.
+    // Whether a verb is one of the phase's.
     ghost is_of: { Verb → Bool };
 
     /// Whether a verb is one of the phase's.

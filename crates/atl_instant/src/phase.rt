@@ -17,19 +17,20 @@ pub type PhaseResult = Result<(Campaign, Month), AllocError>;
 
 /// A phase of the month, or some phases one after the other: `(first, second)` is a phase too.
 pub trait Phase {
-    // Its effect: the campaign and the month after it.
+    // The effect of the phase: the campaign and the month after it.
     ghost meaning: { Meaning };
 
-    // What the campaign must be before it, and what it is after it: with most phases steady.
+    // What the campaign must be before the phase: with most phases steady.
     ghost needs: { Condition } = { IsSteady };
 
+    // What the campaign is after the phase: with most phases steady.
     ghost leaves: { Condition } = { IsSteady };
 
-    // By how much it may move each amount of the books: by less than 10^14 for a phase, and by the
-    // sum of their bounds for several. By default it moves none.
+    // By how much the phase may move each amount of the books: by less than 10^14 for one phase,
+    // and by the sum of their bounds for several. By default it moves none.
     ghost moving: { BookBound } = { moves_nothing };
 
-    // What it keeps: what is left to the units whose own faction wrote no order of it.
+    // What the phase keeps: what is left to the units whose own faction wrote no order of it.
     ghost keeps: { Frame };
 
     /// Runs the phase, with orders as they can be read with the world. AllocError without memory;

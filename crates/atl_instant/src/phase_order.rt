@@ -20,7 +20,7 @@ pub enum Arrangement {
 pub struct PhaseOrder<'m> {
     /// The unit that the order is for, from 1 on; 0 for an alias under which no unit was made.
     pub unit: u32,
-    /// The line of the mailing.
+    /// The line of the order in its mailing.
     pub line: u32,
     /// The faction that sent the mailing.
     pub faction: u32,

@@ -124,7 +124,8 @@ fn leave_all(
     Ok(())
 }
 
-/// Why a unit's faction can't quit by this number; None where it can.
+/// The fault of QUIT with this faction number: WrongNumber where the unit's faction has another
+/// one; None where it has this one.
 fn quit_fault(number: u32, unit: &Unit) -> Option<EventFault>
     ensures { result ≡ quit_fault number unit.now }
 {

@@ -27,7 +27,8 @@ impl Model for RegionGuards {
 }
 
 impl RegionGuards {
-    /// The map of a campaign, made in one pass over its units. AllocError without memory.
+    /// The map of which faction guards each region of a campaign, made in one pass over its units.
+    /// AllocError without memory.
     pub(crate) fn of(alloc: Global, campaign: &Campaign) -> Result<RegionGuards, AllocError>
         ensures { IfOk result (λ holders. holders ≡ guard_map_of campaign.now.value) }
     {
@@ -40,7 +41,7 @@ impl RegionGuards {
         Ok(holders)
     }
 
-    /// Sets the faction of a unit for its region, if the unit guards.
+    /// Enters the faction of a unit in the map under its region, if the unit guards.
     fn note(&mut self, unit: &Unit) -> Result<(), AllocError>
         ensures { OnOk result (self.new ≡ with_guard_of self.old unit.now) }
     {
@@ -50,7 +51,7 @@ impl RegionGuards {
         Ok(())
     }
 
-    /// Sets the faction that guards a region.
+    /// Enters a faction in the map as the one that guards a region.
     pub(crate) fn set(&mut self, region: u32, faction: u32) -> Result<(), AllocError>
         ensures { OnOk result (self.new ≡ map.insert self.old region faction) }
     {

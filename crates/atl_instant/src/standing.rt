@@ -23,7 +23,7 @@ fn number_of(slot: Slot) -> u32
     }
 }
 
-/// Whether there is a second slot, and it is the first one.
+/// Whether the second slot is there (`Some`), and is the same as the first.
 pub(crate) fn is_slot(slot: Slot, other: Option<Slot>) -> bool
     ensures { result ≡ is_slot slot other }
 {
@@ -47,7 +47,7 @@ pub(crate) fn unit_of(aliases: &Numbered<Numbered<u32>>, faction: u32, target: U
 /// The greatest line of a mailing's orders in each slot, by the slot's number and then by unit.
 pub(crate) type LastLines = Numbered<Numbered<u32>>;
 
-/// The greatest line in a slot for a unit; 0 where there is none.
+/// The greatest line noted for a unit in a slot; 0 where none is noted.
 fn line_in(lines: &LastLines, slot: Slot, unit: u32) -> u32
     ensures { result ≡ line_in lines.now (slot_number slot) unit }
 {

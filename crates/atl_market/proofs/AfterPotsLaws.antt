@@ -40,7 +40,7 @@ less_both a s t = omega arith
 -- ---- TAX
 
 module _ (w : WorldValue) where
-  -- one payment of TAX changes its unit and region alone, by so much money
+  -- one payment of TAX changes its unit and region alone: the unit's share of money goes from the region to it
   tax_pays : Pays true (λ d e. after_tax d e) (λ n. with_more_money) with_less_money
   tax_pays = record {
     mine = λ d e u is (q, around). ap (λ (s : CampaignValue). get s.units e.0) (taxed_is w d e u q is around) ∙ get-insert_same d.units e.0 (paid_unit d e.0 u e.1);
@@ -64,7 +64,7 @@ taxes_at_once w c os =
 -- ---- RECRUIT
 
 module _ (w : WorldValue) where
-  -- one payment of RECRUIT changes its unit and region alone, by its recruits and their price
+  -- one payment of RECRUIT changes its unit and region alone, by the unit's recruits and their price
   recruit_pays : Pays true (after_recruiting w) (λ n. with_recruits w) with_less_peasants
   recruit_pays = record {
     mine = λ d e u is (q, around).

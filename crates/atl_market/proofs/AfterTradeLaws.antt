@@ -39,12 +39,12 @@ use Rattle.atl_market.proofs.WantLaws.{given_is_named}
 
 -- ---- what a trade leaves to unit and stock
 
--- what a unit holds after a trade, whatever the stock is
+-- what a unit holds after a trade is `with_trade` of what it held, whatever the stock is
 trade_is : (trade : Trade) (h : HoldingValue) (stock share : ℕ) (m : Market) → with_trade_result h m.item (trade_result_of trade h stock share m) ≡ with_trade trade h share m
 trade_is Sell h stock share m = refl
 trade_is Buy h stock share m = refl
 
--- what the stock is after a trade, whatever the unit holds
+-- the stock after a trade is `stock_after` of the stock before, whatever the unit holds
 stock_traded : (trade : Trade) (h : HoldingValue) (stock share : ℕ) (m : Market) → (trade_result_of trade h stock share m).stock ≡ stock_after trade stock share
 stock_traded Sell h stock share m = refl
 stock_traded Buy h stock share m = refl
@@ -71,7 +71,7 @@ module _ (d : CampaignValue) (n : ℕ) (u : Unit) (i : ℕ) (entry : Entry) (dea
 -- ---- one unit trades
 
 module _ (trade : Trade) (items : FinMap nat_cmp ℕ) (w : WorldValue) where
-  -- what a unit is after a trade of so many
+  -- what unit `n` is after it traded a number of pieces with the market for its order's item
   abbrev trader : ℕ → UnitChange
   trader n u share = trader_of trade u share (market_for w u (get items n))
 

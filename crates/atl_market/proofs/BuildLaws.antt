@@ -193,6 +193,7 @@ module _ (w : WorldValue) (c : CampaignValue) (n kind : ℕ) (u : Unit) (k : Kin
     good : IsKind (length w.items) (length w.skills) k
     good = can.kinds kind k kind_is
 
+    -- the next number of structures is at most 10,000, if the unit can begin one
     room : c.next_structure ≤ most_structures
     room = next_within c can.steady.next.structures fit.room
 
@@ -256,10 +257,11 @@ module _ (w : WorldValue) (c : CampaignValue) (n : ℕ) (u : Unit) (s : Structur
   on_stays j apart = ap (λ (d : CampaignValue). get d.units j) on_is ∙ others_stay w c n k.material added u is j apart
 
   module _ (there : get c.structures u.structure ≡ Some s) (kind_is : slice_get w.kinds s.kind ≡ Some k) (can : CanBuild w c) (fit : CanGoOn u s k) where
+    -- using the material keeps what BUILD needs
     paid_well : StepsWell CanBuild build_reserve w c paid
     paid_well = used_for_well w c n k.material added u is (size_held k u.holding s.done) (can.kinds s.kind k kind_is).material can
 
-    -- what is done then is at most the kind's size
+    -- what is done of the structure after it was continued is at most its kind's size
     most : s.done + added ≤ size_of w s.kind
     most = subst (λ x. s.done + added ≤ x) (sym (kind_size w s.kind k kind_is)) (up added s.done k.size (size_missing k u.holding s.done) fit.missing)
       where

@@ -35,7 +35,7 @@ use Rattle.atl_market.proofs.ThereLaws.{by_unit}
 
 -- ---- what a unit holds less
 
--- a holding with so much less of an item
+-- a holding with `amount` less of an item
 abbrev with_less : HoldingValue → (item amount : ℕ) → HoldingValue
 with_less h item amount = record h { items = with_amount_of h.items item (amount_of h.items item - amount) }
 
@@ -99,11 +99,11 @@ shrunk : (s t f g x : ℕ) → s + f ≡ t + g → f ≡ g + x → s + x ≡ t
 shrunk s t f g x e h = omega (arith, e, h)
 
 module _ (w : WorldValue) (c : CampaignValue) (n item amount : ℕ) (u : Unit) (is : get c.units n ≡ Some u) where
-  -- the unit after it used so much of the item
+  -- the unit after it used `amount` of the item
   abbrev pub user : Unit
   user = record u { holding = with_less u.holding item amount }
 
-  -- the campaign after the unit used so much of the item, which is booked
+  -- the campaign after the unit used `amount` of the item, which is booked
   abbrev pub used : CampaignValue
   used = with_amount (item_held c n u item (amount_of u.holding.items item - amount)) Used (Item item) (neg_ℤ (pos amount))
 

@@ -80,6 +80,7 @@ module _ (draws : Drawers) where
     lower n k [] low above = tt
     lower n k (f ∷ es) low above = (omega (arith, low, above.0), lower n k es low above.1)
 
+    -- if the rest is 0, so is 0 and the rest
     none_first : (rest : ℕ) → rest ≡ 0 → 0 + rest ≡ 0
     none_first rest h = omega (arith, h)
 
@@ -92,16 +93,19 @@ module _ (draws : Drawers) where
           | false ↦ λ _. none_first (drawn es) (nothing_drawn es all.1)
         ] refl
 
+    -- one unit's amount and what others draw are at most the sum of all amounts, if the others draw at most theirs
     both : (mine rest others all : ℕ) → rest ≤ others → all ≡ mine + others → mine + rest ≤ all
     both mine rest others all h e = omega (arith, h, e)
 
+    -- 0 and what others draw are at most the sum of all amounts, if what they draw is
     none_of : (rest all : ℕ) → rest ≤ all → 0 + rest ≤ all
     none_of rest all h = omega (arith, h)
 
+    -- what others draw is at most the sum of all amounts, if it is at most the sum of theirs
     skipped : (drawing others first all : ℕ) → drawing ≤ others → all ≡ first + others → drawing ≤ all
     skipped drawing others first all h e = omega (arith, h, e)
 
-    -- the units of sorted entries, all of them listed, draw at most the sum of their amounts
+    -- by sorted entries, all of listed units, these draw at most the sum of the amounts of the listed units
     abbrev Bounded : List ℕ → Type 0
     Bounded ns = (es : List (ℕ × ℕ)) → IsRisen ns → Rise es → AllByRecursion (Listed ns) es → drawn es ≤ sum (map amount ns)
 
@@ -168,6 +172,7 @@ module _ {K : Type 0} (pots : DrawnPots K) where
         left_over share rest less all h k = omega (arith, h, k)
 
   module _ (d : CampaignValue) (e : ℕ × ℕ) (after : CampaignValue) where
+    -- a number and 0 make the number
     no_less : (a : ℕ) → a + 0 ≡ a
     no_less a = omega arith
 

@@ -42,7 +42,7 @@ moved x y t k a l z e f g h = omega (arith, ints, e, f, g, h)
 unmoved : (x y t k : ℕ) → x ≡ y → y + k ≡ t + k → pos x ≡ pos t +ℤ pos 0
 unmoved x y t k e f = omega (arith, ints, e, f)
 
--- a campaign in which unit `n`, which is `u`, holds so much of item `i`
+-- a campaign in which unit `n`, which is `u`, holds `amount` of item `i`
 abbrev pub item_held : CampaignValue → ℕ → Unit → (item amount : ℕ) → CampaignValue
 item_held c n u i amount = with_held c n (record u.holding { items = with_amount_of u.holding.items i amount }) (Some u)
 
@@ -77,6 +77,7 @@ module _ (w : WorldValue) (c : CampaignValue) (n : ℕ) (u : Unit) (i amount : �
     after = with_amount with_set e (Item i) z
 
     module _ (change : pos amount ≡ pos (amount_of u.holding.items i) +ℤ z) where
+      -- the total of an item changes by `z` if it is the item that is set, and otherwise stays
       by_test : (j : ℕ) (q : Bool) → eq_by_cmp nat_cmp j i ≡ q → (x y t : ℕ) → x ≡ y → y + amount_of u.holding.items j ≡ t + cond q amount (amount_of u.holding.items j) → pos x ≡ pos t +ℤ cond (2 + j == 2 + i) z (pos 0)
       by_test j true q x y t a b =
           let j_is : j ≡ i = alike i j q in
@@ -88,6 +89,7 @@ module _ (w : WorldValue) (c : CampaignValue) (n : ℕ) (u : Unit) (i amount : �
           let other : (2 + j == 2 + i) ≡ false = grind (arith, nat_tests) in
           unmoved x y t (amount_of u.holding.items j) a b ∙ sym (ap (λ p. pos t +ℤ cond p z (pos 0)) other)
 
+      -- the total of each thing changes by what is booked of it
       total_of : (t : Thing) → total after t ≡ total with_set t → total with_set t + unit_amount t u.holding ≡ total c t + unit_amount t more → pos (total after t) ≡ pos (total c t) +ℤ share_of t (Item i) z
       total_of Money a b =
           let other : (0 == 2 + i) ≡ false = grind (arith, nat_tests) in
@@ -159,11 +161,11 @@ module _ (w : WorldValue) (c : CampaignValue) (n i k : ℕ) where
       subst (λ d. LeavesWell IsSteady (moves_only holding_limit entries.Made (Item i)) w c d) (sym (made_is u can.there))
       (set_well w c n u i (a + k) can.there entries.Made (pos k) (put_to a k) holding_limit can.known can.fits (within-pos k holding_limit (omega (arith, can.fits))) can.steady)
 
-  -- the unit after it used so much of an item
+  -- the unit after it used `k` of an item
   pub used_unit : (u : Unit) → get c.units n ≡ Some u → get (with_used c n i k).units n ≡ Some (record u { holding = record u.holding { items = with_amount_of u.holding.items i (amount_of u.holding.items i - k) } })
   used_unit u is = ap (λ (d : CampaignValue). get d.units n) (used_is u is) ∙ get-insert_same c.units n (record u { holding = record u.holding { items = with_amount_of u.holding.items i (amount_of u.holding.items i - k) } })
 
-  -- the unit after it made so much of an item
+  -- the unit after it made `k` of an item
   pub made_unit : (u : Unit) → get c.units n ≡ Some u → get (with_made c n i k).units n ≡ Some (record u { holding = record u.holding { items = with_amount_of u.holding.items i (amount_of u.holding.items i + k) } })
   made_unit u is = ap (λ (d : CampaignValue). get d.units n) (made_is u is) ∙ get-insert_same c.units n (record u { holding = record u.holding { items = with_amount_of u.holding.items i (amount_of u.holding.items i + k) } })
 

@@ -265,6 +265,7 @@ module _ (item_of : ℕ → Option ℕ) (pot_of : (item region : ℕ) → ℕ) (
         ap (λ ks. zip ks (shares (pot_of i r) (map (want_of wants) ks))) (takers_are i)
         ∙ ap (λ ws. zip takers (shares (pot_of i r) ws)) (filtered_map (λ n. is_some (get (mine item_of wants i) n)) (want_of wants) (want_of (mine item_of wants i)) (wants_the_same item_of wants i) (numbers_in r c.units))
 
+    -- the shares that the code finds for the region's groups are those of their items, one after the other
     items_are : (es : List (ℕ × FinMap nat_cmp ℕ)) → EachOf (λ i group. get groups i ≡ Some group) es → flat_map (item_shares_in pot_of wants r) es ≡ flat_map of_item (map (λ e. e.0) es)
     items_are [] h = refl
     items_are (e ∷ es) h =

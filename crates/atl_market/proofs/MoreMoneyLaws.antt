@@ -11,15 +11,15 @@ use Rattle.atl_instant.specs.NoWorse.{AreNoWorse, IsNoWorse}
 use Rattle.atl_instant.proofs.NoWorseLaws.{no_worse}
 
 module _ (c : CampaignValue) (n : ℕ) (u : Unit) (money : ℕ) where
-  -- what unit `u` holds with so much more money
+  -- what unit `u` holds after it got `money`
   abbrev pub paid : HoldingValue
   paid = record u.holding { money = u.holding.money + money }
 
-  -- unit `u` with so much more money
+  -- unit `u` after it got `money`
   abbrev pub paid_unit : Unit
   paid_unit = record u { holding = paid }
 
-  -- the campaign in which unit `n` has so much more money
+  -- the campaign in which unit `n` is unit `u` after it got `money`
   abbrev pub richer : CampaignValue
   richer = record c { units = insert c.units n paid_unit }
 
@@ -32,6 +32,7 @@ module _ (c : CampaignValue) (n : ℕ) (u : Unit) (money : ℕ) where
     pub others_stay : (k : ℕ) → k ≢ n → get richer.units k ≡ get c.units k
     others_stay k apart = get-insert_other c.units n k paid_unit apart
 
+    -- a unit with more money is no worse off
     paid_no_worse : IsNoWorse u paid_unit
     paid_no_worse = record { faction = refl; region = refl; structure = refl; name = refl; guard = refl; men = omega arith; money = omega arith; items = λ i. omega arith; days = λ s. omega arith }
 

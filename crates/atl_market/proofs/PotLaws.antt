@@ -229,6 +229,7 @@ module _ (f : ℕ → Entries) where
       ] refl
 
   module _ (apart : (r : ℕ) → IsApart (f r)) where
+    -- to put in the entries of one region and others is to put in those of the one, and then those of the others
     with_all : (m : FinMap nat_cmp ℕ) (r : ℕ) (rs : List ℕ) → with_each m (from_all (r ∷ rs)) ≡ with_each (with_each m (f r)) (from_all rs)
     with_all m r rs = fold-append (λ so_far entry. insert so_far entry.0 entry.1) m (f r) (from_all rs)
 

@@ -97,6 +97,7 @@ only_room e t z room = subst (λ b. HasRoom (if b then holding_limit else 0) z) 
 
 module _ (asked : FinMap nat_cmp ℕ) (w : WorldValue) (c : CampaignValue) (e : ℕ × ℕ) where
   module _ (can : CanProduce asked w c e) (i : ℕ) (x : Item) (told : get asked e.0 ≡ Some i) (there : slice_get w.items i ≡ Some x) where
+    -- the unit holds at most a holding's limit of each item
     held : (r : ℕ) → amount_of can.unit.holding.items r ≤ holding_limit
     held r = amount_within can.unit.holding r (can.steady.numbers.units e.0 can.unit can.there).1
 
@@ -177,7 +178,7 @@ module _ (asked : FinMap nat_cmp ℕ) (w : WorldValue) (c : CampaignValue) (e : 
             well_within (both_move one two) (produce_moves holding_limit) w c (with_made d e.0 i e.1) (both_less r i)
             (both_leave_well one two w c d (with_made d e.0 i e.1) (used_well w c e.0 r (e.1 * x.raw_count) (can_use r is)) (made_well w d e.0 i e.1 (can_behind r is)))
 
-  -- the production of a unit keeps the campaign steady and its books balanced, if the unit can produce so much
+  -- the production of a unit keeps the campaign steady and its books balanced, if the unit can make its share
   pub produced_well : CanProduce asked w c e → LeavesWell IsSteady (produce_moves holding_limit) w c (after_production asked w c e)
   unfolding after_production
   produced_well can =
@@ -218,7 +219,7 @@ module _ (w : WorldValue) (c : CampaignValue) (os : List Task) where
   abbrev items : FinMap nat_cmp ℕ
   items = items_by produce_pots w c os
 
-  -- the unit of a share is there and can make at least so much
+  -- the unit of a share is there, and can make at least its share
   abbrev Makes : ℕ × ℕ → Type 0
   Makes e = (u : Unit) × (get c.units e.0 ≡ Some u) × (e.1 ≤ most_makeable w u.holding (get items e.0))
 
@@ -270,7 +271,7 @@ module _ (asked : FinMap nat_cmp ℕ) (w : WorldValue) (c : CampaignValue) (worl
 
 -- ---- all shares can be made in turn
 
--- the unit of a share is there, and has room and raw items for so much of its item
+-- the unit of a share is there, and has room and raw items for its share of its item
 abbrev HasRoomFor : (FinMap nat_cmp ℕ) → WorldValue → CampaignValue → ℕ × ℕ → Type 0
 HasRoomFor asked w c e = (u : Unit) × (get c.units e.0 ≡ Some u) × ((i : ℕ) (x : Item) → get asked e.0 ≡ Some i → slice_get w.items i ≡ Some x → HasRoomAndRaw w u e.1 i x)
 

@@ -107,6 +107,7 @@ module _ (w : WorldValue) (c : CampaignValue) (n : ℕ) (u : Unit) (q : Region) 
     together : KeepsTogether u q (leave q recruits) more (neg_ℤ (pos cost))
     together = record { money = omega (arith, ints, payable); people = omega (arith, enough); items = λ i. refl }
 
+    -- recruiting keeps the campaign early and its books balanced, and books only the cost of the recruits
     recruits_leave_well : LeavesWell IsEarly (recruit_moves holding_limit) w c after
     recruits_leave_well =
         let within = early.steady.numbers.regions u.region q around in
@@ -198,7 +199,7 @@ module _ (w : WorldValue) (c : CampaignValue) where
   abbrev pots : DrawnPots ℕ
   pots = region_pots c.units peasants_of
 
-  -- a unit is there, has room for so many recruits and can pay for them
+  -- the unit of a share is there, has room for its recruits, and can pay for them
   abbrev CanHave : ℕ × ℕ → Type 0
   CanHave e = (u : Unit) × (get c.units e.0 ≡ Some u) × (u.holding.men + e.1 ≤ men_limit) × (e.1 * w.rules.recruit_price ≤ u.holding.money)
 
@@ -232,12 +233,15 @@ module _ (w : WorldValue) (c : CampaignValue) where
       )
 
   module _ (early : IsEarly w c) (os : List Task) (room : HaveRoom (recruit_moves most_moved) c) where
+    -- the numbers of the units that get recruits, with their shares, sorted by unit
     abbrev shares : List (ℕ × ℕ)
     shares = entries (given_by recruit_pots w c os)
 
+    -- a unit has room for a share of at most its want
     wanted_fits : (count payable men share : ℕ) → men ≤ men_limit → share ≤ min count (min payable (men_limit - men)) → men + share ≤ men_limit
     wanted_fits count payable men share fits low = omega (arith, fits, low)
 
+    -- a unit can pay for a share of at most its want
     wanted_payable : (count money price most share : ℕ) → share ≤ min count (min (money / price) most) → share * price ≤ money
     wanted_payable count money price most share low =
         let few : share ≤ money / price = omega (arith, low) in
@@ -249,6 +253,7 @@ module _ (w : WorldValue) (c : CampaignValue) where
         let (u, o, there, own, low) = given_is_wanted recruit_pots w c (λ items. pots_give (recruits_at w c) c) os n share is in
         (u, there, wanted_fits _ _ u.holding.men share (early.steady.numbers.units n u there).1.men low, wanted_payable _ u.holding.money w.rules.recruit_price _ share low)
 
+    -- a part of the peasants, by division, is at most all of them
     part : (all one : ℕ) → all / one ≤ all
     part all one = div-le_self all one
 
@@ -258,6 +263,7 @@ module _ (w : WorldValue) (c : CampaignValue) where
         let few : drawn (who_stand c.units r) shares ≤ q.peasants / w.rules.recruit_fraction = subst (λ pot. drawn (who_stand c.units r) shares ≤ pot) (ap (λ o. option_map_or (λ (x : Region). x.peasants / w.rules.recruit_fraction) o 0) around) (pot_is_enough _ _ c r (q, around)) in
         omega (arith, few, part q.peasants w.rules.recruit_fraction)
 
+    -- at most as many units get a share as there may be units
     few : length shares ≤ most_units
     few = omega (arith, few_given recruit_pots w c (λ items. pots_give (recruits_at w c) c) os, early.steady.numbers.few_units)
 
@@ -275,6 +281,7 @@ module _ (w : WorldValue) (c : CampaignValue) where
       enough = all_enough;
     }) (room_less (moved_times (length shares) step_moves) (recruit_moves most_moved) c little room)
 
+    -- RECRUIT keeps an early campaign early and its books balanced, within the phase's bound on the books
     pub all_recruits_leave_well : LeavesWell IsEarly (recruit_moves most_moved) w c (after_sharing recruit_pots w c os)
     unfolding after_sharing
     all_recruits_leave_well =

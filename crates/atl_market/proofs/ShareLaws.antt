@@ -1,5 +1,5 @@
--- Laws of the shares of a pot: no share is above its want, all is given, each is within one of its part; and of the
--- remainder.
+-- Laws of the shares of a pot: no share is above its want, the whole pot is given if the wants exceed it, and each
+-- share is within one of its exact part; and of the remainder that the code carries from share to share.
 use Rattle.std.proofs.Common.{◌≡◌, ℕ, ◌+◌, ◌-◌, ◌*◌, ◌/◌, ◌%◌, ◌<◌, ◌≤◌, List, [], ◌∷◌, ◌++◌, length, get_or, min, inl, inr, zero, suc, sum, refl, ap, sym, ◌∙◌, add-zero, zero-add, arith}
 use Rattle.std.proofs.Math.Nat.{mul-div-le, mul-add, add-mul-div_left, div-add-mod, mod-lt, mul-div_left, mul-zero, zero-div, div-lt_iff_lt-mul, lt-mul-div-succ, div-le_of_le-mul, mul-le-mul_left, le-div_iff_mul-le, mul_comm}
 use Rattle.std.proofs.lemmas.List.Sums.{sum_by-cons, sum_by-append}
@@ -11,7 +11,7 @@ use Rattle.atl_market.specs.Share.{IsNearPart, SplittingKeepsOthers, share_upto,
 quotient : (pot total x : ℕ) → 0 < total → (total * share_upto pot total x ≤ pot * x) × (pot * x < total * share_upto pot total x + total)
 quotient pot total x p = (mul-div-le (pot * x) total, omega (arith, lt-mul-div-succ (pot * x) p))
 
--- the more of the first wants, the more they get together, or the same
+-- the more the first wants add up to, the more they get together, or the same
 pub upto_mono : (pot total x y : ℕ) → 0 < total → x ≤ y → share_upto pot total x ≤ share_upto pot total y
 upto_mono pot total x y p h =
     (le-div_iff_mul-le p).1 (omega (arith, mul_comm (share_upto pot total x) total, (quotient pot total x p).0, mul-le-mul_left pot h))

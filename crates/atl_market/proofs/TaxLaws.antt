@@ -78,6 +78,7 @@ module _ (w : WorldValue) (c : CampaignValue) (n : ℕ) (u : Unit) (q : Region) 
         same : (x y z j k : ℕ) → x + j ≡ y + j → y + k ≡ z + k → x ≡ z
         same x y z j k a b = omega (arith, a, b)
 
+    -- a unit that takes its share keeps an early campaign early and its books balanced, if it has room for the money
     pub tax_leaves_well : u.holding.money + share ≤ holding_limit → IsEarly w c → LeavesWell IsEarly moves_nothing w c after
     tax_leaves_well fits early =
         let steady = early.steady in
@@ -155,7 +156,7 @@ module _ (w : WorldValue) (c : CampaignValue) where
   abbrev pots : DrawnPots ℕ
   pots = region_pots c.units money_of
 
-  -- the unit of a share is there and has room for so much money
+  -- the unit of a share is there, and has room for its share of money
   abbrev HasRoomFor : ℕ × ℕ → Type 0
   HasRoomFor e = (u : Unit) × (get c.units e.0 ≡ Some u) × (u.holding.money + e.1 ≤ holding_limit)
 
@@ -183,9 +184,11 @@ module _ (w : WorldValue) (c : CampaignValue) where
       )
 
   module _ (early : IsEarly w c) (os : List Task) where
+    -- the numbers of the units that get tax, with their shares, sorted by unit
     abbrev shares : List (ℕ × ℕ)
     shares = entries (given_by tax_pots w c os)
 
+    -- a unit has room for a share of at most its want
     wanted_fits : (money men share : ℕ) → money ≤ holding_limit → share ≤ min men (holding_limit - money) → money + share ≤ holding_limit
     wanted_fits money men share fits low = omega (arith, fits, low)
 
@@ -209,6 +212,7 @@ module _ (w : WorldValue) (c : CampaignValue) where
       enough = all_enough;
     })
 
+    -- TAX keeps an early campaign early and its books balanced, and books nothing
     pub all_taxes_leave_well : LeavesWell IsEarly moves_nothing w c (after_sharing tax_pots w c os)
     unfolding after_sharing
     all_taxes_leave_well =

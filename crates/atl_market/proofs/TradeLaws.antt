@@ -251,9 +251,11 @@ module _ (trade : Trade) (items : FinMap nat_cmp ℕ) (w : WorldValue) (c : Camp
   traded_is u is o at = unit_there c e.0 _ u is ∙ ap (traded_at trade c e u) at
 
   module _ (can : CanTrade trade items w c e) (m : Market) (at : market_for w can.at.unit (get items e.0) ≡ Some m) where
+    -- the result of the unit's trade with the market
     abbrev deal : TradeResult
     deal = trade_result_of trade can.at.unit.holding (amount_of can.at.region.stocks m.item) e.1 m
 
+    -- the market is one of the unit's region, and trades the item of the unit's order
     market : IsMarketFor w can.at.unit (get items e.0) m
     market = market_is w can.world can.at.unit (get items e.0) m at
 
@@ -264,6 +266,7 @@ module _ (trade : Trade) (items : FinMap nat_cmp ℕ) (w : WorldValue) (c : Camp
         ∙ ap (λ stock. with_result c e.0 can.at.unit m.item (trade_entry trade) (trade_result_of trade can.at.unit.holding stock e.1 m)) (stock_is c can.at.unit.region can.at.region m.item can.at.around)
         ∙ deal_is w c e.0 can.at.unit can.at.region m.item (trade_entry trade) deal can.at.there can.at.around
 
+    -- the result of the unit's trade is within all limits
     fits : ResultFits w can.at.unit m.item (amount_of can.at.region.stocks m.item) deal
     fits =
         let u = can.at.unit in
@@ -380,7 +383,7 @@ module _ (trade : Trade) (items : FinMap nat_cmp ℕ) (w : WorldValue) (world : 
   abbrev pots : DrawnPots (ℕ × ℕ)
   pots = item_pots trade w c.units items
 
-  -- the unit of a share is there, and can afford so many
+  -- the unit of a share is there, and can afford its share
   abbrev CanHave : ℕ × ℕ → Type 0
   CanHave e = (u : Unit) × (get c.units e.0 ≡ Some u) × CanAfford trade u.holding e.1 (market_for w u (get items e.0))
 
@@ -557,7 +560,7 @@ stock_most w c r i world early = by_region (get c.regions r) refl
         let limit = by_market q low (get w.regions r) refl in
         omega (arith, low, limit)
 
--- a unit with other goods, and then the stock of a region
+-- a campaign `c`, then `d` with other goods of a unit, and then `e` with another stock of a region
 module _ (c d e : MarkedCampaign) (n region item stock : ℕ) (f : HoldingValue → HoldingValue) (set : ChangesHolding c d n f) (put : e.value ≡ with_stock d.value region item stock) where
   -- the books stay as they were
   pub settled_books : e.value.books ≡ c.value.books

@@ -28,7 +28,7 @@ use Rattle.atl_market.proofs.UnmailedPotLaws.{ordered_for, others_items, paid_me
 
 -- ---- what a unit uses
 
--- a unit with so much of an item
+-- a unit with `amount` of an item
 abbrev item_set : (item amount : ℕ) → Unit → Unit
 item_set i amount u = record u { holding = record u.holding { items = with_amount_of u.holding.items i amount } }
 

@@ -38,12 +38,12 @@ use Rattle.atl_market.proofs.TradeLaws.{traded_others, trades_give}
 
 -- ---- all phases with pots
 
--- the orders of a month with these keywords, whatever the campaign is
+-- the orders of a month with these verbs, whatever the campaign is
 abbrev pub ordered_for : (Verb → Bool) → CampaignValue → MonthValue → List Task
 ordered_for is_of c = orders_by_unit is_of
 
 module _ (p : PotMeaning) (w : WorldValue) (c : CampaignValue) where
-  -- by the events of a phase with pots no men of unit `n` starved
+  -- the events of a phase with pots report no men of unit `n` who starved
   none_starve : (given : FinMap nat_cmp ℕ) (os : List Task) (n : ℕ) → starved_in (map (event_of p w c given) os) n ≡ 0
   none_starve given [] n = refl
   none_starve given (o ∷ os) n =
@@ -54,7 +54,7 @@ module _ (p : PotMeaning) (w : WorldValue) (c : CampaignValue) where
       nobody true = refl
       nobody false = refl
 
-  -- the events of a phase with pots report of no unit that men starved
+  -- a phase with pots adds no men who starved to the events
   pots_report_none_starved : (events : List Event) (os : List Task) (n : ℕ) → starved_in (events ++ events_by p w c os) n ≡ starved_in events n
   unfolding events_by
   pots_report_none_starved events os n =
@@ -75,7 +75,7 @@ module _ (p : PotMeaning) (orders : CampaignValue → MonthValue → List Task) 
   shared_leave {keeps} men items =
       whole_leaves {meaning = shared} {keeps = keeps} (λ w c m. refl) (λ w c m n. pots_report_none_starved p w c m.events (orders c m) n) (λ w c m h. men w c m) (λ w c m h. items w c (shared w c m).0 m h)
 
-  -- if each payment keeps the men of all units, the phase keeps the men of units of factions without a mailing
+  -- a phase keeps the men of units of factions without a mailing, if each payment keeps the men of all units
   pub paid_men : ((w : WorldValue) (items : FinMap nat_cmp ℕ) (d : CampaignValue) (e : ℕ × ℕ) → HaveTheirMen d (p.paid items w d e)) → (w : WorldValue) (c : CampaignValue) (m : MonthValue) → UnmailedAre HasItsMen m c (shared w c m).0
   unfolding after_sharing
   paid_men paid w c m n u there none = let items = items_by p w c (orders c m) in men_in_turn (p.paid items w) (paid w items) c (entries (given_by p w c (orders c m))) n u there

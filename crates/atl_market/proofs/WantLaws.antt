@@ -72,8 +72,7 @@ rise_apart (e ∷ es) h = (others e.0 es h.0, rise_apart es h.1)
     others k (f ∷ es) h = (differs k f.0 h.0, others k es h.1)
 
 module _ (p : PotMeaning) (w : WorldValue) (c : CampaignValue) where
-  -- Some order for unit `n` has no fault and wants so much, and the item that it names, if any, is the unit's in
-  -- `items`.
+  -- Some order for unit `n` has no fault and wants `want`, and the item that it names, if any, is `n`'s in `items`.
   abbrev IsWanted : FinMap nat_cmp ℕ → ℕ → ℕ → Type 0
   IsWanted items n want =
       (u : Unit) × (t : Task) × (get c.units n ≡ Some u) × (t.unit ≡ n) × (want ≡ p.want w u t) × (p.fault w u t ≡ None) × ((i : ℕ) → item_in t.order_value.operands ≡ Some i → get items n ≡ Some i)
@@ -88,7 +87,7 @@ module _ (p : PotMeaning) (w : WorldValue) (c : CampaignValue) where
   abbrev unless_fault : Task → Option Unit → Result Unit EventFault
   unless_fault t o = option_map_or (λ v. option_map_or Err (p.fault w v t) (Ok v)) o (Err NotYours)
 
-  -- a unit that is returned for an order carries it out
+  -- the unit that `unit_for` returns for an order carries the order out (`CarriesOut`)
   pub carries_out : (t : Task) (u : Unit) → unit_for p w c t ≡ Ok u → CarriesOut t u
   unfolding unit_for
   carries_out t u is = by_unit (get c.units t.unit) refl is
@@ -114,9 +113,11 @@ module _ (p : PotMeaning) (w : WorldValue) (c : CampaignValue) where
     abbrev named : Option ℕ → Option (ℕ × ℕ)
     named s = option_map (λ i. (t.unit, i)) s
 
+    -- after an order's item is put in, its unit has the item that the order names
     item_put : (s : Option ℕ) (i : ℕ) → s ≡ Some i → get (with_any items (named s)) t.unit ≡ Some i
     item_put s i is = ap (λ o. get (with_any items (named o)) t.unit) is ∙ get-insert_same items t.unit i
 
+    -- putting in an order's item changes nothing under the numbers of other units
     item_elsewhere : (s : Option ℕ) (n : ℕ) → n ≢ t.unit → get (with_any items (named s)) n ≡ get items n
     item_elsewhere None n apart = refl
     item_elsewhere (Some i) n apart = get-insert_other items t.unit n i apart

@@ -57,7 +57,7 @@ module _ (w : WorldValue) (c : CampaignValue) (n : ℕ) (u : Unit) (money : ℕ)
   abbrev more : HoldingValue
   more = paid c n u money
 
-  -- the campaign in which the unit holds that, without booking
+  -- the campaign in which the unit has its wages, not booked yet
   abbrev given : CampaignValue
   given = richer c n u money
 
@@ -154,7 +154,7 @@ work_keeps_units w c os = each_no_worse w c (entries (given_by work_pots w c os)
 
 -- ---- all shares can be paid in turn
 
--- the unit of a share is there and has room for the wages of so many work places
+-- the unit of a share is there, and has room for the wages of its share of work places
 abbrev pub HasRoomFor : WorldValue → CampaignValue → ℕ × ℕ → Type 0
 HasRoomFor w c e = (u : Unit) × (get c.units e.0 ≡ Some u) × (u.holding.money + wages_for w u.region e.1 ≤ holding_limit)
 
@@ -187,6 +187,7 @@ module _ (w : WorldValue) where
       omega (arith, split, cost, fits, mul_comm places t.wage)
 
   module _ (c : CampaignValue) (steady : IsSteady w c) (os : List Task) where
+    -- the numbers of the units that get work places, with their shares, sorted by unit
     abbrev shares : List (ℕ × ℕ)
     shares = entries (given_by work_pots w c os)
 
@@ -196,6 +197,7 @@ module _ (w : WorldValue) where
         let (u, o, there, own, low) = given_is_wanted work_pots w c (λ items. pots_give (places_at w) c) os n places is in
         (u, there, wanted_fits u (terrain_of w u.region) places (steady.numbers.units n u there).1.money low)
 
+    -- at most as many units get a share as there may be units
     few : length shares ≤ most_units
     few = omega (arith, few_given work_pots w c (λ items. pots_give (places_at w) c) os, steady.numbers.few_units)
 
@@ -207,6 +209,7 @@ module _ (w : WorldValue) where
     pub can_share_out : HaveRoom (work_moves most_moved) c → CanInTurn (CanWork w) (after_work w) c shares
     can_share_out room = work_in_turn c shares (entries_rise (given_by work_pots w c os)) steady (room_less (moved_times (length shares) step_moves) (work_moves most_moved) c little room) (all_pairs (HasRoomFor w c) shares (each-from_every (λ n places. HasRoomFor w c (n, places)) (given_by work_pots w c os) each_fits))
 
+    -- WORK keeps a steady campaign steady and its books balanced, within the phase's bound, if the books have room
     pub work_leaves_well : HaveRoom (work_moves most_moved) c → LeavesWell IsSteady (work_moves most_moved) w c (after_sharing work_pots w c os)
     unfolding after_sharing
     work_leaves_well room =

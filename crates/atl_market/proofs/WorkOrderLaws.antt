@@ -138,10 +138,12 @@ module _ (c : CampaignValue) where
       pub own : o.faction ≡ unit.faction
       pub unordered : is_some (get writers o.unit) ≡ false
 
+    -- the work that the code adds for a unit, if any, is the work of a unit without an order (`IsIdle`)
     idle_if : (n : ℕ) (u : Unit) (b : Bool) → (nat_lt 0 u.holding.men && not (is_some (get writers n))) ≡ b → get c.units n ≡ Some u → AllByRecursion IsIdle (cond b (idle_task n u.faction ∷ []) [])
     idle_if n u true is there = (record { unit = u; there = there; own = refl; unordered = not-true _ (and_parts _ _ is).1 }, tt)
     idle_if n u false is there = tt
 
+    -- the work that the code adds for some units is the work of units without an order (`IsIdle`)
     idle_each : (es : List (ℕ × Unit)) → EachOf (λ n u. get c.units n ≡ Some u) es → AllByRecursion IsIdle (flat_map (idle_by writers) es)
     idle_each [] h = tt
     idle_each ((n, u) ∷ es) h = append_each IsIdle (idle_by writers (n, u)) (flat_map (idle_by writers) es) (idle_if n u _ refl h.0) (idle_each es h.1)
@@ -150,6 +152,7 @@ module _ (c : CampaignValue) where
     each_idle : AllByRecursion IsIdle (all_idle c os)
     each_idle = idle_each (entries c.units) (each-from_every (λ n u. get c.units n ≡ Some u) c.units (λ n u is. is))
 
+    -- the work that the code adds for a unit is for that unit
     of_unit : (e : ℕ × Unit) → AllByRecursion (λ o. o.unit ≡ e.0) (idle_by writers e)
     of_unit (n, u) = elim (nat_lt 0 u.holding.men && not (is_some (get writers n))) as (λ b. AllByRecursion (λ (o : Task). o.unit ≡ n) (cond b (idle_task n u.faction ∷ []) [])) [ true ↦ (refl, tt) | false ↦ tt ]
 
@@ -166,6 +169,7 @@ module _ (c : CampaignValue) where
 
     -- ---- written orders, and the added ones
 
+    -- equal numbers pass the test for equality
     same_faction : (a b : ℕ) → a ≡ b → (a == b) ≡ true
     same_faction a b e = grind (arith, nat_tests)
 

@@ -31,7 +31,7 @@ with_trade Buy h share m = record h { money = h.money - share * m.price; items =
 abbrev pub trader_of : Trade → Unit → (share : ℕ) → Option Market → Unit
 trader_of trade u share market = option_map_or (λ m. record u { holding = with_trade trade u.holding share m }) market u
 
--- a market's stock after its units traded so many pieces: more after SELL, less after BUY
+-- a market's stock after `traded` pieces were traded with it: more after SELL, less after BUY
 abbrev pub stock_after : Trade → (stock traded : ℕ) → ℕ
 stock_after Sell stock traded = stock + traded
 stock_after Buy stock traded = stock - traded
@@ -44,7 +44,7 @@ TradesAtOnce =
     → PaysItemsAtOnce (trade_pots trade) w (get (items_by (trade_pots trade) w c os))
     (λ n u share. trader_of trade u share (market_for w u (get (items_by (trade_pots trade) w c os) n))) (stock_after trade) c os
 
--- a unit with so much more money, which is its share
+-- a unit with its share of money added to its own
 abbrev pub with_more_money : UnitChange
 with_more_money u money = record u { holding = record u.holding { money = u.holding.money + money } }
 
@@ -57,7 +57,7 @@ with_less_money q taken = record q { money = q.money - taken }
 abbrev pub TaxesAtOnce : Type 0
 TaxesAtOnce = (w : WorldValue) (c : CampaignValue) (os : List Task) → PaysAtOnce tax_pots w (λ n. with_more_money) with_less_money c os
 
--- a unit with so many more men, and less money by their price
+-- a unit with its recruits added to its men, and their price taken from its money
 abbrev pub with_recruits : WorldValue → UnitChange
 with_recruits w u recruits = record u { holding = with_paid_recruits u.holding recruits (recruits * w.rules.recruit_price) }
 
@@ -65,19 +65,19 @@ with_recruits w u recruits = record u { holding = with_paid_recruits u.holding r
 abbrev pub with_less_peasants : RegionChange
 with_less_peasants q joined = record q { peasants = q.peasants - joined }
 
--- The law of RECRUIT: all recruits join at once. A unit has its recruits more and their price less; a region has all of
--- them less.
+-- The law of RECRUIT: all recruits join at once. A unit has its recruits more and their price less; a region has all
+-- recruits of its units less.
 abbrev pub RecruitsAtOnce : Type 0
 RecruitsAtOnce =
     (w : WorldValue) (c : CampaignValue) (os : List Task)
     → PaysAtOnce recruit_pots w (λ n. with_recruits w) with_less_peasants c os
 
--- a holding with so much less of an item; as it was where no item is given
+-- a holding with `amount` less of an item; as it was where no item is given
 abbrev pub with_less : HoldingValue → Option ℕ → (amount : ℕ) → HoldingValue
 with_less h item amount =
     option_map_or (λ i. record h { items = with_amount_of h.items i (amount_of h.items i - amount) }) item h
 
--- a holding with so much more of an item
+-- a holding with `amount` more of an item
 abbrev pub with_more : HoldingValue → (item amount : ℕ) → HoldingValue
 with_more h item amount = record h { items = with_amount_of h.items item (amount_of h.items item + amount) }
 
@@ -86,7 +86,7 @@ abbrev pub maker_of : Unit → (made item : ℕ) → Item → Unit
 maker_of u made item x =
     record u { holding = with_more (with_less u.holding x.raw (made * x.raw_count)) item made }
 
--- a unit that made so many of the item that its order names (`asked`); as it was where that is no item of the world
+-- a unit that made `made` pieces of the item that its order names (`asked`); as it was where the world has no such item
 abbrev pub maker_by : WorldValue → Unit → (made : ℕ) → Option ℕ → Unit
 maker_by w u made asked = option_map_or (λ i. option_map_or (maker_of u made i) (slice_get w.items i) u) asked u
 

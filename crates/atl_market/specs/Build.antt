@@ -31,7 +31,7 @@ use Rattle.atl_instant.specs.OrderEffects.{IsOwnOrder, OrderEffect, OrderMeaning
 use Rattle.atl_instant.specs.PhaseSpecs.{PhaseSpec, goes_by_orders}
 use Rattle.atl_market.specs.Goods.{with_used}
 
--- whether a keyword is BUILD
+-- whether a verb is BUILD
 abbrev pub is_building : Verb → Bool
 is_building verbs.Build = true
 is_building verb = false

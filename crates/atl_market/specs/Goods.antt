@@ -6,13 +6,13 @@ use Rattle.atl_records.specs.Holdings.{amount_of}
 use Rattle.atl_state.specs.Campaign.{CampaignValue, with_amount, with_item}
 use Rattle.atl_instant.specs.There.{at_unit}
 
--- a campaign after unit `n` used so much of item `i`, booked as used; unchanged where the unit isn't there
+-- a campaign after unit `n` used `amount` of item `i`, booked as used; unchanged where the unit isn't there
 abbrev pub with_used : CampaignValue → ℕ → (item amount : ℕ) → CampaignValue
 with_used c n i amount =
     at_unit c n (λ u.
     with_amount (with_item c n i (amount_of u.holding.items i - amount)) Used (Item i) (neg_ℤ (pos amount)))
 
--- a campaign after unit `n` made so much of item `i`, booked as made; unchanged where the unit isn't there
+-- a campaign after unit `n` made `amount` of item `i`, booked as made; unchanged where the unit isn't there
 abbrev pub with_made : CampaignValue → ℕ → (item amount : ℕ) → CampaignValue
 with_made c n i amount =
     at_unit c n (λ u.

@@ -16,7 +16,7 @@ use Rattle.atl_state.specs.Campaign.{CampaignValue}
 use Rattle.atl_instant.specs.Bounds.{HasRoom, HaveRoom}
 use Rattle.atl_market.specs.Produce.{produce_moves, with_raw_used}
 
--- unit `n` can use so much of item `i`: it is there and holds enough, and the books have room for it
+-- unit `n` can use `amount` of item `i`: it is there and holds enough, and the books have room for it
 pub record CanUse (w : WorldValue) (c : CampaignValue) (n i amount : ℕ) : Type 0 where
   pub unit : Unit
   pub there : get c.units n ≡ Some unit
@@ -25,7 +25,7 @@ pub record CanUse (w : WorldValue) (c : CampaignValue) (n i amount : ℕ) : Type
   pub steady : IsSteady w c
   pub room : HasRoom amount (amount_in c.books Used (things.Item i))
 
--- unit `n` can make so much of item `i`: it is there and has room for it, and so have the books
+-- unit `n` can make `amount` of item `i`: it is there and has room for it, and so have the books
 pub record CanMake (w : WorldValue) (c : CampaignValue) (n i amount : ℕ) : Type 0 where
   pub unit : Unit
   pub there : get c.units n ≡ Some unit
@@ -47,8 +47,8 @@ pub record HasRoomAndRaw (w : WorldValue) (u : Unit) (made i : ℕ) (x : Item) :
   pub raw_known : (r : ℕ) → x.raw ≡ Some r → r < length w.items
   pub raw : (r : ℕ) → x.raw ≡ Some r → made * x.raw_count ≤ amount_of u.holding.items r
 
--- The unit of a share can make so much of its item: it is there, has room and raw items for it, and the books have room
--- for a holding's limit made and used.
+-- The unit of a pair (unit, share) can make its share of its item: it is there, has room and raw items for it, and the
+-- books have room for a holding's limit made and used.
 pub record CanProduce (asked : FinMap nat_cmp ℕ) (w : WorldValue) (c : CampaignValue) (e : ℕ × ℕ) : Type 0 where
   pub unit : Unit
   pub there : get c.units e.0 ≡ Some unit

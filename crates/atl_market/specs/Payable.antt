@@ -18,14 +18,15 @@ pub record IsSomewhere (c : CampaignValue) (n : ℕ) : Type 0 where
   pub region : Region
   pub around : get c.regions unit.region ≡ Some region
 
--- a unit, by its number, can take so much tax: it has room for the money, and its region has it
+-- the unit of a pair (unit, share) can take its share of tax: it has room for the money, and its region has it
 pub record CanTax (w : WorldValue) (c : CampaignValue) (e : ℕ × ℕ) : Type 0 where
   pub at : IsSomewhere c e.0
   pub fits : at.unit.holding.money + e.1 ≤ holding_limit
   pub enough : e.1 ≤ at.region.money
   pub early : IsEarly w c
 
--- a unit, by its number, can get so many recruits: it has money and room, its region the peasants, and the books room
+-- The unit of a pair (unit, share) can get its share of recruits: it has the money and room for the men. Its region has
+-- the peasants, and the books have room.
 pub record CanRecruit (w : WorldValue) (c : CampaignValue) (e : ℕ × ℕ) : Type 0 where
   pub at : IsSomewhere c e.0
   pub fits : at.unit.holding.men + e.1 ≤ men_limit
@@ -34,7 +35,7 @@ pub record CanRecruit (w : WorldValue) (c : CampaignValue) (e : ℕ × ℕ) : Ty
   pub early : IsEarly w c
   pub room : HaveRoom (recruit_moves holding_limit) c
 
--- a unit, by its number, can be paid for so many work places: it is there, and it and the books have room for the wages
+-- the unit of a pair (unit, share) can be paid for its work places: it is there, and it and the books have room
 pub record CanWork (w : WorldValue) (c : CampaignValue) (e : ℕ × ℕ) : Type 0 where
   pub unit : Unit
   pub there : get c.units e.0 ≡ Some unit

@@ -47,9 +47,9 @@ pub record PotMeaning : Type 0 where
   pub want : WorldValue → Unit → Task → ℕ
   -- what each unit gets, from the items that the orders name and from the wants, all by unit
   pub grants : (items : FinMap nat_cmp ℕ) → WorldValue → CampaignValue → (wants : FinMap nat_cmp ℕ) → FinMap nat_cmp ℕ
-  -- the number in the event of a unit that got so much of the pot
+  -- the number that the event of a unit says, by the unit's share of the pot
   pub event_number : WorldValue → Unit → ℕ → ℕ
-  -- the campaign after a unit, by its number, got so much of the pot of its region, or of that of its item there
+  -- the campaign after a unit, by its number, got its share of the pot of its region, or of that of its item there
   pub paid : (items : FinMap nat_cmp ℕ) → WorldValue → CampaignValue → ℕ × ℕ → CampaignValue
 
 -- A map from entries by unit. If a unit had several, the last would count. It has one at most: of the orders of a phase
@@ -85,7 +85,7 @@ module _ (p : PotMeaning) (w : WorldValue) (c : CampaignValue) where
 
   -- ---- what they get
 
-  -- how much each unit gets, by unit
+  -- how much of its pot each unit gets, by unit
   abbrev pub given_by : List Task → FinMap nat_cmp ℕ
   given_by ts = p.grants (items_by ts) w c (wants_by ts)
 
@@ -114,6 +114,6 @@ module _ (p : PotMeaning) (w : WorldValue) (c : CampaignValue) where
 abbrev pub pots_meaning : PotMeaning → (CampaignValue → MonthValue → List Task) → Meaning
 pots_meaning p orders w c m = (after_sharing p w c (orders c m), with_events m (events_by p w c (orders c m)))
 
--- the meaning of a phase with pots whose orders are those of the month with its keywords
+-- the meaning of a phase with pots whose orders are those of the month with the phase's verbs
 abbrev pub pots_by_orders : PotMeaning → (Verb → Bool) → Meaning
 pots_by_orders p is_of = pots_meaning p (λ c m. orders_by_unit is_of m)

@@ -26,7 +26,7 @@ use Rattle.atl_market.specs.ItemPots.{item_share}
 use Rattle.atl_market.specs.PotPhase.{PotMeaning, item_in, pots_by_orders}
 use Rattle.atl_market.specs.Unordered.{spares_unordered}
 
--- whether a keyword is PRODUCE
+-- whether a verb is PRODUCE
 abbrev pub is_produce : Verb → Bool
 is_produce verbs.Produce = true
 is_produce verb = false
@@ -78,15 +78,15 @@ made_amounts asked w c wants = from_entries (map (λ e. (e.0, made_by w asked c 
 
 -- ---- what changes
 
--- a campaign after unit `n` used so much of a raw item; unchanged where none is given
+-- a campaign after unit `n` used `amount` of a raw item; unchanged where none is given
 abbrev pub with_raw_used : CampaignValue → ℕ → (amount : ℕ) → (raw : Option ℕ) → CampaignValue
 with_raw_used c n amount raw = option_map_or (λ r. with_used c n r amount) raw c
 
--- a campaign after unit `n` made so many of an item, and used the raw items for them
+-- a campaign after unit `n` made `made` pieces of an item, and used the raw items for them
 abbrev pub with_item_made : CampaignValue → ℕ → (made item : ℕ) → Item → CampaignValue
 with_item_made c n made i x = with_made (with_raw_used c n (made * x.raw_count) x.raw) n i made
 
--- a campaign after a unit, by its number, made so many of the item that its order names
+-- a campaign after a unit, by its number, made `made` pieces of the item that its order names
 unfoldable pub after_production : FinMap nat_cmp ℕ → WorldValue → CampaignValue → ℕ × ℕ → CampaignValue
 after_production asked w c (n, made) =
     option_map_or (λ i. option_map_or (with_item_made c n made i) (slice_get w.items i) c) (get asked n) c

@@ -22,7 +22,7 @@ use Rattle.atl_market.specs.PotPhase.{PotMeaning, count_in, pots_by_orders}
 use Rattle.atl_market.specs.Unordered.{spares_unordered}
 use Rattle.atl_instant.specs.PhaseSpecs.{PhaseSpec, books_money}
 
--- whether a keyword is RECRUIT
+-- whether a verb is RECRUIT
 abbrev pub is_recruit : Verb → Bool
 is_recruit verbs.Recruit = true
 is_recruit verb = false
@@ -39,11 +39,11 @@ recruit_want w u asked = min asked (min (u.holding.money / w.rules.recruit_price
 abbrev pub recruits_at : WorldValue → CampaignValue → ℕ → ℕ
 recruits_at w c region = option_map_or (λ q. q.peasants / w.rules.recruit_fraction) (get c.regions region) 0
 
--- a holding with so many recruits more, who have studied nothing, and their cost less
+-- a holding with `recruits` more men, who have studied nothing, and with their cost taken from its money
 abbrev pub with_paid_recruits : HoldingValue → (recruits cost : ℕ) → HoldingValue
 with_paid_recruits h recruits cost = record h { men = h.men + recruits; money = h.money - cost }
 
--- a campaign after so many peasants of its region joined a unit, by its number; their price is paid and booked
+-- a campaign after `recruits` peasants of its region joined a unit, by its number; their price is paid and booked
 unfoldable pub after_recruiting : WorldValue → CampaignValue → ℕ × ℕ → CampaignValue
 after_recruiting w c (n, recruits) =
     let cost = recruits * w.rules.recruit_price in

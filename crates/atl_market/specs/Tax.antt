@@ -18,7 +18,7 @@ use Rattle.atl_market.specs.Pots.{pot_shares}
 use Rattle.atl_market.specs.PotPhase.{PotMeaning, pots_by_orders}
 use Rattle.atl_instant.specs.PhaseSpecs.{PhaseSpec, books_none}
 
--- whether a keyword is TAX
+-- whether a verb is TAX
 abbrev pub is_tax : Verb → Bool
 is_tax verbs.Tax = true
 is_tax verb = false
@@ -35,7 +35,7 @@ tax_want w u = min (u.holding.men * w.rules.tax_per_man) (holding_limit - u.hold
 abbrev pub money_at : CampaignValue → ℕ → ℕ
 money_at c region = option_map_or (λ q. q.money) (get c.regions region) 0
 
--- a campaign after a unit, by its number, took so much of its region's money
+-- a campaign after a unit, by its number, took its share of its region's money
 unfoldable pub after_tax : CampaignValue → ℕ × ℕ → CampaignValue
 after_tax c (n, share) =
     at_unit c n (λ u.

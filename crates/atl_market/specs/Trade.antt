@@ -35,7 +35,7 @@ abbrev pub trade_of : (sells : Bool) → Trade
 trade_of true = Sell
 trade_of false = Buy
 
--- whether a keyword is the one of a trade, SELL or BUY
+-- whether a verb is the one of a trade, SELL or BUY
 abbrev pub is_trade : Trade → Verb → Bool
 is_trade Sell verbs.Sell = true
 is_trade Buy verbs.Buy = true
@@ -115,8 +115,8 @@ with_result c n u item entry d =
     let paid = with_holding c n (with_trade_result u.holding item d) in
     with_amount (with_stock paid u.region item d.stock) entry Money d.booked
 
--- A campaign after a unit, by its number, traded so many of its order's item; unchanged where its region has no market
--- for it.
+-- A campaign after a unit, by its number, traded `share` pieces of its order's item; unchanged where its region has no
+-- market for it.
 unfoldable pub after_trade : Trade → FinMap nat_cmp ℕ → WorldValue → CampaignValue → ℕ × ℕ → CampaignValue
 after_trade trade items w c (n, share) =
     at_unit c n (λ u.

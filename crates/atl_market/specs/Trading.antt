@@ -38,8 +38,8 @@ pub record IsPriced (m : Market) : Type 0 where
   pub pays : 1 ≤ m.pays
   pub limit : m.limit ≤ most_amount
 
--- A unit, by its number, can trade so many of its order's item: it can afford them, and the market's pot and the books
--- allow them.
+-- The unit of a pair (unit, share) can trade its share of its order's item: it can afford it, and the market's pot and
+-- the books allow it.
 pub record CanTrade (trade : Trade) (items : FinMap nat_cmp ℕ) (w : WorldValue) (c : CampaignValue) (e : ℕ × ℕ) : Type 0 where
   pub at : IsSomewhere c e.0
   pub deal : CanAfford trade at.unit.holding e.1 (market_for w at.unit (get items e.0))

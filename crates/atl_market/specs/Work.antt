@@ -44,7 +44,7 @@ is_idle ts (n, u) = nat_lt 0 u.holding.men && not (is_ordered ts n u)
 abbrev pub idle_work : CampaignValue → List Task → List Task
 idle_work c ts = map (λ e. idle_task e.0 e.1.faction) (filter (is_idle ts) (entries c.units))
 
--- whether a keyword is WORK
+-- whether a verb is WORK
 abbrev pub is_work : Verb → Bool
 is_work verbs.Work = true
 is_work verb = false
@@ -79,11 +79,11 @@ abbrev pub work_want : Unit → Option Terrain → ℕ
 work_want u terrain =
     option_map_or (λ t. min u.holding.men ((holding_limit - u.holding.money) / t.wage)) terrain 0
 
--- the wages, in money, that so many work places in a region pay
+-- the wages, in money, that this number of work places in a region pays
 abbrev pub wages_for : WorldValue → ℕ → ℕ → ℕ
 wages_for w region places = places * wage_at w region
 
--- a campaign after a unit, by its number, was paid for so many work places, which is booked
+-- a campaign after a unit, by its number, was paid for `places` work places, which is booked
 unfoldable pub after_work : WorldValue → CampaignValue → ℕ × ℕ → CampaignValue
 after_work w c (n, places) =
     at_unit c n (λ u.

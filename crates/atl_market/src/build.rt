@@ -107,7 +107,7 @@ fn inside_fault(unit: &Unit, structure: &Structure, kind: &Kind) -> Option<Event
     }
 }
 
-/// The first name of a structure, by its kind and number: `Ship 7` or `Building 7`.
+/// The name that a new structure gets, by its kind and number: `Ship 7` or `Building 7`.
 fn name_of(alloc: Global, kind: &Kind, number: u32) -> Result<Text, AllocError>
     requires { number ≤ last_unit }
     ensures { IfOk result (λ name. name ≡ name_prefix kind.now ++ decimal number) }

@@ -42,7 +42,8 @@ pub(crate) trait ItemPots {
 /// The wants of units by item, and of each item by unit.
 type Groups = Numbered<Numbered<u32>>;
 
-/// Puts a unit's want into the groups under the item that it asks for, if it has both.
+/// Puts a unit's want into the group of the item that it asks for, if it has a want and asks for
+/// one.
 fn note_want<P: ItemPots>(
     alloc: Global,
     pots: &P,
@@ -134,9 +135,9 @@ fn share_region<P: ItemPots>(
     share_items(alloc, pots, wants, region, &groups, given)
 }
 
-/// What units get of what their regions have of the items that they ask for, by unit, all at once.
-/// It goes once over the regions, and once over the units of those where one has a want, for
-/// however many items. AllocError without memory.
+/// How much each unit gets of the item that it asks for, out of what its region has of it, by unit.
+/// All get their shares at once. It goes once over the regions, and once over the units of those
+/// where one has a want, for however many items. AllocError without memory.
 pub(crate) fn item_shares<P: ItemPots>(
     alloc: Global,
     campaign: &Campaign,

@@ -93,7 +93,7 @@ pub(crate) fn most_makeable(world: &World, holding: &Holding, asked: Option<u16>
     }
 }
 
-/// Takes from a unit the raw items for `made` of an item, if any go into it.
+/// Takes from a unit the raw items for `made` pieces of an item, if any go into it.
 fn use_raw(
     world: &World,
     campaign: &mut Campaign,
@@ -115,7 +115,8 @@ fn use_raw(
     }
 }
 
-/// Takes from a unit the raw items that `made` of an item need, and gives it the made ones.
+/// Makes `made` pieces of an item that the world has: takes the raw items from the unit, and gives
+/// it the pieces.
 fn make_of(
     world: &World,
     campaign: &mut Campaign,
@@ -134,8 +135,8 @@ fn make_of(
     Ok(())
 }
 
-/// Takes from a unit the raw items that `made` of an item need, and gives it the made ones. Where
-/// the world has no such item, nothing changes.
+/// Makes `made` pieces of an item: takes the raw items from the unit, and gives it the pieces.
+/// Where the world has no such item, nothing changes.
 pub(crate) fn make(
     world: &World,
     campaign: &mut Campaign,

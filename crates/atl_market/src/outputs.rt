@@ -19,7 +19,8 @@ struct Outputs<'a> {
     asked: &'a Numbered<u16>,
 }
 
-/// The item that a unit makes out of what its region gives, without raw items, if it makes one so.
+/// The item that a unit makes out of what its region gives; None if its item needs raw items, or it
+/// asks for none.
 fn output_item(world: &World, asked: &Numbered<u16>, unit: u32) -> Option<u16>
     ensures { result ≡ output_item world.now asked.now unit }
 {
@@ -50,7 +51,8 @@ impl<'a> ItemPots for Outputs<'a> {
     }
 }
 
-/// How much a unit makes that wants so much: its share, or its want where it uses raw items.
+/// How much a unit with this want makes: its share of what its region gives, or its want where it
+/// uses raw items.
 fn made_by(
     world: &World,
     campaign: &Campaign,

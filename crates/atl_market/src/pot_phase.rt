@@ -22,12 +22,13 @@ use std::alloc::{AllocError, Global};
 
 /// What is particular to one phase in which the units of each region share a pot.
 pub(crate) trait PotPhase {
+    // The faults, wants and shares of the phase, and what the payment of a share changes.
     ghost meaning: { Self → PotMeaning };
 
     // What the phase needs of the campaign.
     ghost needs: { Self → WorldValue → CampaignValue → Type 0 };
 
-    // When a unit, by its number, can be given so much of its pot; the map has each unit's item.
+    // When a unit can be paid its share, given as a pair of both; the map has each unit's item.
     ghost can_pay: { Self → FinMap nat_cmp ℕ → WorldValue → CampaignValue → ℕ × ℕ → Type 0 };
 
     /// The fault of an order of the unit's own faction, if there is one.
@@ -56,11 +57,11 @@ pub(crate) trait PotPhase {
         ensures { IfOk result (λ given. given
             ≡ PotMeaning.grants (meaning self.now) items.now world.now campaign.now.value wants.now) };
 
-    /// The number in the event of a unit that got so much of the pot.
+    /// The number that the event of a unit says, by the unit's share of the pot.
     fn event_number(&self, world: &World, unit: &Unit, share: u32) -> u64
         ensures { result ≡ PotMeaning.event_number (meaning self.now) world.now unit.now share };
 
-    /// Gives a unit so much of the pot of its region, or of that of its item there. AllocError
+    /// Gives a unit its share of the pot of its region, or of the pot of its item there. AllocError
     /// without memory; the campaign may then be changed in part.
     fn pay(
         &self,
@@ -140,7 +141,7 @@ fn note_want<P: PotPhase>(
     Ok(())
 }
 
-/// What each unit wants by its order, by unit; of orders with a fault nothing.
+/// What each unit wants by its order, by unit; an order with a fault wants nothing.
 #[tactic(auto, using(crate::proofs::WantLaws::any_then))]
 fn wants_of<P: PotPhase>(
     alloc: Global,
@@ -179,7 +180,7 @@ fn note_item<P: PotPhase>(
     Ok(())
 }
 
-/// The item that each unit's order names, by unit; of orders with a fault nothing.
+/// The item that each unit's order names, by unit; an order with a fault counts as naming none.
 #[tactic(auto, using(crate::proofs::WantLaws::any_then))]
 fn items_of<P: PotPhase>(
     alloc: Global,
@@ -198,7 +199,7 @@ fn items_of<P: PotPhase>(
     Ok(items)
 }
 
-/// How much each unit gets, by unit.
+/// How much of its pot each unit gets by these orders, by unit.
 fn given_of<P: PotPhase>(
     alloc: Global,
     phase: &P,
@@ -257,7 +258,7 @@ fn events_of<P: PotPhase>(
     Ok(events)
 }
 
-/// Gives each unit its share, in the order of their numbers.
+/// Gives each unit its share of its pot, in the order of the units' numbers.
 fn pay_all<P: PotPhase>(
     phase: &P,
     world: &World,

@@ -30,7 +30,7 @@ pub trait Pots {
         ensures bound { result ≤ most_amount };
 }
 
-/// The numbers of those of these units that have a want, in their order.
+/// The numbers of the listed units that have a want, in the order of the list.
 fn takers_of(alloc: Global, units: &[u32], wants: &Numbered<u32>) -> Result<Vec<u32>, AllocError>
     ensures { IfOk result (λ takers. takers.items ≡ takers_among wants.now units.now) }
 {

@@ -50,7 +50,7 @@ pub(crate) struct TradeResult {
     pub amount: u32,
     /// How much of it the region has in stock.
     pub stock: u32,
-    /// What is booked of money.
+    /// The money to book: positive for SELL, negative for BUY.
     pub booked: i64,
 }
 
@@ -202,7 +202,7 @@ fn limit_of(world: &World, item: u32, region: u32) -> u32
     }
 }
 
-/// The pots of SELL and BUY: of each market the limit less its stock, or its stock.
+/// The pots of SELL or BUY, for each market: the limit less its stock (SELL), or its stock (BUY).
 #[derive(Drop)]
 struct MarketPots<'a> {
     trade: Trade,

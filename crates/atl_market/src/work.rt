@@ -57,6 +57,7 @@ fn own_writers(
     Ok(writers)
 }
 
+/// Whether a verb is WORK.
 fn is_work(verb: Verb) -> bool
     ensures { result ≡ is_work verb }
 {
@@ -188,7 +189,7 @@ fn wage_at(world: &World, region: u32) -> u32
     }
 }
 
-/// The wages, in money, that so many work places in a region pay.
+/// The wages, in money, that this number of work places in a region pays.
 fn wages_for(world: &World, region: u32, places: u32) -> u64
     ensures { result ≡ wages_for world.now region places }
 {

@@ -66,7 +66,7 @@ kept-with u money items more all = record {
 
 -- ---- what passing on does
 
--- Campaign `c`, and `d` after something of unit `n` was passed on: `d` has so much more of each thing than is booked,
+-- Campaign `c`, and `d` after something of unit `n` was passed on: `d` has `owing` more of each thing than is booked,
 -- its books moved by at most `moving`, unit `n` itself is unchanged, and nothing is taken from any unit.
 pub record PassesOn (w : WorldValue) (n : ℕ) (owing : Thing → ℕ) (moving : BookBound) (c d : CampaignValue) : Type 0 where
   pub steady : IsSteady w d
@@ -254,7 +254,7 @@ module _ (w : WorldValue) (c : CampaignValue) (n k : ℕ) (apart : n ≢ k) (ste
       same : (x : ℕ) → x ≡ x - 0
       same x = omega arith
 
-  -- the campaign after money went to unit `k`, if it is there
+  -- the campaign after money went to unit `k`, if it is there; what it doesn't take is booked as lost
   abbrev money_to : (amount : ℕ) → Option Unit → CampaignValue
   money_to amount o =
       let taken = option_map_or (λ v. accepted_of amount v.holding.money) o 0 in
@@ -287,7 +287,7 @@ module _ (w : WorldValue) (c : CampaignValue) (n k : ℕ) (apart : n ≢ k) (ste
   more_item h i n People = nothing_added (1 == 2 + i) h.men n (let e : (1 == 2 + i) ≡ false = grind (arith, nat_tests) in e)
   more_item h i n (Item j) = more_amount h.items i n j
 
-  -- the campaign after an item went to unit `k`, if it is there
+  -- the campaign after an item went to unit `k`, if it is there; what it doesn't take is booked as lost
   abbrev item_to : (i amount : ℕ) → Option Unit → CampaignValue
   item_to i amount o =
       let taken = option_map_or (λ v. accepted_of amount (amount_of v.holding.items i)) o 0 in

@@ -57,23 +57,23 @@ income_fits per_peasant limit peasants money l m = omega (arith, least (peasants
 -- ---- the books of a region's season
 
 module _ (w : WorldValue) (c : CampaignValue) (n : ℕ) (r : Region) (born earned : ℕ) (is : get c.regions n ≡ Some r) where
-  -- the campaign with the births and the income, neither booked yet
+  -- the campaign with the births, not booked yet, and without the income
   abbrev peopled : CampaignValue
   peopled = with_peasants c n (r.peasants + born)
 
-  -- the campaign with births and income, and the births booked
+  -- the campaign with the births and the income, neither booked yet
   abbrev paid : CampaignValue
   paid = with_region_money peopled n (r.money + earned)
 
-  -- that campaign with the births booked
+  -- the campaign with the births and the income, of which the births are booked
   abbrev counted : CampaignValue
   counted = with_amount paid Births People (pos born)
 
-  -- a region with the births
+  -- a region with the peasants of `r` and those born
   abbrev more_people : Region → Region
   more_people q = record q { peasants = r.peasants + born }
 
-  -- a region with the income
+  -- a region with the money of `r` and the income
   abbrev more_money : Region → Region
   more_money q = record q { money = r.money + earned }
 

@@ -206,7 +206,7 @@ module _ (w : WorldValue) (c : CampaignValue) (n : ℕ) (u : Unit) (is : get c.u
       rest : (a h b o : ℕ) (z : ℤ) → a + h ≡ b → o ≡ h → pos b ≡ z +ℤ pos (0 + o) → pos a ≡ z
       rest a h b o z e f g = omega (arith, ints, e, f, g)
 
-  -- at most is transitive
+  -- if a is at most b, and b at most d, a is at most d
   less_less : (a b d : ℕ) → a ≤ b → b ≤ d → a ≤ d
   less_less a b d k l = omega arith
 

@@ -60,7 +60,7 @@ use Rattle.atl_month.proofs.UpkeepSharingLaws.{can_spare}
 
 -- ---- what a unit may hold after its upkeep
 
--- a skill is one of the world, and so many men may have so many days of it
+-- a skill is of the world, and `days` of it are at least 1 and at most what `men` men may have
 abbrev IsStudied : WorldValue → (men skill days : ℕ) → Type 0
 IsStudied w men skill days = (skill < length w.skills) × (1 ≤ days) × (days ≤ most_days * men)
 

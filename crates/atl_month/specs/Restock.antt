@@ -18,7 +18,7 @@ use Rattle.atl_instant.specs.Meaning.{BookBound}
 abbrev pub markets_of : WorldValue → (region : ℕ) → FinMap nat_cmp Market
 markets_of w region = option_map_or (λ p. p.markets) (get w.regions region) empty
 
--- how many new goods a market with so much in stock gets: its `restock`, at most what is missing to its limit
+-- how many new goods a market with this stock gets: its `restock`, at most what is missing to its limit
 abbrev pub restock : Market → (stock : ℕ) → ℕ
 restock m stock = min m.restock (m.limit - stock)
 

@@ -33,7 +33,7 @@ receiver c region faction = first_or_zero (numbers_where (receives region factio
 
 -- ---- what it gets, up to its room
 
--- a campaign in which so much of a thing is booked as lost
+-- a campaign in which `amount` of a thing is booked as lost
 abbrev pub with_lost : CampaignValue → Thing → ℕ → CampaignValue
 with_lost c t amount = with_amount c Lost t (neg_ℤ (pos amount))
 

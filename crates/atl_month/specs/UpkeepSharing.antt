@@ -36,7 +36,7 @@ short_of maintenance input = maintenance * input.men - paid_by maintenance input
 abbrev pub is_input_of : (region faction : ℕ) → UpkeepInput → Bool
 is_input_of region faction input = (input.region == region) && (input.faction == faction)
 
--- those of some units that are of this faction and in this region
+-- the listed units of this faction in this region
 abbrev pub peers_of : (region faction : ℕ) → List UpkeepInput → List UpkeepInput
 peers_of region faction inputs = filter (is_input_of region faction) inputs
 

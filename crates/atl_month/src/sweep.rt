@@ -156,7 +156,7 @@ fn menless_units(alloc: Global, campaign: &Campaign) -> Result<Vec<u32>, AllocEr
     Ok(list)
 }
 
-/// Removes those of these units that have no men, after they passed on what they have.
+/// Removes the listed units that have no men, after they passed on what they have.
 fn sweep_units(
     alloc: Global,
     world: &World,
@@ -188,7 +188,7 @@ fn sweep_faction(campaign: &mut Campaign, number: u32)
     }
 }
 
-/// Sets those of these factions to gone that have no unit.
+/// Sets the listed factions that have no unit to gone.
 fn sweep_factions(campaign: &mut Campaign, numbers: &[u32])
     ensures what { campaign.new.value ≡ fold after_sweeping_faction campaign.old.value numbers.now }
     ensures marks { MarksChanges campaign.old campaign.new }

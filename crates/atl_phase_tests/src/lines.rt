@@ -1,7 +1,7 @@
 //! Appends a line for a number or a text that changed.
 use std::alloc::{AllocError, Global};
 
-/// Appends the line `of what after`, unless the number is unchanged.
+/// Appends the line `of what after` for a number, unless it is unchanged.
 pub(crate) fn number(
     alloc: Global,
     of: &str,
@@ -17,7 +17,7 @@ pub(crate) fn number(
     told.push_str(line.as_str())
 }
 
-/// Appends the line `of what after`, unless the text is unchanged.
+/// Appends the line `of what after` for a text, unless it is unchanged.
 pub(crate) fn text(
     alloc: Global,
     of: &str,

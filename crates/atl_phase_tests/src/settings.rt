@@ -12,7 +12,7 @@ use atl_state::{Campaign, check_as, founded};
 use atl_tables::{Format, Numbered, Sequence, Text, World, let_go};
 use std::alloc::{AllocError, Global};
 
-/// A unit of a setting, of faction 1 or 2.
+/// A unit of the campaign that a case begins with, of faction 1 or 2.
 #[derive(Clone, Copy, Drop)]
 pub(crate) struct Stood {
     pub faction: i64,
@@ -23,7 +23,7 @@ pub(crate) struct Stood {
     pub guard: bool,
 }
 
-/// What a unit of a setting has: an amount of an item, or days of a skill.
+/// What a unit of a case's campaign has: an amount of an item, or days of a skill.
 #[derive(Clone, Copy, Drop)]
 pub(crate) struct Had {
     pub unit: i64,
@@ -32,7 +32,7 @@ pub(crate) struct Had {
     pub amount: i64,
 }
 
-/// A structure of a setting, and how much of it is built.
+/// A structure of a case's campaign, and how much of it is built.
 #[derive(Clone, Copy, Drop)]
 pub(crate) struct Built {
     pub kind: i64,
@@ -41,7 +41,7 @@ pub(crate) struct Built {
     pub owner: i64,
 }
 
-/// What a region of a setting has in stock of an item.
+/// What a region of a case's campaign has in stock of an item.
 #[derive(Clone, Copy, Drop)]
 pub(crate) struct Stocked {
     pub region: i64,
@@ -112,7 +112,7 @@ const PEOPLE: i64 = 1;
 /// The number of the first item among the things of the books.
 const FIRST_ITEM: i64 = 2;
 
-/// The campaign's own row.
+/// The campaign row of a setting, in a sequence of its own.
 fn head(alloc: Global, setting: &Setting) -> Result<Sequence<StoredCampaignRow>, AllocError> {
     let mut all = Sequence::new(alloc);
     all.push(StoredCampaignRow {

@@ -28,7 +28,7 @@ const REGIONS: u32 = 12;
 /// How many units with consecutive numbers are in one region: one of each faction.
 const IN_A_ROW: u32 = FACTIONS;
 
-/// The world text without its regions.
+/// The text of the crowd's world, without its regions.
 const RULES: &str = r#"[rules]
 maintenance = 60
 tax_per_man = 3
@@ -96,7 +96,7 @@ name = "carpentry"
 fee = 9
 "#;
 
-/// How many items the world has.
+/// How many items the crowd's world has.
 const ITEMS: u32 = 5;
 
 /// A market of a region: its item, its two prices, and its limit.
@@ -148,13 +148,13 @@ static STALLS: [Stall; 5] = [
     },
 ];
 
-/// How many thirds of its limit a market has in stock, by region number plus item.
+/// How many thirds of its limit a market has in stock, picked by region number plus item.
 static FILLED: [u32; 4] = [0, 1, 3, 2];
 
-/// How many skills the world has.
+/// How many skills the crowd's world has.
 const SKILLS: u32 = 4;
 
-/// Terrain, peasants and money of a region, by its number.
+/// Terrain, peasants and money of a region, picked by its number.
 static LANDS: [(&str, u32, u32); 7] = [
     ("plain", 2_950, 700),
     ("hill", 120, 0),
@@ -165,10 +165,10 @@ static LANDS: [(&str, u32, u32); 7] = [
     ("hill", 61, 880),
 ];
 
-/// Men of a unit, by its number.
+/// How many men a unit has, picked by its number.
 static MEN: [i64; 11] = [1, 1, 2, 3, 5, 8, 13, 40, 90, 2, 1];
 
-/// Money of a unit, by its number.
+/// How much money a unit has, picked by its number.
 static MONEY: [i64; 7] = [0, 3, 20, 150, 900, 0, 4_000];
 
 /// Each unit whose number is a multiple of this has `FULL_PURSE` of money.
@@ -177,14 +177,14 @@ const RICH: u32 = 37;
 /// Money that leaves a unit hardly any room for more.
 const FULL_PURSE: i64 = 999_999_990;
 
-/// Amounts of an item that a unit has, by unit number plus item; the last leaves hardly any room
+/// How much of an item a unit has, picked by unit number plus item; the last leaves hardly any room
 /// for more.
 static PIECES: [i64; 5] = [0, 2, 0, 30, 999_999_995];
 
-/// Days of a skill for each man of a unit, by unit number plus skill.
+/// How many days of a skill a unit has for each man, picked by unit number plus skill.
 static DAYS: [i64; 6] = [29, 30, 90, 0, 180, 450];
 
-/// Month-long orders of a unit, by its number; an empty text is no order.
+/// The month-long order of a unit, picked by its number; an empty text is no order.
 static MONTH_LONG: [&str; 9] = [
     "PRODUCE wood",
     "WORK",
@@ -197,7 +197,7 @@ static MONTH_LONG: [&str; 9] = [
     "PRODUCE wood",
 ];
 
-/// SELL orders of a unit, by its number; an empty text is no order.
+/// The SELL order of a unit, picked by its number; an empty text is no order.
 static SOLD: [&str; 8] = [
     "SELL 3 wood",
     "SELL 40 grain",
@@ -209,7 +209,7 @@ static SOLD: [&str; 8] = [
     "SELL 9 cart",
 ];
 
-/// BUY orders of a unit, by its number; an empty text is no order.
+/// The BUY order of a unit, picked by its number; an empty text is no order.
 static BOUGHT: [&str; 13] = [
     "BUY 2 grain",
     "BUY 5 wood",
@@ -226,7 +226,7 @@ static BOUGHT: [&str; 13] = [
     "BUY 1 cart",
 ];
 
-/// How many men a unit tries to recruit, by its number.
+/// How many men a unit tries to recruit, picked by its number.
 static RECRUITED: [u32; 5] = [1, 20, 3, 7, 400];
 
 /// Each unit whose number is a multiple of this orders the next unit, which is another faction's,
@@ -295,7 +295,7 @@ fn add_region(alloc: Global, number: u32, text: &mut String) -> Result<(), Alloc
     add_stalls(alloc, number, text)
 }
 
-/// The world of the crowd.
+/// The world of the campaign of 300 units, with the markets of its twelve regions.
 pub(crate) fn crowd_world(alloc: Global) -> Result<World, Fail> {
     let mut text = String::from_str(alloc, RULES)?;
     for number in 1..=REGIONS {
@@ -559,15 +559,15 @@ fn fill(alloc: Global, parts: &mut Parts) -> Result<(), AllocError> {
     Ok(())
 }
 
-/// All rows of the crowd's campaign, made from a founding.
+/// All rows of the campaign of 300 units, made from a founding.
 fn rows(alloc: Global, world: &World) -> Result<Parts, AllocError> {
     let mut parts = founded(alloc, world, b"gm")?.parts()?;
     fill(alloc, &mut parts)?;
     Ok(parts)
 }
 
-/// The campaign that `check` makes of rows, with nothing marked; rows that `check` refuses are a
-/// failure.
+/// The campaign that `check` of atl_state makes of rows, with nothing marked; rows that it refuses
+/// are a failure.
 pub(crate) fn checked(alloc: Global, world: &World, rows: Parts) -> Result<Campaign, Fail>
     ensures { IfOk result (λ campaign. IsGood world.now campaign.value) }
 {

@@ -12,12 +12,12 @@ use atl_test_worlds::{SMALL, WOOD_AND_SAILING};
 use std::alloc::{AllocError, Global};
 use std::test::Fail;
 
-/// The world with wood and sailing.
+/// The small world with wood as an item and sailing as a skill.
 pub(crate) fn world(alloc: Global) -> Result<World, Fail> {
     Ok(read_world(alloc, WOOD_AND_SAILING)?)
 }
 
-/// The small world.
+/// The small world: one region, without items, skills and markets.
 pub(crate) fn small_world(alloc: Global) -> Result<World, Fail> {
     Ok(read_world(alloc, SMALL)?)
 }

@@ -34,10 +34,11 @@ impl Pots for Places {
     }
 }
 
-/// A unit's region, and how much it wants, or None.
+/// A unit's region, and how much it wants of that region's pot; None if it wants none.
 type Taker = (u32, Option<u16>);
 
-/// Units in their order, the pots of regions 1 and 2, and each unit's number with its share.
+/// Cases: the units in their order, the pots of regions 1 and 2, and each unit's number with the
+/// share that it has to get.
 static SHARED: [(&[Taker], (u16, u16), &str); 8] = [
     (&[], (100, 100), ""),
     (
@@ -121,7 +122,7 @@ fn wants_of(alloc: Global, takers: &[Taker]) -> Result<Numbered<u32>, Fail>
     Ok(wants)
 }
 
-/// Shares as text: each unit's number and its share.
+/// The shares of all units as text: each unit's number and its share.
 fn told_of(alloc: Global, given: &Numbered<u32>) -> Result<String, AllocError> {
     let mut told = String::new(alloc);
     for (number, share) in given.iter() {

@@ -11,8 +11,8 @@ use std::test::Fail;
 /// What a man costs a month.
 const MAINTENANCE: u32 = 10;
 
-/// Region, faction, men and money of each unit, and the results: the money that each pays, and how
-/// many of its men starve.
+/// Cases: region, faction, men and money of each unit, and what upkeep has to take from each: the
+/// money that it pays, and how many of its men starve.
 static SETTLED: [(&[(u8, u8, u16, u16)], &str); 11] = [
     (&[], ""),
     (&[(1, 1, 3, 25), (1, 1, 1, 18)], "25 0;15 0;"),

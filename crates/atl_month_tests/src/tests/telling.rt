@@ -1,4 +1,4 @@
-//! Helpers of these tests: the assertion on a row of a table, and the text of a pair of numbers.
+//! For all tests of months: the assertion on a row of a table, and the text of a pair of numbers.
 use std::alloc::{AllocError, Global};
 use std::process::Abort;
 

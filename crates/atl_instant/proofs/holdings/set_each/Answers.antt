@@ -10,6 +10,7 @@ use Rattle.atl_instant.specs.Holdings.{with_days}
 use Rattle.atl_instant.proofs.ChangeLaws.{changed_twice, same_held, skill_changes}
 use Rattle.atl_instant.proofs.holdings.set_each.Goals as goal
 
+-- the unit with the days of each listed skill set, one skill after another
 abbrev set_all : List (ℕ × ℕ) → Unit → Unit
 set_all list u = record u { holding = record u.holding { days = with_days u.holding.days list } }
 

@@ -100,7 +100,7 @@ pub(crate) struct Scene {
     /// The stocks: region, item and amount.
     pub stocks: &'static [(i64, i64, i64)],
     /// What is booked: entry, thing and amount. If the list is empty, the books are those of the
-    /// founding, and besides all that units have is booked under Joining, and all stocks under
+    /// founding, and all that units have is booked under Joining in addition, and all stocks under
     /// Stocked.
     pub books: &'static [(i64, i64, i64)],
 }
@@ -114,7 +114,7 @@ pub(crate) const NOBODY: Scene = Scene {
     books: &[],
 };
 
-/// The campaign's own row.
+/// The campaign row of a scene, in a sequence of its own.
 fn heads(alloc: Global, scene: &Scene) -> Result<Sequence<StoredCampaignRow>, Fail> {
     let mut all = Sequence::new(alloc);
     all.push(StoredCampaignRow {
