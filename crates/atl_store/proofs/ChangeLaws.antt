@@ -147,7 +147,7 @@ amounts_follow one other marks r same not_marked of =
 
 -- ---- the campaign's own row
 
--- the campaign row of these numbers and texts
+-- the campaign row of these four numbers and this pass text
 abbrev head_in : ℕ × (List ℕ × (ℕ × (ℕ × ℕ))) → CampaignRowValue
 head_in row = record { month = row.0; pass = row.1.0; next_faction = row.1.1.0; next_unit = row.1.1.1.0; next_structure = row.1.1.1.1 }
 

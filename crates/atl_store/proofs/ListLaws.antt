@@ -118,6 +118,7 @@ keyed_without (id ∷ ids) rows keyed = keyed_without ids (without_rowid id rows
   ints = all_from _ _ (λ r there. all_has _ rows r keyed.ints (has_filtered _ rows r there).0);
 })
 
+-- putting a row whose rowid is not taken keeps the rowids different, in the form that `IsKeyed` asks for
 apart_put : (new : Row) (rows : List Row) → IsAscending (λ a b. is_eq (value_cmp (rowid a) (rowid b)) ≡ false) rows → is_taken rows new ≡ false
     → IsAscending (λ a b. is_eq (value_cmp (rowid a) (rowid b)) ≡ false) (put_row new rows)
 apart_put new [] apart free = (tt, tt)

@@ -33,6 +33,7 @@ did schema old new command text params count has w =
     subst (λ s. Does old.step_limit mode params (record old.now { schema = s }) text None command (Ok (w.tally, new.now))) has w.changed
 
 module _ (schema : Schema) (among : (u : Table) → Has all_tables u → Has schema.tables u) (t : Table) (key : ℕ) where
+  -- a row that SQL shows of a list of stored rows is that of one of them
   shown_again : (rows : List Row) (r : Row) → Has (map (visible t) rows) r → (x : Row) × Has rows x × (r ≡ visible t x)
   shown_again rows r h = map_has (visible t) rows r h
 
@@ -120,6 +121,7 @@ module _ (schema : Schema) (among : (u : Table) → Has all_tables u → Has sch
     abbrev pub OneRow : Type 0
     OneRow = (x r : Row) → Has (old.trees t.tree) x → Has (old.trees t.tree) r → take key (visible t x) ≡ take key (visible t r) → is_eq (value_cmp (rowid x) (rowid r)) ≡ true
 
+    -- changing the row that has the key to the new values is a write of the table that puts the new row
     over_make : (r : Row) → Has (old.trees t.tree) r → hits schema t unlinked limit params target place project plain new r ≡ true
         → Swaps schema t (λ x. is_eq (value_cmp (rowid x) (rowid r))) (cast_row t (eval_all project (given schema t unlinked limit params target place project plain new r ∷ r ∷ []))) old.trees next.trees
         → Changes → Tests (hits schema t unlinked limit params target place project plain new) (take key v) (old.trees t.tree) → OneRow
@@ -138,7 +140,7 @@ module _ (schema : Schema) (among : (u : Table) → Has all_tables u → Has sch
     upserts_make (inl put_in) shows changed tests alone listed sound base is = swaps_make _ _ v old next put_in.1 shows tests sound base is
     upserts_make (inr over) shows changed tests alone listed sound base is = over_make over.0 over.1 over.2 over.3 changed tests alone listed sound base is
 
-    -- if a row with the key is there, only what the update writes counts
+    -- if a row with the key is there, an upsert puts the row that its UPDATE makes, whatever its INSERT would have made
     pub updates_make : Upserted schema t unlinked limit params target place project plain new old.trees next.trees → (r : Row) → Has (old.trees t.tree) r → take key (visible t r) ≡ take key v → Changes
         → Tests (hits schema t unlinked limit params target place project plain new) (take key v) (old.trees t.tree) → OneRow
         → Has all_tables t → IsSoundDatabase schema old.trees → IsDatabase next → next.schema ≡ schema → Makes schema t old next (put key v (Has (rows_in t old.trees)))

@@ -36,6 +36,7 @@ one_mapped f (x ∷ z ∷ xs) y is = absurd (let k = is in cc)
 
 -- a row as it was read equals a row with this world text
 module _ (own : StoredCampaign) (h : StoredCampaignRow) (text : List ℕ) (is : campaign_stored own ≡ own_stored text h) where
+  -- the columns of both rows at the same index are equal
   at : (n : ℕ) → column (campaign_stored own) n ≡ column (own_stored text h) n
   at n = ap (λ r. column r n) is
 

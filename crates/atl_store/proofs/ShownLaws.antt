@@ -21,14 +21,14 @@ whole_shown shown first whole tree rows same = subst (λ l. IsPermutation l (map
     kept [] = refl
     kept (r ∷ tree) = ap (λ x. x ∷ map first (map shown tree)) (whole r) ∙ ap (λ l. shown r ∷ l) (kept tree)
 
--- only a value of another type gives OtherType
+-- an error whose fault is OtherType is not lack of memory
 other_only : (e : Error) → value_fault e ≡ OtherType → IsTrue (not (is_memory e))
 other_only e is = elim (is_memory e) as (λ b. (if b then Memory else OtherType) ≡ OtherType → not b ≡ true) [
   | true ↦ λ same. absurd (let k = same in cc)
   | false ↦ λ _. refl
 ] is
 
--- a row that can't be read refuses the read with its fault
+-- if the fault of reading one row of an answer is OtherType, not all rows of the answer are typed
 pub refuses_row : (forms : List Form) (rows : List Row) (at : ℕ) (row : Row) (e : Error) → at < length rows → row ≡ get_or rows at row → (IsTrue (not (is_memory e)) → ¬ IsTyped forms row) → value_fault e ≡ OtherType → ¬ AreTyped forms rows
 refuses_row forms rows at row e within is refused told typed = refused (other_only e told) (typed row (has_at rows at row within is))
 

@@ -107,12 +107,15 @@ module _ {S : Type 0} (g : Ghosts S) (sql : List ℕ) (old : Held S) where
     }
 
   module _ (given : List Row) (mid now : Held S) (giving : IsGiving g sql old given mid) (survives : Survives (state g mid) (state g now) (λ _. ⊥)) (idle : mid.in_transaction ≡ false → now.in_transaction ≡ false) where
+    -- the disk was clean before the next row was asked for, if it is clean after it
     clean_before : HasCleanDisk (state g now) → HasCleanDisk (state g mid)
     clean_before clean = omega (arith, survives.clean, clean)
 
+    -- the query commits nothing up to the next row
     survived : Survives (state g old) (state g now) (λ _. ⊥)
     survived = survives_more (state g old) (state g mid) (state g now) giving.survives survives
 
+    -- the connection was unchanged before the next row was asked for, if the disk is clean after it
     same_before : HasCleanDisk (state g now) → IsUnchanged (state g old) (state g mid)
     same_before clean = (giving.given_so (clean_before clean)).1
 

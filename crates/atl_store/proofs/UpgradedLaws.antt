@@ -38,7 +38,7 @@ pub told_as : {A F : Type 0} (P : F → Type 0) (r : Result A F) (fault : F) →
 told_as P (Ok a) fault told p = tt
 told_as P (Err f) fault told p = subst P (sym told) p
 
--- a fault of loading the old campaign is the first check that fails
+-- a fault of loading in the first format is a check of the upgrade that failed (`FailsCheck`)
 pub unloaded : {S : Type 0} (g : Ghosts S) (text : List ℕ) (old mid : Held S) (fault : LoadFault) → RefusesToLoadIn First g old fault → FailsCheck g text old mid (first_fault fault)
 unloaded g text old mid load.Store refused = inl refused
 unloaded g text old mid (load.Damaged rule) refused = refused

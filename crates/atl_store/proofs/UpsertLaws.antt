@@ -46,6 +46,7 @@ use Rattle.atl_store.proofs.EditLaws.{delete_query, Swaps, puts, went, same_valu
 
 -- ---- SQL's = on integers
 
+-- a boolean read back from its SQL truth value is itself
 truth_again : (b : Bool) → is_true (from_truth (Some b)) ≡ b
 truth_again true = refl
 truth_again false = refl
@@ -113,6 +114,7 @@ abbrev pub update_query : ℕ → ℕ → List Term → Query
 update_query tree place project = record (delete_query tree (op2 (Compare Eq Binary) (col 1 0) (col 0 place) ∷ [])) { project = col 1 0 ∷ project }
 
 module _ (p : Row → Bool) (f : Row → Env) where
+  -- what a query by the test `p` chooses: the image by `f` of each row that passes
   abbrev chosen : List Row → List Env
   chosen rows = flat_map (λ r. cond (p r) (f r ∷ []) []) rows
 
@@ -168,6 +170,7 @@ module _ (schema : Schema) (t : Table) (unlinked : (olds news : List Row) → wo
   abbrev upsert_task : Task
   upsert_task = record { limit = limit; keys = Enforced; schema = schema; table = t; params = params }
 
+  -- the program of the UPDATE
   abbrev q : Program
   q = record { lets = []; body = update_query t.tree place project }
 
