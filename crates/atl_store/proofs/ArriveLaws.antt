@@ -31,7 +31,7 @@ use Rattle.atl_store.specs.Inside.{Puts, Drops}
 
 -- ---- one entry more in a map
 
--- two numbers that are not equal are not equal by their order
+-- two numbers that are not equal are not equal by the order of numbers
 other : (k n : ℕ) → k ≢ n → is_eq (nat_cmp k n) ≡ false
 other k n apart = elim (nat_cmp k n) as (λ o. nat_cmp k n ≡ o → is_eq o ≡ false) [
   | Less ↦ λ _. refl

@@ -151,7 +151,7 @@ module _ {S : Type 0} (g : Ghosts S) where
     refuses : (fault : ReadFault) → RefusesToSelect g sql old fault → RefusesOne g old this_select fault
     refuses fault refused = record { select = (sql, forms); one = inl refl; before = old; leaves = leaves_none old idle; refused = refused }
 
-    -- a read of one table may run out of memory
+    -- if a SELECT is refused for lack of memory, or is answered, reading its table may return Memory
     wants : RefusesToSelect g sql old read.Memory ⊎ ((rows : List Row) × Selects g sql old rows) → FailsToRead g old this_select Memory
     wants (inl refused) = inl (refuses read.Memory refused)
     wants (inr told) = inr (record { select = (sql, forms); one = inl refl; before = old; leaves = leaves_none old idle; rows = told.0; answered = told.1 })
@@ -402,7 +402,8 @@ module _ {S : Type 0} (g : Ghosts S) where
 pub both_none : (some others : ReadRows) → AreNone some → AreNone others → AreNone (some ++ others)
 both_none some others first second = each_of_both (λ read. read.1 ≡ []) some others first second
 
--- the SELECTs of a format, if `some` are those of the first, and with `others` those of the second
+-- if `some` are the SELECTs of the first format, and with `others` those of the second, `selects_by` gives each
+-- format's
 same_selects : (some others : List (List ℕ × List Form)) → some ≡ other_selects First → some ++ others ≡ other_selects Second → (f : Format) → selects_by f some others ≡ other_selects f
 same_selects some others first second First = first
 same_selects some others first second Second = second

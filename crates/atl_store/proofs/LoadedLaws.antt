@@ -165,11 +165,11 @@ module _ (f : Format) {S : Type 0} (g : Ghosts S) where
 
   -- ---- what the check of the rows refuses
 
-  -- if the gathered rows break a rule first, the tables do (`BreaksRule`)
+  -- if a rule is the first that the gathered rows break, the tables break it (`BreaksRule`)
   breaks : (old : Held S) (w : WorldValue) (p : Parts) → Gathered f g old w p → HasTablesOf f old.schema → (rule : Rule) → IsFirstBroken f w p rule → BreaksRule f g old rule
   breaks old w p all begins rule first = record { made = record { begins = begins; keyed = all.keyed begins }; world = w; text = all.text; is_world = all.world; parts = p; rows = all.rows begins; first = first }
 
-  -- if the gathered rows break a rule first, Damaged with this rule may be returned
+  -- if a rule is the first that the gathered rows break, Damaged with this rule may be returned
   damaged : (old : Held S) (w : WorldValue) (p : Parts) → Gathered f g old w p → HasTablesOf f old.schema → (rule : Rule) → IsFirstBroken f w p rule → MayReturnDamaged f g old rule
   damaged old w p all begins OneRow first = absurd (first.broken all.first)
   damaged old w p all begins Ranges first = inr (breaks old w p all begins Ranges first)

@@ -138,7 +138,7 @@ module _ {S : Type 0} (g : Ghosts S) (text : List ℕ) (old mid new : Held S) (w
   abbrev Wrote : {A : Type 0} → Result A Error → Type 0
   Wrote r = Transacts g (OfUpgrade text c.value) IsFirstFormat (WritesUpgrade text c.value) r mid new
 
-  -- the tables are just those of the first format
+  -- the loaded tables are just those of the first format, if the schema is (`IsFirstFormat`)
   is_old : IsJustOld mid.schema → HasCleanDisk (state g mid) → IsFirstFormat (state g mid).now
   is_old just clean = let stands = ready.loads.stands clean in record { just = just; keyed = stands.keyed; listed = stands.listed }
 
