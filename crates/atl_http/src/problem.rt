@@ -72,7 +72,9 @@ impl Error for Problem {}
 /// Why checking a request ended: out of memory, or a check failed.
 #[derive(Drop, Clone, Copy)]
 pub enum CheckError {
+    /// Memory ran out.
     Memory,
+    /// The request fails a check, with this problem.
     Failed(Problem),
 }
 
