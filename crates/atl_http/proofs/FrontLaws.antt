@@ -127,7 +127,7 @@ one_or_none key b p =
     or_either key (seek 0 (cond (param_token == b) (([], key) ∷ []) []) p) (or_else (after_param (([], key) ∷ []) (b ∷ p)) None) (stepped key b p (param_token == b))
     (or_either key (after_param (([], key) ∷ []) (b ∷ p)) None (after_by key b p (has_slash (b ∷ p)) refl) (inr refl))
 
--- a choice between a number and None is None if its last test is false
+-- a choice between a number and None, by three tests of which the last is false, is None
 number_none : (x y : Bool) (n : Option ℕ) → cond (x && (y && false)) n None ≡ None
 number_none true true n = refl
 number_none true false n = refl

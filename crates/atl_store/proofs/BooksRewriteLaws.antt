@@ -157,7 +157,7 @@ module _ (c : MarkedCampaign) (e : Entry) (t : Thing) where
       let row_is : r ≡ row = is ∙ ap (λ k. books_row (k + 1) (thing_index u) (amount_in books f u)) entries ∙ ap (λ k. books_row (entry_index e + 1) k (amount_in books f u)) things ∙ ap (books_row (entry_index e + 1) (thing_index t)) same in
       subst (Has (amount_lines c.value e t)) (sym row_is) (has_optional (int_eq (amount_in books e t) (pos 0)) row (is_differing (amount_in books e t) (λ none. some (same ∙ none))))
 
-  -- an amount that isn't dirty chooses no row
+  -- if the amount isn't dirty, no row passes the test `is_here`
   pub unmarked_none : contains c.marks.books (amount_number e t) ≡ false → (r : Row) → is_here r ≡ false
   unmarked_none unmarked r = accounts_none _ (λ k j. false_from_ne_true _ (λ is.
       let one = and_parts _ _ is in

@@ -201,7 +201,7 @@ module _ {S : Type 0} (g : Ghosts S) where
       other = found.other;
     }
 
-  -- a SELECT refused later is refused from the start
+  -- a SELECT that is refused in a later stage is refused in the reads from the start (`RefusesOne`)
   refuses_then : (old mid : Held S) → AfterReads g old mid → (selects : List (List ℕ × List Form)) (fault : ReadFault) → RefusesOne g mid selects fault → RefusesOne g old selects fault
   refuses_then old mid first selects fault refused = record {
     select = refused.select;
@@ -211,7 +211,7 @@ module _ {S : Type 0} (g : Ghosts S) where
     refused = refused.refused;
   }
 
-  -- a SELECT answered later is answered from the start
+  -- a SELECT that is answered in a later stage is answered in the reads from the start (`AnswersOne`)
   answers_then : (old mid : Held S) → AfterReads g old mid → (selects : List (List ℕ × List Form)) → AnswersOne g mid selects → AnswersOne g old selects
   answers_then old mid first selects answers = record {
     select = answers.select;
@@ -222,7 +222,7 @@ module _ {S : Type 0} (g : Ghosts S) where
     answered = answers.answered;
   }
 
-  -- a fault of a later read is a fault of the reads from the start
+  -- a fault of a later stage is a fault of the reads from the start (`FailsToRead`)
   pub fails_then : (old mid : Held S) → AfterReads g old mid → (selects : List (List ℕ × List Form)) (fault : LoadFault) → FailsToRead g mid selects fault → FailsToRead g old selects fault
   fails_then old mid first selects Store (inl refused) = inl (refuses_then old mid first selects read.Store refused)
   fails_then old mid first selects Store (inr refused) = inr (refuses_then old mid first selects read.Refused refused)
@@ -233,15 +233,15 @@ module _ {S : Type 0} (g : Ghosts S) where
   fails_then old mid first selects Memory (inr answers) = inr (answers_then old mid first selects answers)
 
   module _ (old : Held S) (few more : List (List ℕ × List Form)) (within : (select : List ℕ × List Form) → Has few select → Has more select) where
-    -- a refused SELECT among few is one among more
+    -- if one of the SELECTs `few` is refused, one of `more` is
     refuses_within : (fault : ReadFault) → RefusesOne g old few fault → RefusesOne g old more fault
     refuses_within fault refused = record { select = refused.select; one = within refused.select refused.one; before = refused.before; leaves = refused.leaves; refused = refused.refused }
 
-    -- an answered SELECT among few is one among more
+    -- if one of the SELECTs `few` is answered, one of `more` is
     answers_within : AnswersOne g old few → AnswersOne g old more
     answers_within answers = record { select = answers.select; one = within answers.select answers.one; before = answers.before; leaves = answers.leaves; rows = answers.rows; answered = answers.answered }
 
-    -- a fault of reading few tables is one of reading more
+    -- a fault of reading by the SELECTs `few` is one of reading by `more`
     fails_within : (fault : LoadFault) → FailsToRead g old few fault → FailsToRead g old more fault
     fails_within Store (inl refused) = inl (refuses_within read.Store refused)
     fails_within Store (inr refused) = inr (refuses_within read.Refused refused)
@@ -251,7 +251,7 @@ module _ {S : Type 0} (g : Ghosts S) where
     fails_within Memory (inl refused) = inl (refuses_within read.Memory refused)
     fails_within Memory (inr answers) = inr (answers_within answers)
 
-    -- a value of another type in few tables is one in more
+    -- if `more` show rows, a value of another type that the SELECTs `few` show is one that `more` show
     other_within : AreTold g old more → HasOtherType g old few → HasOtherType g old more
     other_within all other = record { all = all; select = other.select; one = within other.select other.one; rows = other.rows; told = other.told; other = other.other }
 

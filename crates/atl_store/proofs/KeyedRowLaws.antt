@@ -56,14 +56,14 @@ abbrev pub agree_at : List ℕ → Row → Row → Bool
 agree_at [] x y = true
 agree_at (p ∷ places) x y = equal Binary (column x p) (column y p) && agree_at places x y
 
--- integers that are equal by SQL's = are equal columns
+-- rows with integers in these columns that are equal there by SQL's = have equal values there
 same_at : (places : List ℕ) (x y : Row) → AreInts places x → AreInts places y → agree_at places x y ≡ true → at_places places x ≡ at_places places y
 same_at [] x y one two agree = refl
 same_at (p ∷ places) x y one two agree =
     let (here, later) = and_parts _ _ agree in
     rw (equal_is (column x p) (column y p) one.0 two.0 here, same_at places x y one.1 two.1 later) refl
 
--- equal integer columns are equal by SQL's =
+-- rows with equal integers in these columns are equal there by SQL's =
 agree_same : (places : List ℕ) (x y : Row) → AreInts places y → at_places places x ≡ at_places places y → agree_at places x y ≡ true
 agree_same [] x y ints same = refl
 agree_same (p ∷ places) x y ints same =

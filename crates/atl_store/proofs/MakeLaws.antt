@@ -41,7 +41,7 @@ module _ (schema : Schema) (among : (u : Table) → Has all_tables u → Has sch
   abbrev pub Tests : (Row → Bool) → Row → List Row → Type 0
   Tests p k rows = (x : Row) → Has rows x → (p x ≡ true → take key (visible t x) ≡ k) × (take key (visible t x) ≡ k → p x ≡ true)
 
-  -- swapping the rows of a key for a new row puts the row into the set
+  -- if the rows of a key are exchanged for a new row, the table's set of rows is the old one with the new row put
   pub swaps_set : (p : Row → Bool) (n v : Row) (db next : Trees) → Swaps schema t p n db next → visible t n ≡ v → Tests p (take key v) (db t.tree)
       → Is (rows_in t next) (put key v (Has (rows_in t db)))
   swaps_set p n v db next swap is tests r = (
@@ -65,7 +65,7 @@ module _ (schema : Schema) (among : (u : Table) → Has all_tables u → Has sch
     ],
   )
 
-  -- losing the rows of a key drops them from the set
+  -- if the rows of a key are gone, the table's set of rows is the old one without them
   pub loses_set : (p : Row → Bool) (k : Row) (db next : Trees) → Loses schema t p db next → Tests p k (db t.tree) → Is (rows_in t next) (drop_key key k (Has (rows_in t db)))
   loses_set p k db next lose tests r = (
     λ there.

@@ -48,7 +48,7 @@ module _ (own : StoredCampaign) (h : StoredCampaignRow) (text : List ℕ) (is : 
   pub same_format : own.head.format ≡ h.format
   same_format = let e = at 1 in cc
 
-  -- the world text that was read is this text
+  -- the world texts of both rows are equal
   pub same_text : string_bytes own.world ≡ text
   same_text = let e = at 7 in cc
 

@@ -52,10 +52,10 @@ mapped_next shown cut all more a rows at row within is more_is same one =
 
 -- ---- rows with a text of UTF-8
 
--- a row of a report whose text is UTF-8 is typed
+-- a row of an integer and a text in UTF-8 is typed as a row of `report`
 pub report_typed : (row : Row) (n : ℤ) (text : List ℕ) → column row 0 ≡ Int n → column row 1 ≡ Text text → IsUtf8 text → IsTyped report_forms row
 report_typed row n text first second utf8 = ((n, first), ((text, second, utf8), tt))
 
--- a campaign row whose world text is UTF-8 is typed
+-- a campaign row is typed, if its world text is UTF-8 and its other columns are typed
 pub campaign_typed : (row : Row) (text : List ℕ) → IsTyped campaign_row_forms row → column row 7 ≡ Text text → IsUtf8 text → IsTyped campaign_forms row
 campaign_typed row text head last utf8 = (head.0, (head.1.0, (head.1.1.0, (head.1.1.1.0, (head.1.1.1.1.0, (head.1.1.1.1.1.0, (head.1.1.1.1.1.1.0, ((text, last, utf8), tt))))))))

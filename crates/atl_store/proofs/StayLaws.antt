@@ -86,7 +86,7 @@ module _ {S : Type 0} (g : Ghosts S) (text : List ℕ) (c : CampaignValue) (old 
   refused_as create.Store other breaks = (fails, inr breaks)
   refused_as create.Memory other breaks = (fails, breaks)
 
-  -- the fault of an error is never NotEmpty
+  -- the fault of `create` for an error of the database is never NotEmpty
   tells_more : (e : Error) → create_fault e ≢ create.NotEmpty
   tells_more e = go (is_memory e)
     where

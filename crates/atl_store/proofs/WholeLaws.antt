@@ -27,7 +27,7 @@ inside_then Before First Second a b c one two = (
       record { does = (b.now, was.does, now.does); tables = now.tables; carries = carries_then a.now b.now c.now was.carries now.carries },
 )
 
--- a step that does something does whatever follows from it
+-- a step inside a transaction that does `Does` does `Less`, if `Less` follows from `Does`
 pub inside_weaker : (Before : Database → Type 0) (Does Less : Database → Database → Type 0) (a b : State) → (Before a.now → Does a.now b.now → Less a.now b.now) → Inside Before Does a b → Inside Before Less a b
 inside_weaker Before Does Less a b weaker h = (h.0, λ has. let did = h.1 has in record { does = weaker has did.does; tables = did.tables; carries = did.carries })
 
