@@ -12,6 +12,7 @@ pub trait Work {
     /// The type of the work's result.
     type Done: Drop;
 
+    /// Does the work on an open service, and returns its result or a failure.
     fn run<S: Alter>(&self, service: &mut Service<S>) -> Result<Self::Done, Failure>;
 }
 

@@ -18,7 +18,9 @@ pub enum Failure {
     NoValue,
     /// A file, or standard input, can't be read as text.
     File,
+    /// The world text has this fault.
     World(WorldFault),
+    /// The command is refused for this reason.
     Refused(Refusal),
     /// The database to found a campaign in already has one.
     NotEmpty,
@@ -34,6 +36,7 @@ pub enum Failure {
     Differs,
     /// The database failed, for another cause than memory.
     Store,
+    /// Memory ran out.
     Memory,
     /// The network failed: the port can't be bound, or no connection can be accepted.
     Net,

@@ -34,7 +34,7 @@ pub const COUNT: &str = "count";
 /// The name of the option for the seed of the dice.
 pub const SEED: &str = "seed";
 
-/// What `--help` says of that option.
+/// What `--help` says of the option for the seed.
 const SEED_HELP: &str = "The number that the campaign's dice come from: keep to the same one";
 
 /// An option whose value is a text, and what the help says of it.

@@ -3,7 +3,7 @@
 /// The number of bytes of the stack that are touched: more than any command needs.
 const STACK_BYTES: usize = 262_144;
 
-/// Sets each byte of the buffer to this one.
+/// Sets each byte of the buffer to `byte`.
 #[inline(never)]
 fn fill(room: &mut [u8], byte: u8) {
     for each in room {
@@ -11,7 +11,7 @@ fn fill(room: &mut [u8], byte: u8) {
     }
 }
 
-/// Whether each byte of the buffer is this one.
+/// Whether each byte of the buffer is `byte`.
 #[inline(never)]
 fn is_filled(room: &[u8], byte: u8) -> bool {
     for each in room {

@@ -5,6 +5,7 @@ use std::alloc::{AllocError, Global};
 
 /// A subcommand: its name, help and options on the command line, and what it does.
 pub trait Subcommand {
+    /// The word on the command line that names the subcommand.
     const NAME: &'static str;
 
     /// What the help says about the subcommand.
@@ -15,6 +16,7 @@ pub trait Subcommand {
         Ok(Vec::new(alloc))
     }
 
+    /// Does what the subcommand is for, with the values of its options.
     fn run(rt: &HostRuntime, options: &ArgMatches<'_>) -> Result<(), Failure>;
 }
 

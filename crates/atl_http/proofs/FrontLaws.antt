@@ -41,7 +41,7 @@ behind_is [] p rest h = cc
 behind_is (x ∷ w) [] rest h = cc
 behind_is (x ∷ w) (y ∷ p) rest h = behind_by x y w p rest (y == x) refl (λ k. behind_is w p rest k) (sym (behind_step x y w p) ∙ h)
 
--- looking up a path in rows with a common prefix: the step for the first byte, by whether it is that of the prefix
+-- looking up a path, past its first byte, in rows with a common prefix looks up the rest after it, or finds nothing
 front_by : (x y : ℕ) (w p : List ℕ) (t : Rows) (v : Bool) → (y == x) ≡ v → first (prepend w t) p ≡ option_and_then (λ rest. first t rest) (after_prefix w p) → seek 0 (step y (prepend (x ∷ w) t)) p ≡ option_and_then (λ rest. first t rest) (cond v (after_prefix w p) None)
 front_by x y w p t true e ih =
     let same : y ≡ x = grind (arith, nat_tests) in
@@ -127,7 +127,7 @@ one_or_none key b p =
     or_either key (seek 0 (cond (param_token == b) (([], key) ∷ []) []) p) (or_else (after_param (([], key) ∷ []) (b ∷ p)) None) (stepped key b p (param_token == b))
     (or_either key (after_param (([], key) ∷ []) (b ∷ p)) None (after_by key b p (has_slash (b ∷ p)) refl) (inr refl))
 
--- a choice between a number and None is None if its last test is false
+-- a choice between a number and None, by three tests of which the last is false, is None
 number_none : (x y : Bool) (n : Option ℕ) → cond (x && (y && false)) n None ≡ None
 number_none true true n = refl
 number_none true false n = refl

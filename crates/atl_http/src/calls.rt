@@ -19,7 +19,9 @@ pub enum ReadOutcome {
     Piece(usize),
     /// The input has no more bytes.
     End,
+    /// The read was interrupted, and can be done again.
     Interrupted,
+    /// The read failed for another cause.
     Failed,
 }
 
@@ -28,6 +30,7 @@ pub enum ReadOutcome {
 pub enum WriteOutcome {
     /// The number of bytes written, at least one.
     Taken(usize),
+    /// The write was interrupted, and can be done again.
     Interrupted,
     /// The write failed, or took no byte.
     Failed,

@@ -18,10 +18,13 @@ use serde_json::Value;
 use std::alloc::Global;
 use std::str;
 
+/// The name of the field Host.
 const HOST: &[u8] = b"Host";
 
+/// The name of the field with the coding of the body.
 const TRANSFER_ENCODING: &[u8] = b"Transfer-Encoding";
 
+/// The name of the field with the length of the body.
 const CONTENT_LENGTH: &[u8] = b"Content-Length";
 
 /// The name of the field with a pass text.

@@ -62,7 +62,9 @@ fn front_of(seen: &[u8]) -> &[u8]
 /// The result of parsing the first bytes as a head: whole, unfinished or refused.
 #[derive(Drop, Clone, Copy)]
 pub enum HeadParse {
+    /// A whole head, with the spans of its parts.
     Whole(RequestSpans),
+    /// The head isn't whole, and may become so.
     Partial,
     /// No good head begins with these bytes, or it has too many fields.
     Refused,

@@ -20,7 +20,7 @@ pub enum Problem {
     NoRoute,
     /// The request's method isn't the one of its route.
     BadMethod(Route),
-    /// It isn't said how long the body is, or it comes in another coding.
+    /// The request doesn't give the length of its body, or sends it in another coding.
     NoLength,
     /// The body has more bytes than a mailing may have.
     BodyTooLong,
@@ -72,7 +72,9 @@ impl Error for Problem {}
 /// Why checking a request ended: out of memory, or a check failed.
 #[derive(Drop, Clone, Copy)]
 pub enum CheckError {
+    /// Memory ran out.
     Memory,
+    /// The request fails a check, with this problem.
     Failed(Problem),
 }
 

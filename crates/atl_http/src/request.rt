@@ -117,6 +117,7 @@ pub enum Outcome {
 pub enum Progress {
     /// The request isn't whole, and needs at least this many bytes more, which is 1 or more.
     Lacks(usize),
+    /// The request is whole or refused.
     Ends(Outcome),
 }
 

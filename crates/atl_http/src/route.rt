@@ -17,6 +17,7 @@ const MOST_DIGITS: usize = 9;
 /// The route of a path, with the number in it. See docs/FORMATS.md, "HTTP".
 #[derive(Drop, Clone, Copy, Debug, PartialEq, Eq)]
 pub enum Route {
+    /// A faction joins.
     Join,
     /// The mailing of the faction of this number.
     Orders(u32),

@@ -99,6 +99,7 @@ fn step(rt: &HostRuntime) -> io::Result<u32> {
     }
 }
 
+/// Tries each call with few blocks left and then, if the heap counts growths, with each refused.
 fn main(rt: HostRuntime) -> io::Result<()> {
     let step = step(&rt)?;
     let Some(mut shortage) = Shortage::new(rt.alloc()) else {

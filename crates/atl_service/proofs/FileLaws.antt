@@ -1,4 +1,4 @@
--- Law: a shielded connection over files has a clean disk, or two digests have collided.
+-- Law: a connection over files whose reads are compared with digests has a clean disk, or two digests have collided.
 use Rattle.std.proofs.Common.{◌≡◌, ◌⊎◌, ℕ, Bool, true, false, List, IsTrue, inl, inr, refl}
 use Rattle.std.proofs.lemmas.Bool.{false≢true}
 use Rattle.sqlite_disk.specs.Events.{Event, replay}
@@ -12,7 +12,7 @@ use Rattle.sqlite.specs.State.{HasCleanDisk}
 use Rattle.sqlite.proofs.Shield.{shield_means}
 use Rattle.atl_service.specs.Files.{HasCollided}
 
--- a clean disk has no failures that count as doubt
+-- `doubt` of a clean disk is 0
 no_doubt : (clean : Bool) → IsTrue clean → doubt clean ≡ 0
 unfolding doubt
 no_doubt true is = refl

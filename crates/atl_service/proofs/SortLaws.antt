@@ -16,7 +16,7 @@ use Rattle.atl_report.proofs.EventLaws.{only_what_is_seen_is_told}
 use Rattle.atl_service.specs.Closing.{reported_with}
 use Rattle.atl_service.specs.Sorting.{events_of, with_event}
 
--- a faction's list followed by the rest, after an event was added to that list (`b` is true) or to another list
+-- a list with the rest after it stays the same when the first event of the rest moves to the end of the list (if `b`)
 by_faction : (b : Bool) (o : Option (List Event)) (listed rest : List Event) (e : Event) → (b ≡ true → listed ≡ unwrap_or o [])
     → unwrap_or (cond b (Some (listed ++ (e ∷ []))) o) [] ++ rest ≡ unwrap_or o [] ++ cond b (e ∷ rest) rest
 by_faction true o listed rest e h = ap (λ l. (l ++ (e ∷ [])) ++ rest) (h refl) ∙ append_assoc (unwrap_or o []) (e ∷ []) rest
@@ -29,8 +29,8 @@ same_list sorted q r h = ap (events_of sorted) (equal q r h)
     equal : (q r : ℕ) → (r == q) ≡ true → r ≡ q
     equal q r h = grind (arith, nat_tests)
 
--- each faction's list with an event added, followed by its events of the rest, is its list followed by its events of
--- both
+-- a faction's list followed by its unsorted events is the same after the first unsorted event is added to its
+-- faction's list
 event_goes_on : (sorted : FinMap nat_cmp (List Event)) (e : Event) (es : List Event) (n : ℕ)
     → events_of (with_event sorted e) n ++ own_events n es ≡ events_of sorted n ++ own_events n (e ∷ es)
 event_goes_on sorted e es n =

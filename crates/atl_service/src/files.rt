@@ -1,5 +1,5 @@
-//! A law on campaigns in files: the disk of a shielded connection is clean, or two digests have
-//! collided.
+//! A law on campaigns in files: if the reads of a connection are compared with digests, its disk is
+//! clean, or two digests have collided.
 ghost use Rattle.std.specs.Prelude.{◌⊎◌};
 ghost use Rattle.sqlite.specs.Files.{file_state};
 ghost use Rattle.sqlite.specs.State.{HasCleanDisk};
@@ -10,7 +10,8 @@ use crate::service::Service;
 use sqlite::{FileStore, Start};
 use sqlite_disk::{Calls, Modelled};
 
-/// Law: if a service's connection is shielded, its disk is clean, or two digests have collided.
+/// Law: if the reads of a service's connection are compared with digests (it is shielded), its disk
+/// is clean, or two digests have collided.
 /// Does nothing: the law is its clause, for a service over files of which each call is recorded.
 /// The digests have 64 bits. The kit's `open` shields a connection whose disk is clean at that
 /// time, and `found`, `open`, `upgrade`, `run` and `run_all` keep it shielded. So what the clauses

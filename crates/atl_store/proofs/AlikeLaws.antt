@@ -34,7 +34,7 @@ use Rattle.atl_store.proofs.ThingLaws.{same_sort}
 
 -- ---- maps whose rows determine their numbers and values
 
--- A row of a map determines its number and its value: equal rows of the two maps have both equal.
+-- A row of a map determines its number and its value: equal rows of the two maps have equal numbers and values.
 abbrev Tells : {V : Type 0} → (ℕ → V → Row) → FinMap nat_cmp V → FinMap nat_cmp V → Type 0
 Tells {V} line m k = (n p : ℕ) (v u : V) → get m n ≡ Some v → get k p ≡ Some u → line n v ≡ line p u → (n ≡ p) × (v ≡ u)
 
@@ -61,7 +61,7 @@ same_flag true false is = cc
 same_flag false true is = cc
 same_flag false false is = refl
 
--- a faction's row determines its number and value, if each faction knows its number
+-- a faction's row determines its number and value, if each faction is stored under its own number
 factions_tell : (m k : FinMap nat_cmp Faction) → Every (λ n f. f.number ≡ n) m → Every (λ n f. f.number ≡ n) k → Tells faction_line m k
 factions_tell m k a b n p f g is there same =
     let at : n ≡ p = cc in
@@ -208,14 +208,14 @@ module _ (things : ℕ) (rows : List Row) (m k : BooksValue) (g : AreBooks thing
         ]
       ]
 
-  -- the books of both campaigns are equal
+  -- two books are equal, if one table `books` has exactly the rows of both
   one_books : m ≡ k
   one_books = same_books things m k g h same_amount
 
 -- ---- the whole
 
 module _ (db : Trees) (one other : List ℕ) (c d : CampaignValue) (h : Holds db one c) (j : Holds db other d) where
-  -- two campaigns whose rows one database holds have equal campaign rows
+  -- two campaigns whose rows one database holds, each with its world text, have equal campaign rows
   one_row : campaign_line one c ≡ campaign_line other d
   one_row = (j.rows Own (campaign_line one c)).0 ((h.rows Own (campaign_line one c)).1 refl)
 

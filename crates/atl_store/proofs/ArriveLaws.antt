@@ -31,7 +31,7 @@ use Rattle.atl_store.specs.Inside.{Puts, Drops}
 
 -- ---- one entry more in a map
 
--- two numbers that are not equal are not equal by their order
+-- two numbers that are not equal are not equal by the order of numbers
 other : (k n : ℕ) → k ≢ n → is_eq (nat_cmp k n) ≡ false
 other k n apart = elim (nat_cmp k n) as (λ o. nat_cmp k n ≡ o → is_eq o ≡ false) [
   | Less ↦ λ _. refl
@@ -40,10 +40,11 @@ other k n apart = elim (nat_cmp k n) as (λ o. nat_cmp k n ≡ o → is_eq o ≡
 ] refl
 
 module _ {V : Type 0} where
+  -- equal `Some`s have equal values
   some_is : (a b : V) → Some a ≡ Some b → a ≡ b
   some_is a b e = cc
 
-  -- None is no value
+  -- None is not equal to the `Some` of a value
   nothing_is : (v : V) → None ≡ Some v → ⊥
   nothing_is v e = cc
 
@@ -94,6 +95,7 @@ no_goods rows units n u fresh bare was r = (
 -- ---- one amount of the books
 
 module _ (c : CampaignValue) (e : Entry) (t : Thing) where
+  -- the row of `books` of this entry and thing
   abbrev row : Row
   row = books_row (entry_index e + 1) (thing_index t) (amount_in c.books e t)
 

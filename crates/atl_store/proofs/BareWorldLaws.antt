@@ -84,7 +84,7 @@ module _ (w : WorldValue) where
       by_plan None = refl
       by_plan (Some p) = refl
 
-  -- removing the markets of a world leaves each region
+  -- each region of a world is a region of the world without its markets
   bared : (n : ℕ) → IsThere w.regions n → IsThere (without_markets w).regions n
   bared n (p, there) = (without_market p, get-mapped without_market w.regions n ∙ ap (option_map without_market) there)
 

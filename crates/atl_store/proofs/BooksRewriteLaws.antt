@@ -140,7 +140,7 @@ module _ (marks : FinSet nat_cmp) where
 -- ---- one amount
 
 module _ (c : MarkedCampaign) (e : Entry) (t : Thing) where
-  -- whether a row of `books` is of this entry and thing
+  -- whether a row of `books` is of this entry and thing, and their amount is dirty
   abbrev is_here : Row → Bool
   is_here r = of_amounts c.marks.books (is_number (entry_index e)) (is_number (thing_index t)) r
 
@@ -157,14 +157,14 @@ module _ (c : MarkedCampaign) (e : Entry) (t : Thing) where
       let row_is : r ≡ row = is ∙ ap (λ k. books_row (k + 1) (thing_index u) (amount_in books f u)) entries ∙ ap (λ k. books_row (entry_index e + 1) k (amount_in books f u)) things ∙ ap (books_row (entry_index e + 1) (thing_index t)) same in
       subst (Has (amount_lines c.value e t)) (sym row_is) (has_optional (int_eq (amount_in books e t) (pos 0)) row (is_differing (amount_in books e t) (λ none. some (same ∙ none))))
 
-  -- an amount that isn't dirty chooses no row
+  -- if the amount isn't dirty, no row passes the test `is_here`
   pub unmarked_none : contains c.marks.books (amount_number e t) ≡ false → (r : Row) → is_here r ≡ false
   unmarked_none unmarked r = accounts_none _ (λ k j. false_from_ne_true _ (λ is.
       let one = and_parts _ _ is in
       let two = and_parts _ _ one.1 in
       true≢false (sym two.1 ∙ ap (λ x. contains c.marks.books (entry_count * x + k)) (tied j (thing_index t) two.0) ∙ ap (λ x. contains c.marks.books (entry_count * thing_index t + x)) (tied k (entry_index e) one.0) ∙ unmarked))) r
 
-  -- a row of this entry and thing has the key of the amount
+  -- a row that passes the test `is_here` has the key of the amount of this entry and thing
   key_of : (r : Row) → is_here r ≡ true → take 2 r ≡ books_key (entry_index e + 1) (thing_index t)
   key_of (Int (pos (suc place)) ∷ Int (pos thing) ∷ row) is =
       let one = and_parts _ _ is in
@@ -176,7 +176,7 @@ module _ (c : MarkedCampaign) (e : Entry) (t : Thing) where
   key_of row is = absurd (true≢false (sym is))
 
   module _ (marked : contains c.marks.books (amount_number e t) ≡ true) where
-    -- a row with the key of the amount is of this entry and thing
+    -- if the amount is dirty, a row with its key passes the test `is_here`
     of_key : (r : Row) → take 2 r ≡ books_key (entry_index e + 1) (thing_index t) → is_here r ≡ true
     of_key [] key = absurd cc
     of_key (v ∷ []) key = absurd cc

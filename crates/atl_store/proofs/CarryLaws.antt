@@ -48,6 +48,7 @@ pub sound_under : (db : Database) (has : HasTables db) → IsSoundDatabase (all_
 sound_under db has = subst (λ s. IsSoundDatabase s db.trees) has.begins.is has.sound
 
 module _ (t : Table) (old new : Database) (has : HasTables old) (ours : Has all_tables t) where
+  -- the schema of `old`: the ten tables with their indexes, and then the others
   abbrev schema : Schema
   schema = all_and has.begins.tables has.begins.indexes
 

@@ -75,21 +75,21 @@ module _ {S : Type 0} (g : Ghosts S) (own : Statements) where
 -- ---- statements that are among others
 
 module _ {S : Type 0} (g : Ghosts S) (own more : Statements) (among : (sql : List ℕ) (params : Row) → own sql params → more sql params) where
-  -- some statements that ran are among more
+  -- if statements of `own` lead from one connection to another, so do statements of `more`
   leads_among : (count : ℕ) (old new : Held S) → Leads g own count old new → Leads g more count old new
   leads_among zero old new same = same
   leads_among (suc count) old new (mid, ran, rest) = (mid, (ran.0, ran.1, among ran.0 ran.1 ran.2, ran.3, ran.4), leads_among count mid new rest)
 
-  -- what is reached by some statements is reached by more
+  -- a connection that statements of `own` reach is reached by statements of `more`
   pub reached_among : (old new : Held S) → IsReached g own old new → IsReached g more old new
   reached_among old new reached = (reached.0, leads_among reached.0 old new reached.1)
 
-  -- an error given by one of some statements is given by one of more
+  -- an error given by a statement of `own`, or by the commit, is given by one of `more`, or by the commit
   given_among : (e : Error) (before after : State) → IsGiven own e before after → IsGiven more e before after
   given_among e before after (inl ran) = inl (ran.0, ran.1, among ran.0 ran.1 ran.2, ran.3)
   given_among e before after (inr fails) = inr fails
 
-  -- an error given among some statements is given among more
+  -- an error given in a transaction of statements of `own` is given in one of statements of `more`
   pub gives_among : (e : Error) (old new : Held S) → Gives g own e old new → Gives g more e old new
   gives_among e old new gave = record {
     before = gave.before;
@@ -107,7 +107,7 @@ module _ {S : Type 0} (g : Ghosts S) (own : Statements) (e : Error) where
   as_begun : (old : Held S) → IsTrue (state g old).in_transaction → record old { in_transaction = true } ≡ old
   as_begun old inside = ap (λ b. record old { in_transaction = b }) (sym inside)
 
-  -- an error given inside a transaction is given by the connection
+  -- an error that a statement or the commit gave inside a transaction is one that the transaction gave (`Gives`)
   pub gives : (old new : Held S) → IsTrue (state g old).in_transaction → IsGiven own e (state g old) (state g new) → Gives g own e old new
   gives old new inside given = record { before = old; after = new; reached = (0, as_begun old inside); kept = record { was_open = λ up. up; committed = λ _. refl }; given = given; cause = by_call (state g old) (state g new) own e given }
 

@@ -63,7 +63,7 @@ module _ {V : Type 0} (line : ℕ → V → Row) (marks : FinSet nat_cmp) (heads
   unmarked : (n : ℕ) (v : V) (r : Row) → r ≡ line n v → begins_marked marks r ≡ false → contains marks n ≡ false
   unmarked n v r is not_marked = sym (heads n v) ∙ ap (begins_marked marks) (sym is) ∙ not_marked
 
-  -- a clean row of one map is a row of the other
+  -- a clean row of one map is a row of the other, if the other has the same rows under clean numbers (`Follows`)
   follow : (one other : FinMap nat_cmp V) (r : Row) → begins_marked marks r ≡ false → Follows one other → RowsOf line one r → RowsOf line other r
   follow one other r not_marked follows of = let found = follows of.0 of.1 (unmarked of.0 of.1 r of.3 not_marked) of.2 in (of.0, found.0, found.1, of.3 ∙ sym found.2)
 
@@ -109,7 +109,7 @@ goods_same : (m : Marks) (before after : CampaignValue) → Covers m before afte
 goods_same m before after covers Item = covers.items
 goods_same m before after covers Skill = covers.days
 
--- a clean row of `has` of one campaign is one of the other
+-- a clean row of `has` of one campaign is one of the other, if the two differ only in dirty items and skills
 goods_follow : (one other : FinMap nat_cmp Unit) (marks : Marks) (r : Row) → ((sort : ThingKind) → SameThings marks.goods (marked_things marks sort) (things_under sort) one other) → goods_marked marks r ≡ false → HasRowsOf one r → HasRowsOf other r
 goods_follow one other marks r same not_marked of =
     let had = had_of one r of in
@@ -119,7 +119,7 @@ goods_follow one other marks r same not_marked of =
 
 -- ---- stocks
 
--- a clean row of `market` of one campaign is one of the other
+-- a clean row of `market` of one campaign is one of the other, if the two differ only in dirty stocks
 stocks_follow : (one other : FinMap nat_cmp Region) (marks : Marks) (r : Row) → ((n item : ℕ) → is_thing_marked marks.stocks marks.stock_items n item ≡ false → stock_in other n item ≡ stock_in one n item) → stocks_marked marks r ≡ false → MarketRowsOf one r → MarketRowsOf other r
 stocks_follow one other marks r same not_marked of =
     let had = stock_had one r of in
@@ -139,7 +139,7 @@ amount_heads marks e t amount =
     there : (n : ℕ) → n < entry_count → nat_le (suc n) entry_count ≡ true
     there n small = grind (arith, nat_tests, small)
 
--- a clean row of `books` of one campaign is one of the other
+-- a clean row of `books` of one campaign is one of the other, if the two differ only in dirty amounts
 amounts_follow : (one other : BooksValue) (marks : FinSet nat_cmp) (r : Row) → ((e : Entry) (t : Thing) → contains marks (amount_number e t) ≡ false → amount_in other e t ≡ amount_in one e t) → amount_marked marks r ≡ false → BooksRowsOf one r → BooksRowsOf other r
 amounts_follow one other marks r same not_marked of =
     let is = same of.0 of.1 (sym (amount_heads marks of.0 of.1 (amount_in one of.0 of.1)) ∙ ap (amount_marked marks) (sym of.3) ∙ not_marked) in
@@ -147,7 +147,7 @@ amounts_follow one other marks r same not_marked of =
 
 -- ---- the campaign's own row
 
--- the campaign row of these numbers and texts
+-- the campaign row of these four numbers and this pass text
 abbrev head_in : ℕ × (List ℕ × (ℕ × (ℕ × ℕ))) → CampaignRowValue
 head_in row = record { month = row.0; pass = row.1.0; next_faction = row.1.1.0; next_unit = row.1.1.1.0; next_structure = row.1.1.1.1 }
 

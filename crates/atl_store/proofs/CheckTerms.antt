@@ -26,7 +26,7 @@ is_one = op2 equals (col 1 0) (lit one)
 
 -- ---- from a term to its node
 
--- an operator that makes "id = 1" is a comparison of two nodes
+-- a node whose term is "id = 1" is an equation of two nodes, whose terms are the column `id` and the number 1
 comparing : (below : ℕ → Term) (op : Op) → op_term below op ≡ is_one → (a : ℕ) × (b : ℕ) × (op ≡ Binary equals a b) × (below a ≡ col 1 0) × (below b ≡ lit one)
 comparing below (Literal v) says = absurd (cc)
 comparing below (Column slot at) says = absurd (cc)
@@ -34,7 +34,7 @@ comparing below (Unary op a) says = absurd (cc)
 comparing below (Binary op a b) says = (a, b, cc, cc, cc)
 comparing below (Case t a b) says = absurd (cc)
 
--- an operator that makes the column `id` is that column
+-- a node whose term is the column `id` is this column
 numbering : (below : ℕ → Term) (op : Op) → op_term below op ≡ col 1 0 → op ≡ Column 1 0
 numbering below (Literal v) says = absurd (cc)
 numbering below (Column slot at) says = cc
@@ -42,7 +42,7 @@ numbering below (Unary op a) says = absurd (cc)
 numbering below (Binary op a b) says = absurd (cc)
 numbering below (Case t a b) says = absurd (cc)
 
--- an operator that makes the number 1 is that literal
+-- a node whose term is the number 1 is this literal
 constant : (below : ℕ → Term) (op : Op) → op_term below op ≡ lit one → op ≡ Literal one
 constant below (Literal v) says = cc
 constant below (Column slot at) says = absurd (cc)
@@ -54,18 +54,18 @@ constant below (Case t a b) says = absurd (cc)
 abbrev past : Op
 past = Literal Null
 
--- a node other than the default is in the list
+-- a node that is not the default (`past`) is in the list at its index
 there : (ops : List Op) (at : ℕ) (op : Op) → op ≢ past → get_or ops at past ≡ op → slice_get ops at ≡ Some op
 there [] at op other is = absurd (other (sym is))
 there (x ∷ ops) zero op other is = ap Some is
 there (x ∷ ops) (suc at) op other is = there ops at op other is
 
--- a node that makes the column `id` is that column
+-- the node at an index whose term is the column `id` is this column
 number_at : (ops : List Op) (depth at : ℕ) → term_to ops depth at ≡ col 1 0 → slice_get ops at ≡ Some (Column 1 0)
 number_at ops zero at says = absurd (cc)
 number_at ops (suc depth) at says = there ops at (Column 1 0) (λ same. absurd (cc)) (numbering (term_to ops depth) (get_or ops at past) says)
 
--- a node that makes the number 1 is that literal
+-- the node at an index whose term is the number 1 is this literal
 one_at : (ops : List Op) (depth at : ℕ) → term_to ops depth at ≡ lit one → slice_get ops at ≡ Some (Literal one)
 one_at ops zero at says = absurd (cc)
 one_at ops (suc depth) at says = there ops at (Literal one) (λ same. absurd (cc)) (constant (term_to ops depth) (get_or ops at past) says)
@@ -109,7 +109,7 @@ compared ops root a b first = (
   λ both. said ops root a b (first, both.0, both.1),
 )
 
--- a root that is no comparison is not that of "id = 1"
+-- if the root is no equation, its term is not "id = 1"
 pub not_compared : (ops : List Op) (root : ℕ) → ((a b : ℕ) → slice_get ops root ≢ Some (Binary equals a b)) → term_in ops root ≢ is_one
 not_compared ops root other says =
     let (a, b, (is, number, constant)) = says_to ops (length ops) root says in

@@ -56,6 +56,7 @@ pub record Swaps (schema : Schema) (table : Table) (p : Row → Bool) (new : Row
   pub others : (t : Table) → Has schema.tables t → t.tree ≢ table.tree → next t.tree ≡ db t.tree
 
 module _ (schema : Schema) (table : Table) (unlinked : (olds news : List Row) → works schema Enforced 0 table.tree olds news ≡ []) where
+  -- an edit that removes the rows found by a test leaves exactly the rows that fail the test (`Loses`)
   loses : (p : Row → Bool) (db next : Trees) (found : List Row) → IsKeyed (db table.tree) → AreFound p (db table.tree) found
       → Edited schema Enforced db (edit_of db table (ids_of found) Given 0 []) (Ok next) → Loses schema table p db next
   loses p db next found keyed are h =
@@ -82,6 +83,7 @@ module _ (schema : Schema) (table : Table) (unlinked : (olds news : List Row) �
   -- ---- INSERT OR REPLACE of one row
 
   module _ (limit : Option ℕ) (params : Row) where
+    -- what a statement on the table is run with: the limit, the schema, the table and the parameters
     abbrev task : Task
     task = record { limit = limit; keys = Enforced; schema = schema; table = table; params = params }
 
@@ -104,9 +106,11 @@ module _ (schema : Schema) (table : Table) (unlinked : (olds news : List Row) �
           subst IsKeyed (sym rows) (keyed_put (cast_row table new) (db table.tree) keyed (not-true _ (and_parts _ _ done.fresh).0) (and_parts _ _ done.keyed).0),
         )
 
+    -- whether a row conflicts with the new row in a key
     abbrev p : Row → Row → Bool
     p new r = conflicts None schema.indexes table new r
 
+    -- removing the rows that conflict with the new row, and putting the new row, replaces them by it (`Swaps`)
     clears : (new : Row) (db : Trees) (w : Written) (found : List Row) → IsKeyed (db table.tree) → AreConflicts None schema.indexes table (db table.tree) new found
         → Clears task Replace new db found (Ok w) → Swaps schema table (p new) (cast_row table new) db w.trees
     clears new db w [] keyed are h =
@@ -162,6 +166,7 @@ pub has_permuted : {X : Type 0} (xs ys : List X) (x : X) → IsPermutation xs ys
 has_permuted xs ys x h there = all_has (λ y. Has ys y) xs x (all-permutation (λ y. Has ys y) ys xs (IsPermutation-sym xs ys h) (all_from _ ys (λ y k. k))) there
 
 module _ (p : Row → Bool) (f : Row → Env) where
+  -- a row that passes the test is among the rows that a query by the test chooses
   has_chosen : (rows : List Row) (r : Row) → Has rows r → p r ≡ true → Has (flat_map (λ r. cond (p r) (f r ∷ []) []) rows) (f r)
   has_chosen [] r h passes = absurd h
   has_chosen (x ∷ rows) r (inl same) passes = rw (← same, passes) (inl refl)
@@ -171,6 +176,7 @@ module _ (p : Row → Bool) (f : Row → Env) where
       go true h = inr h
       go false h = h
 
+  -- what a query by the test chooses is of a row that passes the test
   chosen_has : (rows : List Row) (e : Env) → Has (flat_map (λ r. cond (p r) (f r ∷ []) []) rows) e → (r : Row) × Has rows r × (p r ≡ true) × (e ≡ f r)
   chosen_has [] e h = absurd h
   chosen_has (x ∷ rows) e h = go (p x) refl h (chosen_has rows e)

@@ -66,7 +66,7 @@ module _ (c : CampaignValue) where
 
   -- ---- the whole
 
-  -- with all parts filled, the tables hold the founded campaign
+  -- making the empty tables in a blank database, and then filling all parts, writes the founding (`WritesFounding`)
   pub founding_done : (text : List ℕ) (parts : List Part) → list_all (is_among parts) all_parts ≡ true → (start mid end : State) → Inside IsBlank AreEmpty start mid → Inside HasTables (FillsWithOwn text c parts) mid end → Inside IsBlank (WritesFounding text c) start end
   founding_done text parts all start mid end first second =
       let fills = FillsWithOwn text c parts in

@@ -86,6 +86,7 @@ pub record MakesRow (t : Table) (width number : ℕ) (values : Row) : Type 0 whe
   pub aimed : (x : Value) (more : Row) → column ((int number ∷ values) ++ x ∷ more) (width + 1) ≡ x
 
 module _ (tree : ℕ) (name key_name : List ℕ) (columns : List Column) (uniques : List (List ℕ)) where
+  -- the table: the row's number as its key, and then these columns
   abbrev t : Table
   t = table tree name (number key_name ∷ columns) (Some 0) (0 ∷ []) uniques []
 
@@ -127,6 +128,7 @@ module _ (tree : ℕ) (name key_name : List ℕ) (columns : List Column) (unique
     casted_is : cast_row t its_row ≡ its_row
     casted_is = rw (cast_int (pos n), cast_null, fits_cast columns values fits) refl
 
+    -- the terms of INSERT and UPDATE make the row of the number and the values (`MakesRow`)
     made : MakesRow t width n values
     made = record {
       source = source_is;

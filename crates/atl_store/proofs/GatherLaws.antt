@@ -151,7 +151,7 @@ module _ {S : Type 0} (g : Ghosts S) where
     refuses : (fault : ReadFault) → RefusesToSelect g sql old fault → RefusesOne g old this_select fault
     refuses fault refused = record { select = (sql, forms); one = inl refl; before = old; leaves = leaves_none old idle; refused = refused }
 
-    -- a read of one table may run out of memory
+    -- if a SELECT is refused for lack of memory, or is answered, reading its table may return Memory
     wants : RefusesToSelect g sql old read.Memory ⊎ ((rows : List Row) × Selects g sql old rows) → FailsToRead g old this_select Memory
     wants (inl refused) = inl (refuses read.Memory refused)
     wants (inr told) = inr (record { select = (sql, forms); one = inl refl; before = old; leaves = leaves_none old idle; rows = told.0; answered = told.1 })
@@ -201,7 +201,7 @@ module _ {S : Type 0} (g : Ghosts S) where
       other = found.other;
     }
 
-  -- a SELECT refused later is refused from the start
+  -- a SELECT that is refused in a later stage is refused in the reads from the start (`RefusesOne`)
   refuses_then : (old mid : Held S) → AfterReads g old mid → (selects : List (List ℕ × List Form)) (fault : ReadFault) → RefusesOne g mid selects fault → RefusesOne g old selects fault
   refuses_then old mid first selects fault refused = record {
     select = refused.select;
@@ -211,7 +211,7 @@ module _ {S : Type 0} (g : Ghosts S) where
     refused = refused.refused;
   }
 
-  -- a SELECT answered later is answered from the start
+  -- a SELECT that is answered in a later stage is answered in the reads from the start (`AnswersOne`)
   answers_then : (old mid : Held S) → AfterReads g old mid → (selects : List (List ℕ × List Form)) → AnswersOne g mid selects → AnswersOne g old selects
   answers_then old mid first selects answers = record {
     select = answers.select;
@@ -222,7 +222,7 @@ module _ {S : Type 0} (g : Ghosts S) where
     answered = answers.answered;
   }
 
-  -- a fault of a later read is a fault of the reads from the start
+  -- a fault of a later stage is a fault of the reads from the start (`FailsToRead`)
   pub fails_then : (old mid : Held S) → AfterReads g old mid → (selects : List (List ℕ × List Form)) (fault : LoadFault) → FailsToRead g mid selects fault → FailsToRead g old selects fault
   fails_then old mid first selects Store (inl refused) = inl (refuses_then old mid first selects read.Store refused)
   fails_then old mid first selects Store (inr refused) = inr (refuses_then old mid first selects read.Refused refused)
@@ -233,15 +233,15 @@ module _ {S : Type 0} (g : Ghosts S) where
   fails_then old mid first selects Memory (inr answers) = inr (answers_then old mid first selects answers)
 
   module _ (old : Held S) (few more : List (List ℕ × List Form)) (within : (select : List ℕ × List Form) → Has few select → Has more select) where
-    -- a refused SELECT among few is one among more
+    -- if one of the SELECTs `few` is refused, one of `more` is
     refuses_within : (fault : ReadFault) → RefusesOne g old few fault → RefusesOne g old more fault
     refuses_within fault refused = record { select = refused.select; one = within refused.select refused.one; before = refused.before; leaves = refused.leaves; refused = refused.refused }
 
-    -- an answered SELECT among few is one among more
+    -- if one of the SELECTs `few` is answered, one of `more` is
     answers_within : AnswersOne g old few → AnswersOne g old more
     answers_within answers = record { select = answers.select; one = within answers.select answers.one; before = answers.before; leaves = answers.leaves; rows = answers.rows; answered = answers.answered }
 
-    -- a fault of reading few tables is one of reading more
+    -- a fault of reading by the SELECTs `few` is one of reading by `more`
     fails_within : (fault : LoadFault) → FailsToRead g old few fault → FailsToRead g old more fault
     fails_within Store (inl refused) = inl (refuses_within read.Store refused)
     fails_within Store (inr refused) = inr (refuses_within read.Refused refused)
@@ -251,7 +251,7 @@ module _ {S : Type 0} (g : Ghosts S) where
     fails_within Memory (inl refused) = inl (refuses_within read.Memory refused)
     fails_within Memory (inr answers) = inr (answers_within answers)
 
-    -- a value of another type in few tables is one in more
+    -- if `more` show rows, a value of another type that the SELECTs `few` show is one that `more` show
     other_within : AreTold g old more → HasOtherType g old few → HasOtherType g old more
     other_within all other = record { all = all; select = other.select; one = within other.select other.one; rows = other.rows; told = other.told; other = other.other }
 
@@ -402,7 +402,8 @@ module _ {S : Type 0} (g : Ghosts S) where
 pub both_none : (some others : ReadRows) → AreNone some → AreNone others → AreNone (some ++ others)
 both_none some others first second = each_of_both (λ read. read.1 ≡ []) some others first second
 
--- the SELECTs of a format, if `some` are those of the first, and with `others` those of the second
+-- if `some` are the SELECTs of the first format, and with `others` those of the second, `selects_by` gives each
+-- format's
 same_selects : (some others : List (List ℕ × List Form)) → some ≡ other_selects First → some ++ others ≡ other_selects Second → (f : Format) → selects_by f some others ≡ other_selects f
 same_selects some others first second First = first
 same_selects some others first second Second = second

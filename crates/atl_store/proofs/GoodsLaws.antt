@@ -19,13 +19,13 @@ use Rattle.atl_store.proofs.EntryLaws.{apart_append, below_has, less_apart, got_
 
 -- ---- one amount
 
--- a row of a list that `b` leaves empty is its one row, and `b` is false
+-- a row of a list that is empty if `b`, and else has one row, is that row, and `b` is false
 pub optional_has : (b : Bool) (row r : Row) → Has (if b then [] else row ∷ []) r → (b ≡ false) × (r ≡ row)
 optional_has true row r there = absurd there
 optional_has false row r (inl same) = (refl, same)
 optional_has false row r (inr none) = absurd none
 
--- a list that `b` leaves empty has its one row if `b` is false
+-- a list that is empty if `b`, and else has one row, has that row if `b` is false
 pub has_optional : (b : Bool) (row : Row) → b ≡ false → Has (if b then [] else row ∷ []) row
 has_optional true row is = absurd (true≢false is)
 has_optional false row is = inl refl

@@ -90,7 +90,7 @@ module _ {V : Type 0} (lines : ℕ → V → List Row) (more : ℕ) (values : Fi
         (λ r is of. let line = lined_at r is of in none-some line.0 (sym none ∙ line.1))
         table old new (λ r. let so = dropped.rows r in (λ h. inr (so.0 h), λ h. so.1 (kept_only h))) dropped.others
 
-    -- deleting the rows of a number and putting the rows of its value rewrites the rows of the number
+    -- inside a transaction, deleting the rows of a number and putting those of its value rewrites the number's rows
     pub lines_done : (v : V) → get values n ≡ Some v → (old mid new : State) → Inside HasTables (Drops table 1 (int n ∷ [])) old mid
         → Inside HasTables (PutsRows table (suc more) (lines n v)) mid new → Inside HasTables (RewritesGroup table Wanted n) old new
     lines_done v there old mid new one two =
@@ -98,7 +98,7 @@ module _ {V : Type 0} (lines : ℕ → V → List Row) (more : ℕ) (values : Fi
         let puts = PutsRows table (suc more) (lines n v) in
         inside_weaker HasTables (Both drops puts) (RewritesGroup table Wanted n) old new (λ has did. lines_rewrite old.now did.0 new.now did.1 v there did.2) (inside_then HasTables drops puts old mid new one two)
 
-    -- deleting the rows of a number that the map lacks rewrites the rows of the number
+    -- inside a transaction, deleting the rows of a number that the map lacks rewrites the rows of the number
     pub bare_done : get values n ≡ None → (old new : State) → Inside HasTables (Drops table 1 (int n ∷ [])) old new
         → Inside HasTables (RewritesGroup table Wanted n) old new
     bare_done none old new did = inside_weaker HasTables (Drops table 1 (int n ∷ [])) (RewritesGroup table Wanted n) old new (λ has drops. bare_rewrite old.now new.now drops none) did

@@ -56,14 +56,14 @@ abbrev pub agree_at : List ℕ → Row → Row → Bool
 agree_at [] x y = true
 agree_at (p ∷ places) x y = equal Binary (column x p) (column y p) && agree_at places x y
 
--- integers that are equal by SQL's = are equal columns
+-- rows with integers in these columns that are equal there by SQL's = have equal values there
 same_at : (places : List ℕ) (x y : Row) → AreInts places x → AreInts places y → agree_at places x y ≡ true → at_places places x ≡ at_places places y
 same_at [] x y one two agree = refl
 same_at (p ∷ places) x y one two agree =
     let (here, later) = and_parts _ _ agree in
     rw (equal_is (column x p) (column y p) one.0 two.0 here, same_at places x y one.1 two.1 later) refl
 
--- equal integer columns are equal by SQL's =
+-- rows with equal integers in these columns are equal there by SQL's =
 agree_same : (places : List ℕ) (x y : Row) → AreInts places y → at_places places x ≡ at_places places y → agree_at places x y ≡ true
 agree_same [] x y ints same = refl
 agree_same (p ∷ places) x y ints same =
@@ -86,7 +86,7 @@ pub record HasKey (t : Table) (at : ℕ) (places : List ℕ) : Type 0 where
   pub hits : (indexes : List Index) (new x : Row)
       → conflicts (Some places) (all_indexes ++ indexes) t new x ≡ (agree_at places x new || list_any (shares (Some places) t new x) indexes)
 
--- The text is a DELETE, from the tree of the table of this index, of what the filter finds.
+-- The text is a DELETE of the rows that the filter finds, from the table of this tree and this index in the schema.
 abbrev pub IsTakeOut : ℕ → ℕ → List ℕ → List Term → Type 0
 IsTakeOut tree at sql filter = (more : List Table) (indexes : List Index) → command_of (understood (all_and more indexes) sql) ≡ Delete at (record { lets = []; body = delete_query tree filter })
 
@@ -115,9 +115,11 @@ module _ (tree : ℕ) (name : List ℕ) (columns : List Column) (places : List �
 
   module _ (key : HasKey t at places) where
     module _ (more : List Table) (indexes : List Index) (db : Trees) (sound : IsSoundDatabase (all_and more indexes) db) where
+      -- the schema of the ten tables with their indexes, and then other tables and indexes
       abbrev schema : Schema
       schema = all_and more indexes
 
+      -- each row of the table has integers in the columns of the key
       key_ints : (x : Row) → Has (db tree) x → AreInts places x
       key_ints x there = key.ints schema x (keeps_at Datatype schema db t x (sound.listed.obeys.rules Datatype) (among_all more t key.ours) there) (keeps_at NotNull schema db t x (sound.listed.obeys.rules NotNull) (among_all more t key.ours) there)
 
@@ -135,6 +137,7 @@ module _ (tree : ℕ) (name : List ℕ) (columns : List Column) (places : List �
 
     -- ---- the upsert of a row
 
+    -- inside a transaction, the upsert that ran put its row, and replaced the row with the same key
     puts : (sql : List ℕ) (width hole : ℕ) (terms project : List Term) → IsPutUnder tree at places sql width terms hole project → AlwaysPlain sql
         → (values : Row) → MakesValues t places width terms hole project values
         → (old new : State) (count : ℕ) → IsTrue old.in_transaction → ExecutesInside 0 sql values old new (Ok count)
@@ -179,6 +182,7 @@ module _ (tree : ℕ) (name : List ℕ) (columns : List Column) (places : List �
 
     -- ---- the DELETE of rows by the first columns of the key
 
+    -- inside a transaction, the DELETE that ran removed the rows whose first columns of the key are the parameters
     drops : (sql : List ℕ) (filter : List Term) → IsTakeOut tree at sql filter → AlwaysPlain sql → (front : List ℕ)
         → ((x : Row) → AreInts places x → AreInts front x) → ((x : Row) → take (length front) (visible t x) ≡ at_places front x)
         → (k : Row) → AreInts front (Null ∷ k) → at_places front (Null ∷ k) ≡ k

@@ -82,7 +82,7 @@ given width = lit Null ∷ map (col 0) (range_with_len 0 width)
 abbrev taken_over : ℕ → ℕ → List Term
 taken_over key width = map (col 1) (range_with_len 0 (key + 1)) ++ map (col 0) (range_with_len key (width - key))
 
--- the filter: the first columns of the key equal the parameters
+-- the filter of a DELETE: the first columns of the key equal the parameters
 abbrev of_key : ℕ → List Term
 of_key count = map (λ at. op2 (Compare Eq Binary) (col 1 (at + 1)) (col 0 at)) (range_with_len 0 count)
 

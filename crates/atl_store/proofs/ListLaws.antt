@@ -77,7 +77,7 @@ pub record AreFound (p : Row → Bool) (rows found : List Row) : Type 0 where
   pub sound : (x : Row) → Has found x → (r : Row) × Has rows r × (p r ≡ true) × (x ≡ rowid r ∷ [])
   pub complete : (r : Row) → Has rows r → p r ≡ true → Has found (rowid r ∷ [])
 
--- the rowid of a row is an integer
+-- the rowid of a row is an integer, if those of all rows are
 pub is_int_at : (rows : List Row) (r : Row) → AllByRecursion (λ r. is_int (rowid r) ≡ true) rows → Has rows r → rowid r ≡ Int (id_in (rowid r))
 is_int_at rows r ints h = int_is (rowid r) (all_has _ rows r ints h)
 
@@ -118,6 +118,7 @@ keyed_without (id ∷ ids) rows keyed = keyed_without ids (without_rowid id rows
   ints = all_from _ _ (λ r there. all_has _ rows r keyed.ints (has_filtered _ rows r there).0);
 })
 
+-- putting a row whose rowid is not taken keeps the rowids different, in the form that `IsKeyed` asks for
 apart_put : (new : Row) (rows : List Row) → IsAscending (λ a b. is_eq (value_cmp (rowid a) (rowid b)) ≡ false) rows → is_taken rows new ≡ false
     → IsAscending (λ a b. is_eq (value_cmp (rowid a) (rowid b)) ≡ false) (put_row new rows)
 apart_put new [] apart free = (tt, tt)

@@ -59,6 +59,7 @@ same_number m n small low is =
     let next : m + 1 ≡ n + 1 = sym first ∙ ap (digits_value 10) is ∙ second in
     omega (arith, next)
 
+-- two automatic indexes of a table with the same name have the same number at the end of the name
 same_made : (table : Table) (k l : ℕ) (a b : Index) → a.name ≡ b.name → a.name ≡ codes "sqlite_autoindex_" ++ (table.name ++ (codes "_" ++ decimal (k + 1)))
     → b.name ≡ codes "sqlite_autoindex_" ++ (table.name ++ (codes "_" ++ decimal (l + 1))) → decimal (k + 1) ≡ decimal (l + 1)
 same_made table k l a b name first second =

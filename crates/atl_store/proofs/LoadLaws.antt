@@ -28,7 +28,7 @@ distinct_mapped f at (r ∷ rows) is apart = (
   distinct_mapped f at rows is apart.1,
 )
 
--- pairwise different rowids, in the form that `IsKeyed` asks for
+-- pairwise different rowids are different in the form that `IsKeyed` asks for
 ascending_from : (rows : List Row) → IsDistinct (λ a b. is_eq (value_cmp (rowid a) (rowid b))) rows → IsAscending (λ a b. is_eq (value_cmp (rowid a) (rowid b)) ≡ false) rows
 unfolding IsDistinct
 ascending_from [] apart = tt

@@ -95,6 +95,7 @@ has_since Second schema has part there = under (listing_of part).since
     under Second = has
 
 module _ (f : Format) {S : Type 0} (g : Ghosts S) (old : Held S) (reads : ReadRows) (are : AreOfFormat f (state g old).now reads) where
+  -- the trees of the connection before the reads
   abbrev db : Trees
   db = (state g old).now.trees
 
@@ -150,6 +151,7 @@ module _ (f : Format) {S : Type 0} (g : Ghosts S) (old : Held S) (reads : ReadRo
     have_rows text begins own = record { rows = rows_of_part text begins own; none = none_read text }
 
 module _ (f : Format) {S : Type 0} (g : Ghosts S) where
+  -- a campaign row that was read, typed reads of all other tables, and the rows made of both are gathered (`Gathered`)
   gathered_of : (old : Held S) (own : StoredCampaign) (w : WorldValue) (reads : ReadRows) (p : Parts) → OwnRead g old f own w → AreToldTyped g old (other_selects f) → AreOfFormat f (state g old).now reads → (head : StoredCampaignRow) → head ≡ own.head → IsMadeOf head reads p → Gathered f g old w p
   gathered_of old own w reads p row typed are head same made = record {
     one = own_kept f g old own w row;
@@ -163,11 +165,11 @@ module _ (f : Format) {S : Type 0} (g : Ghosts S) where
 
   -- ---- what the check of the rows refuses
 
-  -- if the gathered rows break a rule first, the tables do (`BreaksRule`)
+  -- if a rule is the first that the gathered rows break, the tables break it (`BreaksRule`)
   breaks : (old : Held S) (w : WorldValue) (p : Parts) → Gathered f g old w p → HasTablesOf f old.schema → (rule : Rule) → IsFirstBroken f w p rule → BreaksRule f g old rule
   breaks old w p all begins rule first = record { made = record { begins = begins; keyed = all.keyed begins }; world = w; text = all.text; is_world = all.world; parts = p; rows = all.rows begins; first = first }
 
-  -- if the gathered rows break a rule first, Damaged with this rule may be returned
+  -- if a rule is the first that the gathered rows break, Damaged with this rule may be returned
   damaged : (old : Held S) (w : WorldValue) (p : Parts) → Gathered f g old w p → HasTablesOf f old.schema → (rule : Rule) → IsFirstBroken f w p rule → MayReturnDamaged f g old rule
   damaged old w p all begins OneRow first = absurd (first.broken all.first)
   damaged old w p all begins Ranges first = inr (breaks old w p all begins Ranges first)
@@ -238,6 +240,7 @@ module _ (f : Format) {S : Type 0} (g : Ghosts S) where
 -- what was read of the other tables after the campaign row was read
 module _ (f : Format) {S : Type 0} (g : Ghosts S) {A : Type 0} (rows : A → ReadRows) (old mid new : Held S) (own : StoredCampaign) (w : WorldValue) (row : OwnRead g old f own w) (before : AfterReads g old mid) (r : Result (Option A) LoadFault)
     (reads : ReadsSome g mid (other_selects f) (λ a. AreOfFormat f (state g mid).now (rows a)) r new) (o : Option A) (was : r ≡ Ok o) (clean : HasCleanDisk (state g new)) where
+  -- what was read of the other tables is what their SELECTs find before the campaign row is read (`Found`)
   found : (told : Option A) → o ≡ told → Found g old (other_selects f) (λ a. AreOfFormat f (state g old).now (rows a)) told
   found told is = subst (Found g old (other_selects f) (λ a. AreOfFormat f (state g old).now (rows a))) is (format_behind g f rows old mid new before (other_selects f) r reads o was clean)
 

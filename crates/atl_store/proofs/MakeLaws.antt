@@ -33,6 +33,7 @@ did schema old new command text params count has w =
     subst (λ s. Does old.step_limit mode params (record old.now { schema = s }) text None command (Ok (w.tally, new.now))) has w.changed
 
 module _ (schema : Schema) (among : (u : Table) → Has all_tables u → Has schema.tables u) (t : Table) (key : ℕ) where
+  -- a row that SQL shows of a list of stored rows is that of one of them
   shown_again : (rows : List Row) (r : Row) → Has (map (visible t) rows) r → (x : Row) × Has rows x × (r ≡ visible t x)
   shown_again rows r h = map_has (visible t) rows r h
 
@@ -40,7 +41,7 @@ module _ (schema : Schema) (among : (u : Table) → Has all_tables u → Has sch
   abbrev pub Tests : (Row → Bool) → Row → List Row → Type 0
   Tests p k rows = (x : Row) → Has rows x → (p x ≡ true → take key (visible t x) ≡ k) × (take key (visible t x) ≡ k → p x ≡ true)
 
-  -- swapping the rows of a key for a new row puts the row into the set
+  -- if the rows of a key are exchanged for a new row, the table's set of rows is the old one with the new row put
   pub swaps_set : (p : Row → Bool) (n v : Row) (db next : Trees) → Swaps schema t p n db next → visible t n ≡ v → Tests p (take key v) (db t.tree)
       → Is (rows_in t next) (put key v (Has (rows_in t db)))
   swaps_set p n v db next swap is tests r = (
@@ -64,7 +65,7 @@ module _ (schema : Schema) (among : (u : Table) → Has all_tables u → Has sch
     ],
   )
 
-  -- losing the rows of a key drops them from the set
+  -- if the rows of a key are gone, the table's set of rows is the old one without them
   pub loses_set : (p : Row → Bool) (k : Row) (db next : Trees) → Loses schema t p db next → Tests p k (db t.tree) → Is (rows_in t next) (drop_key key k (Has (rows_in t db)))
   loses_set p k db next lose tests r = (
     λ there.
@@ -120,6 +121,7 @@ module _ (schema : Schema) (among : (u : Table) → Has all_tables u → Has sch
     abbrev pub OneRow : Type 0
     OneRow = (x r : Row) → Has (old.trees t.tree) x → Has (old.trees t.tree) r → take key (visible t x) ≡ take key (visible t r) → is_eq (value_cmp (rowid x) (rowid r)) ≡ true
 
+    -- changing the row that has the key to the new values is a write of the table that puts the new row
     over_make : (r : Row) → Has (old.trees t.tree) r → hits schema t unlinked limit params target place project plain new r ≡ true
         → Swaps schema t (λ x. is_eq (value_cmp (rowid x) (rowid r))) (cast_row t (eval_all project (given schema t unlinked limit params target place project plain new r ∷ r ∷ []))) old.trees next.trees
         → Changes → Tests (hits schema t unlinked limit params target place project plain new) (take key v) (old.trees t.tree) → OneRow
@@ -138,7 +140,7 @@ module _ (schema : Schema) (among : (u : Table) → Has all_tables u → Has sch
     upserts_make (inl put_in) shows changed tests alone listed sound base is = swaps_make _ _ v old next put_in.1 shows tests sound base is
     upserts_make (inr over) shows changed tests alone listed sound base is = over_make over.0 over.1 over.2 over.3 changed tests alone listed sound base is
 
-    -- if a row with the key is there, only what the update writes counts
+    -- if a row with the key is there, an upsert puts the row that its UPDATE makes, whatever its INSERT would have made
     pub updates_make : Upserted schema t unlinked limit params target place project plain new old.trees next.trees → (r : Row) → Has (old.trees t.tree) r → take key (visible t r) ≡ take key v → Changes
         → Tests (hits schema t unlinked limit params target place project plain new) (take key v) (old.trees t.tree) → OneRow
         → Has all_tables t → IsSoundDatabase schema old.trees → IsDatabase next → next.schema ≡ schema → Makes schema t old next (put key v (Has (rows_in t old.trees)))

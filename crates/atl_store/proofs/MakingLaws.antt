@@ -47,7 +47,7 @@ so_many count = with_tables (take count all_tables)
 abbrev pub MakesSome : ℕ → State → State → Type 0
 MakesSome count old new = (new.in_transaction ≡ old.in_transaction) × (AreBare no_tables old.now → AreBare (so_many count) new.now × (0 < count → IsDatabase new.now))
 
--- nothing done makes no table
+-- doing nothing makes no table
 pub makes_none : (s : State) → MakesSome 0 s s
 makes_none s = (refl, λ bare. (bare, λ some. absurd (omega (arith, some))))
 

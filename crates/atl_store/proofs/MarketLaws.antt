@@ -100,7 +100,7 @@ module _ (region item : ℕ) where
       ap (λ k. market_key k t) (tied n region both.0) ∙ ap (market_key region) (tied t item both.1)
   key_of row is = absurd (true≢false (sym is))
 
-  -- a row with the key of the region and the item is of these
+  -- a row with the key of the region and the item is of this region and this item
   of_key : (r : Row) → take 2 r ≡ market_key region item → is_here r ≡ true
   of_key [] key = absurd cc
   of_key (u ∷ []) key = absurd cc
@@ -110,7 +110,7 @@ module _ (region item : ℕ) where
       ap (λ x. is_here (x ∷ v ∷ row)) first ∙ ap (λ x. is_here (int region ∷ x ∷ row)) second ∙ and_from _ _ (is_itself region) (is_itself item)
 
   module _ (c : CampaignValue) (stock : ℕ) (is : stock ≡ stock_in c.regions region item) where
-    -- the row of the stock
+    -- the row of `market` of this region and item
     abbrev row : Row
     row = market_row region item stock
 

@@ -61,9 +61,11 @@ pub record IsNumbered (t : Table) (at width : ℕ) : Type 0 where
 
 -- one of the tables of a campaign, whose first column is the row's number
 module _ (tree : ℕ) (name key_name : List ℕ) (columns : List Column) (uniques : List (List ℕ)) (at : ℕ) where
+  -- how many columns the table has after the row's number
   abbrev width : ℕ
   width = length columns
 
+  -- the table: the row's number as its key, and then these columns
   abbrev t : Table
   t = table tree name (number key_name ∷ columns) (Some 0) (0 ∷ []) uniques []
 
@@ -78,6 +80,7 @@ module _ (tree : ℕ) (name key_name : List ℕ) (columns : List Column) (unique
   module _ (is : IsNumbered t at width) where
     -- ---- the DELETE of a row
 
+    -- inside a transaction, the DELETE that ran removed the row of the number
     drops : (n : ℕ) (old new : State) (count : ℕ) → IsTrue old.in_transaction → ExecutesInside 0 drop (int n ∷ []) old new (Ok count)
         → Inside HasTables (Drops t 1 (int n ∷ [])) old new
     drops n old new count inside ran = (
@@ -102,6 +105,7 @@ module _ (tree : ℕ) (name key_name : List ℕ) (columns : List Column) (unique
 
     -- ---- the upsert of a row
 
+    -- inside a transaction, the upsert that ran put its row, and replaced the row with the same number
     puts : (n : ℕ) (values : Row) → Fits columns values → (old new : State) (count : ℕ) → IsTrue old.in_transaction
         → ExecutesInside 0 put (int n ∷ values) old new (Ok count) → Inside HasTables (Puts t 1 (int n ∷ values)) old new
     unfolding first_key

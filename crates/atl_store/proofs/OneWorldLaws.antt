@@ -6,7 +6,7 @@ use Rattle.atl_tables.specs.declared.fault.WorldFault.{WorldFault}
 use Rattle.atl_store.specs.OneWorld.{HoldsOneWorld}
 use Rattle.atl_store.proofs.AlikeLaws.{one_text}
 
--- equal results have equal worlds
+-- two equal results of reading world texts have equal worlds
 pub same_world : (v w : WorldValue) → ◌≡◌ {A = Result WorldValue WorldFault} (Ok v) (Ok w) → v ≡ w
 same_world v w is = cc
 

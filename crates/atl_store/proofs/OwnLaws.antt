@@ -36,6 +36,7 @@ one_mapped f (x ∷ z ∷ xs) y is = absurd (let k = is in cc)
 
 -- a row as it was read equals a row with this world text
 module _ (own : StoredCampaign) (h : StoredCampaignRow) (text : List ℕ) (is : campaign_stored own ≡ own_stored text h) where
+  -- the columns of both rows at the same index are equal
   at : (n : ℕ) → column (campaign_stored own) n ≡ column (own_stored text h) n
   at n = ap (λ r. column r n) is
 
@@ -47,7 +48,7 @@ module _ (own : StoredCampaign) (h : StoredCampaignRow) (text : List ℕ) (is : 
   pub same_format : own.head.format ≡ h.format
   same_format = let e = at 1 in cc
 
-  -- the world text that was read is this text
+  -- the world texts of both rows are equal
   pub same_text : string_bytes own.world ≡ text
   same_text = let e = at 7 in cc
 

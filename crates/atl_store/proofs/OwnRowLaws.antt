@@ -42,7 +42,7 @@ ours = listed Own
 abbrev pub own_terms : List Term
 own_terms = lit (Int (pos 1)) ∷ lit Null ∷ lit (Int (pos 2)) ∷ col 0 0 ∷ col 0 1 ∷ col 0 2 ∷ col 0 3 ∷ col 0 4 ∷ col 0 5 ∷ []
 
--- the row that the INSERT makes
+-- the stored campaign row that the INSERT makes of these values and this world text
 abbrev src : CampaignRowValue → List ℕ → Row
 src head world = int 1 ∷ Null ∷ int 2 ∷ campaign_row_values head world
 

@@ -155,7 +155,7 @@ entry_has_goods_row n held Skill thing amount there some = has_right (made.rows_
 row_of_goods : (units : FinMap nat_cmp Unit) (r : Row) (n : ℕ) (unit : Unit) → Has (entries units) (n, unit) → (a : StoredHas) → r ≡ has_values a → (sort : ThingKind) (e : ℕ × ℕ) → Has (entries (things_of sort unit.holding)) e → e.1 ≢ 0 → a ≡ made.has_row n (sort_number sort) e.0 e.1 → HasRowsOf units r
 row_of_goods units r n unit there a is sort e has some made_is = (n, unit, entry_got units n unit there, sort, e.0, e.1, entry_got (things_of sort unit.holding) e.0 e.1 has, some, is ∙ ap has_values made_is)
 
--- the table `has` has exactly the rows of what the units have
+-- the table `has` has exactly the rows of what the units have, if the rows that were read of it are made of the units
 goods_held : (rows : List Row) (read : List StoredHas) (units : FinMap nat_cmp Unit) → IsPermutation rows (map has_values read) → IsPermutation (made.has_rows (entries units)) read → Is rows (HasRowsOf units)
 goods_held rows read units in_table of_them r =
     let is = are_made has_values rows read (made.has_rows (entries units)) in_table of_them r in (
@@ -173,7 +173,7 @@ goods_held rows read units in_table of_them r =
 
 -- ---- the stocks
 
--- the table `market` has exactly the rows of the regions' stocks
+-- the table `market` has exactly the rows of the regions' stocks, if the rows that were read are made of the regions
 stocks_held : (rows : List Row) (read : List StoredMarket) (regions : FinMap nat_cmp Region) → IsPermutation rows (map market_values read) → IsPermutation (made.market_rows Second (entries regions)) read → Is rows (MarketRowsOf regions)
 stocks_held rows read regions in_table of_them r =
     let is = are_made market_values rows read (made.market_rows Second (entries regions)) in_table of_them r in (
@@ -206,7 +206,7 @@ each_of P [] x all there = absurd there
 each_of P (y ∷ xs) x all (inl same) = subst P (sym same) all.0
 each_of P (y ∷ xs) x all (inr later) = each_of P xs x all.1 later
 
--- if each element of `ys` is in `xs`, then so by recursion over `ys`
+-- if each element of `ys` is in `xs`, then all of `ys` are, in the form of `AllByRecursion`
 all_has : {A : Type 0} (xs ys : List A) → ((x : A) → Has ys x → Has xs x) → AllByRecursion (Has xs) ys
 all_has xs [] within = tt
 all_has xs (y ∷ ys) within = (within y (inl refl), all_has xs ys (λ x there. within x (inr there)))

@@ -38,6 +38,7 @@ module _ {S : Type 0} (g : Ghosts S) (table : Table) (key : ℕ) where
       among g (λ sql params only. (only.0, subst (λ (l : List Row). Has l params) (sym is) (inl only.1))) (weaker g (one_put table key row rows is) done)
 
   module _ (xs ys : List Row) where
+    -- a write of rows of the first list is one of rows of both lists joined
     first_part : {Does : State → State → Type 0} {A : Type 0} {r : Result A Error} {a b : MutBor (Held S)} → Writes g (Each (upsert table key) (Has xs)) Does r a b → Writes g (Each (upsert table key) (Has (xs ++ ys))) Does r a b
     first_part done = among_each g (upsert table key) (Has xs) (λ row there. (refl, has_left xs ys row there)) done
 
@@ -56,6 +57,7 @@ module _ {S : Type 0} (g : Ghosts S) (table : Table) (key : ℕ) where
   putting_begins rest all same = record { so_far = begins g (none_yet table key rest all same); left = λ row there. subst (λ (l : List Row). Has l row) same there }
 
   module _ (xs rest was all : List Row) (is : was ≡ xs ++ rest) where
+    -- a write of the next rows is one of rows of the whole list
     next_part : {old now : MutBor (Held S)} {Does : State → State → Type 0} {A : Type 0} {r : Result A Error} {a b : MutBor (Held S)} → Putting g table key was all old now → Writes g (Each (upsert table key) (Has xs)) Does r a b → Writes g (Each (upsert table key) (Has all)) Does r a b
     next_part so_far more = among_each g (upsert table key) (Has xs) (λ row there. (refl, so_far.left row (subst (λ (l : List Row). Has l row) (sym is) (has_left xs rest row there)))) more
 

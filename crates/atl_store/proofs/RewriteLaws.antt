@@ -26,7 +26,7 @@ use Rattle.atl_store.proofs.WholeLaws.{inside_weaker}
 
 -- ---- one step after another
 
--- rewriting the rows of one test and then of another rewrites those of both
+-- for one row: choosing by the test `p`, and then by `q`, is choosing by "`p` or `q`"
 chosen_step : (p q : Bool) (W M N : Type 0) → N ↔ Chosen p W M → Chosen q W N ↔ Chosen (p || q) W M
 chosen_step true true W M N same = (λ h. h, λ h. h)
 chosen_step false true W M N same = (λ h. h, λ h. h)
@@ -106,13 +106,13 @@ module _ (table : Table) (Wanted : Set) where
     others = λ t listed other. two.others t listed other ∙ one.others t listed other;
   }
 
-  -- a step that chooses no row does nothing
+  -- doing nothing rewrites the rows of a test that chooses no row
   pub none_chosen : (step : Row → Bool) → ((r : Row) → step r ≡ false) → (s : State) → Inside HasTables (Rewrites table step Wanted) s s
   none_chosen step none s = all_rewritten step step step none (λ r. refl) s s (none_nearer step step (λ r. refl) s)
 
 -- ---- numbers
 
--- two numbers that are equal by their order are equal
+-- two numbers that are equal by the order of numbers are equal
 pub tied : (k n : ℕ) → eq_by_cmp nat_cmp k n ≡ true → k ≡ n
 tied k n is = elim (nat_cmp k n) as (λ o. nat_cmp k n ≡ o → is_eq o ≡ true → k ≡ n) [
   | Less ↦ λ _ never. absurd (true≢false (sym never))
@@ -120,7 +120,7 @@ tied k n is = elim (nat_cmp k n) as (λ o. nat_cmp k n ≡ o → is_eq o ≡ tru
   | Greater ↦ λ _ never. absurd (true≢false (sym never))
 ] refl is
 
--- each number is equal to itself by their order
+-- each number is equal to itself by the order of numbers
 pub is_itself : (n : ℕ) → eq_by_cmp nat_cmp n n ≡ true
 is_itself n = ap is_eq (tied_itself nat_cmp_total n)
 
@@ -181,6 +181,7 @@ module _ (table : Table) (Wanted : Set) where
 
 -- A test `p` that finds exactly the rows of a key, and new rows that are exactly the wanted rows of the key.
 module _ (p : Row → Bool) (Key New Wanted : Set) (found : (r : Row) → p r ≡ true → Key r) (finds : (r : Row) → Key r → p r ≡ true) (news : (r : Row) → New r → Key r × Wanted r) (olds : (r : Row) → p r ≡ true → Wanted r → New r) where
+  -- for one row: replacing the rows of the key by the new ones is choosing between wanted and old rows by the test
   in_place : (Were : Type 0) (r : Row) → (New r ⊎ (Were × ¬ Key r)) ↔ Chosen (p r) (Wanted r) Were
   in_place Were r = (ahead, back (p r) refl)
     where

@@ -58,7 +58,7 @@ columns_of Books = first books_table 3 ++ kept_at ∷ []
 columns_of Markets = first market_table 3 ++ kept_at ∷ []
 columns_of part = first (table_of part) (length (table_of part).columns)
 
--- the number of columns of the key
+-- the number of columns of the key of a part's table
 abbrev key_of : Part → ℕ
 key_of Goods = 3
 key_of Books = 2

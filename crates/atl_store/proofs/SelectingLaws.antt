@@ -17,6 +17,7 @@ use Rattle.atl_store.specs.declared.fault.ReadFault.TheVariants.{Store, Refused,
 use Rattle.atl_store.proofs.KeepLaws.{survives_more, if_ok, if_err}
 
 module _ (old new : State) (inside : IsTrue old.in_transaction) (sql : List ℕ) (params : Row) where
+  -- a statement that wrote inside a transaction commits nothing
   writes_keep : (what : Option Returning) (command : _) (text : List ℕ) (row : Row) (count : ℕ) → Writes old new what command text row count → KeepsCommit old new
   writes_keep what command text row count w = record { was_open = λ _. w.shown.was_open; committed = λ _. w.shown.committed_is ∙ ap (λ b. cond b old.committed new.now) inside }
 
@@ -52,6 +53,7 @@ no_fewer faults = omega arith
 
 module _ {S : Type 0} (g : Ghosts S) (sql : List ℕ) (old begun mid end : Held S) (begins : begun ≡ record old { in_transaction = true }) (ended : end.in_transaction ≡ false)
     (one : Survives (state g begun) (state g mid) (λ _. ⊥)) (back : HasCleanDisk (state g end) → IsRolledBack (state g mid) (state g end)) (two : Survives (state g mid) (state g end) (λ _. ⊥)) where
+  -- after BEGIN the connection is in a transaction
   begun_inside : IsTrue (state g begun).in_transaction
   begun_inside = ap (λ (h : Held S). h.in_transaction) begins
 
@@ -83,6 +85,7 @@ module _ {S : Type 0} (g : Ghosts S) (sql : List ℕ) (old begun mid end : Held 
     idle = ended;
   }
 
+  -- inside a transaction a SELECT is never too late (`IsTooLate`): one that is refused failed as a query
   not_late : (e : Error) → FailsToQuery sql [] (state g begun) (state g mid) e ⊎ IsTooLate sql [] (state g begun) (state g mid) e → FailsToQuery sql [] (state g begun) (state g mid) e
   not_late e (inl failed) = failed
   not_late e (inr late) = absurd (let no = sym begun_inside ∙ late.3 in cc)

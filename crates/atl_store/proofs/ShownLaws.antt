@@ -21,14 +21,14 @@ whole_shown shown first whole tree rows same = subst (λ l. IsPermutation l (map
     kept [] = refl
     kept (r ∷ tree) = ap (λ x. x ∷ map first (map shown tree)) (whole r) ∙ ap (λ l. shown r ∷ l) (kept tree)
 
--- only a value of another type gives OtherType
+-- an error whose fault is OtherType is not lack of memory
 other_only : (e : Error) → value_fault e ≡ OtherType → IsTrue (not (is_memory e))
 other_only e is = elim (is_memory e) as (λ b. (if b then Memory else OtherType) ≡ OtherType → not b ≡ true) [
   | true ↦ λ same. absurd (let k = same in cc)
   | false ↦ λ _. refl
 ] is
 
--- a row that can't be read refuses the read with its fault
+-- if the fault of reading one row of an answer is OtherType, not all rows of the answer are typed
 pub refuses_row : (forms : List Form) (rows : List Row) (at : ℕ) (row : Row) (e : Error) → at < length rows → row ≡ get_or rows at row → (IsTrue (not (is_memory e)) → ¬ IsTyped forms row) → value_fault e ≡ OtherType → ¬ AreTyped forms rows
 refuses_row forms rows at row e within is refused told typed = refused (other_only e told) (typed row (has_at rows at row within is))
 
@@ -52,10 +52,10 @@ mapped_next shown cut all more a rows at row within is more_is same one =
 
 -- ---- rows with a text of UTF-8
 
--- a row of a report whose text is UTF-8 is typed
+-- a row of an integer and a text in UTF-8 is typed as a row of `report`
 pub report_typed : (row : Row) (n : ℤ) (text : List ℕ) → column row 0 ≡ Int n → column row 1 ≡ Text text → IsUtf8 text → IsTyped report_forms row
 report_typed row n text first second utf8 = ((n, first), ((text, second, utf8), tt))
 
--- a campaign row whose world text is UTF-8 is typed
+-- a campaign row is typed, if its world text is UTF-8 and its other columns are typed
 pub campaign_typed : (row : Row) (text : List ℕ) → IsTyped campaign_row_forms row → column row 7 ≡ Text text → IsUtf8 text → IsTyped campaign_forms row
 campaign_typed row text head last utf8 = (head.0, (head.1.0, (head.1.1.0, (head.1.1.1.0, (head.1.1.1.1.0, (head.1.1.1.1.1.0, (head.1.1.1.1.1.1.0, ((text, last, utf8), tt))))))))

@@ -20,7 +20,7 @@ use Rattle.atl_store.proofs.RewriteLaws.{Nearing, one_nearer, all_rewritten, tie
 
 -- ---- the entries of a map
 
--- a key is among those of the entries exactly if one is found
+-- a number is among the keys of the entries exactly if a look-up finds it
 listed_key : {V : Type 0} (es : List (ℕ × V)) (t : ℕ) → is_among (map (λ e. e.0) es) t ≡ is_some (find nat_cmp t es)
 listed_key [] t = refl
 listed_key (e ∷ es) t = elim (eq_by_cmp nat_cmp t e.0) as (λ b. (b || is_among (map (λ x. x.0) es) t) ≡ is_some (cond b (Some e.1) (find nat_cmp t es))) [ true ↦ refl | false ↦ listed_key es t ]

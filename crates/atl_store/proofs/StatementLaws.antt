@@ -41,12 +41,14 @@ use Rattle.atl_store.proofs.UpsertLaws.{update_query, clause_on, Upserted, upser
 use Rattle.sqlite_sql.specs.Program.{overlay}
 use Rattle.sqlite_schema.specs.declared.command.Conflict.TheVariants.{Abort}
 
+-- the mode in which statements run: foreign keys are checked at once, so no check is put off or in doubt
 abbrev pub mode : Mode
 mode = record { keys = Enforced; in_doubt = false; may_wait = false }
 
 module _ (schema : Schema) (tree : ℕ) (name : List ℕ) (columns : List Column) (key : Option ℕ) (primary : List ℕ) (uniques : List (List ℕ)) (checks : List Term)
     (at : ℕ) (place : slice_get schema.tables at ≡ Some (table tree name columns key primary uniques checks))
     (unlinked : (olds news : List Row) → works schema Enforced 0 tree olds news ≡ []) where
+  -- the table at index `at` of the schema
   abbrev t : Table
   t = table tree name columns key primary uniques checks
 
@@ -54,13 +56,16 @@ module _ (schema : Schema) (tree : ℕ) (name : List ℕ) (columns : List Column
   abbrev pub made : Trees → Row → Row
   made db src = with_rowid Chosen (db tree) (cast_row t (mended Replace t src))
 
+  -- what a statement on the table `u` is run with: the limit, the schema, the table and the parameters
   abbrev task : Option ℕ → Row → Table → Task
   task limit params u = record { limit = limit; keys = Enforced; schema = schema; table = u; params = params }
 
+  -- counting the highest rowid after an INSERT leaves the trees, since the table has no AUTOINCREMENT
   counted : (limit : Option ℕ) (params : Row) (db : Trees) (done : Written × ℤ) (counter : Option Row) (w : Written)
       → Then (Counts (task limit params t) done.0.trees counter done.1) (λ next. Gives (record done.0 { trees = next })) (Ok w) → w.trees ≡ done.0.trees
   counted limit params db done counter w h = let counts = went h in ap (λ (x : Written). x.trees) (same_value counts.2) ∙ same_value counts.1
 
+  -- the end of a statement leaves the trees that it wrote, and the schema
   concluded : (limit : Option ℕ) (params : Row) (w : Written) (out : Tally × Database) → Concludes (task limit params t) mode None w (Ok out)
       → (out.1.trees ≡ w.trees) × (out.1.schema ≡ schema)
   concluded limit params w out h =
@@ -87,6 +92,7 @@ module _ (schema : Schema) (tree : ℕ) (name : List ℕ) (columns : List Column
   made_up db src = with_rowid Chosen (db tree) (cast_row t src)
 
   module _ (limit : Option ℕ) (params : Row) (target : List ℕ) (hole : ℕ) (project : List Term) (plain : (db : Trees) → overlay db [] tree ≡ db tree) where
+    -- the program of the UPDATE
     abbrev q : Program
     q = record { lets = []; body = update_query tree hole project }
 
@@ -94,6 +100,7 @@ module _ (schema : Schema) (tree : ℕ) (name : List ℕ) (columns : List Column
     abbrev Changed : Row → Trees → Trees → Type 0
     Changed new db next = Upserted schema t unlinked limit params target hole project plain new db next
 
+    -- trying the one row of an upsert puts it, or changes the row with its key (`Changed`)
     each_upserts : (src : Row) (top : ℤ) (db : Trees) (done : Written × ℤ) → IsKeyed (db tree)
         → ((r : Row) → Has (db tree) r → column (params ++ rowid r ∷ shown t (made_up db src)) hole ≡ rowid r)
         → TriesEach (task limit params t) Abort (clause_on target q ∷ []) (src ∷ []) top (nothing db) (Ok done)
@@ -103,6 +110,7 @@ module _ (schema : Schema) (tree : ℕ) (name : List ℕ) (columns : List Column
         let is : done.0.trees ≡ one.0.trees = ap (λ (x : Written × ℤ). x.0.trees) (same_value one.2) in
         subst (Changed (made_up db src) db) (sym is) (upserts schema t unlinked limit params target hole project plain (made_up db src) db one.0 keyed aimed one.1)
 
+    -- an upsert whose terms make one row puts it, or changes the row with its key (`Changed`)
     rows_upsert : (terms : List Term) (width : ℕ) (src : Row) (db : Trees) (w : Written) → IsKeyed (db tree)
         → ((r : Row) → Has (db tree) r → column (params ++ rowid r ∷ shown t (made_up db src)) hole ≡ rowid r)
         → value_rows (params ++ []) width (length terms / width) terms ≡ src ∷ []

@@ -80,12 +80,13 @@ leaves_spares old new Commits clean off survives idle settled = record {
 
 -- the fault of a creation that an error of the database ended
 module _ {S : Type 0} (g : Ghosts S) (text : List ℕ) (c : CampaignValue) (old new : Held S) (ready : IsReadyToCreate (state g old)) (fails : FailsToCreate g text c old new) where
+  -- a creation that an error broke off is refused by its fault, which is not NotEmpty (`RefusesToCreate`)
   refused_as : (fault : CreateFault) → fault ≢ create.NotEmpty → BreaksOffCreation g text c old new fault → RefusesToCreate g text c old new fault
   refused_as create.NotEmpty other breaks = absurd (other refl)
   refused_as create.Store other breaks = (fails, inr breaks)
   refused_as create.Memory other breaks = (fails, breaks)
 
-  -- the fault of an error is never NotEmpty
+  -- the fault of `create` for an error of the database is never NotEmpty
   tells_more : (e : Error) → create_fault e ≢ create.NotEmpty
   tells_more e = go (is_memory e)
     where
@@ -125,7 +126,7 @@ commits_spares old new Before Does done before up has settled = (done.does (befo
 pub leaves_others : (old new : State) → LeavesOff old new → LeavesOthersAlone old new
 leaves_others old new off up has settled = subst (Carries old.now) (sym ((off.undone up).0 ∙ settled)) (carries_none old.now)
 
--- a statement that holds also holds if a result is an error
+-- a proposition that is true also holds if a result is an error
 pub on_err : {A E : Type 0} (r : Result A E) (P : Type 0) → P → OnErr r P
 on_err (Ok a) P p = tt
 on_err (Err e) P p = p

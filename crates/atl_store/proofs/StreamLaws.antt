@@ -32,7 +32,7 @@ rests_then old mid new first rests = record {
   same = λ up. let same = rests.same up in (elim same.0 [ inl last ↦ inl (last ∙ first.0.committed_is) | inr as_it_was ↦ inr (as_it_was ∙ first.0.now_is) ], same.1 ∙ first.0.committed_is);
 }
 
--- two calls that leave the connection at rest do so together
+-- two calls that each leave the connection at rest (`Rests`) leave it at rest together
 rests_both : (old mid new : State) → Rests old mid → Rests mid new → Rests old new
 rests_both old mid new one two = record {
   was_open = λ up. one.was_open (two.was_open up);
@@ -57,7 +57,7 @@ asked_then old mid new one two = record {
   faults = omega (arith, one.faults, two.faults);
 }
 
--- a plain query commits nothing
+-- a query that may commit only what it shows (`CommitsShowing`) commits nothing, if it is plain (`IsPlain`)
 pub commits_nothing : (sql : List ℕ) (old new : State) → IsPlain (understood old.now.schema sql) → Survives old new (CommitsShowing sql [] old) → Survives old new (λ _. ⊥)
 commits_nothing sql old new plain = survives_weaker old new _ _ (λ _ db. never_commits sql [] old db plain)
 
@@ -107,12 +107,15 @@ module _ {S : Type 0} (g : Ghosts S) (sql : List ℕ) (old : Held S) where
     }
 
   module _ (given : List Row) (mid now : Held S) (giving : IsGiving g sql old given mid) (survives : Survives (state g mid) (state g now) (λ _. ⊥)) (idle : mid.in_transaction ≡ false → now.in_transaction ≡ false) where
+    -- the disk was clean before the next row was asked for, if it is clean after it
     clean_before : HasCleanDisk (state g now) → HasCleanDisk (state g mid)
     clean_before clean = omega (arith, survives.clean, clean)
 
+    -- the query commits nothing up to the next row
     survived : Survives (state g old) (state g now) (λ _. ⊥)
     survived = survives_more (state g old) (state g mid) (state g now) giving.survives survives
 
+    -- the connection was unchanged before the next row was asked for, if the disk is clean after it
     same_before : HasCleanDisk (state g now) → IsUnchanged (state g old) (state g mid)
     same_before clean = (giving.given_so (clean_before clean)).1
 

@@ -15,6 +15,7 @@ use Rattle.sqlite_value.proofs.OrderLemmas.{value_cmp_total}
 use Rattle.atl_store.specs.Shown.{int}
 use Rattle.atl_store.proofs.UpsertLaws.{equal_is, is_equal}
 
+-- a choice between a value and the same value is this value
 either : (b : Bool) (x : Value) → cond b x x ≡ x
 either true x = refl
 either false x = refl

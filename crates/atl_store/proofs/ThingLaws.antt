@@ -56,7 +56,7 @@ module _ (unit : ℕ) (sort : ThingKind) (thing : ℕ) where
       equals a b is = grind (arith, nat_tests)
   key_of row is = absurd (true≢false (sym is))
 
-  -- a row with the key of unit, kind and thing is the row of these
+  -- a row with the key of unit, kind and thing is of this unit, kind and thing
   of_key : (r : Row) → take 3 r ≡ has_key unit (sort_number sort) thing → is_here r ≡ true
   of_key [] key = absurd cc
   of_key (u ∷ []) key = absurd cc
@@ -72,7 +72,7 @@ module _ (unit : ℕ) (sort : ThingKind) (thing : ℕ) where
       itself a = grind (arith, nat_tests)
 
   module _ (c : CampaignValue) (amount : ℕ) (is : amount ≡ amount_under c.units unit sort thing) where
-    -- the row of the thing
+    -- the row of `has` of this unit, kind and thing
     abbrev row : Row
     row = has_row unit (sort_number sort) thing amount
 

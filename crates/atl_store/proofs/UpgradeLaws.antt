@@ -41,6 +41,7 @@ no_rows = record { apart = tt; ints = tt }
 
 -- the table `market` is made after just the tables of the first format
 module _ (old new : Database) (is : IsFirstFormat old) (made : Creates old_schema new_schema market_table.tree old new) where
+  -- after the table `market` is made, the database has the tables of a campaign (`HasTables`)
   has_all : HasTables new
   has_all = record {
     begins = record { tables = []; indexes = []; is = made.schema_is; free = tt; plain = λ i none. absurd none };

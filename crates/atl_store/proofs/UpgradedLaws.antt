@@ -38,7 +38,7 @@ pub told_as : {A F : Type 0} (P : F → Type 0) (r : Result A F) (fault : F) →
 told_as P (Ok a) fault told p = tt
 told_as P (Err f) fault told p = subst P (sym told) p
 
--- a fault of loading the old campaign is the first check that fails
+-- a fault of loading in the first format is a check of the upgrade that failed (`FailsCheck`)
 pub unloaded : {S : Type 0} (g : Ghosts S) (text : List ℕ) (old mid : Held S) (fault : LoadFault) → RefusesToLoadIn First g old fault → FailsCheck g text old mid (first_fault fault)
 unloaded g text old mid load.Store refused = inl refused
 unloaded g text old mid (load.Damaged rule) refused = refused
@@ -138,7 +138,7 @@ module _ {S : Type 0} (g : Ghosts S) (text : List ℕ) (old mid new : Held S) (w
   abbrev Wrote : {A : Type 0} → Result A Error → Type 0
   Wrote r = Transacts g (OfUpgrade text c.value) IsFirstFormat (WritesUpgrade text c.value) r mid new
 
-  -- the tables are just those of the first format
+  -- the loaded tables are just those of the first format, if the schema is (`IsFirstFormat`)
   is_old : IsJustOld mid.schema → HasCleanDisk (state g mid) → IsFirstFormat (state g mid).now
   is_old just clean = let stands = ready.loads.stands clean in record { just = just; keyed = stands.keyed; listed = stands.listed }
 

@@ -46,11 +46,12 @@ use Rattle.atl_store.proofs.EditLaws.{delete_query, Swaps, puts, went, same_valu
 
 -- ---- SQL's = on integers
 
+-- a boolean read back from its SQL truth value is itself
 truth_again : (b : Bool) → is_true (from_truth (Some b)) ≡ b
 truth_again true = refl
 truth_again false = refl
 
--- SQL's = on integers is equality by their order
+-- SQL's = on integers is equality by the order of values
 pub equal_ints : (a b : Value) → is_int a ≡ true → is_int b ≡ true → equal Binary a b ≡ is_eq (value_cmp a b)
 unfolding binary
 equal_ints (Int m) (Int n) p q = truth_again _
@@ -67,7 +68,7 @@ equal_ints (Blob x) b p q = absurd (true≢false (sym p))
 same_int : (m n : ℤ) → is_eq (value_cmp (Int m) (Int n)) ≡ true → m ≡ n
 same_int m n h = let k = rw (value_cmp-Int m n) at h in grind (arith, ints, nat_tests)
 
--- integers equal by their order are equal
+-- integers that are equal by the order of values are equal
 pub same_ints : (a b : Value) → is_int a ≡ true → is_int b ≡ true → is_eq (value_cmp a b) ≡ true → a ≡ b
 same_ints (Int m) (Int n) p q h = ap Int (same_int m n h)
 same_ints (Int m) Null p q h = absurd (true≢false (sym q))
@@ -93,7 +94,7 @@ ne_or_eq Less h = absurd (true≢false h)
 ne_or_eq Equal h = refl
 ne_or_eq Greater h = absurd (true≢false h)
 
--- integers that don't differ are equal by their order
+-- integers that don't differ by SQL are equal by the order of values
 pub differ_not : (a b : Value) → is_int a ≡ true → is_int b ≡ true → differ a b ≡ false → is_eq (value_cmp a b) ≡ true
 unfolding binary
 differ_not (Int m) (Int n) p q h = ne_or_eq _ (sym (truth_again _) ∙ h)
@@ -113,6 +114,7 @@ abbrev pub update_query : ℕ → ℕ → List Term → Query
 update_query tree place project = record (delete_query tree (op2 (Compare Eq Binary) (col 1 0) (col 0 place) ∷ [])) { project = col 1 0 ∷ project }
 
 module _ (p : Row → Bool) (f : Row → Env) where
+  -- what a query by the test `p` chooses: the image by `f` of each row that passes
   abbrev chosen : List Row → List Env
   chosen rows = flat_map (λ r. cond (p r) (f r ∷ []) []) rows
 
@@ -164,10 +166,11 @@ clause_on target q = record { target = Some target; update = Some q }
 
 module _ (schema : Schema) (t : Table) (unlinked : (olds news : List Row) → works schema Enforced 0 t.tree olds news ≡ []) (limit : Option ℕ) (params : Row)
     (target : List ℕ) (place : ℕ) (project : List Term) (plain : (db : Trees) → overlay db [] t.tree ≡ db t.tree) where
-  -- the task of the upsert
+  -- what the upsert is run with: the limit, the schema, the table and the parameters
   abbrev upsert_task : Task
   upsert_task = record { limit = limit; keys = Enforced; schema = schema; table = t; params = params }
 
+  -- the program of the UPDATE
   abbrev q : Program
   q = record { lets = []; body = update_query t.tree place project }
 

@@ -27,7 +27,7 @@ inside_then Before First Second a b c one two = (
       record { does = (b.now, was.does, now.does); tables = now.tables; carries = carries_then a.now b.now c.now was.carries now.carries },
 )
 
--- a step that does something does whatever follows from it
+-- a step inside a transaction that does `Does` does `Less`, if `Less` follows from `Does`
 pub inside_weaker : (Before : Database → Type 0) (Does Less : Database → Database → Type 0) (a b : State) → (Before a.now → Does a.now b.now → Less a.now b.now) → Inside Before Does a b → Inside Before Less a b
 inside_weaker Before Does Less a b weaker h = (h.0, λ has. let did = h.1 has in record { does = weaker has did.does; tables = did.tables; carries = did.carries })
 
@@ -73,7 +73,7 @@ module _ {S : Type 0} (g : Ghosts S) (old begun mid end : Held S) (begins : begu
         is_open = shows.is_open;
       }
 
--- a statement that holds also holds if a result is an error
+-- a proposition that is true also holds if a result is an error
 given_err : {A E P : Type 0} (r : Result A E) → P → OnErr r P
 given_err (Ok a) p = tt
 given_err (Err e) p = p
@@ -94,7 +94,7 @@ module _ {S : Type 0} (g : Ghosts S) (old : Held S) (begun mid : MutBor (Held S)
   inside_begun : IsTrue (state g begun.now).in_transaction
   inside_begun = ap (λ (h : Held S). h.in_transaction) begins
 
-  -- if the step fails, the transaction is rolled back or ends with the connection
+  -- if the step fails and is rolled back, the whole is a transaction that fails with the step's error (`Transacts`)
   pub left_off : {own : Statements} {Inner : State → State → Type 0} {A B : Type 0} (r : Result A Error) {e : Error} → HandsOn e r → Writes g own Inner {A = B} (Err e) begun mid
       → (HasCleanDisk (state g end) → IsRolledBack (state g mid.now) (state g end)) → Survives (state g mid.now) (state g end) (λ _. ⊥) → Transacts g own Before Does r old end
   left_off {own = own} r {e = e} failed did back survives = record {
@@ -105,7 +105,7 @@ module _ {S : Type 0} (g : Ghosts S) (old : Held S) (begun mid : MutBor (Held S)
     idle = over;
   }
 
-  -- if the step is done, the end is that of the commit
+  -- if the step is done, the whole is a transaction with the result of the commit (`Transacts`)
   pub committed : {own : Statements} {A B : Type 0} {b : B} (r : Result A Error) → Writes g own (Inside Before Does) (Ok b) begun mid
       → (HasCleanDisk (state g end) → OnOk r (IsTrue (state g mid.now).in_transaction × Shows (state g mid.now) (state g end) (state g mid.now).now (state g mid.now).now false × KeepsCounts (state g mid.now) (state g end) × ((state g end).marks ≡ [])))
       → (HasCleanDisk (state g end) → IfErr r (FailsToCommit (state g mid.now) (state g end))) → Survives (state g mid.now) (state g end) (λ db. db ≡ (state g mid.now).now.trees) → Transacts g own Before Does r old end

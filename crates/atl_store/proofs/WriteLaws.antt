@@ -88,11 +88,11 @@ module _ {S : Type 0} (g : Ghosts S) where
 
   -- ---- one step after another
 
-  -- a write that does something does whatever follows from it
+  -- a write that does `First` does `Does`, if `Does` follows from `First`
   pub weaker : {own : Statements} {First Does : State → State → Type 0} {A : Type 0} {r : Result A Error} {a b : MutBor (Held S)} → ((old new : State) → First old new → Does old new) → Writes g own First r a b → Writes g own Does r a b
   weaker {r = r} less one = record { same_reference = one.same_reference; does = λ clean. on_ok r (less _ _) (one.does clean); goes_on = one.goes_on; reaches = one.reaches; told = one.told; kept = one.kept; survives = one.survives }
 
-  -- a write by some statements is one by more
+  -- a write by statements of `own` is one by statements of `more`, which has all of them
   pub among : {own more : Statements} {Does : State → State → Type 0} {A : Type 0} {r : Result A Error} {a b : MutBor (Held S)} → ((sql : List ℕ) (params : Row) → own sql params → more sql params) → Writes g own Does r a b → Writes g more Does r a b
   among {own = own} {more = more} {r = r} {a = a} {b = b} within one = record {
     same_reference = one.same_reference;
@@ -104,11 +104,11 @@ module _ {S : Type 0} (g : Ghosts S) where
     survives = one.survives;
   }
 
-  -- a write by one statement is one by those that it is among
+  -- a write by one statement is one by statements of `own`, if `own` has this one
   pub among_only : {own : Statements} {Does : State → State → Type 0} {A : Type 0} {r : Result A Error} {a b : MutBor (Held S)} (text : List ℕ) (values : Row) → own text values → Writes g (Only text values) Does r a b → Writes g own Does r a b
   among_only {own = own} text values is one = among (λ sql params only. subst (λ s. own s params) (sym only.0) (subst (own text) (sym only.1) is)) one
 
-  -- a write by the statements of one text is one by those that they are among
+  -- a write by the statements of one text is one by statements of `own`, if `own` has all of these
   pub among_each : {own : Statements} {Does : State → State → Type 0} {A : Type 0} {r : Result A Error} {a b : MutBor (Held S)} (text : List ℕ) (rows : Set) → ((row : Row) → rows row → own text row) → Writes g (Each text rows) Does r a b → Writes g own Does r a b
   among_each {own = own} text rows are one = among (λ sql params each. subst (λ s. own s params) (sym each.0) (are params each.1)) one
 
@@ -165,7 +165,7 @@ module _ {S : Type 0} (g : Ghosts S) where
         survives = whole.survives;
       }
 
-  -- a step done after others does what they do together, without an error
+  -- steps that have done `First` without an error, and one more that does `Second`, have together done `Does` (`SoFar`)
   pub goes_on : {own : Statements} {First Second Does : State → State → Type 0} {u : Unit {0}} {a b c : MutBor (Held S)} → ((old mid new : State) → First old mid → Second mid new → Does old new) → SoFar g own First a b → Writes g own Second (Ok u) b c → SoFar g own Does a c
   goes_on both so_far more = two_steps both so_far more
 

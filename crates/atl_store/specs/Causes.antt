@@ -33,7 +33,7 @@ IsGiven own e before after = ((sql : List ℕ) × (params : Row) × own sql para
 abbrev pub IsBroken : State → State → Type 0
 IsBroken old new = MoreFaults old.faults new.faults ⊎ (old.is_open ≡ false)
 
--- the error is that something is too big, or the call changed nothing
+-- the call was refused: its error is that something is too big, or it changed nothing
 abbrev pub IsRefused : Error → State → State → Type 0
 IsRefused e before after = (e ≡ SqliteFailure TooBig) ⊎ IsUnchanged before after
 

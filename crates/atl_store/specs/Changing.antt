@@ -67,7 +67,7 @@ is_marked_amount marks entry thing = nat_le (suc entry) entry_count && contains 
 abbrev pub amount_marked : FinSet nat_cmp → Row → Bool
 amount_marked marks r = accounts (is_marked_amount marks) r
 
--- `Wanted` for true, `Were` for false
+-- one of two propositions by a flag, such as whether a row is dirty: `Wanted` if it is true, else `Were`
 abbrev pub Chosen : Bool → Type 0 → Type 0 → Type 0
 Chosen true Wanted Were = Wanted
 Chosen false Wanted Were = Were

@@ -133,7 +133,7 @@ AreNone reads = (read : Part × List Row) → Has reads read → read.1 ≡ []
 abbrev pub late_parts : List Part
 late_parts = drop (length (parts_in First)) all_parts
 
--- the SELECTs `some`, and in the second format `others` too
+-- the SELECTs of a format: `some`, and in the second format `others` too
 abbrev pub selects_by : Format → List (List ℕ × List Form) → List (List ℕ × List Form) → List (List ℕ × List Form)
 selects_by First some others = some
 selects_by Second some others = some ++ others
@@ -149,8 +149,8 @@ module _ {S : Type 0} (g : Ghosts S) (old : Held S) where
 
   -- ---- the other tables
 
-  -- Each of these SELECTs showed rows. Some: each value is of its column's form, and `P` holds of what was read.
-  -- None: a value of one of them is of another form than its column.
+  -- What reading by these SELECTs gives. Some: each value is of its column's form, and `P` holds of what was read.
+  -- None: a value in the rows of one of them is of another form than its column.
   abbrev pub Found : {A : Type 0} → List (List ℕ × List Form) → (A → Type 0) → Option A → Type 0
   Found selects P None = HasOtherType g old selects
   Found selects P (Some a) = AreToldTyped g old selects × P a

@@ -82,6 +82,7 @@ pub record LeavesOff (old new : State) : Type 0 where
   pub undone : IsTrue new.is_open → (new.now ≡ old.committed) × (new.committed ≡ old.committed)
   pub idle : new.in_transaction ≡ false
 
--- what a crash may leave besides: the trees of a database to which `Does` was done, if the tables were as `Before` says
+-- what a crash may leave besides what it could have left before: the trees of a database to which `Does` was done,
+-- if the tables were as `Before` says
 abbrev pub MayLeave : (Database → Type 0) → (Database → Database → Type 0) → State → Trees → Type 0
 MayLeave Before Does old trees = (db : Database) × (Before old.now → Done Does old.now db) × (trees ≡ db.trees)

@@ -29,8 +29,8 @@ DifferInKey key (x ∷ xs) = ((y : Row) → Has xs y → take key x ≢ take key
 abbrev pub groups_of : {V : Type 0} → (ℕ → V → List Row) → List (ℕ × V) → List Row
 groups_of lines entries = flat_map (λ e. lines e.0 e.1) entries
 
--- The rows of each value begin with its number and differ in their key.
--- The rows of all values of the map together are those that are wanted.
+-- `lines` gives the rows of each value of the map: they begin with its number and differ in their key.
+-- The rows of all values together are those that are wanted.
 pub record AreGroups {V : Type 0} (lines : ℕ → V → List Row) (key : ℕ) (values : FinMap nat_cmp V) (Wanted : Set) : Type 0 where
   pub numbered : (n : ℕ) (v : V) (r : Row) → Has (lines n v) r → take 1 r ≡ int n ∷ []
   pub apart : (n : ℕ) (v : V) → DifferInKey key (lines n v)

@@ -280,9 +280,9 @@ module _ (f : Format) {S : Type 0} (g : Ghosts S) (old : Held S) where
   RefusesToLoadIn OtherFormat = HasOtherFormat
   RefusesToLoadIn Memory = MayReturnMemory g old
 
+-- The tables of the format hold exactly the rows of the text and the campaign, and all is committed.
 -- The connection is open and in no transaction.
--- The tables of the format hold exactly the rows of the text and the campaign.
--- All is committed, the trees list and obey the schema, and the rowids of each table are integers, no two alike.
+-- The trees list and obey the schema, and the rowids of each table are integers, no two alike.
 pub record StandsIn (f : Format) (s : State) (text : List ℕ) (c : CampaignValue) : Type 0 where
   pub idle : s.in_transaction ≡ false
   pub is_open : IsTrue s.is_open

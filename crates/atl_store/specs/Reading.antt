@@ -98,11 +98,11 @@ pub record PartSelect : Type 0 where
   pub select : List ℕ
   pub in_table : Trees → List Row
 
--- reads all columns of a table whose key is its first `key` columns
+-- how to read all columns of a table whose key is its first `key` columns
 abbrev pub whole : Format → Table → ℕ → PartSelect
 whole since t key = record { since = since; names = column_names t; select = selection t key; in_table = rows_in t }
 
--- reads all columns of a table whose key is its first `key` columns, and each row's rowid as a last column
+-- how to read all columns of a table whose key is its first `key` columns, and each row's rowid as a last column
 abbrev pub whole_with_ids : Format → Table → ℕ → PartSelect
 whole_with_ids since t key = record { since = since; names = column_names t ++ codes "rowid" ∷ []; select = selection_with_ids t key; in_table = rows_with_ids_in t }
 

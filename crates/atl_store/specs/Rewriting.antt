@@ -52,11 +52,11 @@ pub record FindsByNumbers (finds : (ℕ → ℕ → Bool) → Row → Bool) : Ty
   pub either : (f g : ℕ → ℕ → Bool) (r : Row) → finds (λ n t. f n t || g n t) r ≡ (finds f r || finds g r)
   pub none : (r : Row) → finds (λ n t. false) r ≡ false
 
--- the row of one number becomes the campaign's, or is deleted if there is none
+-- the row of one number becomes the campaign's, or is deleted if the campaign has no such row
 abbrev pub RewritesNumber : {V : Type 0} → Table → (ℕ → V → Row) → FinMap nat_cmp V → ℕ → Database → Database → Type 0
 RewritesNumber table line values n old new = Rewrites table (begins (is_number n)) (RowsOf line values) old new
 
--- the row of each marked number becomes the campaign's, or is deleted if there is none
+-- the row of each marked number becomes the campaign's, or is deleted if the campaign has no such row
 abbrev pub RewritesMarked : {V : Type 0} → Table → (ℕ → V → Row) → FinMap nat_cmp V → FinSet nat_cmp → Database → Database → Type 0
 RewritesMarked table line values marks old new = Rewrites table (begins_marked marks) (RowsOf line values) old new
 

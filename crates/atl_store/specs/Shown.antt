@@ -20,11 +20,11 @@ use Rattle.atl_store.specs.declared.rows.campaign.StoredCampaign.{StoredCampaign
 use Rattle.atl_store.specs.declared.rows.stored.RowWithId.{RowWithId}
 use Rattle.atl_store.specs.Stored.{Form, Number, Utf8Text, TextBytes, Bytes}
 
--- an integer, from a natural number
+-- the SQL integer of a natural number
 abbrev pub int : ℕ → Value
 int n = Int (pos n)
 
--- 1 for true, 0 for false
+-- the SQL integer of a flag: 1 for true, 0 for false
 abbrev pub flag : Bool → Value
 flag b = Int (if b then pos 1 else pos 0)
 

@@ -27,32 +27,34 @@ abbrev pub equations : ℕ → List (List ℕ) → List (List ℕ)
 equations n [] = []
 equations n (name ∷ more) = (name ++ codes " = " ++ parameter n) ∷ equations (n + 1) more
 
--- inserts a row, or, if its key is there, sets the other columns of the row that has it
+-- the statement that inserts a row, or, if its key is there, sets the other columns of the row that has it
 abbrev pub upsert : Table → ℕ → List ℕ
 upsert t key =
     codes "INSERT INTO " ++ t.name ++ codes " (" ++ comma_list (column_names t) ++ codes ") VALUES (" ++ comma_list (map parameter (range_with_len 1 (length t.columns)))
     ++ codes ") ON CONFLICT (" ++ comma_list (take key (column_names t)) ++ codes ") DO UPDATE SET " ++ comma_list (equations (key + 1) (drop key (column_names t)))
 
--- deletes the rows whose key, the first `key` columns, is given by the parameters
+-- the statement that deletes the rows whose key, the first `key` columns, is given by the parameters
 abbrev pub deletion : Table → ℕ → List ℕ
 deletion t key = codes "DELETE FROM " ++ t.name ++ codes " WHERE " ++ separated (codes " AND ") (equations 1 (take key (column_names t)))
 
--- shows the columns `names` of all rows of a table, in the order of the key
+-- the SELECT that shows the columns `names` of all rows of a table, in the order of the key
 abbrev pub selection_of : List (List ℕ) → Table → ℕ → List ℕ
 selection_of names t key = codes "SELECT " ++ comma_list names ++ codes " FROM " ++ t.name ++ codes " ORDER BY " ++ comma_list (take key (column_names t))
 
--- shows all columns of all rows of a table, in the order of the key
+-- the SELECT that shows all columns of all rows of a table, in the order of the key
 abbrev pub selection : Table → ℕ → List ℕ
 selection t key = selection_of (column_names t) t key
 
--- shows all columns of all rows of a table, and each row's rowid as a last column, in the order of the key
+-- the SELECT that shows all columns of all rows of a table, and the rowid as a last column, in the order of the key
 abbrev pub selection_with_ids : Table → ℕ → List ℕ
 selection_with_ids t key = selection_of (column_names t ++ codes "rowid" ∷ []) t key
 
--- inserts the campaign row, in the second format; if it is there, sets all but its `format` and its `world`
+-- the statement that inserts the campaign row, in the second format;
+-- if it is there, sets all but its `format` and its `world`
 abbrev pub campaign_upsert : List ℕ
 campaign_upsert = codes "INSERT INTO campaign (id, format, month, next_faction, next_unit, next_structure, pass, world) VALUES (1, 2, ?1, ?2, ?3, ?4, ?5, ?6) ON CONFLICT (id) DO UPDATE SET month = ?1, next_faction = ?2, next_unit = ?3, next_structure = ?4, pass = ?5"
 
--- inserts the campaign row, in the second format; if it is there, sets its `format` and its `world` alone
+-- the statement that inserts the campaign row, in the second format;
+-- if it is there, sets its `format` and its `world` alone
 abbrev pub upgrading_upsert : List ℕ
 upgrading_upsert = codes "INSERT INTO campaign (id, format, month, next_faction, next_unit, next_structure, pass, world) VALUES (1, 2, ?1, ?2, ?3, ?4, ?5, ?6) ON CONFLICT (id) DO UPDATE SET format = 2, world = ?6"

@@ -30,19 +30,19 @@ text name = field name Text
 
 -- ---- the unique key of a table, besides the row's number, by its columns' indexes in a stored row (0 is the rowid)
 
--- a faction's joined_as
+-- the unique key of `faction`, by its column's index in a stored row: joined_as
 abbrev pub faction_unique : List ℕ
 faction_unique = 2 ∷ []
 
--- unit, sort and thing
+-- the unique key of `has`, by its columns' indexes in a stored row: unit, sort and thing
 abbrev pub has_unique : List ℕ
 has_unique = 1 ∷ 2 ∷ 3 ∷ []
 
--- entry and thing
+-- the unique key of `books`, by its columns' indexes in a stored row: entry and thing
 abbrev pub books_unique : List ℕ
 books_unique = 1 ∷ 2 ∷ []
 
--- region and item
+-- the unique key of `market`, by its columns' indexes in a stored row: region and item
 abbrev pub market_unique : List ℕ
 market_unique = 1 ∷ 2 ∷ []
 
@@ -96,7 +96,7 @@ books_table = table 10 (codes "books") (number (codes "entry") ∷ number (codes
 abbrev pub market_table : Table
 market_table = table 12 (codes "market") (number (codes "region") ∷ number (codes "item") ∷ number (codes "stock") ∷ []) None market_unique (market_unique ∷ []) []
 
--- the parts of a campaign, one for each table
+-- the parts of a campaign, one for each table: `Own` is the campaign row, `Goods` what units have, `Markets` the stocks
 pub data Part : Type 0 where
   Own : Part
   Factions : Part
@@ -210,11 +210,11 @@ pub record Begins (count keys : ℕ) (schema : Schema) : Type 0 where
 
 -- ---- the schema of a campaign
 
--- how many tables there are: ten
+-- how many tables a campaign has: ten
 abbrev pub table_count : ℕ
 table_count = length all_tables
 
--- how many indexes their keys have: four
+-- how many indexes the keys of the ten tables have: four
 abbrev pub index_count : ℕ
 index_count = length all_indexes
 

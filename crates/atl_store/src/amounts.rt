@@ -10,11 +10,13 @@ use sqlite::{Alter, Error, Transaction};
 
 /// An owner of amounts of things; each amount that is not 0 has a row of a table.
 pub(crate) trait AmountWriter: Copy {
+    // The table that has the amounts' rows.
     ghost table: { Table };
 
-    // How many columns the table's key has; then the row of an amount of a thing.
+    // How many columns the table's key has.
     ghost key: { ℕ };
 
+    // The row of an amount of a thing that the owner has.
     ghost line: { Self → ℕ → ℕ → SqlRow };
 
     /// Inserts the row of an amount of a thing, or changes the row with the same key.

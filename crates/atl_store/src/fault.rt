@@ -15,7 +15,7 @@ use std::fmt;
 pub enum WriteFault {
     /// The database refuses for another cause than memory.
     Store,
-    /// There is no memory for it.
+    /// Memory ran out.
     Memory,
 }
 
@@ -28,18 +28,19 @@ pub enum CreateFault {
     /// The database refuses for another cause than memory, has other tables, or is in a
     /// transaction.
     Store,
-    /// There is no memory for it.
+    /// Memory ran out.
     Memory,
 }
 
 /// Why the rows of a table are not read. Nothing is changed.
 #[derive(Drop, Clone, Copy, Debug, PartialEq, Eq)]
 pub enum ReadFault {
-    /// The disk fails or is full, it is shut, something is too big, or it takes too many steps.
+    /// The disk fails, is full or is damaged, the connection is shut, something is too big, or the
+    /// SELECT takes too many steps.
     Store,
     /// The database refuses for another cause: there is no such table, or it lacks a column.
     Refused,
-    /// There is no memory for them.
+    /// Memory ran out.
     Memory,
     /// A value is of another type than its column, or is a text that is not UTF-8 where it has
     /// to be.
@@ -58,7 +59,7 @@ pub enum StoreFault {
     NotACampaign,
     /// `campaign` has one row, whose format is the first: the file is to be upgraded.
     OldFormat,
-    /// There is no memory for it.
+    /// Memory ran out.
     Memory,
 }
 
@@ -74,7 +75,7 @@ pub enum LoadFault {
     NotACampaign,
     /// `campaign` has one row, whose format is the other one.
     OtherFormat,
-    /// There is no memory for it.
+    /// Memory ran out.
     Memory,
 }
 
@@ -95,7 +96,7 @@ pub enum UpgradeFault {
     World(WorldFault),
     /// The new world differs from the old one in more than its markets.
     Differs,
-    /// There is no memory for it.
+    /// Memory ran out.
     Memory,
 }
 
@@ -363,7 +364,7 @@ impl UpgradeFault {
     }
 }
 
-/// The fault of reading for a value that can't be read: Memory, else OtherType.
+/// The fault for a value of a row that can't be read: Memory if memory ran out, else OtherType.
 pub(crate) fn unread(error: Error) -> ReadFault
     ensures { result ≡ value_fault error }
 {

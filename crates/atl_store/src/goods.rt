@@ -83,6 +83,7 @@ pub(crate) fn put_all_goods<S: Alter>(
     Ok(())
 }
 
+/// The rows of `has` that belong to a unit, by the unit's number.
 impl Grouped for Unit {
     ghost part = { Goods };
 

@@ -22,21 +22,28 @@ use sqlite::{Alter, Error, Transaction};
 
 /// A thing with its own row, and with rows of another table whose key begins with its number.
 pub(crate) trait Grouped: NumberedRow {
+    // The part whose table has the rows.
     ghost part: { Part };
 
+    // The rows of the part come in groups, one for each number.
     ghost is_grouped: { IsGroupedPart part };
 
     // How many columns of the key come after the number.
     ghost more: { ℕ };
 
+    // The part's key is the number and `more` columns.
     ghost is_key: { key_of part ≡ suc more };
 
+    // The rows of a thing with a number, as a list.
     ghost lines: { ℕ → Self → List SqlRow };
 
+    // The set of rows that the table has to have for a campaign.
     ghost wanted: { CampaignValue → SqlRow → Type 0 };
 
+    // The numbers whose rows are marked.
     ghost marks: { Marks → FinSet nat_cmp };
 
+    // Each wanted row is a row of the part.
     ghost are_rows: { (own : SqlRow) (c : CampaignValue) (r : SqlRow) → wanted c r → rows_for own c part r };
 
     /// The numbers whose rows are marked in a campaign, in rising order.

@@ -25,7 +25,7 @@ use atl_state::{Campaign, Entry, Faction, Thing, Unit};
 use atl_tables::Text;
 use sqlite::{Alter, Connection, Error, Transaction};
 
-/// A faction that joined, with its report and the unit that came last.
+/// A faction that joined, with its report and the unit numbered last, whose number is `place`.
 #[derive(Clone, Copy)]
 struct Arrival<'a> {
     number: u32,
@@ -35,7 +35,7 @@ struct Arrival<'a> {
     report: &'a Text,
 }
 
-/// The faction with this number, its report, and the unit that came last.
+/// The faction with this number, its report, and the unit numbered last (`next_unit - 1`).
 fn arrival_of(campaign: &Campaign, number: u32) -> Arrival<'_>
     requires { HasArrival campaign.now.value number }
     ensures found { IsFound campaign.now.value result.number result.faction.now result.place

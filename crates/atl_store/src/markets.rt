@@ -67,6 +67,7 @@ pub(crate) fn put_all_stocks<S: Alter>(
     Ok(())
 }
 
+/// The rows of `market` that belong to a region, by the region's number.
 impl Grouped for Region {
     ghost part = { Markets };
 

@@ -25,20 +25,28 @@ use sqlite::{Alter, Error, Transaction, params};
 
 /// A kind of thing with a number, such as factions: each has one row, whose key is the number.
 pub(crate) trait NumberedRow: Sized {
+    // The part that has a row for each thing of the kind.
     ghost part: { Part };
 
+    // Each row of the part has a number of its own as its key.
     ghost is_numbered: { IsNumberedPart part };
 
+    // The row of a thing with a number.
     ghost line: { ℕ → Self → SqlRow };
 
+    // The row of a thing begins with its number.
     ghost numbered: { (n : ℕ) (v : Self) → take 1 (line n v) ≡ int n ∷ [] };
 
+    // The things of the kind that a campaign has, by number.
     ghost values: { CampaignValue → FinMap nat_cmp Self };
 
+    // The numbers that are marked.
     ghost marks: { Marks → FinSet nat_cmp };
 
+    // The rows of the part are those of all things of the kind.
     ghost are_rows: { (own : SqlRow) (c : CampaignValue) (r : SqlRow) → rows_for own c part r ↔ RowsOf line (values c) r };
 
+    // A row of the part is marked exactly if its number is.
     ghost are_marked: { (m : Marks) (r : SqlRow) → is_marked m part r ≡ begins_marked (marks m) r };
 
     /// The thing of a campaign that has this number.

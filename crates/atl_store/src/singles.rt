@@ -18,13 +18,16 @@ use sqlite::{Alter, Error, Transaction};
 /// Amounts of one kind, each under the numbers of an owner and a thing, such as a unit's items or a
 /// region's stocks. Each amount has a row if it is not 0, and can be marked alone.
 pub(crate) trait SingleAmounts: Copy {
+    // The table that has the amounts' rows.
     ghost table: { Table };
 
+    // The set of rows that the table has to have for a campaign.
     ghost wanted: { CampaignValue → SqlRow → Type 0 };
 
     // Whether a test of owner and thing holds of a row.
     ghost finds: { Self → (ℕ → ℕ → Bool) → SqlRow → Bool };
 
+    // The single amounts that are marked, by the numbers of owner and thing.
     ghost marks: { Self → Marks → Things };
 
     /// The single amounts that are marked, by the numbers of owner and thing, in rising order.
@@ -44,7 +47,7 @@ pub(crate) trait SingleAmounts: Copy {
             (wanted campaign.now.value))) result tx.old.conn tx.new.conn };
 }
 
-/// Puts the rows of an owner's amounts, and deletes the rows of those that are 0.
+/// Puts the rows of an owner's amounts of these things, and deletes the rows of those that are 0.
 fn rewrite_under<A: SingleAmounts, S: Alter>(
     tx: &mut Transaction<'_, S>,
     campaign: &Campaign,

@@ -6,7 +6,7 @@ ghost use Rattle.atl_store.specs.Writes.{Writes, RunsStatement};
 use sqlite::types::ValueRef;
 use sqlite::{Alter, Error, Transaction};
 
-/// Runs a statement, however many rows it changes.
+/// Runs a statement with these parameters inside a transaction, however many rows it changes.
 pub(crate) fn run<S: Alter>(
     tx: &mut Transaction<'_, S>,
     sql: &str,

@@ -52,7 +52,7 @@ pub(crate) const FACTION: TableDefinition = TableDefinition {
     columns: columns!(Integer: b"number"; Text: b"joined_as" b"name" b"pass"; Integer: b"gone"),
 };
 
-/// The unique key of `faction`: `joined_as`.
+/// The unique key of `faction`, by its column's index in a stored row: `joined_as`.
 pub(crate) const FACTION_UNIQUE: [usize; 1] = [2];
 
 /// The tree of the index of the unique key of `faction`.
@@ -84,7 +84,7 @@ pub(crate) const HAS: TableDefinition = TableDefinition {
     columns: columns!(Integer: b"unit" b"sort" b"thing" b"amount"),
 };
 
-/// The unique key of `has`: `unit`, `sort` and `thing`.
+/// The unique key of `has`, by its columns' indexes in a stored row: `unit`, `sort` and `thing`.
 pub(crate) const HAS_UNIQUE: [usize; 3] = [1, 2, 3];
 
 /// The tree of the index of the unique key of `has`.
@@ -122,7 +122,7 @@ pub(crate) const BOOKS: TableDefinition = TableDefinition {
     columns: columns!(Integer: b"entry" b"thing" b"amount"),
 };
 
-/// The unique key of `books`: `entry` and `thing`.
+/// The unique key of `books`, by its columns' indexes in a stored row: `entry` and `thing`.
 pub(crate) const BOOKS_UNIQUE: [usize; 2] = [1, 2];
 
 /// The tree of the index of the unique key of `books`.
@@ -136,7 +136,7 @@ pub(crate) const MARKET: TableDefinition = TableDefinition {
     columns: columns!(Integer: b"region" b"item" b"stock"),
 };
 
-/// The unique key of `market`: `region` and `item`.
+/// The unique key of `market`, by its columns' indexes in a stored row: `region` and `item`.
 pub(crate) const MARKET_UNIQUE: [usize; 2] = [1, 2];
 
 /// The tree of the index of the unique key of `market`.

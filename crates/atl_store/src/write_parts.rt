@@ -36,20 +36,21 @@ pub(crate) type OtherParts = (
     ),
 );
 
-/// The books.
+/// The books, as a part to write.
 pub(crate) struct Ledger;
 
-/// The stocks of all markets.
+/// The stocks of all markets, as a part to write.
 pub(crate) struct Stocks;
 
-/// The units themselves, which the campaign holds in slots.
+/// The units themselves, which the campaign holds in slots, as a part to write.
 pub(crate) struct UnitRows;
 
-/// The items and skills of all units.
+/// The items and skills of all units, as a part to write.
 pub(crate) struct UnitGoods;
 
 /// One or more parts of a campaign that are written together, each into its table.
 pub(crate) trait WrittenPart {
+    // The parts that are written, in their order.
     ghost parts: { List Part };
 
     /// Puts all rows of these parts, into tables without a row.

@@ -8,6 +8,7 @@ use sqlite::{Alter, Connection, Error, params};
 
 /// A row that can be inserted into its table of the first format.
 trait Put {
+    /// Inserts the row; the result is how many rows were inserted.
     fn put<S: Alter>(&self, conn: &mut Connection<S>) -> Result<usize, Error>;
 }
 

@@ -31,9 +31,10 @@ pub(crate) trait Served {
         count: u32,
     ) -> Result<(), ListenFault>;
 
-    /// The number of the faction that comes next; 0 where the service is closed.
+    /// The number of the faction that joins next; 0 if the service is closed.
     fn next_faction(&self) -> u32;
 
+    /// The text of the books; None if the service is closed.
     fn books(&self) -> Option<Result<String, AllocError>>;
 }
 

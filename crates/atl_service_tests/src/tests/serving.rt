@@ -8,12 +8,16 @@ use std::test::Fail;
 
 /// The calls of a service.
 pub(crate) trait Served {
+    /// Runs one command, and returns its answer.
     fn run(&mut self, command: &Command) -> Answer;
 
+    /// Runs commands in turn, and returns an answer for each.
     fn run_all(&mut self, commands: &[Command]) -> Result<Vec<Answer>, AllocError>;
 
+    /// The campaign; None if the service is closed.
     fn campaign(&self) -> Option<&Campaign>;
 
+    /// The text of the books; None if the service is closed.
     fn books(&self) -> Option<Result<String, AllocError>>;
 }
 

@@ -14,7 +14,7 @@ use std::alloc::{AllocError, Global};
 use std::process::Abort;
 use std::test::Fail;
 
-/// The small world.
+/// The world that the text `SMALL` describes.
 fn small_world(alloc: Global) -> Result<World, Fail> {
     Ok(read_world(alloc, SMALL)?)
 }

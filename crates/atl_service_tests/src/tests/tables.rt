@@ -6,22 +6,31 @@ use std::process::Abort;
 /// Selects the next faction's number times 100,000, plus the next unit's.
 pub(crate) const NEXT: &str = "SELECT next_faction * 100000 + next_unit FROM campaign";
 
+/// Counts the factions, gone ones too.
 pub(crate) const FACTIONS: &str = "SELECT count(*) FROM faction";
 
+/// Counts the units.
 pub(crate) const UNITS: &str = "SELECT count(*) FROM unit";
 
+/// Sums the lengths of the stored reports.
 pub(crate) const REPORT_BYTES: &str = "SELECT sum(length(text)) FROM report";
 
+/// Sums all amounts of the books, of whatever entry and thing.
 pub(crate) const BOOKED: &str = "SELECT sum(amount) FROM books";
 
+/// Sums the money of all units.
 pub(crate) const MONEY: &str = "SELECT sum(money) FROM unit";
 
+/// Counts the stored mailings.
 pub(crate) const MAILINGS: &str = "SELECT count(*) FROM mail";
 
+/// Sums the lengths of the stored mailings in bytes.
 pub(crate) const MAIL_BYTES: &str = "SELECT sum(length(text)) FROM mail";
 
+/// Selects the month last closed.
 pub(crate) const MONTH: &str = "SELECT month FROM campaign";
 
+/// Sums the money of all regions.
 pub(crate) const REGION_MONEY: &str = "SELECT sum(money) FROM region";
 
 /// Sums what all units have of items.
@@ -45,6 +54,7 @@ pub(crate) const WAGES: &str = "SELECT amount FROM books WHERE entry = 4 AND thi
 /// Selects the money booked as upkeep.
 pub(crate) const UPKEEP: &str = "SELECT amount FROM books WHERE entry = 7 AND thing = 0";
 
+/// Selects the number of the file's format.
 pub(crate) const FORMAT: &str = "SELECT format FROM campaign";
 
 /// Counts the rows of stocks.

@@ -159,7 +159,7 @@ fn without_ids<T: Drop>(alloc: Global, placed: Vec<RowWithId<T>>) -> Result<Sequ
     Ok(Sequence::from_vec(rows))
 }
 
-/// Store, if two rows have the same rowid.
+/// The fault Store if two rows of a table have the same rowid, so that `are_apart` is false.
 fn check_apart(are_apart: bool) -> Result<(), LoadFault>
     ensures { result ≡ (if are_apart then Ok tt else Err Store) }
 {
@@ -170,7 +170,7 @@ fn check_apart(are_apart: bool) -> Result<(), LoadFault>
     }
 }
 
-/// These rows without their rowids; Store if two rows have the same rowid.
+/// The rows without their rowids, or the fault Store if two of them have the same rowid.
 pub(crate) fn rows_apart<T: Drop>(
     alloc: Global,
     placed: Vec<RowWithId<T>>,

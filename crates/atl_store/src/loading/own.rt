@@ -109,7 +109,7 @@ fn other(format: Format) -> Format
     }
 }
 
-/// Whether the second column of a row of `campaign`, its format, is the number of this one.
+/// Whether a row of `campaign` has the number of this format in its second column, `format`.
 fn says(row: &Row, format: Format) -> bool
     ensures { IsTrue result ↔ (column row.now 1 ≡ int (format_number format)) }
 {
@@ -119,7 +119,7 @@ fn says(row: &Row, format: Format) -> bool
     }
 }
 
-/// Whether SQL shows just one row, and of the other format, whatever else the row says.
+/// Whether `rows` is just one row, and of the other format than this one, whatever else it says.
 fn is_other(rows: &[Row], format: Format) -> bool
     ensures { IsTrue result ↔ (IsOther format rows.now) }
 {

@@ -55,7 +55,7 @@ pub(crate) fn bytes(row: &Row, at: usize) -> Result<Sequence<u8>, Error>
     Ok(Sequence::from_vec(bytes))
 }
 
-/// The whole numbers in two columns, of which this is the first.
+/// The whole numbers in the column `first` and in the next one.
 pub(crate) fn two_integers(row: &Row, first: usize) -> Result<(i64, i64), Error>
     requires { first ≤ 8 }
     ensures ok { IfOk result
@@ -69,7 +69,7 @@ pub(crate) fn two_integers(row: &Row, first: usize) -> Result<(i64, i64), Error>
     Ok((one, two))
 }
 
-/// The whole numbers in three columns, of which this is the first.
+/// The whole numbers in the column `first` and in the next two.
 pub(crate) fn three_integers(row: &Row, first: usize) -> Result<(i64, i64, i64), Error>
     requires { first ≤ 8 }
     ensures ok { IfOk result

@@ -16,7 +16,9 @@ use std::alloc::Global;
 /// The kind of a row of `has`: an amount of an item, or days of a skill.
 #[derive(Clone, Copy, Debug, PartialEq, Eq)]
 pub enum ThingKind {
+    /// An amount of an item.
     Item,
+    /// Days of a skill.
     Skill,
 }
 

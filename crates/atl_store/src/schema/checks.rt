@@ -30,7 +30,7 @@ fn sides(node: Option<&Op>) -> Option<(usize, usize)>
     }
 }
 
-/// Whether the node is the number of the row that is checked.
+/// Whether the node reads the number of the row that is checked, which is its column `id`.
 fn is_number(node: Option<&Op>) -> bool
     ensures { IsTrue result ↔ (option_copied node.entry ≡ Some (variant.Column 1 0)) }
 {
@@ -55,7 +55,7 @@ fn has_number_one(nodes: &[Op], root: usize) -> bool
     }
 }
 
-/// Whether the checks are one: that the row has the number 1.
+/// Whether a table has one CHECK, which says that the row's number is 1.
 pub(crate) fn is_own_row(checks: &Terms) -> bool
     ensures { IsTrue result ↔
         (checks.now ≡ op2 (Compare Eq Binary) (col 1 0) (lit (Int (pos 1))) ∷ []) }

@@ -19,7 +19,8 @@ pub(crate) fn is_numbered(found: &Table) -> bool
     found.key == Some(NUMBER_COLUMN) && found.primary.as_slice() == [ROW_NUMBER].as_slice()
 }
 
-/// Whether no column is the row's number, and the key is of these indexes of a stored row.
+/// Whether no column is the row's number, and the key has the columns at these indexes of a
+/// stored row.
 pub(crate) fn is_under(found: &Table, places: &[usize]) -> bool
     ensures { IsTrue result ↔ ((found.now.key ≡ None) × (found.now.primary ≡ places.now)) }
 {
@@ -50,7 +51,7 @@ fn is_one_key(keys: &[Items<usize>], places: &[usize]) -> bool
     }
 }
 
-/// Whether there is one order, which is plain.
+/// Whether there is one sort order, in which all columns ascend by their bytes.
 fn is_one_order(orders: &[Order]) -> bool
     ensures { IsTrue result ↔ (orders.now ≡ plain ∷ []) }
 {
@@ -60,7 +61,8 @@ fn is_one_order(orders: &[Order]) -> bool
     }
 }
 
-/// Whether the columns at these indexes of a stored row are the only unique key but the number.
+/// Whether the columns at these indexes of a stored row are the only unique key besides the
+/// row's number.
 pub(crate) fn is_unique(found: &Table, places: &[usize]) -> bool
     ensures { IsTrue result ↔
         ((found.now.uniques ≡ places.now ∷ []) × (found.now.orders ≡ plain ∷ [])) }

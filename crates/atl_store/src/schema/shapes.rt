@@ -30,7 +30,8 @@ fn is_without_more(found: &Table) -> bool
         && !found.is_counted
 }
 
-/// Whether the table is as defined in tree, name and columns, and has no more but keys and checks.
+/// Whether tree, name and columns are as defined, and the table has nothing else but keys and
+/// checks.
 pub(crate) fn is_strict(found: &Table, made: &TableDefinition) -> bool
     ensures { IsTrue result ↔
         (found.now ≡ record (table made.now.tree made.now.name.now
@@ -43,7 +44,8 @@ pub(crate) fn is_strict(found: &Table, made: &TableDefinition) -> bool
         && is_without_more(found)
 }
 
-/// Whether the table is as defined in tree, name and columns, and has no more but keys: no check.
+/// Whether tree, name and columns are as defined, and the table has nothing else but keys, so no
+/// check.
 fn is_unchecked(found: &Table, made: &TableDefinition) -> bool
     ensures { IsTrue result ↔
         (found.now ≡ record (table made.now.tree made.now.name.now

@@ -2,6 +2,7 @@
 use super::script::play_new;
 use std::test::Fail;
 
+/// After a founding the tables have the campaign row, the region and the books, and no other row.
 #[test]
 fn a_founded_campaign_is_kept(rt: HostRuntime) -> Result<(), Fail> {
     let script = r##"create small
@@ -18,6 +19,7 @@ read market -> nothing"##;
     play_new(&rt, rt.alloc(), script)
 }
 
+/// `create` answers NotEmpty if the database has a campaign, and changes no row.
 #[test]
 fn a_second_creation_is_refused(rt: HostRuntime) -> Result<(), Fail> {
     let script = r##"create small
@@ -28,6 +30,8 @@ read books -> 1 0 500, 1 1 1000"##;
     play_new(&rt, rt.alloc(), script)
 }
 
+/// After a join and a mailing the tables have the faction, its unit, report and mail, and what was
+/// booked.
 #[test]
 fn a_join_and_a_mail_are_kept(rt: HostRuntime) -> Result<(), Fail> {
     let script = r##"create small

@@ -30,6 +30,7 @@ fn assert_opening_fault(
     Ok(())
 }
 
+/// Each fault of `load` has the number and the text of docs/FORMATS.md, "Tables".
 #[test]
 fn faults_of_an_opening_have_their_numbers(rt: HostRuntime) -> Result<(), Fail> {
     for case in OPENINGS.iter() {
@@ -75,6 +76,7 @@ fn assert_upgrade_fault(
     Ok(())
 }
 
+/// Each fault of `upgrade` has the number and the text of docs/FORMATS.md, "Upgrading a file".
 #[test]
 fn faults_of_an_upgrade_have_their_numbers(rt: HostRuntime) -> Result<(), Fail> {
     for case in UPGRADES.iter() {

@@ -15,6 +15,7 @@ read unit -> OtherType";
     play_new(&rt, rt.alloc(), script)
 }
 
+/// Reading a table that was dropped answers Refused, and other tables can still be read.
 #[test]
 fn a_table_that_is_gone_is_refused(rt: HostRuntime) -> Result<(), Fail> {
     let script = r#"create small
@@ -25,6 +26,7 @@ read report -> 1 "A report.\n""#;
     play_new(&rt, rt.alloc(), script)
 }
 
+/// Reading answers Store if SQLite may take no step, and the rows once it may.
 #[test]
 fn a_read_that_takes_too_many_steps_is_told(rt: HostRuntime) -> Result<(), Fail> {
     let script = r#"create small

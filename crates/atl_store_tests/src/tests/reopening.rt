@@ -41,6 +41,7 @@ fn comes_back<D: Crash + Drop>(
     )
 }
 
+/// A campaign just founded in files is loaded unchanged after both files crashed.
 #[test]
 fn a_founded_campaign_is_there_after_a_crash(rt: HostRuntime) -> Result<(), Fail> {
     let alloc = rt.alloc();

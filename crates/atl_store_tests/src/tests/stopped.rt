@@ -236,11 +236,13 @@ fn stop_each_disk(rt: &impl Abort, alloc: Global, earlier: &str, script: &str) -
     stop_at_each_call(rt, alloc, &mut game, database, &stages)
 }
 
+/// A disk that stops at any call of a founding and a join leaves each of them whole or not at all.
 #[test]
 fn a_stopped_disk_leaves_no_part(rt: HostRuntime) -> Result<(), Fail> {
     stop_each_disk(&rt, rt.alloc(), "", "create small\njoin")
 }
 
+/// A disk that stops during an upgrade leaves the file of the first format or the upgraded one.
 #[test]
 fn a_stopped_disk_leaves_the_old_file_or_the_upgraded_one(rt: HostRuntime) -> Result<(), Fail> {
     stop_each_disk(

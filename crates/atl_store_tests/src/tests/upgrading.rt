@@ -150,6 +150,7 @@ fn assert_answer(rt: &impl Abort, alloc: Global, case: &Case) -> Result<(), Fail
     play_new(rt, alloc, script.as_str())
 }
 
+/// `load` and `upgrade` answer the first check that a file of the first format fails.
 #[test]
 fn the_first_check_that_fails_is_told(rt: HostRuntime) -> Result<(), Fail> {
     for case in CASES.iter() {

@@ -119,6 +119,7 @@ SELECT count(*) FROM has -> 0";
     play_new(&rt, rt.alloc(), script)
 }
 
+/// An amount of the books that becomes 0 loses its row.
 #[test]
 fn an_amount_of_0_has_no_row(rt: HostRuntime) -> Result<(), Fail> {
     let script = "create small
@@ -215,6 +216,7 @@ SELECT stock FROM market WHERE region = 1 AND item = 1 -> 2";
     play_new(&rt, rt.alloc(), script)
 }
 
+/// Stocks that were written are read and loaded again.
 #[test]
 fn stocks_come_back(rt: HostRuntime) -> Result<(), Fail> {
     let script = "create isle with markets

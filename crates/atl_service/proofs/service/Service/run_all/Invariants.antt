@@ -6,7 +6,8 @@ use Rattle.atl_service.specs.Service.{ServiceValue, text_in}
 use Rattle.atl_service.specs.Runs.{RunsAll}
 use Rattle.atl_service.proofs.service.Service.run_all.Given as goal
 
--- whatever runs from here on, the whole runs from the start
+-- The answers so far, followed by answers that the rest of the commands gets from here on (`RunsAll`),
+-- are answers that the whole list gets from the start.
 abbrev pub invariant-loop-command : goal.invariant-loop-command
 invariant-loop-command g l = record {
   whole : (rs : List Answer) (new : ServiceValue g.row.S.Denot) → RunsAll g.S.Store l.self (drop l.command-index l.commands) rs new → RunsAll g.S.Store l.fn.self l.commands (l.answers.items ++ rs) new;
