@@ -1,4 +1,4 @@
--- Laws of a report's part on orders, and that other factions' events make no difference to a report.
+-- Laws of a report's part on orders, and that a report depends only on the faction's view, faulty lines and own events.
 use Rattle.std.proofs.Common.{◌≡◌, ◌==◌, ◌++◌, ℕ, Bool, true, false, cond, ◌||◌, ◌&&◌, not, List, [], ◌∷◌, length, refl, sym, ap, ◌∙◌, arith}
 use Rattle.std.specs.Prelude.{codes, filter}
 use Rattle.std.specs.List.{list_any}
@@ -10,7 +10,7 @@ use Rattle.atl_report.specs.Events.{faulty_lines, event_lines, own_events, resul
 use Rattle.atl_report.specs.Sight.{view_of}
 use Rattle.atl_report.specs.Report.{header_line, region_parts, report_of, OthersEventsAreNotTold, OnlyWhatIsSeenIsTold}
 
--- where no event passes the test, and no line is faulty, the text is `None.`
+-- where no event passes the test, and no line is faulty, the text of faulty lines and events is `None.`
 none_passes : (p : Event → Bool) (es : List Event) → list_any p es ≡ false → results_text [] (filter p es) ≡ codes "None.\n"
 none_passes p [] h = refl
 none_passes p (e ∷ es) h = by_test (p e) h (none_passes p es)
@@ -20,7 +20,7 @@ none_passes p (e ∷ es) h = by_test (p e) h (none_passes p es)
     by_test true h rest = absurd (false≢true (sym h))
     by_test false h rest = rest h
 
--- where some event passes the test, and no line is faulty, the text is the lines of those that pass
+-- where some event passes the test, and no line is faulty, the text of both is the lines of the passing events
 some_passes : (p : Event → Bool) (es : List Event) → list_any p es ≡ true → results_text [] (filter p es) ≡ event_lines (filter p es)
 some_passes p [] h = absurd (false≢true h)
 some_passes p (e ∷ es) h = by_test (p e) h (some_passes p es)
@@ -34,7 +34,7 @@ some_passes p (e ∷ es) h = by_test (p e) h (some_passes p es)
 some_length : (f : FaultyLine) (fs : List FaultyLine) → (length (f ∷ fs) == 0) ≡ false
 some_length f fs = grind (arith, nat_tests)
 
--- without faulty lines and own events the text is `None.`
+-- without faulty lines and own events, the text of these in a report is `None.`
 pub told_nothing : (faction : ℕ) (faults : List FaultyLine) (events : List Event) → ((length faults == 0) && not (list_any (λ (e : Event). e.faction == faction) events)) ≡ true
     → results_text faults (own_events faction events) ≡ codes "None.\n"
 told_nothing faction (f ∷ fs) events h = absurd (false≢true (sym (ap (λ b. b && not (list_any (λ (e : Event). e.faction == faction) events)) (some_length f fs)) ∙ h))
@@ -45,7 +45,7 @@ told_nothing faction [] events h = by_test (list_any (λ (e : Event). e.faction 
     by_test true h rest = absurd (false≢true h)
     by_test false h rest = rest refl
 
--- with faulty lines or own events the text is their lines
+-- with faulty lines or own events, the text of these in a report is their lines
 pub told_something : (faction : ℕ) (faults : List FaultyLine) (events : List Event) → ((length faults == 0) && not (list_any (λ (e : Event). e.faction == faction) events)) ≡ false
     → results_text faults (own_events faction events) ≡ faulty_lines faults ++ event_lines (own_events faction events)
 told_something faction (f ∷ fs) events h = refl

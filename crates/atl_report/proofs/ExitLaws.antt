@@ -1,4 +1,4 @@
--- Laws of the line of exits: written one after another, it is the text of the definition.
+-- Laws of a region's line of exits: exits written one after another are the text of the definition.
 use Rattle.std.proofs.Common.{◌≡◌, ◌++◌, ◌&&◌, ℕ, List, [], Option, Some, None, refl, ap, ◌∙◌}
 use Rattle.std.proofs.lemmas.List.{append-nil}
 use Rattle.std.specs.Prelude.{Bool, true, false, codes, if◌then◌else◌, is_none, option_map}
@@ -12,7 +12,7 @@ use Rattle.atl_report.specs.Report.{exit_text, exit_texts, joined_or_none}
 abbrev pub written : (is_first : Bool) → (direction : List ℕ) → Option ℕ → List ℕ
 written is_first direction exit = option_map_or (λ to. (if is_first then [] else codes ", ") ++ exit_text direction to) exit []
 
--- each text after a comma
+-- some texts joined, each with a comma in front
 abbrev after_commas : List (List ℕ) → List ℕ
 after_commas texts = each_text (λ t. codes ", " ++ t) texts
 

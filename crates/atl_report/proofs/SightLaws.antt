@@ -72,7 +72,7 @@ abbrev watches_in : ℕ → ℕ → Option Unit → Bool
 watches_in f q None = false
 watches_in f q (Some u) = is_watching f (Some u) && eq_by_cmp nat_cmp q u.region
 
--- a test made twice, and two others, are the same in another order
+-- `a and a and m and e` is `b and a and m`, if e is b
 regrouped : (a m e b : Bool) → e ≡ b → (a && ((a && m) && e)) ≡ (b && (a && m))
 regrouped true true e true h = h
 regrouped true true e false h = h
@@ -123,7 +123,7 @@ module _ {V : Type 0} where
   alone_chosen false o = refl
 
 module _ (c : CampaignValue) (f q : ℕ) where
-  -- whether the campaign has region k, as an option
+  -- Some tt if the campaign has region k, else None
   abbrev there : ℕ → Option (Prim.Unit {0})
   there k = option_map forget_value (get c.regions k)
 
@@ -154,7 +154,7 @@ module _ (c : CampaignValue) (f q : ℕ) where
         | false ↦ was
       ]
 
-  -- three alternatives in another order
+  -- `a or w or b` is `w or a or b`
   or_order : (a w b : Bool) → (a || (w || b)) ≡ ((w || a) || b)
   or_order true true b = refl
   or_order true false b = refl

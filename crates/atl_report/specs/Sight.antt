@@ -28,7 +28,7 @@ use Rattle.atl_report.specs.declared.views.Side.TheVariants.{Own, Other}
 use Rattle.atl_report.specs.declared.watch.Watch.{Watch}
 use Rattle.atl_report.specs.Watching.{watch_over, is_seen, is_seen_there, sees_region}
 
--- the faction's name; empty where there is no faction
+-- the shown name of a faction; empty where there is no such faction
 abbrev pub shown_name : Option Faction → List ℕ
 shown_name faction = option_map_or (λ f. f.name) faction []
 
@@ -42,7 +42,7 @@ item_view (item, amount) = record { item = item; amount = amount }
 abbrev pub item_views : HoldingValue → List ItemView
 item_views h = map item_view (entries h.items)
 
--- the view of a skill that an own unit studied: its index in the world, the level of so many men, and their days
+-- the view of a skill that an own unit studied: its index in the world, the level by its days and men, and the days
 abbrev pub skill_view : ℕ → ℕ × ℕ → SkillView
 skill_view men (skill, days) = record { skill = skill; level = level_of days men; days = days }
 
@@ -50,7 +50,7 @@ skill_view men (skill, days) = record { skill = skill; level = level_of days men
 abbrev pub skill_views : HoldingValue → List SkillView
 skill_views h = map (skill_view h.men) (entries h.days)
 
--- the side of a unit: money, items and skills of an own one, number and name of another's faction
+-- the side of a unit in a view: `Own` with money, items and skills, or `Other` with its faction's number and name
 abbrev pub side_of : CampaignValue → ℕ → Unit → Side
 side_of c faction u =
     if u.faction == faction then Own u.holding.money (item_views u.holding) (skill_views u.holding)
@@ -60,7 +60,7 @@ side_of c faction u =
 abbrev pub unit_view : CampaignValue → ℕ → ℕ → Unit → UnitView
 unit_view c faction number u = record { number = number; name = u.holding.name; men = u.holding.men; guard = guards u; structure = u.structure; side = side_of c faction u }
 
--- the view of a unit, None where the watch does not see it
+-- the view of a unit; None where there is no such unit, or the watch does not see it
 abbrev pub seen_unit : WorldValue → CampaignValue → Watch → ℕ → Option Unit → Option UnitView
 seen_unit w c watch number unit = option_and_then (λ u. if is_seen w watch u then Some (unit_view c watch.faction number u) else None) unit
 

@@ -12,11 +12,11 @@ use Rattle.atl_report.specs.declared.watch.Watch.{Watch}
 
 -- ---- regions
 
--- there is a unit, it is the faction's, and it has men
+-- whether there is a unit, it is the faction's, and it has men
 abbrev pub is_watching : ℕ → Option Unit → Bool
 is_watching faction unit = option_map_or (λ u. u.faction == faction && nat_lt 0 u.holding.men) unit false
 
--- the faction has a unit with men in the region
+-- whether the faction sees the region: it has a unit with men there
 abbrev pub sees_region : CampaignValue → ℕ → ℕ → Bool
 sees_region c faction region = list_any (λ n. is_watching faction (get c.units n)) (numbers_in region c.units)
 
@@ -35,7 +35,7 @@ greatest (n ∷ ns) = max n (greatest ns)
 abbrev pub observation_in : WorldValue → CampaignValue → ℕ → ℕ → ℕ
 observation_in w c faction region = greatest (map (λ n. observation_of w faction (get c.units n)) (numbers_in region c.units))
 
--- a faction in a region, with the best observation level of its units there
+-- the watch of a faction in a region: with the best observation level of its units there
 abbrev pub watch_over : WorldValue → CampaignValue → ℕ → ℕ → Watch
 watch_over w c faction region = record { faction = faction; region = region; observation = observation_in w c faction region }
 
@@ -43,6 +43,6 @@ watch_over w c faction region = record { faction = faction; region = region; obs
 abbrev pub is_seen : WorldValue → Watch → Unit → Bool
 is_seen w watch u = u.faction == watch.faction || (guards u || nat_le (level_in_any u.holding w.rules.stealth) watch.observation)
 
--- there is a unit, it is in the watch's region, and it is seen
+-- whether there is a unit, it is in the watch's region, and it is seen
 abbrev pub is_seen_there : WorldValue → Watch → Option Unit → Bool
 is_seen_there w watch unit = option_map_or (λ u. u.region == watch.region && is_seen w watch u) unit false

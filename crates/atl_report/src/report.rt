@@ -21,6 +21,7 @@ trait InReport {
 
     ghost text: { WorldValue → Self → List ℕ };
 
+    /// Writes the text of the part at the end of `out`.
     fn write(&self, out: &mut String, world: &World) -> Result<(), AllocError>
         ensures { OnOk result (string_bytes out.new
             ≡ string_bytes out.old ++ text world.now self.now) };

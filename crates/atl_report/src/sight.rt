@@ -15,7 +15,7 @@ use atl_state::{Campaign, Holding, Region, Structure, Unit, level};
 use atl_tables::{Market, Numbered, RegionPlan, Sequence, Text, World};
 use std::alloc::{AllocError, Global};
 
-/// A copy of the faction's name; empty where there is no such faction.
+/// A copy of a faction's shown name; empty where there is no such faction.
 fn shown_name(alloc: Global, campaign: &Campaign, faction: u32) -> Result<Text, AllocError>
     ensures { IfOk result (λ name. name ≡ shown_name (get campaign.now.value.factions faction)) }
 {
@@ -55,7 +55,7 @@ fn skill_views(alloc: Global, holding: &Holding) -> Result<Sequence<SkillView>, 
     Ok(skills)
 }
 
-/// The side of a unit: money, items and skills of an own one, number and name of another's faction.
+/// The side of a unit in a view: `Own` with money, items and skills, or `Other` with its faction.
 fn side_of(
     alloc: Global,
     campaign: &Campaign,
@@ -236,7 +236,7 @@ fn region_view(
     })
 }
 
-/// Adds a region's number to those that are seen, where the campaign has the region.
+/// Adds a region's number to those of the regions seen, where the campaign has the region.
 fn see(seen: &mut Numbered<()>, campaign: &Campaign, number: u32) -> Result<(), AllocError>
     ensures { OnOk result (seen.new
         ≡ with_region seen.old number (get campaign.now.value.regions number)) }

@@ -1,4 +1,4 @@
--- Laws of the dirty set of the books' amounts: there is room for the number of each amount.
+-- Laws of the dirty set of the books' amounts: it has room for each amount's number, and has no others (MarksAmounts).
 use Rattle.std.proofs.Common.{◌≡◌, ℕ, ◌*◌, ◌<◌, ◌≤◌, Bool, true, ◌||◌, sym, ◌∙◌, subst, refl, arith}
 use Rattle.std.proofs.lemmas.Bool.{false≢true}
 use Rattle.std.specs.declared.cmp.Ordering.TheVariants.{Less, Equal, Greater}
@@ -28,20 +28,20 @@ or_there n k there P h itself others = elim (nat_cmp k n) as (λ r. nat_cmp k n 
 number_small : (things : ℕ) (e : Entry) (t : Thing) → thing_index t < things → amount_number e t < entry_count * things
 number_small things e t small = omega (arith, small, entry_small e)
 
--- an empty dirty set with room for all amounts satisfies MarksAmounts
+-- an empty dirty set with room for all amounts satisfies its invariant MarksAmounts
 pub none_marked : (things room : ℕ) → entry_count * things ≤ room → MarksAmounts things (record { numbers = set.empty; room = room })
 none_marked things room enough = record { room = enough; numbers = λ k there. absurd (false≢true (sym (set.contains-empty nat_cmp k) ∙ there)) }
 
--- a dirty set with only amounts of these things still has only such once an amount of one of them is added
+-- a dirty set with only amounts of the first `things` things still has only such once such an amount is added
 more_of_things : (things : ℕ) (s : set.FinSet nat_cmp) (e : Entry) (t : Thing) → thing_index t < things → AreOfThings things s → AreOfThings things (amount_marked s e t)
 more_of_things things s e t small are k there =
     or_there (amount_number e t) k (set.contains s k) (λ n. n < entry_count * things) (sym (set.contains-insert nat_cmp_total s (amount_number e t) k) ∙ there) (number_small things e t small) (are k)
 
--- MarksAmounts still holds once an amount of one of these things is marked
+-- the dirty set's invariant MarksAmounts still holds once an amount of one of the first `things` things is marked
 pub more_marked : (things : ℕ) (marks : RoomySet) (e : Entry) (t : Thing) → thing_index t < things → MarksAmounts things marks → MarksAmounts things (record marks { numbers = amount_marked marks.numbers e t })
 more_marked things marks e t small are = record { room = are.room; numbers = more_of_things things marks.numbers e t small are.numbers }
 
--- if MarksAmounts holds, the dirty set has room for one more amount of these things
+-- a dirty set that satisfies MarksAmounts has room for one more amount of the first `things` things
 pub fits_amount : (things : ℕ) (marks : RoomySet) (e : Entry) (t : Thing) → thing_index t < things → MarksAmounts things marks → set.len (amount_marked marks.numbers e t) ≤ marks.room
 fits_amount things marks e t small are =
     let few = len-below (entry_count * things) (amount_marked marks.numbers e t) (more_of_things things marks.numbers e t small are.numbers) in

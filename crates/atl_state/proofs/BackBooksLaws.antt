@@ -1,4 +1,4 @@
--- Laws of reading books back: the rows of books, in any order, give these books again.
+-- Laws of reading books back: the rows that books are written as, in any order, give the same books again.
 use Rattle.std.proofs.Common.{◌≡◌, ℕ, ◌+◌, ◌≤◌, List, [], ◌∷◌, true, false, Some, None, refl, sym, ap, ◌∙◌, arith}
 use Rattle.std.specs.Prelude.{pos, ℤ, unwrap_or}
 use Rattle.std.specs.List.{AllByRecursion, IsDistinct}
@@ -104,7 +104,7 @@ entries_apart [] h = tt
 entries_apart (x ∷ es) h = let parts = and_parts (below_all account_cmp x.0 es) (is_sorted account_cmp es) h in (others_apart x es parts.0, entries_apart es parts.1)
 
 module _ (things : ℕ) (few : things ≤ 4294967294) (books : BooksValue) (are : AreBooks things books) where
-  -- each row of the books is of an account of these things, with an amount that is not 0
+  -- each row of the books is read as an account of the books' things, with an amount not 0 (IsBooked)
   pub lines_booked : AllByRecursion (IsBooked things) (books_rows books)
   lines_booked =
       lines_each books (IsBooked things) (λ e t z is.
@@ -125,11 +125,11 @@ module _ (things : ℕ) (few : things ≤ 4294967294) (books : BooksValue) (are 
     pub books_keys : HaveKeys books_key rows
     books_keys = keys_permuted books_key (books_rows books) rows h (entries_apart (entries books.amounts) (amounts_sorted books.amounts))
 
-    -- each row of the books, in any order, is of an account of these things, with an amount that is not 0
+    -- each row of the books, in any order, is read as an account of their things, with an amount not 0 (IsBooked)
     pub all_booked : AllByRecursion (IsBooked things) rows
     all_booked = each_permuted (IsBooked things) (books_rows books) rows h lines_booked
 
-    -- the books that are assembled from the rows of books, in any order, are these books
+    -- the books assembled from the rows that books are written as, in any order, are the same books
     pub books_back : put_amounts rows (no_amounts things) ≡ books
     books_back =
         let said = put_amounts rows (no_amounts things) in

@@ -106,7 +106,7 @@ module _ (units : FinMap nat_cmp Unit) where
     some_same : (u v : Unit) → Some u ≡ Some v → u ≡ v
     some_same u v e = cc
 
-    -- a row of unit k and kind s is of unit n and kind `sort`: k is n, and s is `sort`
+    -- unit k and kind s are unit n and kind `sort`: k is n, and s is `sort`
     record Of (n sort k s : ℕ) : Type 0 where
       unit : k ≡ n
       kind : s ≡ sort

@@ -51,7 +51,7 @@ one_amount books a z none some =
 
 -- ---- the amounts of rows, one after another
 
--- a row of `books` is read as an account of these things, and its amount is not 0
+-- a row of `books` is read as an account of the first `things` things, and its amount is not 0
 pub record IsBooked (things : ℕ) (r : StoredBooks) : Type 0 where
   pub account : Account
   pub row : books_row account.0 account.1 r.amount ≡ r
@@ -60,11 +60,11 @@ pub record IsBooked (things : ℕ) (r : StoredBooks) : Type 0 where
   pub there : as_u32 r.thing < things
   pub some : r.amount ≢ pos 0
 
--- if n is at least 1, n - 1 + 1 is n
+-- if n is at least 1, and i is n - 1, i + 1 is n
 one_up : (n i : ℕ) → 1 ≤ n → i ≡ n - 1 → i + 1 ≡ n
 one_up n i h e = omega arith
 
--- a row of an entry and a thing in their ranges, read as themselves, with an amount other than 0, is booked
+-- a row whose entry and thing are in range and read as they are, and whose amount is not 0, is booked (IsBooked)
 pub booked_row : (things : ℕ) (r : StoredBooks) → IsWhole r.entry → IsWhole r.thing → 1 ≤ as_u32 r.entry → as_u32 r.entry ≤ entry_count → as_u32 r.thing < things → r.amount ≢ pos 0 → IsBooked things r
 booked_row things r entry thing least most there some =
     let (e, at) = entry_at (as_u32 r.entry - 1) (omega arith) in
@@ -80,7 +80,7 @@ booked_row things r entry thing least most there some =
       some = some;
     }
 
--- the thing of a booked row's account is one of these things
+-- the thing of a booked row's account is one of the first `things` things
 pub account_there : (things : ℕ) (r : StoredBooks) (h : IsBooked things r) → thing_index h.account.1 < things
 account_there things r h = let is = sym (ap thing_index h.numbered) ∙ place_at (as_u32 r.thing) in omega (arith, is, h.there)
 
@@ -136,7 +136,7 @@ put_order things (r ∷ rows) books are all d free =
     (IsPermutation-trans (books_rows books ++ r ∷ rows) (r ∷ (books_rows books ++ rows)) last (IsPermutation-middle (books_rows books) r rows)
     (IsPermutation-trans (r ∷ (books_rows books ++ rows)) (books_rows new ++ rows) last step (put_order things rows new also all.1 d.1 (stay_free things books r h rows d.0 free.1))))
 
--- in empty books all rows are free: no account has an amount
+-- in empty books all rows are free (IsFree), as no account has an amount
 all_free : (things : ℕ) (rows : List StoredBooks) → AllByRecursion (IsFree things (no_amounts things)) rows
 all_free things [] = tt
 all_free things (r ∷ rows) = (λ h. get-empty {X = ℤ} account_cmp h.account, all_free things rows)

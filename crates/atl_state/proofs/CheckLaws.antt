@@ -58,7 +58,7 @@ only_one f [] h = absurd (false≢true h)
 only_one f (r ∷ []) h = refl
 only_one f (r ∷ other ∷ rows) h = absurd (false≢true h)
 
--- no entry after those of the first format is an entry of the first format
+-- an entry past those of the first format fails the test (is_entry_in) for an entry of the first format
 late_entry : (n : ℕ) → first_entry_count ≤ n → n < 16 → is_entry_in First (as_u32 (pos (n + 1))) ≡ true → ⊥
 late_entry n l small h =
     let read = read_whole (n + 1) (omega arith) in
@@ -90,7 +90,7 @@ module _ (f : Format) (w : WorldValue) (p : Parts) where
   pub first_broken : (r : Rule) (b : Bool) → KeepsRulesBelow f w p (rule_number r) → Decides b (KeepsRule f w p r) → b ≡ false → IsFirstBroken f w p r
   first_broken r b before d e = record { before = before; broken = λ holds. false≢true (sym e ∙ d.1 holds) }
 
-  -- rows of a world that keep rules 1 to 11 satisfy RowsKeep
+  -- rows that keep rules 1 to 11 keep those by which they are the rows of their campaign (RowsKeep)
   pub rows_keep : IsWorld w → KeepsRulesBelow f w p 12 → RowsKeep f w p
   rows_keep world k = record {
     world = world;

@@ -127,7 +127,7 @@ module _ (goods : FinSet nat_cmp) (things : Things) (n thing : ℕ) where
       ap (λ (o : Option (FinMap nat_cmp (Prim.Unit {0}))). is_some (get (unwrap_or o map.empty) t)) (get-insert nat_cmp_total things n (map.insert (group_of things n) thing tt) k)
       ∙ by_unit (eq_by_cmp nat_cmp k n)
     where
-      -- putting a thing in, if b is true, makes it there; else it is there if it was
+      -- a thing that is put in if b is true is there if b is true or it was there
       by_thing : (b : Bool) (o : Option (Prim.Unit {0})) → is_some (cond b (Some tt) o) ≡ (b || is_some o)
       by_thing true o = refl
       by_thing false o = refl
@@ -288,11 +288,11 @@ part_by_part a b stays tells = record {
   };
 }
 
--- MarksChanges holds if nothing changes
+-- where neither values nor marks change, all that changes is marked (MarksChanges)
 pub marks-refl : (a : MarkedCampaign) → MarksChanges a a
 marks-refl a = part_by_part a a (λ p k h. h) (λ p k free. refl)
 
--- P holds of a map with f applied under n and its old value there, if it does with no value there and with each one
+-- P holds of a map with f applied under n, and of the old value there, if it does where n has a value and where not
 pub changed_there : {V : Type 0} (P : FinMap nat_cmp V → Option V → Type 0) (f : V → V) (values : FinMap nat_cmp V) (n : ℕ)
     → P values None → ((v : V) → get values n ≡ Some v → P (map.insert values n (f v)) (Some v)) → P (changed f values n) (get values n)
 changed_there {V} P f values n none some = by_value (get values n) refl
@@ -302,7 +302,7 @@ changed_there {V} P f values n none some = by_value (get values n) refl
     by_value None is = none
     by_value (Some v) is = some v is
 
--- applying f to faction n and marking the faction satisfies MarksChanges
+-- applying f to faction n, with the faction marked, marks all that changes (MarksChanges)
 pub marks-faction : (f : Faction → Faction) (c : MarkedCampaign) (n : ℕ) → MarksChanges c (record { value = faction_changed f c.value n; marks = mark_faction c n })
 marks-faction f c n =
     let after : FinMap nat_cmp Faction → Option Faction → MarkedCampaign = λ m o. record { value = record c.value { factions = m }; marks = record c.marks { factions = marked_with c.marks.factions n o } } in
@@ -325,7 +325,7 @@ shown_still shows values n k v w is same = ap shows (get-insert nat_cmp_total va
 abbrev in_stock : ℕ → Option Region → ℕ
 in_stock item o = option_map_or (λ r. amount_of r.stocks item) o 0
 
--- applying f, which leaves stocks alone, to region n and marking its row satisfies MarksChanges
+-- applying f, which leaves stocks alone, to region n, with its row marked, marks all that changes (MarksChanges)
 pub marks-region : (f : Region → Region) → ((r : Region) → (f r).stocks ≡ r.stocks) → (c : MarkedCampaign) (n : ℕ) → MarksChanges c (record { value = region_changed f c.value n; marks = mark_region c n })
 marks-region f same c n =
     let after : FinMap nat_cmp Region → Option Region → MarkedCampaign = λ m o. record { value = record c.value { regions = m }; marks = record c.marks { regions = marked_with c.marks.regions n o } } in
@@ -370,7 +370,7 @@ module _ (c : MarkedCampaign) (n item amount : ℕ) where
       by_item true e = sym was ∙ ap (amount_of stocks) (sym (same_key i item e))
       by_item false e = refl
 
-  -- setting a stock to the amount that it has satisfies MarksChanges without a mark
+  -- setting a stock to the amount that it has needs no mark (MarksChanges)
   stock_stays : (v : Region) → get c.value.regions n ≡ Some v → amount_of v.stocks item ≡ amount → MarksChanges c (record c { value = there_after v })
   stock_stays v is was =
       let next : MarkedCampaign = record c { value = there_after v } in
@@ -381,7 +381,7 @@ module _ (c : MarkedCampaign) (n item amount : ℕ) where
         | _ ↦ λ k free. refl
       ])
 
-  -- setting a stock and marking that stock alone satisfies MarksChanges
+  -- setting a stock, with that stock alone marked, marks all that changes (MarksChanges)
   item_changes : (v : Region) → get c.value.regions n ≡ Some v
       → MarksChanges c (record { value = there_after v; marks = record c.marks { markets = insert c.marks.markets n; stock_items = with_thing c.marks.stock_items n item } })
   item_changes v is =
@@ -398,7 +398,7 @@ module _ (c : MarkedCampaign) (n item amount : ℕ) where
         | _ ↦ λ k free. refl
       ])
 
-  -- setting a stock and marking all stocks of its region satisfies MarksChanges
+  -- setting a stock, with all stocks of its region marked, marks all that changes (MarksChanges)
   stocks_change : (v : Region) → get c.value.regions n ≡ Some v
       → MarksChanges c (record { value = there_after v; marks = record c.marks { markets = insert c.marks.markets n; stocks = insert c.marks.stocks n } })
   stocks_change v is =
@@ -415,7 +415,7 @@ module _ (c : MarkedCampaign) (n item amount : ℕ) where
         | _ ↦ λ k free. refl
       ])
 
-  -- MarksChanges holds from the campaign to one with the given regions and marks
+  -- the given marks mark all that changes from the campaign to one with the given regions (MarksChanges)
   abbrev after_regions : FinMap nat_cmp Region → Marks → Type 0
   after_regions regions marks = MarksChanges c (record { value = with_regions regions; marks = marks })
 
@@ -431,7 +431,7 @@ module _ (c : MarkedCampaign) (n item amount : ℕ) where
   abbrev to_restock : Bool → Option Region
   to_restock b = if b then None else get c.value.regions n
 
-  -- setting a stock, with the marks of that by MarksStock, satisfies MarksChanges
+  -- setting a stock, with the marks that MarksStock allows, marks all that changes (MarksChanges)
   pub marks-stock : (m : Marks) → MarksStock c n item amount m → MarksChanges c (record { value = with_stock c.value n item amount; marks = m })
   marks-stock m how = by_amount (stock_of c.value n item == amount) refl
     where
@@ -443,7 +443,7 @@ module _ (c : MarkedCampaign) (n item amount : ℕ) where
       was : (v : Region) → get c.value.regions n ≡ Some v → (stock_of c.value n item == amount) ≡ true → amount_of v.stocks item ≡ amount
       was v is same = sym (ap (in_stock item) is) ∙ equal (stock_of c.value n item) amount same
 
-      -- setting the stock satisfies MarksChanges with either mark, whether the amount changes or not
+      -- either mark of setting the stock marks all that changes, whether the amount changes or not
       either : (b : Bool) → (stock_of c.value n item == amount) ≡ b → after_regions (changed stocked c.value.regions n) (item_alone (to_restock b)) × after_regions (changed stocked c.value.regions n) (all_of_region (to_restock b))
       either true same =
           let still = changed_there (λ regions o. after_regions regions c.marks) stocked c.value.regions n (marks-refl c) (λ v is. stock_stays v is (was v is same)) in
@@ -453,14 +453,14 @@ module _ (c : MarkedCampaign) (n item amount : ℕ) where
         changed_there (λ regions o. after_regions regions (all_of_region o)) stocked c.value.regions n (marks-refl c) stocks_change,
       )
 
-      -- setting the stock satisfies MarksChanges, whether the amount changes or not
+      -- setting the stock marks all that changes, whether the amount changes or not
       by_amount : (b : Bool) → (stock_of c.value n item == amount) ≡ b → after_regions (changed stocked c.value.regions n) m
       by_amount b is = elim how [
         | inl e ↦ subst (after_regions (changed stocked c.value.regions n)) (sym (e ∙ ap (λ k. item_alone (to_restock k)) is)) (either b is).0
         | inr e ↦ subst (after_regions (changed stocked c.value.regions n)) (sym (e ∙ ap (λ k. all_of_region (to_restock k)) is)) (either b is).1
       ]
 
--- a change of unit n alone that marks the unit, its row and all its goods satisfies MarksChanges
+-- a change of unit n alone, with the unit, its row and all its goods marked, marks all that changes (MarksChanges)
 pub marks-unit : (c : MarkedCampaign) (units : FinMap nat_cmp Unit) (n : ℕ) → ((k : ℕ) → k ≢ n → get units k ≡ get c.value.units k)
     → MarksChanges c (record { value = record c.value { units = units }; marks = mark_unit_added c n })
 marks-unit c units n others =
@@ -481,7 +481,7 @@ marks-unit c units n others =
       | _ ↦ λ k free. refl
     ])
 
--- setting an amount of the books and marking it satisfies MarksChanges
+-- adding to an amount of the books, with that amount marked, marks all that changes (MarksChanges)
 pub marks-amount : (c : MarkedCampaign) (f : Entry) (u : Thing) (z : ℤ) → MarksChanges c (record { value = with_amount c.value f u z; marks = mark_amount c f u })
 marks-amount c f u z =
     let next : MarkedCampaign = record { value = with_amount c.value f u z; marks = mark_amount c f u } in

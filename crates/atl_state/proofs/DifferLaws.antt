@@ -22,6 +22,6 @@ differ_of (e ∷ es) s h = (
 abbrev pub AllDiffer : FinMap nat_cmp Faction → Type 0
 AllDiffer m = Every (λ n f. Every (λ k g. f.joined_as ≡ g.joined_as → n ≡ k) m) m
 
--- the entries of a map of factions have no joined name twice, if AllDiffer holds of the map
+-- the entries of a map of factions have no joined name twice, if factions with one joined name have one number
 pub entries_differ : (m : FinMap nat_cmp Faction) → AllDiffer m → JoinedNamesDiffer (entries m)
 entries_differ m every = differ_of (entries m) (sorted m) (λ n k f g is js same. every n f (get-entries m n ∙ is) k g (get-entries m k ∙ js) same)

@@ -41,7 +41,7 @@ use Rattle.atl_state.proofs.AmountLaws.{none_weighed}
 use Rattle.atl_state.proofs.AmountMarkLaws.{none_marked}
 use Rattle.atl_records.proofs.BookLaws.{booked-after_booking, booked-no_amounts, amount-no_amounts, AreBooks-no_amounts, AreBooks-after_booking, IsWithin-after_booking, share_of}
 
--- lists of units, with an empty dirty set that has room for all amounts, satisfy AreKept
+-- right lists of units, with an empty dirty set that has room for all amounts, satisfy the invariant AreKept
 pub AreKept-without_marks : (things : ℕ) (units : FinMap nat_cmp Unit) (lists : UnitLists) → AreUnitLists units lists → AreKept units lists things (record { numbers = set.empty; room = entry_count * things })
 AreKept-without_marks things units lists listed = record { unit_lists = listed; amounts = none_marked things (entry_count * things) (omega arith) }
 
@@ -106,15 +106,15 @@ numbered_none : {V : Type 0} → IsNumbered (empty {X = V} {R = nat_cmp}) 1
 numbered_none {V} = record { first = get-empty nat_cmp 0; count = ap (λ n. n + 1) (sym (len-empty nat_cmp V)); free = λ n _. get-empty nat_cmp n }
 
 module _ (w : WorldValue) (pass : List ℕ) (world : IsWorld w) where
-  -- the regions of the founded campaign
+  -- the regions of the campaign when it is founded
   abbrev regions : FinMap nat_cmp Region
   regions = mapped founded_region w.regions
 
-  -- the money of all regions
+  -- the money of all regions together when the campaign is founded
   abbrev money : ℕ
   money = sum_over (λ (r : Region). region_amount Money r) regions
 
-  -- the peasants of all regions
+  -- the peasants of all regions together when the campaign is founded
   abbrev people : ℕ
   people = sum_over (λ (r : Region). region_amount People r) regions
 

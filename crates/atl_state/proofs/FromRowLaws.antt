@@ -42,7 +42,7 @@ use Rattle.atl_state.proofs.OrderLaws.{each_passes}
 -- ---- maps of rows
 
 module _ {R V : Type 0} (number : R → ℕ) (value : R → V) where
-  -- if P holds for a map's values and, by a test that all rows pass, for each row's value, it does once rows are put in
+  -- if P holds for a map's values, and for the value of each row that passes a test, it does once such rows are put in
   put-every : (P : ℕ → V → Type 0) (p : R → Bool) → ((r : R) → p r ≡ true → P (number r) (value r)) → (rows : List R) (m : FinMap nat_cmp V) → list_all p rows ≡ true → Every P m → Every P (put_rows number value rows m)
   put-every P p each [] m all old = old
   put-every P p each (r ∷ rows) m all old =

@@ -66,7 +66,7 @@ module _ {R V : Type 0} (owner : R → ℕ) (more : R → V → V) where
     abbrev Becomes : FinMap nat_cmp V → FinMap nat_cmp V → Type 0
     Becomes m l = (n : ℕ) → option_map (given n rows) (get m n) ≡ get l n
 
-    -- Becomes still holds once an element's bare value is put into the first map, and its full value into the second
+    -- the maps still agree (Becomes) once a bare value is put into the first map, and its full value into the second
     put_one : (t : T) (m l : FinMap nat_cmp V) → Becomes m l → Becomes (insert m (number t) (before t)) (insert l (number t) (after t))
     put_one t m l all n =
         let k = number t in
@@ -77,7 +77,7 @@ module _ {R V : Type 0} (owner : R → ℕ) (more : R → V → V) where
           | inr apart ↦ ap (option_map (given n rows)) (get_other m k n (before t) (λ e. apart (sym e))) ∙ all n ∙ sym (get_other l k n (after t) (λ e. apart (sym e)))
         ]
 
-    -- Becomes still holds once all elements are put in, with bare values in the first map and full ones in the second
+    -- the maps still agree (Becomes) once all values are put in, bare into the first map and full into the second
     put_each : (ts : List T) (m l : FinMap nat_cmp V) → Becomes m l → Becomes (put_rows number before ts m) (put_rows number after ts l)
     put_each [] m l all = all
     put_each (t ∷ ts) m l all = put_each ts (insert m (number t) (before t)) (insert l (number t) (after t)) (put_one t m l all)

@@ -36,11 +36,11 @@ module _ (c : CampaignValue) (n : ℕ) (x : Faction) (is : get c.factions n ≡ 
   free_apart : (k : ℕ) → get c.factions k ≡ None → k ≢ n
   free_apart k free same = none_some x (sym free ∙ ap (get c.factions) same ∙ is)
 
-  -- a number without a faction still has none
+  -- a number without a faction still has none when faction n is set gone
   none_kept : (k : ℕ) → get c.factions k ≡ None → get factions k ≡ None
   none_kept k none = get-insert_other c.factions n k (as_gone x) (free_apart k none) ∙ none
 
-  -- a faction that was there still is
+  -- a faction that was there still is when faction n is set gone
   there : (k : ℕ) → IsThere c.factions k → IsThere factions k
   there k h = there-insert c.factions n k (as_gone x) h
 
@@ -87,7 +87,7 @@ module _ (c : CampaignValue) (n : ℕ) (x : Faction) (is : get c.factions n ≡ 
     posts = posted-there there old.posts;
   }
 
-  -- factions and structures are still numbered without a gap, and no unit has a number from the next on
+  -- factions and structures stay numbered without a gap, and units below their next number, when faction n is set gone
   next_kept : AreNumbered c → AreNumbered left
   next_kept old = record {
     factions = record { first = none_kept 0 old.factions.first; count = old.factions.count ∙ ap (λ l. l + 1) (sym (same_len c.factions n x (as_gone x) is)); free = λ k l. none_kept k (old.factions.free k l) };
@@ -146,6 +146,6 @@ pub total-gone : (c : CampaignValue) (n : ℕ) (t : Thing) → total (with_gone 
 unfolding total
 total-gone c n t = refl
 
--- setting a faction gone, with its mark, satisfies MarksChanges
+-- setting a faction gone, with its mark, marks all that changes (MarksChanges)
 pub marks-gone_faction : (c : MarkedCampaign) (n : ℕ) → MarksChanges c (record { value = with_gone c.value n; marks = mark_faction c n })
 marks-gone_faction = marks-faction as_gone

@@ -28,7 +28,7 @@ posted-there stays posts = record { mail = λ n text is. stays n (posts.mail n t
 pub posted-unsent : {factions : FinMap nat_cmp Faction} {mail reports : FinMap nat_cmp (List ℕ)} → AreOfFactions factions mail reports → AreOfFactions factions empty reports
 posted-unsent posts = record { mail = every-empty _; reports = posts.reports }
 
--- empty mail and empty reports satisfy AreOfFactions
+-- empty mail and reports are of factions that are there (AreOfFactions)
 pub posted-nobody : {factions : FinMap nat_cmp Faction} → AreOfFactions factions empty empty
 posted-nobody = record { mail = every-empty _; reports = every-empty _ }
 
@@ -37,7 +37,7 @@ module _ (w : WorldValue) (c : CampaignValue) (month : ℕ) (mail reports : FinM
   abbrev posted : CampaignValue
   posted = record c { month = month; mail = mail; reports = reports }
 
-  -- the campaign stays in range, in a month up to the last
+  -- the campaign stays in range in another month, up to the last, with other mail and reports
   posted-numbers : month ≤ last_month → AreInRange w c → AreInRange w posted
   posted-numbers early old = record {
     month = early;
@@ -114,13 +114,13 @@ IsGood-with_mail w c faction text sent active good =
       reported = good.reported;
     }
 
--- where the answer of a joining is Ok y, y is the joined campaign with its numbers
+-- if a join answers Ok y, it was not refused, so y is the joined campaign with the new numbers, x
 let_in : (taken full : Bool) (x y : CampaignValue × (ℕ × ℕ)) → ◌≡◌ {A = Result (CampaignValue × (ℕ × ℕ)) JoinFault} (cond taken (Err NameTaken) (cond full (Err Full) (Ok x))) (Ok y) → x ≡ y
 let_in true full x y e = cc
 let_in false true x y e = cc
 let_in false false x y e = cc
 
--- a good campaign that a faction joined is good once a report of the faction is stored, if it is sound
+-- a good campaign that a faction joined, if it is sound then, is good once a report of the faction is stored
 pub IsGood-joined : (w : WorldValue) (name pass : List ℕ) (word : ℕ) (c d : CampaignValue) (faction unit : ℕ) (text : List ℕ) → join_of w name pass word c ≡ Ok (d, (faction, unit)) → IsGood w c → IsSound w d → IsGood w (with_report d faction text)
 unfolding join_of joined
 IsGood-joined w name pass word c d faction unit text is good sound =

@@ -69,14 +69,14 @@ flag_back false = refl
 pub read16 : (n : ℕ) → n ≤ most_u16 → as_u16 (pos n) ≡ n
 read16 n h = min_small n most_u16 h
 
--- a faction is read back from its row
+-- a faction is read back from its row, if its number fits 32 bits
 faction_back : (n : ℕ) (f : Faction) → n ≤ most_u32 → f.number ≡ n → faction_of (faction_row n f) ≡ f
 faction_back n f few is =
     let number = read_whole n few ∙ sym is in
     let gone = flag_back f.gone in
     λ i. record { number = number i; joined_as = f.joined_as; name = f.name; pass = f.pass; gone = gone i }
 
--- a region is read back from its row and its stocks
+-- a region is read back from its row and its stocks, if its numbers fit 32 bits
 region_back : (markets : List StoredMarket) (n : ℕ) (r : Region) → n ≤ most_u32 → r.peasants ≤ most_u32 → r.money ≤ most_u32 → stocks_of n markets ≡ r.stocks → region_of markets (region_row n r) ≡ r
 region_back markets n r few p m stocks =
     let peasants = read_whole r.peasants p in
@@ -91,7 +91,7 @@ pub record StructureFits (s : Structure) : Type 0 where
   pub done : s.done ≤ most_u32
   pub owner : s.owner ≤ most_u32
 
--- a structure is read back from its row
+-- a structure is read back from its row, if its numbers fit (StructureFits)
 structure_back : (n : ℕ) (s : Structure) → StructureFits s → structure_of (structure_row n s) ≡ s
 structure_back n s h =
     let kind = read16 s.kind h.kind in
@@ -108,7 +108,7 @@ pub record UnitFits (u : Unit) : Type 0 where
   pub men : u.holding.men ≤ most_u32
   pub money : u.holding.money ≤ most_u32
 
--- a unit is read back from its row and its goods
+-- a unit is read back from its row and its goods, if its numbers fit 32 bits
 unit_back : (has : List StoredHas) (n : ℕ) (u : Unit) → n ≤ most_u32 → UnitFits u → things_had n 0 has ≡ u.holding.items → things_had n 1 has ≡ u.holding.days → unit_of has (unit_row n u) ≡ u
 unit_back has n u few h items days =
     let faction = read_whole u.faction h.faction in

@@ -60,12 +60,12 @@ module _ {R : Type 0} (test : R → Bool) where
       either rest true = ap (λ rs. cond (other r) (r ∷ rs) rs) rest
       either rest false = rest
 
--- a row if b, and then rows, is a choice between the rows with it in front and without
+-- a list with r if b is true, followed by rows, is the rows with r in front if b is true, else the rows
 single : {R : Type 0} (b : Bool) (r : R) (rows : List R) → cond b (r ∷ []) [] ++ rows ≡ cond b (r ∷ rows) rows
 single true r rows = refl
 single false r rows = refl
 
--- filtering each row by itself, one after another, is filtering the rows
+-- filtering each row by itself, and joining what is left, is filtering the rows
 pub filter_lines : {X R : Type 0} (test : R → Bool) (f : X → R) (xs : List X) → flat_map (λ x. filter test (f x ∷ [])) xs ≡ filter test (map f xs)
 filter_lines test f [] = refl
 filter_lines test f (x ∷ xs) = ap (λ rs. filter test (f x ∷ []) ++ rs) (filter_lines test f xs) ∙ single (test (f x)) (f x) (filter test (map f xs))
@@ -81,7 +81,7 @@ module _ {R U : Type 0} (group : R → ℕ) (number : U → ℕ) where
   abbrev others : ℕ → List R → List R
   others n rows = filter (λ r. not (group r == n)) rows
 
-  -- the rows of a group are the same without those of another
+  -- the rows of a group are the same once the rows of another group are left out
   same_group : (n m : ℕ) → m ≢ n → (rows : List R) → of_group m rows ≡ of_group m (others n rows)
   same_group n m apart [] = refl
   same_group n m apart (r ∷ rows) =
@@ -95,7 +95,7 @@ module _ {R U : Type 0} (group : R → ℕ) (number : U → ℕ) where
             ap (λ rs. cond (group r == m) (r ∷ rs) rs) (same_group n m apart rows) ∙ sym (ap (λ b. of_group m (cond (not b) (r ∷ others n rows) (others n rows))) elsewhere)
       ]
 
-  -- the rows of groups other than n are the same without those of n
+  -- the rows of groups other than n, joined, are the same once the rows of group n are left out
   same_groups : (n : ℕ) (rows : List R) (units : List U) → AllByRecursion (λ u. number u ≢ n) units → flat_map (λ u. of_group (number u) rows) units ≡ flat_map (λ u. of_group (number u) (others n rows)) units
   same_groups n rows [] apart = refl
   same_groups n rows (u ∷ units) apart =
@@ -108,7 +108,7 @@ module _ {R U : Type 0} (group : R → ℕ) (number : U → ℕ) where
       absurd (false≢true (sym (ap not same) ∙ other))
   of_others n g units (inr there) other = there
 
-  -- all groups' rows, one group after another, are the rows in another order, if groups differ and each row is of one
+  -- all groups' rows, one group after another, are the rows in some order, if groups differ and each row is of one
   by_group : (units : List U) (rows : List R) → Apart number units → AllByRecursion (λ r. HasNumber number units (group r)) rows → IsPermutation (flat_map (λ u. of_group (number u) rows) units) rows
   by_group [] [] apart all = IsPermutation-refl []
   by_group [] (r ∷ rows) apart all = absurd all.0
@@ -165,14 +165,15 @@ module _ {R : Type 0} (thing amount : R → ℕ) where
     abbrev line : ℕ × ℕ → List R
     line e = filter some (row e.0 e.1 ∷ [])
 
-    -- the row made again of each row's thing and amount is that row
+    -- if each row is the one written for its thing and amount, the rows so written are the rows
     row_lines : (rows : List R) → AllByRecursion (λ r. (row (thing r) (amount r) ≡ r) × (some r ≡ true)) rows → flat_map (λ r. line (thing r, amount r)) rows ≡ rows
     row_lines [] all = refl
     row_lines (r ∷ rows) all =
         let itself : line (thing r, amount r) ≡ r ∷ [] = ap (λ s. filter some (s ∷ [])) all.0.0 ∙ ap (λ b. cond b (r ∷ []) []) all.0.1 in
         ap (λ rs. rs ++ flat_map (λ r. line (thing r, amount r)) rows) itself ∙ ap (λ rs. r ∷ rs) (row_lines rows all.1)
 
-    -- the rows made of the map of a group's things and amounts are the group's rows, in another order
+    -- the map of a group's things and amounts is written as just the group's rows, in some order, if things differ.
+    -- Each row is to be the one written for its thing and amount, and to pass the test.
     pub lines_order : (rows : List R) → Apart thing rows → AllByRecursion (λ r. (row (thing r) (amount r) ≡ r) × (some r ≡ true)) rows → IsPermutation (filter some (rows_by row (entries (by_number thing amount rows)))) rows
     lines_order rows apart all =
         let es = entries (by_number thing amount rows) in

@@ -57,7 +57,7 @@ module _ {V : Type 0} (p : V → Bool) where
   of_listed : (m : FinMap nat_cmp V) (n : ℕ) → In n (numbers_where p m) → (v : V) × (get m n ≡ Some v) × (p v ≡ true)
   of_listed m n h = let (i, l, is) = position_of n (numbers_where p m) h in subst (λ k. (v : V) × (get m k ≡ Some v) × (p v ≡ true)) is (passes-listed p m i 0 l)
 
--- ---- the faction that holds a region
+-- ---- the faction that guards a region, its holder
 
 -- equal Some's have equal numbers
 same_value : (x y : ℕ) → Some x ≡ Some y → x ≡ y
@@ -99,16 +99,16 @@ module _ (faction : ℕ → Option ℕ) where
         | Some z ↦ λ first rest. first_holds m z ms first rest n x a is ∙ sym (first_holds m z ms first rest k y b js)
       ] refl (and_parts _ _ h).1
 
-  -- each faction of the list is the holder's, where there is a holder
+  -- each faction of the list's numbers is the holder, if there is one
   abbrev Fits : Option ℕ → List ℕ → Type 0
   Fits holder ns = (n x y : ℕ) → In n ns → faction n ≡ Some x → holder ≡ Some y → x ≡ y
 
-  -- if Fits holds of a list, each faction of the rest is the holder's, or else the first number's
+  -- if each faction of a list is the holder, if any (Fits), each of its rest is that or else the first number's faction
   fits_on : (holder : Option ℕ) (m : ℕ) (ms : List ℕ) → Alike (m ∷ ms) → Fits holder (m ∷ ms) → Fits (option_or holder (faction m)) ms
   fits_on None m ms same fits n x y mine is first = same n m x y (inr mine) (inl refl) is first
   fits_on (Some z) m ms same fits n x y mine is held = fits n x y (inr mine) is held
 
-  -- numbers of one faction, which is the holder's if there is one, pass one_holder
+  -- numbers of one faction, which is the holder if there is one, pass one_holder
   hold : (holder : Option ℕ) (ns : List ℕ) → Alike ns → Fits holder ns → one_holder faction holder ns ≡ true
   hold holder [] same fits = refl
   hold holder (m ∷ ms) same fits =
@@ -130,7 +130,7 @@ guarding false f x e = none_some x e
 is_guard : (c : CampaignValue) (n x : ℕ) (u : Unit) → get c.units n ≡ Some u → guard_of c n ≡ Some x → (guards u ≡ true) × (u.faction ≡ x)
 is_guard c n x u is e = guarding (guards u) u.faction x (sym (ap (option_and_then (λ (v : Unit). cond (guards v) (Some v.faction) None)) is) ∙ e)
 
--- the guards among a region's units are of one faction
+-- region r's guards are of one faction: its list of units passes one_holder
 abbrev pub IsHeldByOne : CampaignValue → ℕ → Type 0
 IsHeldByOne c r = one_holder (guard_of c) None (numbers_in r c.units) ≡ true
 

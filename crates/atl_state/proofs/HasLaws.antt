@@ -1,4 +1,4 @@
--- Laws of the rows of goods: those of the units assembled from rows are these rows, in another order.
+-- Laws of the rows of `has` (units' goods): the units assembled from rows are written as the same rows, in some order.
 use Rattle.std.proofs.Common.{◌≡◌, ◌==◌, ℕ, ◌++◌, List, [], ◌∷◌, Bool, true, false, not, map, filter, sym, ap, subst, ◌∙◌, arith, inl, inr, ◌⊎◌}
 use Rattle.std.specs.Prelude.{pos, ℤ}
 use Rattle.std.specs.List.{flat_map, AllByRecursion, IsDistinct}
@@ -28,7 +28,7 @@ IsOfUnits units h = HasNumber (λ r. as_u32 r.number) units (as_u32 h.unit) × (
 abbrev rows_of_unit : ℕ → List StoredHas → List StoredHas
 rows_of_unit n has = of_group (λ h. as_u32 h.unit) (λ (r : StoredUnit). as_u32 r.number) n has
 
--- a unit's rows of items and its rows of days are its rows, in another order
+-- a unit's rows of items followed by its rows of days are all its rows, in some order
 by_sort : (n : ℕ) (has : List StoredHas) → AllByRecursion (λ h. (as_u32 h.sort ≡ 0) ⊎ (as_u32 h.sort ≡ 1)) has → IsPermutation (filter (is_of n 0) has ++ filter (is_of n 1) has) (rows_of_unit n has)
 by_sort n has sorts =
     let mine = rows_of_unit n has in
@@ -48,11 +48,11 @@ by_sort n has sorts =
 
 -- ---- the things of a unit
 
--- a number of a row that is read as it is
+-- a number of a row that is read as it is: it fits 32 bits
 abbrev pub IsWhole : ℤ → Type 0
 IsWhole z = z ≡ pos (as_u32 z)
 
--- a row of goods whose key is read as it is
+-- a row of goods whose unit, kind and thing are read as they are: they fit 32 bits
 pub record IsKeyed (h : StoredHas) : Type 0 where
   pub unit : IsWhole h.unit
   pub sort : IsWhole h.sort
@@ -72,15 +72,15 @@ thing_of h = as_u32 h.thing
 abbrev amount_of : StoredHas → ℕ
 amount_of h = as_u32 h.amount
 
--- a row of unit n and this kind, whose key is read as it is
+-- a row of unit n and of one kind (0 items, 1 days), whose key is read as it is
 abbrev IsHadBy : ℕ → ℕ → StoredHas → Type 0
 IsHadBy n sort h = IsKeyed h × (is_of n sort h ≡ true)
 
--- a row of unit n, whose key is read as it is, has the unit number n
+-- a row that is read as one of unit n, and as it is, has the unit number n
 its_unit : (n sort : ℕ) (h : StoredHas) → IsHadBy n sort h → h.unit ≡ pos n
 its_unit n sort h (exact, of) = exact.unit ∙ ap pos (is_same (as_u32 h.unit) n (and_parts (as_u32 h.unit == n) (as_u32 h.sort == sort) of).0)
 
--- a row of a kind, whose key is read as it is, has the number of that kind
+-- a row that is read as one of a kind, and as it is, has the number of that kind
 its_sort : (n sort : ℕ) (h : StoredHas) → IsHadBy n sort h → h.sort ≡ pos sort
 its_sort n sort h (exact, of) = exact.sort ∙ ap pos (is_same (as_u32 h.sort) sort (and_parts (as_u32 h.unit == n) (as_u32 h.sort == sort) of).1)
 
@@ -108,13 +108,13 @@ ties_itself k = (eq_by_cmp_equiv (then_total (then_total (on_total (λ (t : Key)
 pub things_apart : (n sort : ℕ) (has : List StoredHas) → AllByRecursion IsKeyed has → IsDistinct same (map has_key has) → Apart thing_of (filter (is_of n sort) has)
 things_apart n sort = group.things_apart has_key same ties_itself thing_of (is_of n sort) IsKeyed (same_key n sort)
 
--- the rows of the goods that a unit's rows of one kind make are these rows, in another order
+-- the goods of one kind read for unit n are written as the rows of unit n and that kind, in some order, if keys differ
 sort_order : (n sort : ℕ) (has : List StoredHas) → AllByRecursion IsExact has → IsDistinct same (map has_key has) → IsPermutation (rows_of_sort n sort (entries (things_had n sort has))) (filter (is_of n sort) has)
 sort_order n sort has all d =
     lines_order thing_of amount_of (has_row n sort) (λ h. not (is_zero h.amount)) (filter (is_of n sort) has) (things_apart n sort has (each_so IsExact IsKeyed (λ h one. one.keys) has all) d)
     (each_so (λ h. IsExact h × (is_of n sort h ≡ true)) (λ h. (has_row n sort (thing_of h) (amount_of h) ≡ h) × (not (is_zero h.amount) ≡ true)) (λ h had. (same_row n sort h (had.0.keys, had.1) had.0.amount, ap not had.0.some)) (filter (is_of n sort) has) (group.all_mine has_key same ties_itself thing_of (is_of n sort) IsExact has all))
 
--- the rows of the goods that a unit's rows make are these rows, in another order
+-- the items and days read for unit n are written as the rows of unit n, in some order, if keys differ
 unit_order : (n : ℕ) (has : List StoredHas) → AllByRecursion (λ h. (as_u32 h.sort ≡ 0) ⊎ (as_u32 h.sort ≡ 1)) has → AllByRecursion IsExact has → IsDistinct same (map has_key has)
     → IsPermutation (rows_of_sort n 0 (entries (things_had n 0 has)) ++ rows_of_sort n 1 (entries (things_had n 1 has))) (rows_of_unit n has)
 unit_order n has sorts all d =
@@ -127,7 +127,7 @@ unit_order n has sorts all d =
 abbrev unit_lines : ℕ × Unit → List StoredHas
 unit_lines e = held_rows e.0 e.1.holding
 
--- the rows of goods of the units assembled from rows are these rows, in another order
+-- units assembled from rows are written as the same rows of goods, in some order, if keys differ and units exist
 pub has_order : (has : List StoredHas) (units : List StoredUnit) → Apart (λ r. as_u32 r.number) units → AllByRecursion (IsOfUnits units) has → AllByRecursion IsExact has → IsDistinct same (map has_key has)
     → IsPermutation (has_rows (entries (by_number (λ r. as_u32 r.number) (unit_of has) units))) has
 has_order has units apart of all d =

@@ -1,4 +1,4 @@
--- Laws of a unit with another holding, by which it may begin to guard: the campaign stays steady and early.
+-- Laws of a unit that gets another holding and may begin to guard: the campaign stays steady and early.
 use Rattle.std.proofs.Common.{◌≡◌, ◌==◌, ℕ, ◌*◌, ◌≤◌, ◌<◌, true, length, Some, refl, ◌∙◌}
 use Rattle.std.specs.Prelude.{IsTrue, nat_lt}
 use Rattle.std.proofs.lemmas.Bool.{and_parts}
@@ -15,7 +15,7 @@ use Rattle.atl_state.specs.Campaign.{CampaignValue}
 use Rattle.atl_records.proofs.EveryLaws.{every-insert}
 use Rattle.atl_state.proofs.HoldingLaws.{known_kept, next_kept, numbers_kept, of_one_faction_kept, owners_kept}
 
--- what a unit of a campaign may hold: within the limits, and of what the world has
+-- a holding that a unit may have: within the limits, and of the world's items and skills
 pub record MayHave (w : WorldValue) (h : HoldingValue) : Type 0 where
   pub limits : IsHolding h
   pub name : IsTrue (name_ok h.name)
@@ -23,7 +23,7 @@ pub record MayHave (w : WorldValue) (h : HoldingValue) : Type 0 where
   pub skills : Every (λ s days. s < length w.skills) h.days
   pub days : Every (λ s days. (1 ≤ days) × (days ≤ most_days * h.men)) h.days
 
--- the holding of a unit of a steady campaign satisfies MayHave
+-- the holding of a unit of a steady campaign is one that a unit may have (MayHave)
 pub may_have : (w : WorldValue) (c : CampaignValue) (n : ℕ) (u : Unit) → get c.units n ≡ Some u → IsSteady w c → MayHave w u.holding
 may_have w c n u is steady =
     let place = steady.known.units n u is in
@@ -38,7 +38,7 @@ module _ (w : WorldValue) (c : CampaignValue) (n : ℕ) (u : Unit) (h : HoldingV
   abbrev supplied : CampaignValue
   supplied = record c { units = insert c.units n new_unit }
 
-  -- with a holding that satisfies MayHave the campaign stays steady, if guards of one region are of one faction
+  -- the campaign stays steady when unit n gets a holding that it may have, if each region's guards stay of one faction
   pub steady-having : MayHave w h → AreOfOneFaction guards supplied → IsSteady w c → IsSteady w supplied
   steady-having may guarded old = record {
     numbers = numbers_kept w c n u h is may.limits old.numbers;
@@ -58,7 +58,7 @@ module _ (w : WorldValue) (c : CampaignValue) (n : ℕ) (u : Unit) (h : HoldingV
     guarded = guarded;
   }
 
-  -- the campaign stays early with a holding that satisfies MayHave, if its guard flag is set only where it was
+  -- the campaign stays early when unit n gets a holding that it may have, with the guard flag set only if it was set
   pub early-having : MayHave w h → (h.guard ≡ true → u.holding.guard ≡ true) → IsEarly w c → IsEarly w supplied
   early-having may flag early =
       let flags = of_one_faction_kept w c n u h is (λ x. x.holding.guard) flag early.flags in

@@ -1,4 +1,4 @@
--- Laws of a unit with another holding, by which it does not begin to guard: steadiness, totals and marks.
+-- Laws of a unit that gets another holding and does not begin to guard: steadiness, totals and marks.
 use Rattle.std.proofs.Common.{◌≡◌, ◌≢◌, ◌==◌, ℕ, ◌+◌, ◌*◌, ◌≤◌, ◌<◌, Bool, true, Option, Some, None, length, refl, sym, ap, ◌∙◌, arith}
 use Rattle.std.specs.Prelude.{IsTrue, option_map}
 use Rattle.std.specs.Ordering.{nat_cmp}
@@ -29,7 +29,7 @@ use Rattle.atl_records.proofs.EveryLaws.{every-insert, get-insert_other, none_so
 use Rattle.atl_records.proofs.HoldingLaws.{get-set_other}
 use Rattle.atl_state.proofs.RegionLaws.{get-insert_same, same_len}
 
--- what a unit may hold instead: within the limits, of the world, and guarding only if it guarded before
+-- a holding that a unit may get: within the limits, of the world's items and skills, and guarding only if the unit did
 pub record MayHold (w : WorldValue) (u : Unit) (h : HoldingValue) : Type 0 where
   pub limits : IsHolding h
   pub name : IsTrue (name_ok h.name)
@@ -99,7 +99,7 @@ module _ (w : WorldValue) (c : CampaignValue) (n : ℕ) (u : Unit) (h : HoldingV
     posts = old.posts;
   }
 
-  -- factions and structures are still numbered without a gap, and no unit has a number from the next on
+  -- factions and structures stay numbered without a gap, and units below their next number, with h held by unit n
   pub next_kept : AreNumbered c → AreNumbered supplied
   next_kept old = record {
     factions = old.factions;
@@ -107,11 +107,11 @@ module _ (w : WorldValue) (c : CampaignValue) (n : ℕ) (u : Unit) (h : HoldingV
     units = λ k above. get-insert_other c.units n k new_unit (free_apart k (old.units k above)) ∙ old.units k above;
   }
 
-  -- factions that are gone still have no units
+  -- factions that are gone still have no units when unit n gets the holding h
   gone_kept : GoneHaveNone c → GoneHaveNone supplied
   gone_kept old m f there gone = numbers_where-insert_known (λ x. x.faction == m) c.units n u new_unit is refl ∙ old m f there gone
 
-  -- a unit inside a structure is still inside it
+  -- a unit inside a structure is still inside it when unit n gets the holding h
   inside_still : (k m : ℕ) → (x : Unit) × (get c.units k ≡ Some x) × (x.structure ≡ m) → (x : Unit) × (get supplied.units k ≡ Some x) × (x.structure ≡ m)
   inside_still k m (x, there, inside) =
       elim (nat_cmp k n) as (λ o. nat_cmp k n ≡ o → (y : Unit) × (get supplied.units k ≡ Some y) × (y.structure ≡ m)) [
@@ -123,7 +123,7 @@ module _ (w : WorldValue) (c : CampaignValue) (n : ℕ) (u : Unit) (h : HoldingV
         | Greater ↦ λ o. (x, get-insert_other c.units n k new_unit (λ same. let l = ranked k n Greater (sym o) in absurd (omega arith)) ∙ there, inside)
       ] refl
 
-  -- structures are still owned by units inside them
+  -- structures are still owned by units inside them when unit n gets the holding h
   pub owners_kept : AreOwned c → AreOwned supplied
   owners_kept old m s there =
       let o = old m s there in
@@ -132,27 +132,27 @@ module _ (w : WorldValue) (c : CampaignValue) (n : ℕ) (u : Unit) (h : HoldingV
         ownerless = λ none. every-insert (λ k x. x.structure ≢ m) c.units n new_unit (o.ownerless none n u is) (o.ownerless none);
       }
 
-  -- what is on water is still afloat
+  -- what is on water is still afloat when unit n gets the holding h
   water_kept : AreAfloat w c → AreAfloat w supplied
   water_kept old = record {
     units = every-insert _ c.units n new_unit (old.units n u is) old.units;
     structures = old.structures;
   }
 
-  -- for a test that the unit with the new holding passes only where it did before
+  -- for a test that the unit passes with the holding h only if it did before
   module _ (test : Unit → Bool) (only : test new_unit ≡ true → test u ≡ true) where
     -- two units that pass the test in one region are of one faction
     abbrev Agree : Unit → Unit → Type 0
     Agree x y = test x ≡ true → test y ≡ true → x.region ≡ y.region → x.faction ≡ y.faction
 
-    -- all units of a region that pass the test are still of one faction
+    -- all units of a region that pass the test are still of one faction when unit n gets the holding h
     pub of_one_faction_kept : AreOfOneFaction test c → AreOfOneFaction test supplied
     of_one_faction_kept old =
         every-insert (λ k x. Every (λ m y. Agree x y) supplied.units) c.units n new_unit
         (every-insert (λ m y. Agree new_unit y) c.units n new_unit (λ g k same. refl) (λ m y there g k same. old n u is m y there (only g) k same))
         (λ k x here. every-insert (λ m y. Agree x y) c.units n new_unit (λ g k2 same. old k x here n u is g (only k2) same) (old k x here))
 
-  -- the campaign stays steady with a holding that satisfies MayHold
+  -- the campaign stays steady when unit n gets the holding h, if the unit may have that (MayHold)
   pub steady-unit_amount : MayHold w u h → IsSteady w c → IsSteady w supplied
   steady-unit_amount may old = record {
     numbers = numbers_kept may.limits old.numbers;
@@ -172,7 +172,7 @@ module _ (w : WorldValue) (c : CampaignValue) (n : ℕ) (u : Unit) (h : HoldingV
     guarded = of_one_faction_kept guards may.guard old.guarded;
   }
 
-  -- an equation of sums with one term more on each side
+  -- an equation of two sums still holds with the same number r added on each side
   regrouped : (r a b p q : ℕ) → a + p ≡ b + q → (a + r) + p ≡ (b + r) + q
   regrouped r a b p q e = omega arith
 
@@ -190,7 +190,7 @@ module _ (w : WorldValue) (c : CampaignValue) (n : ℕ) (u : Unit) (h : HoldingV
 abbrev goods_of : Unit → FinMap nat_cmp ℕ × FinMap nat_cmp ℕ
 goods_of u = (u.holding.items, u.holding.days)
 
--- a change of a unit but for its goods, with the mark of its row, satisfies MarksChanges
+-- a change of a unit but for its goods, with the mark of its row, marks all that changes (MarksChanges)
 pub marks-unit_row : (f : Unit → Unit) → ((u : Unit) → goods_of (f u) ≡ goods_of u) → (c : MarkedCampaign) (n : ℕ) → MarksChanges c (record { value = unit_changed f c.value n; marks = mark_unit_row c n })
 marks-unit_row f same c n =
     let after : FinMap nat_cmp Unit → Option Unit → MarkedCampaign = λ m o. record { value = record c.value { units = m }; marks = record c.marks { units = marked_with c.marks.units n o; rows = marked_with c.marks.rows n o } } in
@@ -205,7 +205,7 @@ marks-unit_row f same c n =
       | _ ↦ λ k free. refl
     ]))
 
--- setting an item of a unit, with its mark, satisfies MarksChanges
+-- setting an item of a unit, with its mark, marks all that changes (MarksChanges)
 pub marks-item : (c : MarkedCampaign) (n item amount : ℕ) → MarksChanges c (record { value = with_item c.value n item amount; marks = mark_item c n item })
 marks-item c n item amount =
     let with_other : Unit → Unit = λ u. record u { holding = record u.holding { items = with_amount_of u.holding.items item amount } } in
@@ -221,7 +221,7 @@ marks-item c n item amount =
       | _ ↦ λ k free. refl
     ]))
 
--- setting the days of a skill of a unit, with its mark, satisfies MarksChanges
+-- setting the days of a skill of a unit, with its mark, marks all that changes (MarksChanges)
 pub marks-skill : (c : MarkedCampaign) (n skill days : ℕ) → MarksChanges c (record { value = with_skill c.value n skill days; marks = mark_skill c n skill })
 marks-skill c n skill days =
     let with_other : Unit → Unit = λ u. record u { holding = record u.holding { days = with_amount_of u.holding.days skill days } } in

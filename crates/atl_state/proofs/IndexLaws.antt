@@ -76,7 +76,7 @@ module _ {X : Type 0} where
   rest_none true x o h = some_none x h
   rest_none false x o h = h
 
-  -- for a look-up of q it makes no difference which of two entries with different numbers comes first
+  -- looking up q gives the same, whichever of two entries with different numbers comes first
   turned : (q n m : ℕ) (v w o : Option X) → eq_by_cmp nat_cmp n m ≡ false → cond (eq_by_cmp nat_cmp q m) w (cond (eq_by_cmp nat_cmp q n) v o) ≡ cond (eq_by_cmp nat_cmp q n) v (cond (eq_by_cmp nat_cmp q m) w o)
   turned q n m v w o apart =
       elim (eq_by_cmp nat_cmp q n) as (λ b. eq_by_cmp nat_cmp q n ≡ b → cond (eq_by_cmp nat_cmp q m) w (cond b v o) ≡ cond b v (cond (eq_by_cmp nat_cmp q m) w o)) [
@@ -103,13 +103,13 @@ pub nothing : {X : Type 0} (o : Option X) → is_some o ≡ false → o ≡ None
 nothing None h = refl
 nothing (Some x) h = absurd (false≢true (sym h))
 
--- a number that is not among the entries is not in the map
+-- a number that no index entry has is not in the map
 unlisted : (ps : List IndexEntry) (n : ℕ) → set.contains {R = nat_cmp} (set.from_list (index_numbers ps)) n ≡ false → finmap.get (as_map ps) n ≡ None
 unlisted ps n h =
     finmap.get-from_entries nat_cmp_total (slots_of ps) n
     ∙ nothing _ (is_some-find nat_cmp n (slots_of ps) ∙ ap (list_any (eq_by_cmp nat_cmp n)) (keys_are ps) ∙ sym (set.contains-from_list nat_cmp_total (index_numbers ps) n) ∙ h)
 
--- a number that belongs at an index, and is not there yet, is not in the map
+-- a number that is missing, and would be inserted at index i (BelongsAt), is not in the map
 pub get-belongs : (ps : List IndexEntry) (n i : ℕ) → IsSorted ps → BelongsAt (index_numbers ps) n i → finmap.get (as_map ps) n ≡ None
 get-belongs ps n i s b = unlisted ps n (contains-belongs (index_numbers ps) n i s b)
 
@@ -167,7 +167,7 @@ rising-without ps n i s h = rw (map-remove (λ (p : IndexEntry). p.number) ps i)
 pub map-missing : (ps : List IndexEntry) (n i : ℕ) → IsSorted ps → BelongsAt (index_numbers ps) n i → as_map ps ≡ finmap.remove (as_map ps) n
 map-missing ps n i s b = sym (remove_none (as_map ps) n (get-belongs ps n i s b))
 
--- ---- all of them
+-- ---- the whole index
 -- the empty list of entries is sorted
 pub rising-none : IsSorted []
 rising-none = rising-empty

@@ -11,7 +11,7 @@ use Rattle.atl_state.specs.Campaign.{numbers_inside}
 use Rattle.atl_records.proofs.EveryLaws.{none_some, other_number, same_number}
 use Rattle.atl_state.proofs.NumberListLaws.{IsListed, listed_passing, passing_listed}
 
--- a unit on the list is inside the structure
+-- a unit on a structure's list is inside that structure
 pub listed_is_inside : (s : ℕ) (units : FinMap nat_cmp Unit) (k : ℕ) → IsListed k (numbers_inside s units) → (v : Unit) × (get units k ≡ Some v) × (v.structure ≡ s)
 listed_is_inside s units k listed =
     elim (s == 0) as (λ b. IsListed k (cond b [] (numbers_where (λ u. u.structure == s) units)) → (v : Unit) × (get units k ≡ Some v) × (v.structure ≡ s)) [
@@ -23,7 +23,7 @@ listed_is_inside s units k listed =
 pub inside_is_listed : (s : ℕ) (units : FinMap nat_cmp Unit) → s ≢ 0 → Every (λ k v. v.structure ≡ s → IsListed k (numbers_inside s units)) units
 inside_is_listed s units some k v is inside = rw (other_number s 0 some) (passing_listed (λ u. u.structure == s) units k v is (ap (λ q. q == s) inside ∙ same_number s))
 
--- the list of units inside a structure stays if the same units are inside
+-- two maps of units with the same units inside a structure give it the same list
 pub inside_as_before : (s : ℕ) (units others : FinMap nat_cmp Unit) → numbers_where (λ u. u.structure == s) others ≡ numbers_where (λ u. u.structure == s) units → numbers_inside s others ≡ numbers_inside s units
 inside_as_before s units others same = ap (λ ns. cond (s == 0) [] ns) same
 

@@ -41,16 +41,16 @@ use Rattle.atl_state.proofs.TotalLaws.{total-with_unit}
 
 -- ---- the books
 
--- a total and a sum that balance still do once both get the same two amounts
+-- if a total x is the sum b booked, x + n is b + p + q, where p and q are n together
 two : (x n : ℕ) (b p q : ℤ) → pos x ≡ b → pos n ≡ p +ℤ q → pos (x + n) ≡ (b +ℤ p) +ℤ q
 two x n b p q h g = omega (arith, ints)
 
--- the first unit has 0 of each item, which is what the joining books of the item
+-- the first unit has 0 of each item, which is what a join books of the item
 none : (w : WorldValue) (word : ℕ) (c : CampaignValue) (i : ℕ) → (2 + i == 0) ≡ false → (2 + i == 1) ≡ false → pos (unit_amount (Item i) (first_unit w word c).holding) ≡ share_of (Item i) Money (pos w.rules.start_money) +ℤ share_of (Item i) People (pos 1)
 none w word c i a b =
     ap (λ o. pos (unwrap_or o 0)) (get-empty nat_cmp i) ∙ sym (ap (λ q. cond q (pos w.rules.start_money) (pos 0) +ℤ cond (2 + i == 1) (pos 1) (pos 0)) a ∙ ap (λ q. pos 0 +ℤ cond q (pos 1) (pos 0)) b)
 
--- what the first unit holds of a thing is what the joining books of the thing
+-- what the first unit holds of a thing is what a join books of the thing
 held_booked : (w : WorldValue) (word : ℕ) (c : CampaignValue) (t : Thing) → pos (unit_amount t (first_unit w word c).holding) ≡ share_of t Money (pos w.rules.start_money) +ℤ share_of t People (pos 1)
 held_booked w word c Money = omega (arith, ints)
 held_booked w word c People = refl
@@ -82,11 +82,11 @@ joining_small w c sound =
 len_new : {V : Type 0} (m : FinMap nat_cmp V) (k : ℕ) (v : V) → get m k ≡ None → len (insert m k v) ≡ len m + 1
 len_new m k v h = len-insert nat_cmp_total m k v ∙ ap (λ o. cond (is_some o) (len m) (len m + 1)) h
 
--- a campaign that passes the test of fullness is below its three limits
+-- if the test for a full campaign fails, there are fewer factions and units than the limits, and a unit number is left
 few : (f u n : ℕ) → ((nat_le last_faction f || nat_le most_units u) || nat_lt last_unit n) ≡ false → (f < last_faction) × (u < most_units) × (n ≤ last_unit)
 few f u n h = (grind (arith, nat_tests), grind (arith, nat_tests), grind (arith, nat_tests))
 
--- a campaign that is not full is below its three limits
+-- a campaign that is not full has fewer factions and units than the limits, and a unit number left
 pub room : (c : CampaignValue) → is_full c ≡ false → (len c.factions < last_faction) × (len c.units < most_units) × (c.next_unit ≤ last_unit)
 room c h = few (len c.factions) (len c.units) c.next_unit h
 
@@ -141,7 +141,7 @@ module _ (w : WorldValue) (name pass : List ℕ) (word : ℕ) (c : CampaignValue
   abbrev units : FinMap nat_cmp Unit
   units = insert c.units c.next_unit unit
 
-  -- a campaign that a faction joined is in range
+  -- a campaign in range that is not full is still in range once a faction joined
   joined-numbers : is_full c ≡ false → IsWorld w → AreNumbered c → AreInRange w c → AreInRange w (joined w name pass word c)
   unfolding joined
   joined-numbers full world next old =
@@ -308,7 +308,7 @@ module _ (w : WorldValue) (name pass : List ℕ) (word : ℕ) (c : CampaignValue
       guarded = joined-guarded old.guarded;
     }
 
-    -- a sound campaign that a faction joins, where the joining is not refused, stays sound
+    -- a sound campaign that a faction joins stays sound, if the join is not refused
     pub joined-sound : IsSound w c → IsSound w (joined w name pass word c)
     joined-sound old = let next = old.steady.next in record {
       steady = joined-steady old.steady;

@@ -27,7 +27,7 @@ rest_at keys i d h = rw add-one (drop-cons keys i d h)
 pub next_of : {K : Type 0} (keys : List K) (i : ℕ) (x : K) → i < length keys → x ≡ get_or keys i x → drop i keys ≡ x ∷ drop (i + 1) keys
 next_of keys i x h is = rest_at keys i x h ∙ ap (λ y. y ∷ drop (i + 1) keys) (sym is)
 
--- a choice of true or c is an or
+-- true if b is true, and else c, is the or of c and b
 added : (b c : Bool) → cond b true c ≡ (c || (b || false))
 added true true = refl
 added true false = refl
@@ -70,13 +70,13 @@ module _ {A B : Type 0} (f : A → B) (e : B → B → Bool) where
   each_of_map x [] h = tt
   each_of_map x (y ∷ xs) h = (h.0, each_of_map x xs h.1)
 
-  -- what is distinct by f is distinct once mapped by f
+  -- if f makes different values of the elements of a list, the mapped list is distinct
   pub IsDistinct-map : (xs : List A) → IsDistinct (λ x y. e (f x) (f y)) xs → IsDistinct e (map f xs)
   unfolding IsDistinct
   IsDistinct-map [] h = tt
   IsDistinct-map (x ∷ xs) h = (each_map x xs h.0, IsDistinct-map xs h.1)
 
-  -- what is distinct once mapped by f is distinct by f
+  -- if the mapped list is distinct, f makes different values of the elements of the list
   pub IsDistinct-of_map : (xs : List A) → IsDistinct e (map f xs) → IsDistinct (λ x y. e (f x) (f y)) xs
   unfolding IsDistinct
   IsDistinct-of_map [] h = tt
@@ -98,7 +98,7 @@ module _ {K : Type 0} {R : K → K → Ordering} (o : IsTotalOrder R) where
   rises [] i most steps = tt
   rises (x ∷ xs) i most steps = sorted_from_all_adjacent o (x ∷ xs) x (λ k l. steps x k (omega (arith, l, most)))
 
-  -- RisesTo i gives RisesTo (i + 1), if key i - 1 is less than key i
+  -- if the first i keys rise, and key i - 1 is less than key i, the first i + 1 keys rise (RisesTo)
   pub rises_more : (ks : List K) (i : ℕ) (x y : K) → 1 ≤ i → i < length ks → x ≡ get_or ks (i - 1) x → y ≡ get_or ks i y → R x y ≡ Less → RisesTo i ks → RisesTo (i + 1) ks
   rises_more ks i x y some within x_is y_is above steps d k l = by_order (cases_order (k + 1) i)
     where

@@ -60,7 +60,7 @@ module _ (w : WorldValue) (c : CampaignValue) (n : ℕ) (u : Unit) (is : get c.u
     every_owned : (P : ℕ → Structure → Type 0) → ((k o : ℕ) (y : Structure) → P k y → P k (owned_by o y)) → Every P c.structures → Every P structures
     every_owned P free old k x there = let (y, o, was, same) = re.back k x there in subst (P k) same (free k o y (old k y was))
 
-    -- a number without a structure still has none
+    -- a number without a structure has none among the reowned structures
     none_kept : (k : ℕ) → get c.structures k ≡ None → get structures k ≡ None
     none_kept k none = by_option (get structures k) refl
       where
@@ -69,7 +69,7 @@ module _ (w : WorldValue) (c : CampaignValue) (n : ℕ) (u : Unit) (is : get c.u
         by_option None e = refl
         by_option (Some x) e = let (y, p, was, same) = re.back k x e in none_some y (sym none ∙ was)
 
-    -- the numbers of the campaign stay in range
+    -- the numbers of the campaign stay in range once unit n is removed
     numbers_left : AreInRange w c → AreInRange w after
     numbers_left old = record {
       month = old.month;
@@ -98,7 +98,7 @@ module _ (w : WorldValue) (c : CampaignValue) (n : ℕ) (u : Unit) (is : get c.u
           skills = p.skills;
         }
 
-    -- everything that the structures name still exists
+    -- everything that the structures name still exists once unit n is removed
     built_left : AreKnown w c → Every (λ k s. IsBuilt w after s) structures
     built_left old k x there =
         let (y, o, was, same) = re.back k x there in
@@ -109,7 +109,7 @@ module _ (w : WorldValue) (c : CampaignValue) (n : ℕ) (u : Unit) (is : get c.u
           owner = λ some. let (v, here, inside) = (re.owned k x there).owned some in (v, here);
         }
 
-    -- factions and structures are still numbered without a gap, and no unit has a number from the next on
+    -- factions and structures stay numbered without a gap, and units below their next number, once unit n is removed
     next_left : AreNumbered c → AreNumbered after
     next_left old = record {
       factions = old.factions;
@@ -126,13 +126,13 @@ module _ (w : WorldValue) (c : CampaignValue) (n : ℕ) (u : Unit) (is : get c.u
             by_option None e = refl
             by_option (Some x) e = none_some x (sym none ∙ (still c.units n k x e).1)
 
-    -- factions that are gone still have no units
+    -- factions that are gone still have no units once unit n is removed
     gone_left : GoneHaveNone c → GoneHaveNone after
     gone_left old m f there gone =
         let test = λ (v : Unit). v.faction == m in
         nothing_listed test left (every-remove c.units n (λ k v. test v ≡ false) (none_passing test c.units (old m f there gone)))
 
-    -- what is on water is still afloat
+    -- what is on water is still afloat once unit n is removed
     water_left : AreAfloat w c → AreAfloat w after
     water_left old = record {
       units = λ k v there sea.
@@ -173,7 +173,7 @@ module _ (w : WorldValue) (c : CampaignValue) (n : ℕ) (u : Unit) (is : get c.u
         let one : Some v ≡ Some u = sym at ∙ ap (get c.units) own ∙ is in
         sym (ap (λ o. structure_in o u) one) ∙ inside
 
-    -- a structure that another unit owns still satisfies IsOwned once unit n is removed
+    -- a structure that unit n does not own still has a good owner (IsOwned) once unit n is removed
     still_owned : (k : ℕ) (x : Structure) (structures : FinMap nat_cmp Structure) → get c.structures k ≡ Some x → x.owner ≢ n → IsOwned (reduced structures) k x
     still_owned k x structures there apart =
         let o = old k x there in
@@ -182,7 +182,7 @@ module _ (w : WorldValue) (c : CampaignValue) (n : ℕ) (u : Unit) (is : get c.u
           ownerless = λ none. every-remove c.units n (λ m v. v.structure ≢ k) (o.ownerless none);
         }
 
-    -- the unchanged structures satisfy AreReowned, if unit n does not own the structure that it is inside
+    -- if unit n does not own the structure that it is inside, all owners stay good once it is removed (AreReowned)
     as_they_were : is_owned_by (get c.structures u.structure) n ≡ false → AreReowned c.structures
     as_they_were free = record {
       count = refl;
@@ -199,7 +199,7 @@ module _ (w : WorldValue) (c : CampaignValue) (n : ℕ) (u : Unit) (is : get c.u
             let t : (y.owner == n) ≡ true = (let eq : y.owner ≡ n = same ∙ own in grind (arith, nat_tests)) in
             absurd (true≢false (sym t ∙ f))
           where
-            -- the owner of the structure that was found, or of the other where none was
+            -- the owner of a structure if it is Some, else the owner of another
             owner_in : Option Structure → Structure → ℕ
             owner_in (Some z) d = z.owner
             owner_in None d = d.owner
@@ -239,7 +239,7 @@ module _ (w : WorldValue) (c : CampaignValue) (n : ℕ) (u : Unit) (is : get c.u
       listed_low : (k : ℕ) → IsListed k among → 1 ≤ k
       listed_low k h = let (v, at, inside) = listed_is_inside u.structure c.units k h in low k v at
 
-      -- the unit's structure with its next owner satisfies IsOwned
+      -- unit n's structure with its next owner has a good owner among the units left, or none (IsOwned)
       heir_owns : IsOwned (reduced handed_on) u.structure (owned_by next mine)
       heir_owns =
           let first = first_of (λ k. not (k == n)) among listed_low in
@@ -253,7 +253,7 @@ module _ (w : WorldValue) (c : CampaignValue) (n : ℕ) (u : Unit) (is : get c.u
                 apart (is_same k (first.1 none k (inside_is_listed u.structure c.units some_place k v at within)));
           }
 
-      -- the structures, with the next owner of the unit's structure, satisfy AreReowned
+      -- once unit n's structure has its next owner, all structures have good owners among the units left (AreReowned)
       as_handed_on : AreReowned handed_on
       as_handed_on = record {
         count = same_len c.structures u.structure mine (owned_by next mine) here;
@@ -317,7 +317,7 @@ module _ (w : WorldValue) (c : CampaignValue) (n : ℕ) (u : Unit) (is : get c.u
   total-without t =
       ap (λ (d : CampaignValue). total d t + unit_amount t u.holding) without-known ∙ by_test (is_owned_by (get c.structures u.structure) n)
     where
-      -- an equation of sums with one term more on each side
+      -- an equation of sums still holds with the same number added on each side
       regrouped : (a b s h : ℕ) → a + h ≡ b → (a + s) + h ≡ b + s
       regrouped a b s h e = omega arith
 
@@ -346,7 +346,7 @@ module _ (w : WorldValue) (c : CampaignValue) (n : ℕ) (u : Unit) (is : get c.u
 
 -- ---- what is marked
 
--- a change of a structure, with its mark, satisfies MarksChanges
+-- a change of a structure, with its mark, marks all that changes (MarksChanges)
 pub marks-structure : (f : Structure → Structure) (c : MarkedCampaign) (n : ℕ) → MarksChanges c (record { value = structure_changed f c.value n; marks = mark_structure c n })
 marks-structure f c n =
     let after : FinMap nat_cmp Structure → Option Structure → MarkedCampaign = λ m o. record { value = record c.value { structures = m }; marks = record c.marks { structures = marked_with c.marks.structures n o } } in
@@ -356,7 +356,7 @@ marks-structure f c n =
     (λ p. elim p as (Stays c.marks next.marks) [ Structures ↦ put_stays c.marks.structures n | _ ↦ λ k h. h ])
     (λ p. elim p as (Tells next.marks c.value next.value) [ Structures ↦ λ k free. get-insert_other c.value.structures n k (f v) (apart_by c.marks.structures n k free) | _ ↦ λ k free. refl ]))
 
--- handing a structure on, with its mark, satisfies MarksChanges
+-- handing a structure on, with its mark, marks all that changes (MarksChanges)
 pub marks-after_handover : (c : MarkedCampaign) (s from to : ℕ) → MarksChanges c (handed_marked c s from to)
 marks-after_handover c s from to = by_test (is_owned_by (get c.value.structures s) from)
   where
@@ -365,7 +365,7 @@ marks-after_handover c s from to = by_test (is_owned_by (get c.value.structures 
     by_test true = marks-structure (owned_by to) c s
     by_test false = marks-refl c
 
--- removing a unit, with its mark, satisfies MarksChanges
+-- removing a unit without handing its structure on, with its mark, marks all that changes (MarksChanges)
 pub marks-taken : (c : MarkedCampaign) (n : ℕ) → MarksChanges c (taken_marked c n)
 marks-taken c n = by_unit (get c.value.units n) refl
   where
@@ -376,12 +376,12 @@ marks-taken c n = by_unit (get c.value.units n) refl
         subst (λ (o : Option Unit). MarksChanges c (record { value = record c.value { units = remove c.value.units n }; marks = whole_marked c.marks n o })) (sym is)
         (marks-unit c (remove c.value.units n) n (λ k apart. get-remove_other c.value.units n k apart))
 
--- removing a unit and handing its structure on, with their marks, satisfies MarksChanges
+-- removing a unit and handing its structure on, with their marks, marks all that changes (MarksChanges)
 marks_gone : (c : MarkedCampaign) (n : ℕ) (o : Option Unit) → MarksChanges c (gone_marked_at c n o)
 marks_gone c n None = marks-refl c
 marks_gone c n (Some u) = marks-trans c (taken_marked c n) (gone_marked_at c n (Some u)) (marks-taken c n) (marks-after_handover (taken_marked c n) u.structure n (heir c.value u.structure n))
 
--- removing a unit, with the marks of gone_marked, satisfies MarksChanges
+-- if d is c without a unit, with the marks of gone_marked, all that changes is marked (MarksChanges)
 pub marks-without : (c d : MarkedCampaign) (n : ℕ) → d.value ≡ without_unit c.value n → d.marks ≡ (gone_marked c n).marks → MarksChanges c d
 unfolding gone_marked
 marks-without c d n what marks =

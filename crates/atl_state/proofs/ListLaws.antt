@@ -1,4 +1,4 @@
--- Laws of the lists of units by region, by faction and by structure, as units are added, changed and removed.
+-- Laws of the lists of units by region, faction and structure: they stay right as units are added, changed and removed.
 use Rattle.std.proofs.Common.{◌≡◌, ◌≢◌, ◌==◌, ℕ, true, false, cond, Option, Some, None, List, [], map, filter, refl, sym, ap, subst, ◌∙◌, arith, inl, inr}
 use Rattle.std.specs.declared.cmp.Ordering.TheVariants.{Less, Equal, Greater}
 use Rattle.std.specs.Prelude.{Result, Ok, Err, OnOk, OnErr, unwrap_or}
@@ -117,7 +117,7 @@ none_taken lists key n none k =
 abbrev AreBare : (some all : FinMap nat_cmp (List ℕ)) → Type 0
 AreBare some all = (k : ℕ) → list_of some k ≡ cond (k == 0) [] (list_of all k)
 
--- AreBare still holds once f changes the list under a key in both, or under key 0 in `all` alone
+-- `some` still has the lists of `all` but that under 0 (AreBare) once f changes one in both, or that under 0 in `all`
 bare_put : (f : List ℕ → List ℕ) (some all : FinMap nat_cmp (List ℕ)) (key : ℕ) → AreBare some all → AreBare (cond (key == 0) some (insert some key (f (list_of some key)))) (insert all key (f (list_of all key)))
 bare_put f some all key bare =
     elim (cases_eq key 0) [
@@ -178,7 +178,7 @@ AreInsideLists-kept units lists n u v there same is =
 nobody_listed : (belongs_to : Unit → ℕ) → AreLists belongs_to empty empty
 nobody_listed belongs_to k = ap (λ o. unwrap_or o []) (get-empty nat_cmp k) ∙ sym (ap (λ es. map (λ e. e.0) (filter (λ e. belongs_to e.1 == k) es)) entries-empty)
 
--- AreBare holds of empty lists
+-- an empty map of lists has the lists of an empty one, and none under 0 (AreBare)
 nobody_bare : AreBare empty empty
 nobody_bare k = elim (k == 0) as (λ b. list_of empty k ≡ cond b [] (list_of empty k)) [
   | true ↦ ap (λ o. unwrap_or o []) (get-empty nat_cmp k)

@@ -1,5 +1,4 @@
--- Laws of the regions' dirty sets, of rows and of stocks: there is room for the marks of all regions,
--- and a marked stock's region is marked.
+-- Laws of AreRegions, the regions' invariant: there is room for all marks, and a marked stock's region is marked.
 use Rattle.std.proofs.Common.{◌≡◌, ℕ, Some, true, refl, sym, ap, subst, ◌∙◌}
 use Rattle.std.specs.Prelude.{is_some}
 use Rattle.std.specs.Ordering.{nat_cmp}
@@ -14,7 +13,7 @@ use Rattle.atl_state.specs.Marks.{AreStocksWithin, Things}
 use Rattle.atl_state.specs.Regions.{AreRegions}
 use Rattle.atl_state.proofs.UnitLaws.{within_both, within_more, within_things}
 
--- an empty dirty set with this room
+-- an empty dirty set with the given room
 abbrev nothing_marked : ℕ → RoomySet
 nothing_marked room = record { numbers = set.empty; room = room }
 
@@ -26,7 +25,7 @@ cleared marks = record marks { numbers = set.empty }
 abbrev marking : FinMap nat_cmp Region → RoomySet → ℕ → RoomySet
 marking regions marks n = record marks { numbers = marked_with marks.numbers n (get regions n) }
 
--- the empty dirty sets of stocks satisfy AreStocksWithin
+-- empty dirty sets mark no stock, so each marked stock is of a marked region (AreStocksWithin)
 within-none : AreStocksWithin set.empty set.empty empty
 within-none = record { stocks_within = λ q e. e; items_within = nothing }
   where
@@ -34,16 +33,16 @@ within-none = record { stocks_within = λ q e. e; items_within = nothing }
     nothing : (q : ℕ) → is_some (get {X = FinMap nat_cmp (Prim.Unit {0})} {R = nat_cmp} empty q) ≡ true → set.contains {R = nat_cmp} set.empty q ≡ true
     nothing q e = absurd (false≢true (sym (ap is_some (get-empty nat_cmp q)) ∙ e))
 
--- without regions empty dirty sets need no room
+-- without regions, empty dirty sets without room satisfy the invariant AreRegions
 pub AreRegions-none : AreRegions empty (nothing_marked 0) (nothing_marked 0) (nothing_marked 0) empty
 AreRegions-none = record { within = within-none; rows_fit = Room-empty Region; markets_fit = Room-empty Region; stocks_fit = Room-empty Region }
 
--- regions with empty dirty sets that have room for all of them
+-- empty dirty sets that have room for all regions satisfy the invariant AreRegions
 pub AreRegions-of : (regions : FinMap nat_cmp Region) → AreRegions regions (nothing_marked (len regions)) (nothing_marked (len regions)) (nothing_marked (len regions)) empty
 AreRegions-of regions = record { within = within-none; rows_fit = Room-of regions; markets_fit = Room-of regions; stocks_fit = Room-of regions }
 
 module _ (regions : FinMap nat_cmp Region) (rows markets stocks : RoomySet) (items : Things) (h : AreRegions regions rows markets stocks items) where
-  -- AreRegions still holds once all dirty sets are emptied
+  -- the regions' invariant AreRegions still holds once all dirty sets are emptied
   pub AreRegions-without_marks : AreRegions regions (cleared rows) (cleared markets) (cleared stocks) empty
   AreRegions-without_marks = record {
     within = within-none;
@@ -52,12 +51,12 @@ module _ (regions : FinMap nat_cmp Region) (rows markets stocks : RoomySet) (ite
     stocks_fit = Room-unmarked regions stocks.numbers stocks.room h.stocks_fit;
   }
 
-  -- AreRegions still holds once a region's row is marked
+  -- the regions' invariant AreRegions still holds once a region's row is marked
   pub AreRegions-row : (n : ℕ) → AreRegions regions (marking regions rows n) markets stocks items
   AreRegions-row n = record { within = h.within; rows_fit = Room-put regions rows.numbers rows.room n (get regions n) refl h.rows_fit; markets_fit = h.markets_fit; stocks_fit = h.stocks_fit }
 
   module _ (n : ℕ) (r : Region) (is : get regions n ≡ Some r) where
-    -- AreRegions still holds once one stock of a region, and so the region, is marked
+    -- the regions' invariant AreRegions still holds once one stock of a region, and so the region, is marked
     pub AreRegions-item : (group : FinMap nat_cmp (Prim.Unit {0})) → AreRegions regions rows (marking regions markets n) stocks (insert items n group)
     AreRegions-item group = record {
       within = subst (λ o. AreStocksWithin (marked_with markets.numbers n o) stocks.numbers (insert items n group)) (sym is) (record {
@@ -69,7 +68,7 @@ module _ (regions : FinMap nat_cmp Region) (rows markets stocks : RoomySet) (ite
       stocks_fit = h.stocks_fit;
     }
 
-    -- AreRegions still holds once all stocks of a region, and so the region, are marked
+    -- the regions' invariant AreRegions still holds once all stocks of a region, and so the region, are marked
     pub AreRegions-stocks : AreRegions regions rows (marking regions markets n) (marking regions stocks n) items
     AreRegions-stocks = record {
       within = subst (λ o. AreStocksWithin (marked_with markets.numbers n o) (marked_with stocks.numbers n o) items) (sym is) (record {
@@ -81,7 +80,7 @@ module _ (regions : FinMap nat_cmp Region) (rows markets stocks : RoomySet) (ite
       stocks_fit = Room-put regions stocks.numbers stocks.room n (get regions n) refl h.stocks_fit;
     }
 
-  -- AreRegions still holds once a region is replaced by another
+  -- the regions' invariant AreRegions still holds once the region under a number is replaced by another
   pub AreRegions-over : (n : ℕ) (r s : Region) → get regions n ≡ Some r → AreRegions (insert regions n s) rows markets stocks items
   AreRegions-over n r s is = record {
     within = h.within;

@@ -59,14 +59,14 @@ module _ (m : FinMap nat_cmp Faction) where
   its_name : (r : StoredFaction) (n : ℕ) (f : Faction) → Found r → number r ≡ n → get m n ≡ Some f → r.joined_as ≡ f.joined_as
   its_name r n f found e is = ap (λ (x : Faction). x.joined_as) (some_same (faction_of r) f (sym found ∙ ap (get m) e ∙ is))
 
-  -- a faction of one of the rows has another joined name than one that differs from all of theirs
+  -- a name that differs from the joined names of all rows differs from that of each faction read from one of the rows
   later_differs : (name : List ℕ) (rows : List StoredFaction) (n : ℕ) (f : Faction) → AllByRecursion (λ y. same_text name y ≡ false) (map (λ r. r.joined_as) rows) → AllByRecursion Found rows → HasNumber number rows n → get m n ≡ Some f
       → same_text name f.joined_as ≡ false
   later_differs name [] n f d all there is = absurd there
   later_differs name (r ∷ rows) n f d all (inl e) is = ap (same_text name) (sym (its_name r n f all.0 e is)) ∙ d.0
   later_differs name (r ∷ rows) n f d all (inr there) is = later_differs name rows n f d.1 all.1 there is
 
-  -- equal texts do not compare as different
+  -- equal texts do not compare as different: both together are impossible
   clash : (a b : List ℕ) → a ≡ b → same_text a b ≡ false → ⊥
   clash a b e d = false≢true (sym (ap (same_text a) e ∙ d) ∙ text_itself a)
 

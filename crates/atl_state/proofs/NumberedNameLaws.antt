@@ -52,7 +52,7 @@ pub record IsFront (word : List ℕ) : Type 0 where
   pub few : length word ≤ 20
 
 module _ (word : List ℕ) (front : IsFront word) where
-  -- a front followed by digits neither begins nor ends with a space
+  -- a word that can be the front of a name (IsFront), followed by digits, neither begins nor ends with a space
   open_ends : (digits : List ℕ) (last : ℕ) → 48 ≤ last → has_open_ends (word ++ (digits ++ last ∷ [])) ≡ true
   open_ends digits last h =
       let bs = word ++ (digits ++ last ∷ []) in
@@ -63,7 +63,7 @@ module _ (word : List ℕ) (front : IsFront word) where
       let end : get_or bs (length (word ++ digits)) 0 ≡ last = ap (λ l. get_or l (length (word ++ digits)) 0) (sym whole) ∙ get_or-append_seam (word ++ digits) last [] 0 in
       both_true (ap not first) (ap (λ i. not (get_or bs i 0 == 32)) place ∙ ap (λ b. not (b == 32)) end ∙ ap not other)
 
-  -- a front followed by a number up to last_unit is a good name
+  -- a word that can be the front of a name (IsFront), followed by a number up to last_unit, is a good name
   pub numbered_name_ok : (n : ℕ) → n ≤ last_unit → name_ok (word ++ decimal n) ≡ true
   numbered_name_ok n h =
       let e = decimal_ends n (omega arith) in

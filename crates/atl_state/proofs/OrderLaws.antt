@@ -1,4 +1,4 @@
--- Laws of rows and the map made of them: its entries' rows are these rows, in another order.
+-- Laws of the map made of rows: each row's value is found in it, and it is written as just these rows, in some order.
 use Rattle.std.proofs.Common.{◌≡◌, ◌≢◌, ℕ, ◌++◌, List, [], ◌∷◌, Bool, true, false, cond, map, Some, None, refl, sym, ap, subst, ◌∙◌, suc, length, inl, inr, ◌⊎◌}
 use Rattle.std.specs.Prelude.{⊤}
 use Rattle.std.specs.declared.cmp.Ordering.TheVariants.{Less, Equal, Greater}
@@ -24,18 +24,18 @@ abbrev pub Apart : {R : Type 0} → (R → ℕ) → List R → Type 0
 Apart number [] = ⊤
 Apart number (r ∷ rows) = AllByRecursion (λ s. number s ≢ number r) rows × Apart number rows
 
--- some row has this number
+-- some row has the number n
 abbrev pub HasNumber : {R : Type 0} → (R → ℕ) → List R → ℕ → Type 0
 HasNumber number [] n = ⊥
 HasNumber number (r ∷ rows) n = (number r ≡ n) ⊎ HasNumber number rows n
 
--- exchanging two lists in front of a third gives the same elements in another order
+-- exchanging two lists in front of a third gives a permutation
 pub exchange : {A : Type 0} (a b c : List A) → IsPermutation (a ++ (b ++ c)) (b ++ (a ++ c))
 exchange a b c =
     subst (λ xs. IsPermutation xs (b ++ (a ++ c))) (append_assoc a b c) (subst (λ ys. IsPermutation ((a ++ b) ++ c) ys) (append_assoc b a c) (IsPermutation-append_left c (a ++ b) (b ++ a) (IsPermutation-append_comm a b)))
 
 module _ {V A : Type 0} (f : ℕ × V → List A) where
-  -- once an entry is put under a new number, the list made of all has its elements and the old ones, in another order
+  -- putting an entry under a new number adds the list that f makes of it to those of all entries joined, in some order
   flat_put : (k : ℕ) (v : V) (es : List (ℕ × V)) → find nat_cmp k es ≡ None → IsPermutation (f (k, v) ++ flat_map f es) (flat_map f (put nat_cmp k v es))
   flat_put k v [] h = IsPermutation-refl (f (k, v) ++ [])
   flat_put k v (e ∷ es) h =
@@ -47,12 +47,12 @@ module _ {V A : Type 0} (f : ℕ × V → List A) where
             (IsPermutation-append_right (f e) (f (k, v) ++ flat_map f es) (flat_map f (put nat_cmp k v es)) (flat_put k v es g))
       ] h
 
-  -- once a value is inserted under a new number, the list made of the map is its elements and the old, reordered
+  -- inserting a value under a new number adds the list that f makes of it to those of the map joined, in some order
   flat_insert : (m : FinMap nat_cmp V) (k : ℕ) (v : V) → get m k ≡ None → IsPermutation (f (k, v) ++ flat_map f (entries m)) (flat_map f (entries (insert m k v)))
   flat_insert m k v h = subst (λ es. IsPermutation (f (k, v) ++ flat_map f (entries m)) (flat_map f es)) (sym (entries-insert nat_cmp_total m k v)) (flat_put k v (entries m) (sym (get-entries m k) ∙ h))
 
 module _ {R V : Type 0} (number : R → ℕ) (value : R → V) where
-  -- rows with other numbers still have none in a map once a value is put
+  -- rows with numbers other than k that have no value in a map still have none once a value is put under k
   still_none : (m : FinMap nat_cmp V) (k : ℕ) (v : V) (rows : List R) → AllByRecursion (λ s. number s ≢ k) rows → AllByRecursion (λ s. get m (number s) ≡ None) rows → AllByRecursion (λ s. get (insert m k v) (number s) ≡ None) rows
   still_none m k v [] h n = tt
   still_none m k v (s ∷ rows) h n = (get_other m k (number s) v h.0 ∙ n.0, still_none m k v rows h.1 n.1)
@@ -63,11 +63,11 @@ module _ {R V : Type 0} (number : R → ℕ) (value : R → V) where
   all_none (s ∷ rows) = (get-empty nat_cmp (number s), all_none rows)
 
   module _ {A : Type 0} (f : ℕ × V → List A) where
-    -- the elements of all rows, one after another
+    -- the lists that f makes of each row's number and value, joined
     abbrev pub flat_of : List R → List A
     flat_of rows = flat_map (λ r. f (number r, value r)) rows
 
-    -- once rows with new numbers are put in, the list made of the map is the old elements and theirs, reordered
+    -- putting in rows with new numbers adds the lists that f makes of them to those of the map joined, in some order
     put_order : (rows : List R) (m : FinMap nat_cmp V) → Apart number rows → AllByRecursion (λ s. get m (number s) ≡ None) rows → IsPermutation (flat_map f (entries m) ++ flat_of rows) (flat_map f (entries (put_rows number value rows m)))
     put_order [] m h n = subst (λ xs. IsPermutation xs (flat_map f (entries m))) (sym (append-nil (flat_map f (entries m)))) (IsPermutation-refl (flat_map f (entries m)))
     put_order (r ∷ rows) m h n =
@@ -81,17 +81,18 @@ module _ {R V : Type 0} (number : R → ℕ) (value : R → V) where
         IsPermutation-trans (old ++ (f (k, v) ++ flat_of rows)) ((f (k, v) ++ old) ++ flat_of rows) last moved
         (IsPermutation-trans ((f (k, v) ++ old) ++ flat_of rows) (new ++ flat_of rows) last one (put_order rows (insert m k v) h.1 (still_none m k v rows h.0 n.1)))
 
-    -- the elements of all rows are those of the entries of the map made of them, in another order
+    -- the lists that f makes of rows with different numbers, joined, are those of their map's entries, in some order
     pub flat_order : (rows : List R) → Apart number rows → IsPermutation (flat_of rows) (flat_map f (entries (by_number number value rows)))
     flat_order rows h =
         subst (λ es. IsPermutation (flat_map f es ++ flat_of rows) (flat_map f (entries (by_number number value rows)))) (entries-empty {X = V}) (put_order rows empty h (all_none rows))
 
-  -- the row made again of each row's number and value is that row
+  -- if each row is the one written for its number and value, the rows so written are the rows
   same_rows : (row : ℕ → V → R) (rows : List R) → AllByRecursion (λ r. row (number r) (value r) ≡ r) rows → flat_map (λ r. row (number r) (value r) ∷ []) rows ≡ rows
   same_rows row [] h = refl
   same_rows row (r ∷ rows) h = ap (λ s. s ∷ flat_map (λ r. row (number r) (value r) ∷ []) rows) h.0 ∙ ap (λ rs. r ∷ rs) (same_rows row rows h.1)
 
-  -- the rows of the entries of the map made of rows are these rows, in another order
+  -- the map made of rows with different numbers is written as just these rows, in some order.
+  -- Each row is to be the one written for its number and value.
   pub rows_order : (row : ℕ → V → R) (rows : List R) → Apart number rows → AllByRecursion (λ r. row (number r) (value r) ≡ r) rows → IsPermutation (rows_by row (entries (by_number number value rows))) rows
   rows_order row rows h same =
       let es = entries (by_number number value rows) in
@@ -124,7 +125,7 @@ each_passes p P good (r ∷ rows) h = let parts = and_parts (p r) (list_all p ro
 -- ---- rows and the values under their numbers
 
 module _ {R V : Type 0} (number : R → ℕ) (value : R → V) where
-  -- rows with other numbers change nothing under k
+  -- putting rows with numbers other than k changes nothing under k
   put_keep : (rows : List R) (m : FinMap nat_cmp V) (k : ℕ) → AllByRecursion (λ s. number s ≢ k) rows → get (put_rows number value rows m) k ≡ get m k
   put_keep [] m k h = refl
   put_keep (r ∷ rows) m k h = put_keep rows (insert m (number r) (value r)) k h.1 ∙ get_other m (number r) k (value r) (λ e. h.0 (sym e))
@@ -161,7 +162,7 @@ module _ {R V : Type 0} (number : R → ℕ) (value : R → V) where
   pub rows_there : (rows : List R) → AllByRecursion (λ r. IsThere (by_number number value rows) (number r)) rows
   rows_there rows = all_there rows empty
 
-  -- a number that has a value once rows are put is a row's, or had one
+  -- a number that has a value once rows are put is that of a row, or had a value before
   came_from : (rows : List R) (m : FinMap nat_cmp V) (n : ℕ) → IsThere (put_rows number value rows m) n → HasNumber number rows n ⊎ IsThere m n
   came_from [] m n h = inr h
   came_from (r ∷ rows) m n h =

@@ -1,4 +1,4 @@
--- Laws of sorted lists of numbers, which list the numbers of a map whose values pass a test.
+-- Laws of the list of the numbers of a map whose values pass a test: how it changes as a value is added or replaced.
 use Rattle.std.proofs.Common.{◌≡◌, ℕ, suc, ◌+◌, not, ◌<◌, Bool, true, false, cond, nat_le, List, [], ◌∷◌, ◌++◌, map, filter, take, drop, Some, None, refl, sym, ap, ◌∙◌, arith}
 use Rattle.std.specs.declared.cmp.Ordering.TheVariants.{Less, Equal, Greater}
 use Rattle.std.specs.Ordering.{nat_cmp, is_lt, is_eq}
@@ -15,7 +15,7 @@ use Rattle.atl_state.specs.Ordered.{first_above, put_number, take_number}
 use Rattle.atl_records.proofs.EveryLaws.{is_true, none_some}
 
 -- ---- put_number and take_number as recursions
--- put_number of a list with a first element, by whether the number is at most it
+-- n is put in front of a first element x if n is at most x (t), and else into the rest of the list
 put_step : (t : Bool) (n x : ℕ) (xs : List ℕ) → take (cond (not t) (1 + first_above n xs) 0) (x ∷ xs) ++ n ∷ drop (cond (not t) (1 + first_above n xs) 0) (x ∷ xs) ≡ cond t (n ∷ x ∷ xs) (x ∷ put_number n xs)
 unfolding put_number
 put_step true n x xs = refl
@@ -31,7 +31,7 @@ pub put_number-nil : (n : ℕ) → put_number n [] ≡ n ∷ []
 unfolding put_number
 put_number-nil n = refl
 
--- take_number of a list with a first element, by whether the number is at most it
+-- taking n out removes a first element x if n is at most x (t), and else takes n out of the rest of the list
 take_step : (t : Bool) (n x : ℕ) (xs : List ℕ) → remove (x ∷ xs) (cond (not t) (1 + first_above n xs) 0) ≡ cond t xs (x ∷ take_number n xs)
 unfolding take_number
 take_step true n x xs = refl
@@ -65,7 +65,7 @@ taken_put n (x ∷ xs) =
     ] refl
 
 -- ---- the numbers whose values pass a test
--- a number that compares less is less
+-- if comparing k with q gives less, k is less than q
 pub below : (k q : ℕ) → is_lt (nat_cmp k q) ≡ true → k < q
 below k q h =
     elim (nat_cmp k q) as (λ r. nat_cmp k q ≡ r → is_lt r ≡ true → k < q) [
@@ -74,12 +74,12 @@ below k q h =
       | Greater ↦ λ e g. absurd (false≢true g)
     ] refl h
 
--- if n put into ys comes first, it also does where x, which is greater, may be in front of ys
+-- if n comes first once it is put into ys, it also does if x, which is greater, is in front of ys (where t is true)
 first_holds : (n x : ℕ) (t : Bool) (xs ys : List ℕ) → n < x → put_number n ys ≡ n ∷ ys → put_number n (cond t (x ∷ ys) ys) ≡ n ∷ cond t (x ∷ ys) ys
 first_holds n x true xs ys l h = let e : nat_le n x ≡ true = grind (arith, nat_tests) in put_number-cons n x ys ∙ ap (λ b. cond b (n ∷ x ∷ ys) (x ∷ put_number n ys)) e
 first_holds n x false xs ys l h = h
 
--- n is put after a lower number x, whether x is listed or not
+-- putting n into a list leaves a lower number x in front, whether x is listed (t) or not
 later_step : (n x : ℕ) (t : Bool) (ys zs : List ℕ) → x < n → zs ≡ put_number n ys → cond t (x ∷ zs) zs ≡ put_number n (cond t (x ∷ ys) ys)
 later_step n x true ys zs l h = let e : nat_le n x ≡ false = grind (arith, nat_tests) in ap (λ q. x ∷ q) h ∙ sym (put_number-cons n x ys ∙ ap (λ b. cond b (n ∷ x ∷ ys) (x ∷ put_number n ys)) e)
 later_step n x false ys zs l h = h
@@ -104,7 +104,7 @@ module _ {X : Type 0} (p : X → Bool) where
       let rest : put_number k (chosen (f ∷ es)) ≡ k ∷ chosen (f ∷ es) = put_first k es (and_parts _ _ s).1 f (omega (arith, below e.0 f.0 (and_parts _ _ b).0)) (and_parts _ _ s).0 in
       ap (put_number k) (chosen-cons p e (f ∷ es)) ∙ first_holds k e.0 (p e.1) [] (chosen (f ∷ es)) l rest ∙ ap (λ ns. k ∷ ns) (sym (chosen-cons p e (f ∷ es)))
 
-  -- a new entry that passes puts its number among the chosen ones
+  -- putting in a new entry that passes puts its number among the chosen ones
   chosen-put_new : (k : ℕ) (v : X) → p v ≡ true → (es : List (ℕ × X)) → is_sorted nat_cmp es ≡ true → find nat_cmp k es ≡ None → chosen (put nat_cmp k v es) ≡ put_number k (chosen es)
   chosen-put_new k v h [] s g = chosen-cons p (k, v) [] ∙ ap (λ b. cond b (k ∷ []) []) h ∙ sym (put_number-nil k)
   chosen-put_new k v h (e ∷ es) s g =
@@ -114,16 +114,16 @@ module _ {X : Type 0} (p : X → Bool) where
         | Greater ↦ λ l g. chosen-cons p e (put nat_cmp k v es) ∙ later_step k e.0 (p e.1) (chosen es) (chosen (put nat_cmp k v es)) (ranked k e.0 Greater (sym l)) (chosen-put_new k v h es (and_parts _ _ s).1 g) ∙ ap (put_number k) (sym (chosen-cons p e es))
       ] refl g
 
-  -- a new value that passes puts its number into the list
+  -- inserting a new value that passes the test puts its number into the list of passing numbers
   pub numbers_where-insert_new : (m : FinMap nat_cmp X) (k : ℕ) (v : X) → get m k ≡ None → p v ≡ true → numbers_where p (insert m k v) ≡ put_number k (numbers_where p m)
   numbers_where-insert_new m k v fresh h =
       ap chosen (entries-insert nat_cmp_total m k v) ∙ chosen-put_new k v h (entries m) (is_true _ (entries_sorted m)) (sym (get-entries m k) ∙ fresh)
 
-  -- a removed number has no value
+  -- a number that is removed from a map has no value there
   removed : (m : FinMap nat_cmp X) (k : ℕ) → get (keyed.remove m k) k ≡ None
   removed m k = get-remove nat_cmp_total m k k ∙ ap (λ b. cond b None (get m k)) (ties k)
 
-  -- a value that passed, replaced by one that does not, takes its number out of the list
+  -- replacing a value that passed by one that does not takes its number out of the list of passing numbers
   pub numbers_where-lost : (m : FinMap nat_cmp X) (k : ℕ) (u v : X) → get m k ≡ Some u → p u ≡ true → p v ≡ false → numbers_where p (insert m k v) ≡ take_number k (numbers_where p m)
   numbers_where-lost m k u v is passed fails =
       let base = keyed.remove m k in
@@ -131,7 +131,7 @@ module _ {X : Type 0} (p : X → Bool) where
       let after : numbers_where p (insert m k v) ≡ numbers_where p base = ap (numbers_where p) (put_over m k v) ∙ numbers_where-insert_other p base k v (removed m k) fails in
       after ∙ sym (taken_put k (numbers_where p base)) ∙ ap (take_number k) (sym before)
 
-  -- a value that did not pass, replaced by one that does, puts its number into the list
+  -- replacing a value that did not pass by one that does puts its number into the list of passing numbers
   pub numbers_where-gained : (m : FinMap nat_cmp X) (k : ℕ) (u v : X) → get m k ≡ Some u → p u ≡ false → p v ≡ true → numbers_where p (insert m k v) ≡ put_number k (numbers_where p m)
   numbers_where-gained m k u v is failed passes =
       let base = keyed.remove m k in

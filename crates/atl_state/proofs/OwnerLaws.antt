@@ -9,7 +9,7 @@ use Rattle.atl_state.specs.Marking.{mark_structure, handed_marked, put_marked, p
 use Rattle.atl_state.specs.Owners.{heir, is_owned_by, after_handover, placed, with_place, with_place_at, without_unit, without_unit_at}
 use Rattle.atl_state.specs.Campaign.{MarkedCampaign, with_owner}
 
--- the campaign with these units, and the marks of unit n if it was there
+-- the campaign with the given units, and with unit n, its row and all its goods marked, if it was there
 abbrev without : MarkedCampaign → ℕ → FinMap nat_cmp Unit → Option Unit → MarkedCampaign
 without c n units o = record { value = record c.value { units = units }; marks = whole_marked c.marks n o }
 
@@ -74,7 +74,7 @@ pub gone_none : (c : MarkedCampaign) (n : ℕ) → get c.value.units n ≡ None 
 unfolding gone_marked
 gone_none c n none = sym (ap (gone_marked_at c n) none)
 
--- removing a unit hands on the structure that it leaves
+-- removing a unit that is there takes it out, and hands a structure that it owned to the next owner
 pub gone_some : (c : MarkedCampaign) (n : ℕ) (u : Unit) → get c.value.units n ≡ Some u → handed_marked (taken_marked c n) u.structure n (heir c.value u.structure n) ≡ gone_marked c n
 unfolding gone_marked
 gone_some c n u is = sym (ap (gone_marked_at c n) is)

@@ -10,7 +10,7 @@ use Rattle.atl_state.specs.Campaign.{MarkedCampaign, with_month, with_report, wi
 use Rattle.atl_state.proofs.CoverLaws.{Mail, Reports, Row, Stays, Tells, apart_by, part_by_part, put_stays}
 use Rattle.atl_records.proofs.EveryLaws.{get-insert_other}
 
--- setting the month, with the mark of the campaign's row, satisfies MarksChanges
+-- setting the month, with the mark of the campaign row, marks all that changes (MarksChanges)
 pub marks-month : (c : MarkedCampaign) (n : ℕ) → MarksChanges c (record { value = with_month c.value n; marks = mark_campaign_row c })
 marks-month c n =
     let next : MarkedCampaign = record { value = with_month c.value n; marks = mark_campaign_row c } in
@@ -18,7 +18,7 @@ marks-month c n =
     (λ p. elim p as (Stays c.marks next.marks) [ Row ↦ λ k h. refl | _ ↦ λ k h. h ])
     (λ p. elim p as (Tells next.marks c.value next.value) [ Row ↦ λ k free. absurd (true≢false free) | _ ↦ λ k free. refl ])
 
--- storing a report, with its mark, satisfies MarksChanges
+-- storing a report, with its mark, marks all that changes (MarksChanges)
 pub marks-report : (c : MarkedCampaign) (n : ℕ) (text : List ℕ) → MarksChanges c (record { value = with_report c.value n text; marks = mark_report c n })
 marks-report c n text =
     let next : MarkedCampaign = record { value = with_report c.value n text; marks = mark_report c n } in
@@ -43,11 +43,11 @@ module _ (marks : FinSet nat_cmp) (mail : FinMap nat_cmp (List ℕ)) where
   none_there false b None is free = refl
   none_there false b (Some text) is free = absurd (true≢false (sym is ∙ free))
 
-  -- a number that is not marked has the same mail as before: none
+  -- a faction that is not marked after all mail is removed had none before, and has none
   all_gone : SameBut (union marks (from_list (keys mail))) mail empty
   all_gone k free = get-empty nat_cmp k ∙ none_there (contains marks k) (contains_key mail k) (get mail k) refl (sym (either k) ∙ free)
 
--- removing all mail, with the marks of all that had some, satisfies MarksChanges
+-- removing all mail, with the marks of all factions that had some, marks all that changes (MarksChanges)
 pub marks-no_mail : (c : MarkedCampaign) → MarksChanges c (record { value = without_mail c.value; marks = mark_all_mail c })
 marks-no_mail c =
     let next : MarkedCampaign = record { value = without_mail c.value; marks = mark_all_mail c } in

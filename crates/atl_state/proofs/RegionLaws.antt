@@ -125,11 +125,11 @@ module _ (f : Region → Region) (c : CampaignValue) (n : ℕ) (r : Region) (is 
       (every-insert (λ k q. IsRegion w k q) c.regions n (f r) within old.numbers.regions)
       (every-insert (λ k q. AreOfMarkets w k q.stocks) c.regions n (f r) marketed old.known.markets) old.numbers.books old)
 
-  -- an equation of sums with one term more on each side
+  -- an equation of two sums still holds with the same number u added on each side
   regrouped : (u a b p q : ℕ) → a + p ≡ b + q → (u + a) + p ≡ (u + b) + q
   regrouped u a b p q h = omega arith
 
-  -- a total changes by what the region has more or less of the thing
+  -- changing region n changes each total by what the region then has more or less of the thing
   pub total-region : (t : Thing) → total (region_changed f c n) t + region_amount t r ≡ total c t + region_amount t (f r)
   unfolding total
   total-region t =
@@ -140,17 +140,17 @@ module _ (f : Region → Region) (c : CampaignValue) (n : ℕ) (r : Region) (is 
 
 -- ---- the books
 
--- the campaign stays steady when an amount of one of the world's things is set
+-- the campaign stays steady when an amount of one of the world's things is booked
 pub steady-amount : (w : WorldValue) (c : CampaignValue) (e : Entry) (t : Thing) (n : ℤ) → thing_index t < things_of w → IsSteady w c → IsSteady w (with_amount c e t n)
 steady-amount w c e t n there old =
     stocked-steady w c c.regions (after_booking c.books e t n) refl (λ k. (λ h. h, λ h. h)) old.numbers.regions old.known.markets (AreBooks-after_booking (things_of w) c.books e t n old.numbers.books there) old
 
--- no total changes when an amount of the books is set
+-- no total changes when an amount is booked
 pub total-amount : (c : CampaignValue) (e : Entry) (u t : Thing) (n : ℤ) → total (with_amount c e u n) t ≡ total c t
 unfolding total
 total-amount c e u t n = refl
 
--- a booking changes no amount with another number
+-- booking an amount changes no amount whose number (`amount_number`) is another
 pub amount-other : (books : BooksValue) (e f : Entry) (t u : Thing) (n : ℤ) → amount_number e t ≢ amount_number f u → amount_in (after_booking books f u n) e t ≡ amount_in books e t
 amount-other books e f t u n apart =
     elim (cases_account (e, t) (f, u)) [

@@ -44,17 +44,17 @@ rows_under-append books (a ∷ some) others =
 rows_under_one : (books : BooksValue) (a : Account) → rows_under books (a ∷ []) ≡ cond (not (is_zero (amount_in books a.0 a.1))) (books_row a.0 a.1 (amount_in books a.0 a.1) ∷ []) []
 rows_under_one books a = elim (is_zero (amount_in books a.0 a.1)) as (λ b. amounts_rows (cond (not b) ((a, amount_in books a.0 a.1) ∷ []) []) ≡ cond (not b) (books_row a.0 a.1 (amount_in books a.0 a.1) ∷ []) []) [ true ↦ refl | false ↦ refl ]
 
--- the rows of an entry with one thing more are those of before, and those of that account
+-- the rows of an entry for n + 1 things are those for n things, followed by those of its account of thing n
 more_under : (books : BooksValue) (entry : Entry) (n : ℕ) → rows_under books (accounts_under (n + 1) entry) ≡ rows_under books (accounts_under n entry) ++ rows_under books ((entry, thing_at n) ∷ [])
 more_under books entry n = ap (rows_under books) (map-range_with_len_more (λ i. (entry, thing_at i)) 0 n n (omega arith)) ∙ rows_under-append books (accounts_under n entry) ((entry, thing_at n) ∷ [])
 
--- the rows of an entry with one thing more have one row more, if the amount is not 0
+-- the rows of an entry for n + 1 things are those for n things and the row of thing n, if its amount is not 0
 pub rows_under-some : (books : BooksValue) (entry : Entry) (n : ℕ) → amount_in books entry (thing_at n) ≢ pos 0 → rows_under books (accounts_under (n + 1) entry) ≡ rows_under books (accounts_under n entry) ++ books_row entry (thing_at n) (amount_in books entry (thing_at n)) ∷ []
 rows_under-some books entry n h =
     let z = amount_in books entry (thing_at n) in
     more_under books entry n ∙ ap (λ rows. rows_under books (accounts_under n entry) ++ rows) (rows_under_one books (entry, thing_at n) ∙ ap (λ b. cond (not b) (books_row entry (thing_at n) z ∷ []) []) (zero_not z h))
 
--- the rows of an entry with one thing more are the same, if the amount is 0
+-- the rows of an entry for n + 1 things are those for n things, if the amount of thing n is 0
 pub rows_under-none : (books : BooksValue) (entry : Entry) (n : ℕ) → amount_in books entry (thing_at n) ≡ pos 0 → rows_under books (accounts_under (n + 1) entry) ≡ rows_under books (accounts_under n entry)
 rows_under-none books entry n h =
     more_under books entry n ∙ ap (λ rows. rows_under books (accounts_under n entry) ++ rows) (rows_under_one books (entry, thing_at n) ∙ ap (λ z. cond (not (is_zero z)) (books_row entry (thing_at n) z ∷ []) []) h) ∙ append-nil (rows_under books (accounts_under n entry))

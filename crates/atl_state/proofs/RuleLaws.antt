@@ -17,7 +17,7 @@ use Rattle.atl_records.specs.Every.{Every, IsThere, EachOf}
 use Rattle.atl_state.specs.Good.{IsNumbered}
 use Rattle.atl_records.proofs.EveryLaws.{none_some, every-from_each, each-from_every}
 
--- whether a look-up finds a value decides IsThere
+-- whether a look-up finds a value decides whether the number is there (IsThere)
 pub Decides-there : {V : Type 0} (m : FinMap nat_cmp V) (n : ℕ) (b : Bool) → b ≡ is_some (get m n) → Decides b (IsThere m n)
 Decides-there {V} m n b is = (λ e. found (get m n) (sym is ∙ e), λ there. is ∙ ap is_some there.1)
   where
@@ -45,7 +45,7 @@ module _ {V : Type 0} (P : ℕ → V → Type 0) where
   at_each [] within = tt
   at_each (e ∷ es) within = (within 0 e (omega arith) (omega arith), at_each es (λ k d least inside. within (suc k) d (omega arith) (omega (arith, inside))))
 
-  -- the answer of `all` over the entries decides EachOf
+  -- the answer of `all` over entries decides whether P holds of each (EachOf)
   answered : (es : List (ℕ × V)) (r : Bool) → MatchBool r (AllWithin (λ e. P e.0 e.1) es 0 (length es)) ((k : ℕ) × (k < length es) × HoldsAt (λ e. ¬ (P e.0 e.1)) es k) → Decides r (EachOf P es)
   answered es true within = (λ _. at_each es within, λ _. refl)
   answered es false found = (
@@ -59,11 +59,11 @@ module _ {V : Type 0} (P : ℕ → V → Type 0) where
 
   module _ {F : Type 0} {g : Mut F ((ℕ × Bor V) × Unit {0}) Bool} {s : List (ℕ × V)} (u : List (ℕ × V)) (f : F) (r : Bool)
       (ran : (xs : List (ℕ × Bor V)) × (o : Option (ℕ × Bor V)) × (j : F) × YieldsThen (YieldsFirstBy shown (λ t. t)) s xs o u × FoldsTo (λ p x q. Called g p (x, tt) true q) f xs j × MatchOption o (r ≡ true) (λ x. (r ≡ false) × ((h : F) × Called g j (x, tt) false h))) where
-    -- the answer of `all` over borrowed entries decides EachOf, if the closure decides P
+    -- the answer of `all` over borrowed entries decides whether P holds of each (EachOf), if the closure decides P
     pub each_by_all : (es : List (ℕ × V)) → s ≡ es → ((x : ℕ × Bor V) (q : F) → Called g f (x, tt) true q → (q ≡ f) × P x.0 x.1.now) → ((x : ℕ × Bor V) (q : F) → Called g f (x, tt) false q → ¬ (P x.0 x.1.now)) → Decides r (EachOf P es)
     each_by_all es is holds fails = answered es r (cases_from_all u f r (λ e. P e.0 e.1) (λ e. ¬ (P e.0 e.1)) ran (YieldsList-from_first shown (λ t. t) es is) holds fails)
 
-    -- the answer of `all` over a map's entries decides Every, if the closure decides P
+    -- the answer of `all` over a map's entries decides whether P holds of each (Every), if the closure decides P
     pub every_by_all : (m : FinMap nat_cmp V) → s ≡ entries m → ((x : ℕ × Bor V) (q : F) → Called g f (x, tt) true q → (q ≡ f) × P x.0 x.1.now) → ((x : ℕ × Bor V) (q : F) → Called g f (x, tt) false q → ¬ (P x.0 x.1.now)) → Decides r (Every P m)
     every_by_all m is holds fails = Decides-like r (every-from_each P m) (each-from_every P m) (each_by_all (entries m) is holds fails)
 
@@ -78,7 +78,7 @@ module _ {V : Type 0} (m : FinMap nat_cmp V) (next : ℕ) where
   abbrev Between : ℕ → ℕ → V → Type 0
   Between least n v = (least ≤ n) × (n < next)
 
-  -- a number that has a value is below the next, if numbers from it on are free
+  -- a number that has a value is below `next`, if the numbers from `next` on have none
   before : (n : ℕ) (v : V) → ((q : ℕ) → next ≤ q → get m q ≡ None) → get m n ≡ Some v → n < next
   before n v free is = elim (cases_lt n next) [ inl l ↦ l | inr l ↦ none_some v (sym (free n l) ∙ is) ]
 
@@ -87,15 +87,15 @@ module _ {V : Type 0} (m : FinMap nat_cmp V) (next : ℕ) where
   from_one zero v first is = none_some v (sym first ∙ is)
   from_one (suc n) v first is = omega arith
 
-  -- numbers from the next on are free, if every number is below it
+  -- the numbers from `next` on have no value, if all numbers of the map are below `next`
   pub free_behind : Every (λ n v. n < next) m → (n : ℕ) → next ≤ n → get m n ≡ None
   free_behind few n l = free_from m n (λ there. let low = few n there.0 there.1 in omega (arith, low))
 
-  -- every number is below the next, if numbers from it on are free
+  -- all numbers of the map are below `next`, if the numbers from `next` on have no value
   pub every_before : ((n : ℕ) → next ≤ n → get m n ≡ None) → Every (λ n v. n < next) m
   every_before free n v is = before n v free is
 
-  -- numbers from 1 to below the next, which is their count and one, are numbered without a gap
+  -- a map is numbered from 1 without a gap, if its numbers are from 1 to below `next`, which is their count plus 1
   pub numbered : EachOf (Between 1) (entries m) → next ≡ len m + 1 → IsNumbered m next
   numbered each count =
       let few = every-from_each (Between 1) m each in
@@ -105,6 +105,6 @@ module _ {V : Type 0} (m : FinMap nat_cmp V) (next : ℕ) where
         free = λ n l. free_from m n (λ there. let most = (few n there.0 there.1).1 in omega (arith, most));
       }
 
-  -- each number of a numbered map is from 1 to below the next
+  -- each number of a map that is numbered from 1 without a gap is from 1 to below `next`
   pub each_numbered : IsNumbered m next → EachOf (Between 1) (entries m)
   each_numbered is = each-from_every (Between 1) m (λ n v there. (from_one n v is.first there, before n v is.free there))

@@ -1,4 +1,4 @@
--- Laws of rows that keep the rules: the campaign assembled from them has these rows, in another order.
+-- Laws of rows that keep the rules: the campaign assembled from them is written as just these rows, in some order.
 use Rattle.std.proofs.Common.{◌≡◌, ◌≢◌, ◌==◌, ℕ, zero, suc, ◌≤◌, ◌<◌, ◌+◌, ◌&&◌, ◌||◌, ◌⊎◌, List, [], ◌∷◌, Bool, true, false, not, Some, None, Option, length, nat_le, nat_lt, refl, sym, ap, subst, ◌∙◌, arith, inl, inr}
 use Rattle.std.specs.Prelude.{ℤ, pos, negsuc, min, is_some, filter, option_and_then, slice_index_or}
 use Rattle.std.specs.List.{list_all, slice_get, AllByRecursion}
@@ -55,40 +55,40 @@ use Rattle.atl_state.proofs.OrderLaws.{Apart, HasNumber, Apart-keys, rows_order,
 min_less : (n m : ℕ) → min n m < m → min n m ≡ n
 min_less n m h = grind arith
 
--- a number that is read below most_u32 is read as it is
+-- a number of a row that is read as one below most_u32 is read as it is
 pub whole_below : (z : ℤ) → as_u32 z < most_u32 → IsWhole z
 whole_below (pos n) h = ap pos (sym (min_less n most_u32 h))
 whole_below (negsuc n) h = absurd (omega arith)
 
--- a number that is read below most_u16 is read as it is
+-- a number of a row that is read as one below most_u16 is read as it is
 whole16 : (z : ℤ) → as_u16 z < most_u16 → z ≡ pos (as_u16 z)
 whole16 (pos n) h = ap pos (sym (min_less n most_u16 h))
 whole16 (negsuc n) h = absurd (omega arith)
 
--- a flag in range is read as it is
+-- a flag of a row that is 0 or 1 is the number that is written for the flag read
 flag_whole : (z : ℤ) → is_from 0 1 z ≡ true → flag (is_set z) ≡ z
 flag_whole (pos zero) h = refl
 flag_whole (pos (suc zero)) h = refl
 flag_whole (pos (suc (suc n))) h = let most = from_le (suc (suc n)) 1 (and_parts (nat_le 0 (suc (suc n))) (nat_le (suc (suc n)) 1) h).1 in absurd (omega arith)
 flag_whole (negsuc n) h = absurd (false≢true h)
 
--- if two keys of one number each differ, the numbers that are read are different
+-- if two keys of one number differ, and the numbers are read as they are, different numbers are read
 pub one_apart : (x y : ℤ) → IsWhole x → IsWhole y → same (one_key x) (one_key y) ≡ false → as_u32 y ≢ as_u32 x
 one_apart x y a b d e =
     let one : x ≡ y = a ∙ ap pos (sym e) ∙ sym b in
     false≢true (sym (ap (λ z. same (one_key x) (one_key z)) one ∙ d) ∙ ties_itself (one_key x))
 
--- a number that has a value is at most the bound of all numbers
+-- a number that has a value in a map is at most `most`, if all numbers of the map are
 pub there_below : {V : Type 0} (m : FinMap nat_cmp V) (n most : ℕ) → Every (λ k v. k ≤ most) m → IsThere m n → n ≤ most
 there_below m n most every there = every n there.0 there.1
 
--- 0, or a number that has a value, is at most the bound of all numbers
+-- 0, or a number that has a value in a map, is at most `most`, if all numbers of the map are
 pub none_or_below : {V : Type 0} (m : FinMap nat_cmp V) (n most : ℕ) → Every (λ k v. k ≤ most) m → (n ≢ 0 → IsThere m n) → n ≤ most
 none_or_below m zero most every there = omega arith
 none_or_below m (suc n) most every there = there_below m (suc n) most every (there (λ e. absurd (omega arith)))
 
 -- ---- the rules that are needed
--- the rules that rows must keep to be the rows of the campaign assembled from them
+-- rules that rows keep, by which they are just the rows of the campaign assembled from them
 pub record RowsKeep (f : Format) (w : WorldValue) (p : Parts) : Type 0 where
   pub world : IsWorld w
   pub one : is_one_campaign_row f p.campaign ≡ true
@@ -102,7 +102,7 @@ pub record RowsKeep (f : Format) (w : WorldValue) (p : Parts) : Type 0 where
 
 -- ---- the campaign's own row
 
--- a number in a range of one number is that number
+-- a number of a row in the range from k to k is k
 exactly : (k : ℕ) (z : ℤ) → k ≤ most_u32 → is_from k k z ≡ true → z ≡ pos k
 exactly k z few h = let range = from_range k k z few h in let n : as_u32 z ≡ k = omega (arith, range.1, range.2) in range.0 ∙ ap pos n
 
@@ -111,11 +111,11 @@ small_format : (f : Format) → format_number f ≤ most_u32
 small_format First = omega arith
 small_format Second = omega arith
 
--- the campaign row made again of what is read of it
+-- the campaign row that is written for the numbers and the pass text read from a campaign row
 abbrev head_as_read : Format → StoredCampaignRow → StoredCampaignRow
 head_as_read f h = record { id = pos 1; format = pos (format_number f); month = pos (as_u32 h.month); next_faction = pos (as_u32 h.next_faction); next_unit = pos (as_u32 h.next_unit); next_structure = pos (as_u32 h.next_structure); pass = h.pass }
 
--- the only campaign row, if in range, is the row made of its numbers and text as they are read
+-- if rule 1 holds and the campaign row is in range, the table has just the row that is written for what is read of it
 one_head : (f : Format) (rows : List StoredCampaignRow) → is_one_campaign_row f rows ≡ true → campaign_row_in_range (slice_index_or rows 0 no_campaign_row) ≡ true → head_as_read f (slice_index_or rows 0 no_campaign_row) ∷ [] ≡ rows
 one_head f [] e r = absurd (false≢true e)
 one_head f (h ∷ []) e r =
@@ -132,7 +132,7 @@ one_head f (h ∷ other ∷ rows) e r = absurd (false≢true e)
 
 -- ---- lists of facts
 
--- if P n holds of each row for every n, each row has P n for every n
+-- if for every n P n holds of each row, each row has P n for every n
 all_forall : {R : Type 0} (P : ℕ → R → Type 0) (rows : List R) → ((n : ℕ) → AllByRecursion (P n) rows) → AllByRecursion (λ r. (n : ℕ) → P n r) rows
 all_forall P [] h = tt
 all_forall P (r ∷ rows) h = (λ n. (h n).0, all_forall P rows (λ n. (h n).1))
@@ -147,12 +147,12 @@ or_cases : (b c : Bool) → (b || c) ≡ true → (b ≡ true) ⊎ (c ≡ true)
 or_cases true c h = inl refl
 or_cases false c h = inr h
 
--- a number that is read as it is, and from 1 on, is not 0
+-- a number that is read as it is, and as at least 1, is not 0
 whole_not_zero : (z : ℤ) → IsWhole z → 1 ≤ as_u32 z → is_zero z ≡ false
 whole_not_zero (pos n) whole h = let apart : n ≢ 0 = λ e. let zero_read : as_u32 (pos n) ≡ 0 = ap (λ m. as_u32 (pos m)) e in omega arith in grind (arith, nat_tests)
 whole_not_zero (negsuc n) whole h = refl
 
--- a row of goods is of its own unit and kind
+-- a row of goods passes the test (is_of) of being of its own unit and kind
 is_of_itself : (h : StoredHas) → is_of (as_u32 h.unit) (as_u32 h.sort) h ≡ true
 is_of_itself h =
     let unit : (as_u32 h.unit == as_u32 h.unit) ≡ true = grind (arith, nat_tests) in
@@ -188,6 +188,7 @@ small_limit w world n i = limit_small (market_of w n i) (λ m is. of_market (mar
     some_same : (a b : Market) → Some a ≡ Some b → a ≡ b
     some_same a b e = cc
 
+    -- a market that is found has a limit of at most most_amount
     of_market : (found : (q : RegionPlan) × (m : Market) × (get w.regions n ≡ Some q) × (get q.markets i ≡ Some m)) (m : Market) → market_of w n i ≡ Some m → m.limit ≤ most_amount
     of_market found m is =
         let there = ap (option_and_then (λ (q : RegionPlan). get q.markets i)) found.2 in
@@ -200,7 +201,7 @@ no_rows [] h = refl
 no_rows (r ∷ rows) h = absurd (grind (arith, nat_tests))
 
 module _ (f : Format) (w : WorldValue) (p : Parts) (k : RowsKeep f w p) where
-  -- the rows keep the parts of the rule of ranges
+  -- the campaign row and all rows of each table pass the test of their ranges
   pub ranges : NumberRanges w p
   ranges = number_ranges w p k.range.numbers
 
@@ -217,13 +218,13 @@ module _ (f : Format) (w : WorldValue) (p : Parts) (k : RowsKeep f w p) where
   few_factions : Every (λ n f. n ≤ last_faction) (by_number (λ r. as_u32 r.number) faction_of p.factions)
   few_factions = by_number-every (λ r. as_u32 r.number) faction_of (λ n f. n ≤ last_faction) faction_in_range (λ r h. (faction_number r h).1) p.factions ranges.factions
 
-  -- the row made again of a faction's row in range is that row
+  -- the faction read from a row in range is written as that row
   same_faction : (r : StoredFaction) → faction_in_range r ≡ true → faction_row (as_u32 r.number) (faction_of r) ≡ r
   same_faction r h =
       let gone = flag_whole r.gone (and_parts (is_from 1 last_faction r.number) (is_from 0 1 r.gone) h).1 in
       λ i. record { number = sym (faction_number r h).0 i; joined_as = r.joined_as; name = r.name; pass = r.pass; gone = gone i }
 
-  -- the rows of the factions assembled are the rows of factions, in another order
+  -- the factions assembled from the rows are written as just the rows of factions, in some order
   factions_said : IsPermutation (rows_by faction_row (entries (by_number (λ r. as_u32 r.number) faction_of p.factions))) p.factions
   factions_said = rows_order (λ r. as_u32 r.number) faction_of faction_row p.factions factions_apart (each_passes faction_in_range (λ r. faction_row (as_u32 r.number) (faction_of r) ≡ r) same_faction p.factions ranges.factions)
 
@@ -243,7 +244,7 @@ module _ (f : Format) (w : WorldValue) (p : Parts) (k : RowsKeep f w p) where
   regions_apart : Apart (λ r. as_u32 r.number) p.regions
   regions_apart = Apart-keys region_key (λ r. as_u32 r.number) same (λ r. IsWhole r.number) (λ r s. one_apart r.number s.number) p.regions regions_whole k.range.keys.regions
 
-  -- the row made again of a region's row in range is that row
+  -- the region read from a row in range is written as that row
   same_region : (r : StoredRegion) → IsWhole r.number → region_in_range r ≡ true → region_row (as_u32 r.number) (region_of p.markets r) ≡ r
   same_region r number h =
       let parts = and_parts (is_from 0 most_amount r.peasants) (is_from 0 most_amount r.money) h in
@@ -251,7 +252,7 @@ module _ (f : Format) (w : WorldValue) (p : Parts) (k : RowsKeep f w p) where
       let money = (from_range 0 most_amount r.money (omega arith) parts.1).0 in
       λ i. record { number = sym number i; peasants = sym peasants i; money = sym money i }
 
-  -- the rows of the regions assembled are the rows of regions, in another order
+  -- the regions assembled from the rows are written as just the rows of regions, in some order
   regions_said : IsPermutation (rows_by region_row (entries (by_number (λ r. as_u32 r.number) (region_of p.markets) p.regions))) p.regions
   regions_said =
       rows_order (λ r. as_u32 r.number) (region_of p.markets) region_row p.regions regions_apart
@@ -285,7 +286,7 @@ module _ (f : Format) (w : WorldValue) (p : Parts) (k : RowsKeep f w p) where
   few_structures = by_number-every (λ r. as_u32 r.number) structure_of (λ n s. n ≤ most_structures) (structure_in_range w) (λ r h. (structure_number r h).1) p.structures ranges.structures
 
   -- ---- units
-  -- the row made again of a unit's row in range, if all that it names exists, is that row
+  -- the unit read from a row in range, if all that it names exists, is written as that row
   same_unit : (r : StoredUnit) → unit_in_range r ≡ true → IsPlaced w (campaign_of w p) (unit_of p.has r) → unit_row (as_u32 r.number) (unit_of p.has r) ≡ r
   unfolding campaign_of
   same_unit r h placed =
@@ -306,14 +307,14 @@ module _ (f : Format) (w : WorldValue) (p : Parts) (k : RowsKeep f w p) where
   unfolding campaign_of
   units_placed = each_row (λ r. as_u32 r.number) (unit_of p.has) (λ n u. IsPlaced w (campaign_of w p) u) p.units units_apart k.known.units
 
-  -- the rows of the units assembled are the rows of units, in another order
+  -- the units assembled from the rows are written as just the rows of units, in some order
   units_said : IsPermutation (rows_by unit_row (entries (by_number (λ r. as_u32 r.number) (unit_of p.has) p.units))) p.units
   units_said =
       rows_order (λ r. as_u32 r.number) (unit_of p.has) unit_row p.units units_apart
       (each_with (λ r. unit_in_range r ≡ true) (λ r. IsPlaced w (campaign_of w p) (unit_of p.has r)) (λ r. unit_row (as_u32 r.number) (unit_of p.has r) ≡ r) same_unit p.units (each_passes unit_in_range (λ r. unit_in_range r ≡ true) (λ r h. h) p.units ranges.units) units_placed)
 
   -- ---- structures
-  -- the row made again of a structure's row in range, if all that it names exists, is that row
+  -- the structure read from a row in range, if all that it names exists, is written as that row
   same_structure : (r : StoredStructure) → structure_in_range w r ≡ true → IsBuilt w (campaign_of w p) (structure_of r) → structure_row (as_u32 r.number) (structure_of r) ≡ r
   unfolding campaign_of
   same_structure r h built =
@@ -333,7 +334,7 @@ module _ (f : Format) (w : WorldValue) (p : Parts) (k : RowsKeep f w p) where
   unfolding campaign_of
   structures_built = each_row (λ r. as_u32 r.number) structure_of (λ n s. IsBuilt w (campaign_of w p) s) p.structures structures_apart k.known.structures
 
-  -- the rows of the structures assembled are the rows of structures, in another order
+  -- the structures assembled from the rows are written as just the rows of structures, in some order
   structures_said : IsPermutation (rows_by structure_row (entries (by_number (λ r. as_u32 r.number) structure_of p.structures))) p.structures
   structures_said =
       rows_order (λ r. as_u32 r.number) structure_of structure_row p.structures structures_apart
@@ -349,7 +350,7 @@ module _ (f : Format) (w : WorldValue) (p : Parts) (k : RowsKeep f w p) where
       (λ r there. let few = there_below (by_number (λ r. as_u32 r.number) faction_of p.factions) (as_u32 r.faction) last_faction few_factions (k.known.posts.mail (as_u32 r.faction) there.0 there.1) in whole_below r.faction (omega arith)) p.mail
       (rows_there (λ r. as_u32 r.faction) (λ r. r.text) p.mail)
 
-  -- the rows of the mail assembled are the rows of mail, in another order
+  -- the mail assembled from the rows is written as just the rows of mail, in some order
   mail_said : IsPermutation (rows_by mail_row (entries (by_number (λ r. as_u32 r.faction) (λ r. r.text) p.mail))) p.mail
   mail_said =
       rows_order (λ r. as_u32 r.faction) (λ r. r.text) mail_row p.mail
@@ -364,7 +365,7 @@ module _ (f : Format) (w : WorldValue) (p : Parts) (k : RowsKeep f w p) where
       (λ r there. let few = there_below (by_number (λ r. as_u32 r.number) faction_of p.factions) (as_u32 r.faction) last_faction few_factions (k.known.posts.reports (as_u32 r.faction) there.0 there.1) in whole_below r.faction (omega arith)) p.reports
       (rows_there (λ r. as_u32 r.faction) (λ r. r.text) p.reports)
 
-  -- the rows of the reports assembled are the rows of reports, in another order
+  -- the reports assembled from the rows are written as just the rows of reports, in some order
   reports_said : IsPermutation (rows_by report_row (entries (by_number (λ r. as_u32 r.faction) (λ r. r.text) p.reports))) p.reports
   reports_said =
       rows_order (λ r. as_u32 r.faction) (λ r. r.text) report_row p.reports
@@ -380,7 +381,7 @@ module _ (f : Format) (w : WorldValue) (p : Parts) (k : RowsKeep f w p) where
   abbrev SortOf : StoredHas → Type 0
   SortOf h = (as_u32 h.sort ≡ 1) ⊎ ((as_u32 h.sort ≡ 0) × (is_from 1 holding_limit h.amount ≡ true))
 
-  -- a row of goods in range has its kind read as it is, and is of one of the two
+  -- a row of goods in range has its kind read as it is, and is of kind 1, or of kind 0 with an amount in range (SortOf)
   sort_of : (h : StoredHas) → has_in_range h ≡ true → IsWhole h.sort × SortOf h
   sort_of h e =
       elim (or_cases (is_from 1 1 h.sort) (is_from 0 0 h.sort && is_from 1 holding_limit h.amount) e) [
@@ -450,7 +451,7 @@ module _ (f : Format) (w : WorldValue) (p : Parts) (k : RowsKeep f w p) where
   abbrev Placed : StoredHas → Type 0
   Placed h = (IsThere units (as_u32 h.unit)) × (has_in_range h ≡ true)
 
-  -- Placed holds of each row of goods
+  -- the unit of each row of goods exists, and each row is in range (Placed)
   all_placed : AllByRecursion Placed p.has
   all_placed = each_with (λ h. IsThere units (as_u32 h.unit)) (λ h. has_in_range h ≡ true) Placed (λ h a b. (a, b)) p.has held_units (each_passes has_in_range (λ h. has_in_range h ≡ true) (λ h e. e) p.has ranges.has)
 
@@ -481,7 +482,7 @@ module _ (f : Format) (w : WorldValue) (p : Parts) (k : RowsKeep f w p) where
       let range = from_range 1 holding_limit h.amount (omega arith) item.1 in
       (range.0, whole_not_zero h.amount range.0 range.1)
 
-  -- a row of goods that is Placed, with its key read as it is
+  -- a row of goods in range whose unit exists (Placed), with its key read as it is
   abbrev KeyedPlaced : StoredHas → Type 0
   KeyedPlaced h = IsKeyed h × Placed h
 
@@ -493,7 +494,7 @@ module _ (f : Format) (w : WorldValue) (p : Parts) (k : RowsKeep f w p) where
   all_exact : AllByRecursion IsExact p.has
   all_exact = each_with KeyedPlaced (λ h. (n : ℕ) → (sort : ℕ) → is_of n sort h ≡ true → IsFound n sort h) IsExact exact p.has (each_with IsKeyed Placed KeyedPlaced (λ h a b. (a, b)) p.has all_keyed all_placed) all_found
 
-  -- a row of goods is of one of the rows' units, and of kind 0 or 1
+  -- a row of goods in range is of a unit that has a row, and of kind 0 or 1
   of_units : (h : StoredHas) → Placed h → IsOfUnits p.units h
   of_units h (there, range) = (row_of (λ r. as_u32 r.number) (unit_of p.has) p.units (as_u32 h.unit) there, turned h (sort_of h range).1)
     where
@@ -502,7 +503,7 @@ module _ (f : Format) (w : WorldValue) (p : Parts) (k : RowsKeep f w p) where
       turned h (inl skill) = inr skill
       turned h (inr item) = inl item.0
 
-  -- the rows of the goods assembled are the rows of goods, in another order
+  -- the goods of the units assembled from the rows are written as just the rows of goods, in some order
   has_said : IsPermutation (has_rows (entries units)) p.has
   has_said = has_order p.has p.units units_apart (each_so Placed (IsOfUnits p.units) of_units p.has all_placed) all_exact k.range.keys.has
 
@@ -541,7 +542,7 @@ module _ (f : Format) (w : WorldValue) (p : Parts) (k : RowsKeep f w p) where
   pub none_in_first : f ≡ First → p.markets ≡ []
   none_in_first is = no_rows p.markets (ap (λ g. are_of_format g p.markets) (sym is) ∙ k.format)
 
-  -- the rows of the stocks assembled are the rows of markets, in another order
+  -- the stocks assembled from the rows are written as just the rows of markets, in some order; none in the first format
   markets_said : IsPermutation (market_rows f (entries regions)) p.markets
   markets_said = elim f as (λ g. f ≡ g → IsPermutation (market_rows g (entries regions)) p.markets) [
     | First ↦ λ is. subst (λ rows. IsPermutation [] rows) (sym (none_in_first is)) (IsPermutation-refl [])
@@ -567,7 +568,7 @@ module _ (f : Format) (w : WorldValue) (p : Parts) (k : RowsKeep f w p) where
       let most = few_entries f in
       (from_le 1 n parts.0, omega (arith, few, most))
 
-  -- a row of books that keeps the rules satisfies IsBooked for the world's things
+  -- a row of books that keeps the rules is read as an amount, not 0, of one of the world's things (IsBooked)
   its_account : (r : StoredBooks) → is_booked f w r ≡ true → books_in_range (books_bound p) r ≡ true → IsBooked (things_of w) r
   its_account r h range =
       let parts = and_parts (is_entry_in f (as_u32 r.entry)) (nat_lt (as_u32 r.thing) (things_of w)) h in
@@ -578,18 +579,18 @@ module _ (f : Format) (w : WorldValue) (p : Parts) (k : RowsKeep f w p) where
       let some = not_zero r.amount (not-true (is_zero r.amount) (and_parts (not (is_zero r.amount)) (is_within (books_bound p) r.amount) range).0) in
       booked_row (things_of w) r (whole_below r.entry (omega arith)) (whole_below r.thing (omega arith)) entry.0 entry.1 there some
 
-  -- each row of books satisfies IsBooked for the world's things
+  -- each row of books is read as an amount, not 0, of one of the world's things (IsBooked)
   pub all_booked : AllByRecursion (IsBooked (things_of w)) p.books
   all_booked =
       each_with (λ r. is_booked f w r ≡ true) (λ r. books_in_range (books_bound p) r ≡ true) (IsBooked (things_of w)) its_account p.books (each_passes (is_booked f w) (λ r. is_booked f w r ≡ true) (λ r h. h) p.books k.booked)
       (each_passes (books_in_range (books_bound p)) (λ r. books_in_range (books_bound p) r ≡ true) (λ r h. h) p.books ranges.books)
 
-  -- the rows of the books assembled are the rows of books, in another order
+  -- the books assembled from the rows are written as just the rows of books, in some order
   pub books_said : IsPermutation (books_rows (put_amounts p.books (no_amounts (things_of w)))) p.books
   books_said =
       books_order (things_of w) p.books all_booked k.range.keys.books
 
-  -- the rows are those of the campaign assembled from them
+  -- the campaign assembled from the rows is written as just these rows, in some order
   pub rows_said : AreRowsOf f (campaign_of w p) p
   unfolding campaign_of rows_of
   rows_said = record {

@@ -19,7 +19,7 @@ use Rattle.atl_state.specs.Slots.{slot_entries, slot_entry_at, values_of, AreInU
 use Rattle.atl_records.proofs.EveryLaws.{sorted, each-from_every}
 use Rattle.atl_state.proofs.IndexLaws.{some_none}
 
--- two Some's of one option are of the same value
+-- if an option is both Some x and Some y, x is y
 same_some : {X : Type 0} {x y : X} {o : Option X} → o ≡ Some x → o ≡ Some y → x ≡ y
 same_some e h = cc
 
@@ -38,7 +38,7 @@ module _ {V : Type 0} where
   through s None = None
   through s (Some k) = slab.get s k
 
-  -- finding q in entries with one of n in front gives that one's value if q is n, and else what the others give
+  -- with an entry of n put in front, looking up q gives that entry's value if q is n, else what the rest gives
   lodged_step : (n q : ℕ) (o : Option V) (rest : List (ℕ × V)) → is_some o ≡ true → find nat_cmp q (slot_entry_at n o rest) ≡ cond (eq_by_cmp nat_cmp q n) o (find nat_cmp q rest)
   lodged_step n q None rest h = absurd (false≢true h)
   lodged_step n q (Some v) rest h = refl
@@ -203,16 +203,16 @@ module _ {V : Type 0} where
 pub no_values : {V : Type 0} (s : slab.Slab V) → values_of empty s ≡ empty
 no_values s = rw (entries-empty {X = ℕ}) refl
 
--- the empty map of numbers satisfies HaveOwnSlots
+-- the empty map of numbers satisfies HaveOwnSlots: each of its numbers leads to a slot of its own
 pub HaveOwnSlots-empty : {V : Type 0} (s : slab.Slab V) → HaveOwnSlots empty s
 HaveOwnSlots-empty s = record {
   in_use = λ n k h. some_none k (sym h ∙ get-empty nat_cmp n);
   by_one = λ n m k h g. some_none k (sym h ∙ get-empty nat_cmp n);
 }
 
--- ---- as many slots are in use as numbers lead to one
+-- ---- the arena's invariant: as many slots are in use as there are numbers that lead to one
 module _ {V : Type 0} where
-  -- writing a slot in use leaves as many in use
+  -- writing a value into a slot in use leaves as many slots in use
   pub len_written : (s : slab.Slab V) (k : ℕ) (w : V) → is_some (slab.get s k) ≡ true → slab.slab_len (slab.with_value s k w) ≡ slab.slab_len s
   len_written s k w h =
       let change = sum_by-set (λ (o : Option V). cond (is_some o) 1 0) s.slots k (Some w) None (inside s k h) in
@@ -220,25 +220,25 @@ module _ {V : Type 0} where
       let one : counts (is_some (slab.get s k)) ≡ counts true = ap counts h in
       omega (arith, change, one)
 
-  -- IsArena still holds once a new number leads to a slot that was vacant
+  -- the arena's invariant IsArena still holds once a new number leads to a slot that was vacant
   pub IsArena-added : (i : FinMap nat_cmp ℕ) (s t : slab.Slab V) (n k : ℕ) (x : V) → slab.Updates s t k (Some x) → slab.get s k ≡ None → slab.slab_len t ≡ slab.slab_len s + 1 → get i n ≡ None → IsArena i s → IsArena (insert i n k) t
   IsArena-added i s t n k x u vacant more fresh held =
       let same = held.none_idle in
       let size : len (insert i n k) ≡ len i + 1 = len-insert nat_cmp_total i n k ∙ ap (λ o. cond (is_some o) (len i) (len i + 1)) fresh in
       record { slots_used = HaveOwnSlots-added i s t n k x u vacant held.slots_used; none_idle = omega (arith, same, size, more) }
 
-  -- IsArena still holds once a number and its slot are given up
+  -- the arena's invariant IsArena still holds once a number and its slot are given up
   pub IsArena-removed : (i : FinMap nat_cmp ℕ) (s t : slab.Slab V) (n k : ℕ) → slab.Updates s t k None → slab.slab_len t + 1 ≡ slab.slab_len s → get i n ≡ Some k → IsArena i s → IsArena (remove i n) t
   IsArena-removed i s t n k u less is held =
       let same = held.none_idle in
       let size : len (remove i n) ≡ len i - 1 = len-remove nat_cmp_total i n ∙ ap (λ o. cond (is_some o) (len i - 1) (len i)) is in
       record { slots_used = HaveOwnSlots-removed i s t n k u is held.slots_used; none_idle = omega (arith, same, size, less) }
 
-  -- IsArena still holds when the value in a slot in use changes
+  -- the arena's invariant IsArena still holds when the value in a slot in use changes
   pub IsArena-changed : (i : FinMap nat_cmp ℕ) (s : slab.Slab V) (k : ℕ) (w : V) → is_some (slab.get s k) ≡ true → IsArena i s → IsArena i (slab.with_value s k w)
   IsArena-changed i s k w used held = record { slots_used = HaveOwnSlots-changed i s (slab.with_value s k w) k w (written s k w used) held.slots_used; none_idle = len_written s k w used ∙ held.none_idle }
 
-  -- IsArena still holds for a slab with the same values and as many slots in use
+  -- the arena's invariant IsArena still holds for a slab with the same values and as many slots in use
   pub IsArena-same : (i : FinMap nat_cmp ℕ) (s t : slab.Slab V) → slab.SameValues s t → slab.slab_len t ≡ slab.slab_len s → IsArena i s → IsArena i t
   IsArena-same i s t same as_many held = record { slots_used = HaveOwnSlots-same i s t same held.slots_used; none_idle = as_many ∙ held.none_idle }
 

@@ -1,4 +1,4 @@
--- Laws of the rows of markets: those of the regions assembled from rows are these rows, in another order.
+-- Laws of the rows of `market`: the regions assembled from rows are written as the same rows, in some order.
 use Rattle.std.proofs.Common.{◌≡◌, ◌==◌, ℕ, List, Bool, true, false, not, map, filter, sym, ap, ◌∙◌}
 use Rattle.std.specs.Prelude.{pos}
 use Rattle.std.specs.List.{flat_map, AllByRecursion, IsDistinct}
@@ -18,7 +18,7 @@ use Rattle.atl_state.proofs.GroupLaws.{gathered, lines_order}
 use Rattle.atl_state.proofs.HasLaws.{IsWhole, same, ties_itself}
 use Rattle.atl_state.proofs.OrderLaws.{Apart, HasNumber, each_so, flat_order}
 
--- a row of a market whose key is read as it is
+-- a row of a market whose region and item are read as they are: both fit 32 bits
 pub record IsKeyed (m : StoredMarket) : Type 0 where
   pub region : IsWhole m.region
   pub item : IsWhole m.item
@@ -45,11 +45,11 @@ is_in n m = as_u32 m.region == n
 abbrev IsStockIn : ℕ → StoredMarket → Type 0
 IsStockIn n m = IsKeyed m × (is_in n m ≡ true)
 
--- the region of a row of region n is n
+-- a row that is read as one of region n, and as it is, has n as its region
 its_region : (n : ℕ) (m : StoredMarket) → IsStockIn n m → m.region ≡ pos n
 its_region n m (keys, of) = keys.region ∙ ap pos (is_same (as_u32 m.region) n of)
 
--- the row made again of a row's item and stock is that row
+-- the row written for region n and the item and stock read from a row of region n is that row, if read as they are
 same_row : (n : ℕ) (m : StoredMarket) → IsStockIn n m → IsWhole m.stock → market_row n (item_of m) (stock_of m) ≡ m
 same_row n m here stock = λ i. record { region = sym (its_region n m here) i; item = sym here.0.item i; stock = sym stock i }
 
@@ -60,11 +60,11 @@ same_key n m k a b e =
     let item = b.0.item ∙ sym (ap pos e) ∙ sym a.0.item in
     λ i. (region i, item i, pos 0)
 
--- no two rows of one region are of one item, if keys differ
+-- no two rows of region n are of one item, if the keys of all rows differ
 pub items_apart : (n : ℕ) (markets : List StoredMarket) → AllByRecursion IsKeyed markets → IsDistinct same (map market_key markets) → Apart item_of (filter (is_in n) markets)
 items_apart n = group.things_apart market_key same ties_itself item_of (is_in n) IsKeyed (same_key n)
 
--- the rows of the stocks that a region's rows make are these rows, in another order
+-- the stocks read for region n are written as the rows of region n, in some order, if all keys differ
 stock_order : (n : ℕ) (markets : List StoredMarket) → AllByRecursion IsExact markets → IsDistinct same (map market_key markets) → IsPermutation (stock_rows n (entries (stocks_of n markets))) (filter (is_in n) markets)
 stock_order n markets all d =
     lines_order item_of stock_of (market_row n) (λ m. not (is_zero m.stock)) (filter (is_in n) markets) (items_apart n markets (each_so IsExact IsKeyed (λ m one. one.keys) markets all) d)
@@ -74,7 +74,7 @@ stock_order n markets all d =
 abbrev region_lines : ℕ × Region → List StoredMarket
 region_lines e = stock_rows e.0 (entries e.1.stocks)
 
--- the rows of the stocks of the regions assembled from rows are these rows, in another order
+-- regions assembled from rows are written as the same rows of `market`, in some order, if keys differ and regions exist
 pub market_order : (markets : List StoredMarket) (regions : List StoredRegion) → Apart (λ r. as_u32 r.number) regions → AllByRecursion (λ m. HasNumber (λ r. as_u32 r.number) regions (as_u32 m.region)) markets → AllByRecursion IsExact markets → IsDistinct same (map market_key markets)
     → IsPermutation (market_rows Second (entries (by_number (λ r. as_u32 r.number) (region_of markets) regions))) markets
 market_order markets regions apart of all d =

@@ -10,7 +10,7 @@ use Rattle.atl_state.specs.Campaign.{CampaignValue, with_unit}
 use Rattle.atl_records.specs.Amounts.{region_amount, unit_amount}
 use Rattle.atl_state.specs.Totals.{total}
 
--- an added term taken out of a sum
+-- a term added to the first part of a sum can be added to the whole sum
 later : (a b n : ℕ) → (a + n) + b ≡ (a + b) + n
 later a b n = omega arith
 

@@ -1,4 +1,4 @@
--- Laws of the units' dirty sets, of rows, goods, items and skills: what is marked is within them, and there is room.
+-- Laws of AreUnits, the units' invariant: there is room for all marks, and a unit with a marked part is marked.
 use Rattle.std.proofs.Common.{◌≡◌, ℕ, ◌+◌, ◌≤◌, Bool, true, false, ◌||◌, cond, Option, Some, None, refl, sym, ap, ◌∙◌, arith}
 use Rattle.std.specs.Prelude.{is_some}
 use Rattle.std.specs.Ordering.{nat_cmp, eq_by_cmp}
@@ -25,7 +25,7 @@ either_there : {V : Type 0} (b : Bool) (v : V) (o : Option V) (d : Bool) → (is
 either_there true v o d h e = refl
 either_there false v o d h e = h e
 
--- an or is true if its second part is
+-- `b or d` is true if d is
 more : (b d : Bool) → d ≡ true → (b || d) ≡ true
 more true d e = refl
 more false d e = e
@@ -44,7 +44,7 @@ pub within_things : {V : Type 0} (g : FinMap nat_cmp V) (r : set.FinSet nat_cmp)
 within_things g r n v h q e =
     set.contains-insert nat_cmp_total r n q ∙ either_there (eq_by_cmp nat_cmp q n) v (get g q) (set.contains r q) (h q) (sym (ap is_some (get-insert nat_cmp_total g n v q)) ∙ e)
 
--- the empty dirty sets of units satisfy AreWithin
+-- empty dirty sets mark no part of a unit, so each unit with a marked part is marked (AreWithin)
 within-none : AreWithin set.empty set.empty set.empty empty empty
 within-none = record { rows_within = λ q e. e; goods_within = λ q e. e; items_within = nothing; skills_within = nothing }
   where
@@ -53,7 +53,7 @@ within-none = record { rows_within = λ q e. e; goods_within = λ q e. e; items_
     nothing q e = absurd (false≢true (sym (ap is_some (get-empty nat_cmp q)) ∙ e))
 
 module _ (marks rows goods : set.FinSet nat_cmp) (items skills : Things) (n : ℕ) (h : AreWithin marks rows goods items skills) where
-  -- AreWithin still holds once a unit is marked with its row and its goods
+  -- each unit with a marked part is still marked (AreWithin) once a unit is marked with its row and its goods
   within-whole : AreWithin (set.insert marks n) (set.insert rows n) (set.insert goods n) items skills
   within-whole = record {
     rows_within = within_both rows marks n h.rows_within;
@@ -62,7 +62,7 @@ module _ (marks rows goods : set.FinSet nat_cmp) (items skills : Things) (n : �
     skills_within = within_more _ marks n h.skills_within;
   }
 
-  -- AreWithin still holds once a unit and its row are marked
+  -- each unit with a marked part is still marked (AreWithin) once a unit and its row are marked
   within-row : AreWithin (set.insert marks n) (set.insert rows n) goods items skills
   within-row = record {
     rows_within = within_both rows marks n h.rows_within;
@@ -71,7 +71,7 @@ module _ (marks rows goods : set.FinSet nat_cmp) (items skills : Things) (n : �
     skills_within = within_more _ marks n h.skills_within;
   }
 
-  -- AreWithin still holds once a unit and some items of it are marked
+  -- each unit with a marked part is still marked (AreWithin) once a unit and some items of it are marked
   within-item : (group : FinMap nat_cmp (Prim.Unit {0})) → AreWithin (set.insert marks n) rows goods (insert items n group) skills
   within-item group = record {
     rows_within = within_more _ marks n h.rows_within;
@@ -80,7 +80,7 @@ module _ (marks rows goods : set.FinSet nat_cmp) (items skills : Things) (n : �
     skills_within = within_more _ marks n h.skills_within;
   }
 
-  -- AreWithin still holds once a unit and some skills of it are marked
+  -- each unit with a marked part is still marked (AreWithin) once a unit and some skills of it are marked
   within-skill : (group : FinMap nat_cmp (Prim.Unit {0})) → AreWithin (set.insert marks n) rows goods items (insert skills n group)
   within-skill group = record {
     rows_within = within_more _ marks n h.rows_within;
@@ -99,24 +99,24 @@ marking marks n = record marks { numbers = set.insert marks.numbers n }
 abbrev cleared : RoomySet → RoomySet
 cleared marks = record marks { numbers = set.empty }
 
--- an empty dirty set with this room
+-- an empty dirty set with the given room
 abbrev nothing_marked : ℕ → RoomySet
 nothing_marked room = record { numbers = set.empty; room = room }
 
--- without units empty dirty sets need no room
+-- without units, empty dirty sets without room satisfy the invariant AreUnits
 pub AreUnits-none : AreUnits empty (nothing_marked 0) (nothing_marked 0) (nothing_marked 0) empty empty
 AreUnits-none = record { within = within-none; marks_fit = Room-empty Unit; rows_fit = Room-empty Unit; goods_fit = Room-empty Unit }
 
--- units with empty dirty sets that have room for all of them
+-- empty dirty sets that have room for all units satisfy the invariant AreUnits
 pub AreUnits-of : (units : FinMap nat_cmp Unit) → AreUnits units (nothing_marked (len units)) (nothing_marked (len units)) (nothing_marked (len units)) empty empty
 AreUnits-of units = record { within = within-none; marks_fit = Room-of units; rows_fit = Room-of units; goods_fit = Room-of units }
 
 module _ (units : FinMap nat_cmp Unit) (marks rows goods : RoomySet) (items skills : Things) where
-  -- the units and their dirty sets before the change
+  -- the invariant AreUnits holds of the units and their dirty sets before a change
   abbrev Before : Type 0
   Before = AreUnits units marks rows goods items skills
 
-  -- AreUnits still holds once all dirty sets are emptied
+  -- the units' invariant AreUnits still holds once all dirty sets are emptied
   pub AreUnits-without_marks : Before → AreUnits units (cleared marks) (cleared rows) (cleared goods) empty empty
   AreUnits-without_marks h = record {
     within = within-none;
@@ -125,7 +125,7 @@ module _ (units : FinMap nat_cmp Unit) (marks rows goods : RoomySet) (items skil
     goods_fit = Room-unmarked units goods.numbers goods.room h.goods_fit;
   }
 
-  -- AreUnits still holds once a unit that was lent is replaced, and marked with its row and its goods
+  -- the units' invariant AreUnits still holds once a lent unit is replaced, and marked with its row and its goods
   pub AreUnits-lent : (n : ℕ) (u w : Unit) → get units n ≡ Some u → Before → AreUnits (insert units n w) (marking marks n) (marking rows n) (marking goods n) items skills
   AreUnits-lent n u w is h = record {
     within = within-whole marks.numbers rows.numbers goods.numbers items skills n h.within;
@@ -134,7 +134,7 @@ module _ (units : FinMap nat_cmp Unit) (marks rows goods : RoomySet) (items skil
     goods_fit = Room-lent units goods.numbers goods.room n (Some u) w is refl h.goods_fit;
   }
 
-  -- AreUnits still holds once a unit's row is changed and marked
+  -- the units' invariant AreUnits still holds once a unit's row is changed and marked
   pub AreUnits-row : (n : ℕ) (u w : Unit) → get units n ≡ Some u → Before → AreUnits (insert units n w) (marking marks n) (marking rows n) goods items skills
   AreUnits-row n u w is h = record {
     within = within-row marks.numbers rows.numbers goods.numbers items skills n h.within;
@@ -143,7 +143,7 @@ module _ (units : FinMap nat_cmp Unit) (marks rows goods : RoomySet) (items skil
     goods_fit = Room-over units goods.numbers goods.room n w (ap is_some is) h.goods_fit;
   }
 
-  -- AreUnits still holds once an item of a unit is changed and marked
+  -- the units' invariant AreUnits still holds once an item of a unit is changed and marked
   pub AreUnits-item : (n : ℕ) (u w : Unit) (group : FinMap nat_cmp (Prim.Unit {0})) → get units n ≡ Some u → Before → AreUnits (insert units n w) (marking marks n) rows goods (insert items n group) skills
   AreUnits-item n u w group is h = record {
     within = within-item marks.numbers rows.numbers goods.numbers items skills n h.within group;
@@ -152,7 +152,7 @@ module _ (units : FinMap nat_cmp Unit) (marks rows goods : RoomySet) (items skil
     goods_fit = Room-over units goods.numbers goods.room n w (ap is_some is) h.goods_fit;
   }
 
-  -- AreUnits still holds once a skill of a unit is changed and marked
+  -- the units' invariant AreUnits still holds once a skill of a unit is changed and marked
   pub AreUnits-skill : (n : ℕ) (u w : Unit) (group : FinMap nat_cmp (Prim.Unit {0})) → get units n ≡ Some u → Before → AreUnits (insert units n w) (marking marks n) rows goods items (insert skills n group)
   AreUnits-skill n u w group is h = record {
     within = within-skill marks.numbers rows.numbers goods.numbers items skills n h.within group;
@@ -161,7 +161,7 @@ module _ (units : FinMap nat_cmp Unit) (marks rows goods : RoomySet) (items skil
     goods_fit = Room-over units goods.numbers goods.room n w (ap is_some is) h.goods_fit;
   }
 
-  -- AreUnits still holds once a unit is removed and marked, by its value
+  -- the units' invariant AreUnits still holds once unit n, found as `o`, is removed and marked
   gone_at : (n : ℕ) (o : Option Unit) → get units n ≡ o → is_some o ≡ true → Before → AreUnits (remove units n) (marking marks n) (marking rows n) (marking goods n) items skills
   gone_at n None is there h = absurd (false≢true there)
   gone_at n (Some u) is there h = record {
@@ -171,7 +171,7 @@ module _ (units : FinMap nat_cmp Unit) (marks rows goods : RoomySet) (items skil
     goods_fit = Room-without units goods.numbers goods.room n (Some u) is h.goods_fit;
   }
 
-  -- AreUnits still holds once a unit is removed and marked
+  -- the units' invariant AreUnits still holds once a unit is removed and marked
   pub AreUnits-gone : (n : ℕ) → is_some (get units n) ≡ true → Before → AreUnits (remove units n) (marking marks n) (marking rows n) (marking goods n) items skills
   AreUnits-gone n there h = gone_at n (get units n) refl there h
 
@@ -182,19 +182,19 @@ pub record IsWider (units : FinMap nat_cmp Unit) (marks more : RoomySet) : Type 
   pub same : more.numbers ≡ marks.numbers
   pub room : set.len marks.numbers + (len units + 1) ≤ more.room
 
--- a wider dirty set has room for the units with a new one
+-- a dirty set with room for one unit more (IsWider) has room for the units with a new one
 room_inserted : (units : FinMap nat_cmp Unit) (marks more : RoomySet) (n : ℕ) (w : Unit) → IsWider units marks more → set.len more.numbers + len (insert units n w) ≤ more.room
 room_inserted units marks more n w h = let l = one_more units n w in let as_many = ap set.len h.same in omega (arith, h.room, l, as_many)
 
--- a wider dirty set has room for a new number
+-- a dirty set with room for one unit more (IsWider) has room for a new number
 pub fits-new : (units : FinMap nat_cmp Unit) (marks more : RoomySet) (n : ℕ) (w : Unit) → IsWider units marks more → set.len (set.insert more.numbers n) ≤ more.room
 fits-new units marks more n w h = fits-inserted units more.numbers more.room n w (room_inserted units marks more n w h)
 
--- a wider dirty set has room for all units once a new one is marked
+-- a dirty set with room for one unit more (IsWider) has room for all units once a new one is marked
 HasRoom-added : (units : FinMap nat_cmp Unit) (marks more : RoomySet) (n : ℕ) (w : Unit) → IsWider units marks more → HasRoomForMarks (insert units n w) (marking more n)
 HasRoom-added units marks more n w h = Room-inserted units more.numbers more.room n w (room_inserted units marks more n w h)
 
--- AreUnits still holds once a new unit is added and marked in wider dirty sets
+-- the units' invariant AreUnits still holds once a new unit is added and marked in wider dirty sets
 pub AreUnits-added : (units : FinMap nat_cmp Unit) (marks rows goods marks2 rows2 goods2 : RoomySet) (items skills : Things) (n : ℕ) (w : Unit) → IsWider units marks marks2 → IsWider units rows rows2 → IsWider units goods goods2
     → AreUnits units marks rows goods items skills → AreUnits (insert units n w) (marking marks2 n) (marking rows2 n) (marking goods2 n) items skills
 AreUnits-added units marks rows goods marks2 rows2 goods2 items skills n w wider wider2 wider3 h = record {

@@ -42,7 +42,7 @@ bare_region r = region_with r empty
 
 -- ---- row by row
 
--- a unit with what a row of `has` says put in: an item (sort 0) or days of a skill (sort 1)
+-- a unit with the amount of a row of `has` put in: pieces of an item (sort 0) or days of a skill (sort 1)
 abbrev pub holding_more : StoredHas → Unit → Unit
 holding_more r u =
     if as_u32 r.sort == 0

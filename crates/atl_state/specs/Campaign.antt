@@ -198,7 +198,7 @@ without_mail c = record c { mail = empty }
 abbrev pub with_structure_begun : CampaignValue → Structure → CampaignValue
 with_structure_begun c s = record c { next_structure = c.next_structure + 1; structures = insert c.structures c.next_structure s }
 
--- the campaign with a unit put under this number
+-- the campaign with unit u put under number n
 abbrev pub with_unit : CampaignValue → ℕ → Unit → CampaignValue
 with_unit c n u = record c { units = insert c.units n u }
 
@@ -206,10 +206,10 @@ with_unit c n u = record c { units = insert c.units n u }
 abbrev pub with_unit_begun : CampaignValue → Unit → CampaignValue
 with_unit_begun c u = record c { next_unit = c.next_unit + 1; units = insert c.units c.next_unit u }
 
--- the campaign with this report stored for a faction
+-- the campaign with a report stored for faction n, instead of an older one
 abbrev pub with_report : CampaignValue → ℕ → List ℕ → CampaignValue
 with_report c n text = record c { reports = insert c.reports n text }
 
--- the campaign with this mailing kept for a faction
+-- the campaign with a mailing kept for faction n, instead of an older one
 abbrev pub with_mail : CampaignValue → ℕ → List ℕ → CampaignValue
 with_mail c n text = record c { mail = insert c.mail n text }

@@ -36,7 +36,7 @@ rule_number Guards = 10
 rule_number Books = 11
 rule_number Mail = 12
 
--- the rows p of format f keep this rule; some rules are about the rows, others about the campaign read from them
+-- the rows p of format f keep a rule; some rules are about the rows, others about the campaign read from them
 abbrev pub KeepsRule : Format → WorldValue → Parts → Rule → Type 0
 KeepsRule f w p OneRow = IsTrue (is_one_campaign_row f p.campaign) × IsTrue (are_of_format f p.markets)
 KeepsRule f w p Ranges = AreRowsInRange w p
@@ -55,7 +55,7 @@ KeepsRule f w p Mail = IsMail (campaign_of w p) × AreReported (campaign_of w p)
 abbrev pub KeepsRulesBelow : Format → WorldValue → Parts → ℕ → Type 0
 KeepsRulesBelow f w p n = (r : Rule) → rule_number r < n → KeepsRule f w p r
 
--- the rows break this rule, and keep all rules before it
+-- the rows break rule r, and keep all rules before it
 pub record IsFirstBroken (f : Format) (w : WorldValue) (p : Parts) (r : Rule) : Type 0 where
   pub before : KeepsRulesBelow f w p (rule_number r)
   pub broken : ¬ KeepsRule f w p r
@@ -70,7 +70,7 @@ abbrev pub Fits : Format → CampaignValue → Type 0
 Fits First c = IsWithoutMarkets c
 Fits Second c = ⊤
 
--- a good campaign that has exactly these rows, and nothing marked
+-- c is a good campaign that has exactly the rows p, fits the format, and has nothing marked
 pub record IsChecked (f : Format) (w : WorldValue) (p : Parts) (c : MarkedCampaign) : Type 0 where
   pub rows : AreRowsOf f c.value p
   pub fits : Fits f c.value

@@ -23,7 +23,7 @@ agree None b = true
 agree (Some x) None = true
 agree (Some x) (Some y) = x == y
 
--- whether all factions that `faction` gives for the numbers are equal, and equal to the holder, where there is one
+-- whether one faction at most holds a region: the factions given for the listed units, and `holder` if Some, are equal
 abbrev pub one_holder : (ℕ → Option ℕ) → Option ℕ → List ℕ → Bool
 one_holder faction holder [] = true
 one_holder faction holder (n ∷ ns) = agree (faction n) holder && one_holder faction (option_or holder (faction n)) ns

@@ -63,7 +63,7 @@ put_rows number value (r ∷ rs) m = put_rows number value rs (insert m (number 
 abbrev pub by_number : {R V : Type 0} → (R → ℕ) → (R → V) → List R → FinMap nat_cmp V
 by_number number value rows = put_rows number value rows empty
 
--- whether a row of `has` is of unit n and of this sort: 0 items, 1 skills
+-- whether a row of `has` is of unit n and of a sort: 0 items, 1 skills
 abbrev pub is_of : ℕ → ℕ → StoredHas → Bool
 is_of n sort r = (as_u32 r.unit == n) && (as_u32 r.sort == sort)
 

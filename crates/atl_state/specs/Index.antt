@@ -1,4 +1,4 @@
--- For proofs alone: the numbers of an index, and the slots that they lead to.
+-- For proofs alone: an index, which leads from numbers to slots of an arena, as a list of numbers or of pairs.
 use Rattle.std.specs.Prelude.{ℕ, List, map}
 use Rattle.atl_state.specs.declared.index.IndexEntry.{IndexEntry}
 

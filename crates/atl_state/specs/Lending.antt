@@ -22,6 +22,7 @@ with_holding c n h = with_held c n h (get c.units n)
 abbrev pub lent : MarkedCampaign → ℕ → HoldingValue → MarkedCampaign
 lent c n h = record { value = with_holding c.value n h; marks = mark_unit c n }
 
--- after a loan r of unit n's holding, campaign c has r's last value, and the unit is marked; without one c is unchanged
+-- after a loan r of unit n's holding, campaign c has r's last value there, and the unit, row and goods are marked.
+-- Without a loan c is unchanged.
 abbrev pub LendsHolding : MutBor MarkedCampaign → ℕ → Option (MutBor HoldingValue) → Fml
 LendsHolding c n r = LendsIf the_row holding.the_row c r (lent c.now n) c.now

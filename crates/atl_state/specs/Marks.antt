@@ -122,6 +122,6 @@ marks_in m = len m.factions + len m.regions + len m.markets + len m.units + len 
 abbrev pub amount_marked : FinSet nat_cmp → Entry → Thing → FinSet nat_cmp
 amount_marked marks e t = insert marks (amount_number e t)
 
--- only amounts of the first `things` things are marked
+-- in the dirty set of the books, only amounts of the first `things` things are marked
 abbrev pub AreOfThings : ℕ → FinSet nat_cmp → Type 0
 AreOfThings things marks = (n : ℕ) → contains marks n ≡ true → n < entry_count * things

@@ -40,7 +40,7 @@ after_handover c s from to = if is_owned_by (get c.structures s) from then with_
 abbrev pub placed : CampaignValue → ℕ → ℕ → ℕ → CampaignValue
 placed c n r s = unit_changed (λ u. record u { region = r; structure = s }) c n
 
--- the campaign with the given unit n put in region r and structure s, and owners as they follow; unchanged for None
+-- the campaign with the given unit n put in region r and structure s, and owners set (`with_place`); unchanged for None
 abbrev pub with_place_at : CampaignValue → ℕ → ℕ → ℕ → Option Unit → CampaignValue
 with_place_at c n r s None = c
 with_place_at c n r s (Some u) = if u.structure == s then placed c n r s else after_handover (after_handover (placed c n r s) u.structure n (heir c u.structure n)) s 0 n
@@ -50,7 +50,7 @@ with_place_at c n r s (Some u) = if u.structure == s then placed c n r s else af
 unfoldable pub with_place : CampaignValue → ℕ → ℕ → ℕ → CampaignValue
 with_place c n r s = with_place_at c n r s (get c.units n)
 
--- the campaign without the given unit n, whose structure, if it owned that, has its next owner; unchanged for None
+-- the campaign without the given unit n; a structure that it owned gets its next owner; unchanged for None
 abbrev pub without_unit_at : CampaignValue → ℕ → Option Unit → CampaignValue
 without_unit_at c n None = c
 without_unit_at c n (Some u) = after_handover (record c { units = remove c.units n }) u.structure n (heir c u.structure n)

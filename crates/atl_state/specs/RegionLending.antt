@@ -7,6 +7,7 @@ use Rattle.atl_records.specs.contracts.records.Region as region
 use Rattle.atl_state.specs.contracts.regions.Regions.{the_row}
 use Rattle.atl_state.specs.Regions.{MarkedRegions}
 
--- after a loan q of region n, the regions have q's last value there, and no mark changes; else they are unchanged
+-- after a loan q of region n, the regions have q's last value under n, and no mark changes.
+-- Without a loan the regions are unchanged.
 abbrev pub LendsRegion : MutBor MarkedRegions → ℕ → Option (MutBor Region) → Fml
 LendsRegion r n q = LendsIf the_row region.the_row r q (λ w. record r.now { values = map.insert r.now.values n w }) r.now

@@ -60,7 +60,7 @@ with_item_marked r n item = with_item_marked_in r n item (map.get r.values n)
 abbrev pub with_items_marked : MarkedRegions → (region : ℕ) → MarkedRegions
 with_items_marked r n = with_items_marked_in r n (map.get r.values n)
 
--- region n, if there is one and its stock of an item is another amount than this; else None
+-- region n, if there is one and its stock of an item is another than `amount`; else None
 abbrev pub region_to_restock : map.FinMap nat_cmp Region → (region item : ℕ) → ℕ → Option Region
 region_to_restock values n item amount = if stock_in values n item == amount then None else map.get values n
 

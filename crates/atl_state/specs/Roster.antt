@@ -10,8 +10,8 @@ use Rattle.atl_records.specs.declared.records.Unit.{Unit}
 use Rattle.atl_records.specs.contracts.records.Unit as unit
 use Rattle.atl_state.specs.Marks.{Things, things_code, thing_marked}
 
--- Units by number, with the numbers of those that are marked (`marks`), whose rows are, and all of whose goods are.
--- Single items and skills that are marked are by unit.
+-- The units by number, with marks on units (`marks`), their rows, all goods of a unit, and single items and skills.
+-- A unit is in `marks` if any part of it is marked; `items` and `skills` are by unit.
 pub record Roster : Type 0 where
   pub values : map.FinMap nat_cmp Unit
   pub marks : set.FinSet nat_cmp

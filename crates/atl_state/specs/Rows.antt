@@ -78,11 +78,11 @@ market_row region item stock = record { region = pos region; item = pos item; st
 
 -- ---- the rows of a table
 
--- a row for each of these entries of a map, in their order
+-- a row for each of the given entries of a map, in their order
 abbrev pub rows_by : {V R : Type 0} → (ℕ → V → R) → List (ℕ × V) → List R
 rows_by row es = map (λ e. row e.0 e.1) es
 
--- a row for each of these amounts that is not 0
+-- a row for each of the given amounts that is not 0, in their order
 abbrev pub amount_rows : {R : Type 0} → (R → ℤ) → (ℕ → ℕ → R) → List (ℕ × ℕ) → List R
 amount_rows amount row es = filter (λ r. not (is_zero (amount r))) (rows_by row es)
 
@@ -94,11 +94,11 @@ rows_of_sort n sort es = amount_rows (λ r. r.amount) (has_row n sort) es
 abbrev pub held_rows : ℕ → HoldingValue → List StoredHas
 held_rows n h = rows_of_sort n 0 (entries h.items) ++ rows_of_sort n 1 (entries h.days)
 
--- the rows of `has` of these units, one unit after another
+-- the rows of `has` of the given units, one unit after another
 abbrev pub has_rows : List (ℕ × Unit) → List StoredHas
 has_rows es = flat_map (λ e. held_rows e.0 e.1.holding) es
 
--- a row of `books` for each of these accounts, with its amount
+-- a row of `books` for each of the given accounts, with its amount
 abbrev pub amounts_rows : List (Account × ℤ) → List StoredBooks
 amounts_rows xs = map (λ x. books_row x.0.0 x.0.1 x.1) xs
 
@@ -110,7 +110,7 @@ books_rows books = amounts_rows (entries books.amounts)
 abbrev pub stock_rows : ℕ → List (ℕ × ℕ) → List StoredMarket
 stock_rows n es = amount_rows (λ r. r.stock) (market_row n) es
 
--- the rows of `market` of these regions; in the first format none
+-- the rows of `market` of the given regions; in the first format none
 abbrev pub market_rows : Format → List (ℕ × Region) → List StoredMarket
 market_rows First es = []
 market_rows Second es = flat_map (λ e. stock_rows e.0 (entries e.1.stocks)) es
@@ -145,10 +145,10 @@ pub record AreSameRows (some others : Parts) : Type 0 where
   pub books : IsPermutation some.books others.books
   pub markets : IsPermutation some.markets others.markets
 
--- these are the rows of a campaign in a format, each once, in any order
+-- `parts` are the rows of a campaign in a format, each once, in any order
 abbrev pub AreRowsOf : Format → CampaignValue → Parts → Type 0
 AreRowsOf f c parts = AreSameRows (rows_of f c) parts
 
--- For proofs alone: a row of `books` for each of these accounts whose amount is not 0.
+-- For proofs alone: a row of `books` for each of the given accounts whose amount is not 0.
 abbrev pub rows_under : BooksValue → List Account → List StoredBooks
 rows_under books accounts = amounts_rows (listed_of (λ a. amount_in books a.0 a.1) accounts)

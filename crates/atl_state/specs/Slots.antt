@@ -1,4 +1,4 @@
--- For proofs alone: a map whose values are in slots, to which an index leads from the numbers.
+-- For proofs alone: how an `Arena` holds a map: its values are in slots of a slab, to which an index leads by number.
 use Rattle.std.specs.Prelude.{◌≡◌, ℕ, true, is_some, List, [], ◌∷◌, Option, Some, None}
 use Rattle.std.specs.Ordering.{nat_cmp}
 use Rattle.std.specs.FinMap.{FinMap, get, entries, len, from_entries}
@@ -20,7 +20,7 @@ module _ {V : Type 0} where
   abbrev pub values_of : FinMap nat_cmp ℕ → slab.Slab V → FinMap nat_cmp V
   values_of i s = from_entries (slot_entries (entries i) s)
 
-  -- each slot that one of these numbers leads to has a value
+  -- each slot that one of the listed numbers leads to has a value
   abbrev pub AreInUse : List (ℕ × ℕ) → slab.Slab V → Type 0
   AreInUse es s = EachOf (λ n k. is_some (slab.get s k) ≡ true) es
 

@@ -11,7 +11,7 @@ use Rattle.atl_records.specs.Amounts.{region_amount, unit_amount}
 unfoldable pub total : CampaignValue → Thing → ℕ
 total c t = sum_over (λ u. unit_amount t u.holding) c.units + sum_over (λ r. region_amount t r) c.regions
 
--- there are at most 1,000,000 units and regions together
+-- there are at most 1,000,000 units and regions together, so totals can be counted in 64 bits
 abbrev pub IsCountable : CampaignValue → Type 0
 IsCountable c = len c.units + len c.regions ≤ 1000000
 

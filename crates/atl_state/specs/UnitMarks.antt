@@ -8,11 +8,12 @@ use Rattle.atl_records.specs.contracts.records.Unit as unit
 use Rattle.atl_state.specs.contracts.units.Units.{the_row}
 use Rattle.atl_state.specs.Roster.{Roster, with_unit_at}
 
--- after a loan u of unit n, roster r has u's last value, and the unit, its row and all its goods are marked.
+-- after a loan u of unit n, roster r has u's last value under n, and the unit, its row and all its goods are marked.
 -- Without a loan r is unchanged.
 abbrev pub LendsUnit : MutBor Roster → ℕ → Option (MutBor Unit) → Fml
 LendsUnit r n u = LendsIf the_row unit.the_row r u (with_unit_at r.now n) r.now
 
--- after a loan u of unit n, roster r has u's last value, and the unit and its row are marked; else r is unchanged
+-- after a loan u of unit n, roster r has u's last value under n, and the unit and its row are marked.
+-- Without a loan r is unchanged.
 abbrev pub LendsRow : MutBor Roster → ℕ → Option (MutBor Unit) → Fml
 LendsRow r n u = LendsIf the_row unit.the_row r u (λ w. record r.now { values = map.insert r.now.values n w; marks = set.insert r.now.marks n; rows = set.insert r.now.rows n }) r.now

@@ -198,7 +198,7 @@ fn keeps_mail(world: &World, parts: &Parts, campaign: &Campaign) -> bool
     are_mailings(campaign) && are_reported(campaign)
 }
 
-/// Checks rules 4 to 7: what rows name exists, next numbers, days, and which factions are gone.
+/// Checks rules 4 to 7: that what rows name exists, next numbers, days of study, and gone factions.
 fn check_places(
     world: &World,
     parts: &Parts,
@@ -272,7 +272,7 @@ fn check_parts(
     Ok(campaign)
 }
 
-/// The campaign of these rows of a format, with nothing marked, or the first rule that they break.
+/// The campaign that rows of a format say, with nothing marked, or the first rule that they break.
 /// The rows may be in any order, each counts once, and the campaign is good. The rows of a good
 /// campaign break no rule, in the first format where it has no stocks and no amounts under the
 /// entries of markets.
@@ -290,8 +290,7 @@ pub fn check_as(
     answer
 }
 
-/// The campaign of these rows of the second format, with nothing marked, or the first rule that
-/// they break.
+/// The campaign that rows of the second format say, with nothing marked, or the first broken rule.
 pub fn check(alloc: Global, world: &World, parts: Parts) -> Result<Campaign, CheckFault>
     ensures rules { Checks Second world.now parts result }
     ensures whole { IsWorld world.now → GivesBack Second world.now parts result }

@@ -1,4 +1,4 @@
-//! An index: the slot of each number, in a sorted vector.
+//! The index of an `Arena`: leads from each number to the slot of its value, in a sorted vector.
 ghost use Rattle.std.specs.Prelude.{◌≡◌, ◌<◌, ◌^◌, true, length, IfOk, IfErr, IfSome, OnOk, OnErr, None};
 ghost use Rattle.std.specs.Ordering.{nat_cmp};
 ghost use Rattle.std.specs.List.Sorted.{IsStrictlySortedBy};
@@ -12,7 +12,7 @@ use std::alloc::{AllocError, Global};
 use std::marker::Model;
 use std::slice::Iter;
 
-/// A number, and the slot that it leads to.
+/// An entry of an index: a number, and the slot of the arena where its value is.
 #[derive(Drop, Clone, Copy)]
 pub(crate) struct IndexEntry {
     pub(crate) number: u32,

@@ -1,4 +1,4 @@
-//! A sorted list of numbers.
+//! A sorted list of numbers, as that of the units in a region.
 ghost use Rattle.std.specs.Prelude.{◌≡◌, ◌≤◌, OnOk, OnErr, [], length};
 ghost use Rattle.atl_state.specs.Ordered.{IsSorted, put_number, take_number, first_above};
 
@@ -23,7 +23,7 @@ impl Model for Numbers {
     ghost invariant = { λ a. IsSorted a.items };
 }
 
-/// The index of the first number of a sorted list that is not below another; the length if none.
+/// The index of the first number of a sorted list that is not below `number`; the length if none.
 fn first_above(items: &[u32], number: u32) -> usize
     requires { IsSorted items.now }
     ensures place { result ≡ first_above number items.now }

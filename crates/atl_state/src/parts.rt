@@ -66,13 +66,13 @@ impl Drop for StoredCampaignRow {
 pub struct StoredFaction {
     /// From 1 to atl_orders' LAST_FACTION.
     pub number: i64,
-    /// The name that it joined under, which no other faction has.
+    /// The name that the faction joined under, which no other faction has.
     pub joined_as: Sequence<u8>,
     /// The name that is shown.
     pub name: Sequence<u8>,
     /// The faction's pass text.
     pub pass: Sequence<u8>,
-    /// 1 where it has no unit left, else 0.
+    /// 1 where the faction has no unit left, else 0.
     pub gone: i64,
 }
 
@@ -85,7 +85,7 @@ impl Drop for StoredFaction {
 /// A row of the table `region`.
 #[derive(Debug, Drop)]
 pub struct StoredRegion {
-    /// The number that the world gives it.
+    /// The number that the world gives the region.
     pub number: i64,
     /// From 0 to atl_tables' MOST_AMOUNT.
     pub peasants: i64,
@@ -98,7 +98,7 @@ pub struct StoredRegion {
 pub struct StoredUnit {
     /// From 1 to LAST_UNIT.
     pub number: i64,
-    /// The number of its faction.
+    /// The number of the unit's faction.
     pub faction: i64,
     /// The name that is shown.
     pub name: Sequence<u8>,
@@ -125,13 +125,13 @@ impl Drop for StoredUnit {
 pub struct StoredStructure {
     /// From 1 to MOST_STRUCTURES.
     pub number: i64,
-    /// The index of its kind in the list of the world's kinds, from 0.
+    /// The index of the structure's kind in the world's list of kinds, from 0.
     pub kind: i64,
     /// The name that is shown.
     pub name: Sequence<u8>,
     /// The number of the region where it is.
     pub region: i64,
-    /// How much of it is built, from 1 to the size of its kind.
+    /// How much of the structure is built, from 1 to the size of its kind.
     pub done: i64,
     /// The number of the unit inside that owns it, or 0 where no unit is inside.
     pub owner: i64,
@@ -146,7 +146,7 @@ impl Drop for StoredStructure {
 /// A row of the table `mail`: a faction's mail for the month to come.
 #[derive(Debug)]
 pub struct StoredMail {
-    /// The number of the faction that sent it.
+    /// The number of the faction that sent the mail.
     pub faction: i64,
     /// The mailing byte for byte as it was sent. See docs/FORMATS.md, "Mailings".
     pub text: Sequence<u8>,

@@ -1,4 +1,4 @@
-//! The regions of a campaign.
+//! The regions of a campaign by number, with dirty marks on their rows and their stocks.
 ghost use Rattle.std.specs.Prelude.{◌≡◌, ◌≤◌, ◌+◌, ◌*◌, ◌⊎◌, IfOk, IsOk, OnOk, OnErr, option_copied};
 ghost use Rattle.std.specs.FinMap as map;
 ghost use Rattle.std.specs.FinSet as set;
@@ -175,8 +175,8 @@ impl Regions {
         self.stocks.mark_present(&self.values, number);
     }
 
-    /// Marks one stock of a region, if it has another amount of the item than this. Where there is
-    /// no memory for that mark, all stocks of the region are marked.
+    /// Marks one stock of a region, if it is another than `amount`. Where there is no memory for
+    /// that mark, all stocks of the region are marked.
     pub(crate) fn mark_stock(&mut self, alloc: Global, number: u32, item: u32, amount: u32)
         ensures marks { MarksStockAt self.old self.new number item amount }
         ensures values { self.new.values ≡ self.old.values }

@@ -1,4 +1,4 @@
-//! The rows of a campaign in a format. See docs/FORMATS.md, "Tables".
+//! Makes the rows of a campaign in each table of a format. See docs/FORMATS.md, "Tables".
 ghost use Rattle.std.specs.Prelude.{◌≡◌, ◌≤◌, ◌<◌, ◌++◌, ◌∷◌, [], IfOk, OnOk};
 ghost use Rattle.std.specs.FinMap as map;
 ghost use Rattle.std.specs.List.{flat_map};
@@ -344,7 +344,7 @@ fn add_entry(
     Ok(())
 }
 
-/// Adds a row for each amount of these entries that is not 0, one entry after another.
+/// Adds a row for each amount of the given entries that is not 0, one entry after another.
 fn add_entries(
     rows: &mut Sequence<StoredBooks>,
     books: &Books,

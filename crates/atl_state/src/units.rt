@@ -1,4 +1,4 @@
-//! The units of a campaign, with their change marks.
+//! The units of a campaign by number, with dirty marks on their rows, goods, items and skills.
 ghost use Rattle.std.specs.Prelude.{◌≡◌, ◌≤◌, ◌⊎◌, IfOk, OnOk, OnErr, option_copied, None};
 ghost use Rattle.std.specs.FinMap as map;
 ghost use Rattle.std.specs.FinSet as set;

@@ -9,7 +9,7 @@ use crate::row_rules::as_u32;
 use atl_records::{Books, Entry, Thing};
 use std::alloc::{AllocError, Global};
 
-/// Sets an amount of the books to that of a row, where its entry and its thing are there.
+/// Puts the amount of a row of `books` into the books, if they have the row's entry and thing.
 fn put_row(books: &mut Books, row: &StoredBooks)
     ensures { books.new ≡ with_books_row books.old row.now }
 {

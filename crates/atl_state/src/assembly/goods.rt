@@ -14,7 +14,7 @@ use atl_records::{Region, Unit};
 use atl_tables::Numbered;
 use std::alloc::AllocError;
 
-/// Sets an item, or the days of a skill, of a row in its unit, where there is such a unit.
+/// Puts the amount of a row of `has`, of an item or a skill, into its unit, if there is that unit.
 fn put_thing(units: &mut Arena<Unit>, row: &StoredHas) -> Result<(), AllocError>
     requires { has_in_range row.now ≡ true }
     ensures { OnOk result (units.new
@@ -31,7 +31,7 @@ fn put_thing(units: &mut Arena<Unit>, row: &StoredHas) -> Result<(), AllocError>
     }
 }
 
-/// Sets the items and days of rows in their units, row by row; the rows are in their ranges.
+/// Puts the amounts of rows of `has` into their units, row by row; the rows are in their ranges.
 pub(super) fn put_things(units: &mut Arena<Unit>, rows: &[StoredHas]) -> Result<(), AllocError>
     requires { list_all has_in_range rows.now ≡ true }
     ensures { OnOk result (units.new ≡ give (λ r. as_u32 r.unit) holding_more rows.now units.old) }
@@ -42,7 +42,7 @@ pub(super) fn put_things(units: &mut Arena<Unit>, rows: &[StoredHas]) -> Result<
     Ok(())
 }
 
-/// Sets the stock of a row in its region, where there is such a region.
+/// Puts the stock of a row of `market` into its region, if there is such a region.
 fn put_stock(regions: &mut Numbered<Region>, row: &StoredMarket) -> Result<(), AllocError>
     ensures { OnOk result (regions.new
         ≡ changed (stocking_more row.now) regions.old (as_u32 row.now.region)) }
@@ -53,7 +53,7 @@ fn put_stock(regions: &mut Numbered<Region>, row: &StoredMarket) -> Result<(), A
     }
 }
 
-/// Sets the stocks of rows in their regions, row by row.
+/// Puts the stocks of rows of `market` into their regions, row by row.
 pub(super) fn put_stocks(
     regions: &mut Numbered<Region>,
     rows: &[StoredMarket],

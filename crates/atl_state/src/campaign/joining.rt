@@ -23,7 +23,7 @@ use atl_records::{
 use atl_tables::{MarkedMap, Numbered, Text, World};
 use std::alloc::{AllocError, Global};
 
-/// Whether one of these factions, gone or not, joined under exactly this name.
+/// Whether one of the given factions, gone or not, joined under exactly this name.
 fn is_taken(factions: &MarkedMap<Faction>, name: &[u8]) -> bool
     ensures { result ≡ list_any (λ e. pointwise nat_eq e.1.joined_as name.now)
         (map.entries factions.now.values) }
@@ -44,7 +44,7 @@ fn home(world: &World, word: u32) -> u32
     land[word as usize % land.len()]
 }
 
-/// The first unit of a faction: one man with this money, called `Unit` and its number.
+/// The first unit of a faction: one man with the given money, called `Unit` and its number.
 fn make_unit(
     alloc: Global,
     number: u32,
@@ -113,7 +113,7 @@ impl Campaign {
         is_taken(&self.factions, name)
     }
 
-    /// Whether there is no room for another faction, for another unit, or in the numbers of units.
+    /// Whether no faction can join: too many factions, too many units, or no unit number left.
     fn is_full(&self) -> bool
         ensures { result ≡ is_full self.now.value }
     {

@@ -1,5 +1,5 @@
-//! Calls that set one entry of a campaign; without an entry under the number nothing changes.
-//! Only `set_stock`, `set_item` and `set_days` take memory.
+//! Calls that set one entry of a campaign. Where no faction, region, unit or structure has the
+//! number given, nothing changes. Only `set_stock`, `set_item` and `set_days` take memory.
 ghost use Rattle.std.specs.Prelude.{◌≡◌, ◌≤◌, ◌<◌, ◌⊎◌, ◌+ℤ◌, IsOk, OnErr, OnOk};
 ghost use Rattle.std.specs.Int.{w64};
 ghost use Rattle.std.specs.Int.RustNames.{FitsSigned};
@@ -33,7 +33,7 @@ impl Campaign {
         }
     }
 
-    /// Sets the flag `gone` of a faction, if there is such a faction, and marks it.
+    /// Sets the flag `gone` of a faction, if there is such a faction, and marks the faction.
     pub fn set_gone(&mut self, number: u32)
         ensures what { self.new.value ≡ with_gone self.old.value number }
         ensures marks { self.new.marks ≡ mark_faction self.old number }

@@ -29,7 +29,7 @@ pub(crate) fn are_of_format(format: Format, rows: &[StoredMarket]) -> bool
     }
 }
 
-/// The campaign row of rows that have exactly one.
+/// The campaign row, in tables with exactly one.
 pub(crate) fn campaign_row_of(parts: &Parts) -> &StoredCampaignRow
     requires { length parts.now.campaign ≡ 1 }
     ensures { result.now ≡ campaign_row_of parts.now }

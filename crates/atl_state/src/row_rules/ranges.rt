@@ -54,7 +54,7 @@ fn unit_in_range(row: &StoredUnit) -> bool
         && is_from(0, 1, row.guard)
 }
 
-/// Whether the sort is 0 or 1, and the amount of an item is in its range; days aren't checked.
+/// Whether a row of `has` is of sort 0 or 1, and an item's amount is in range; days aren't checked.
 fn has_in_range(row: &StoredHas) -> bool
     ensures { result ≡ has_in_range row.now }
 {

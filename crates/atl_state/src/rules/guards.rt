@@ -7,7 +7,7 @@ ghost use Rattle.atl_state.specs.Campaign.{numbers_in};
 
 use crate::campaign::Campaign;
 
-/// The faction of a unit, where the unit is there and guards.
+/// The faction of a unit, if the unit is there and guards; else None.
 fn guard_of(campaign: &Campaign, number: u32) -> Option<u32>
     ensures { result ≡ guard_of campaign.now.value number }
 {

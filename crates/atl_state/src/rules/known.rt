@@ -233,7 +233,7 @@ fn are_reports_known(campaign: &Campaign) -> bool
         .all(|(number, _)| is_faction(campaign, number))
 }
 
-/// Whether the regions, and all that they, units and structures name, are there.
+/// Whether the regions are the world's, and what they, units and structures name by number exists.
 fn are_things_known(world: &World, campaign: &Campaign) -> bool
     ensures { IsTrue result ↔
         ((((n : ℕ) → IsThere campaign.now.value.regions n ↔ IsThere world.now.regions n)

@@ -14,14 +14,14 @@ fn are_between<V>(mut entries: Entries<'_, V>, least: u32, next: u32) -> bool
     entries.all(|(number, _)| least <= number && number < next)
 }
 
-/// Whether `next` is one more than the count.
+/// Whether `next` is one more than `count`.
 fn is_behind(next: u32, count: usize) -> bool
     ensures { IsTrue result ↔ (next ≡ count + 1) }
 {
     1 <= next && (next - 1) as usize == count
 }
 
-/// Whether the factions are numbered from 1 without a gap, and the next number follows.
+/// Whether the factions are numbered from 1 to one below the next faction number, without a gap.
 fn are_factions_numbered(campaign: &Campaign) -> bool
     ensures { IsTrue result ↔
         (IsNumbered campaign.now.value.factions campaign.now.value.next_faction) }
@@ -30,7 +30,7 @@ fn are_factions_numbered(campaign: &Campaign) -> bool
     are_between(campaign.factions(), 1, next) && is_behind(next, campaign.faction_count())
 }
 
-/// Whether the structures are numbered from 1 without a gap, and the next number follows.
+/// Whether the structures are numbered from 1 to one below the next structure number, with no gap.
 fn are_structures_numbered(campaign: &Campaign) -> bool
     ensures { IsTrue result ↔
         (IsNumbered campaign.now.value.structures campaign.now.value.next_structure) }
@@ -39,7 +39,7 @@ fn are_structures_numbered(campaign: &Campaign) -> bool
     are_between(campaign.structures(), 1, next) && is_behind(next, campaign.structure_count())
 }
 
-/// Whether each unit's number is below the next one.
+/// Whether each unit's number is below the next unit number.
 fn are_units_before(campaign: &Campaign) -> bool
     ensures { IsTrue result ↔
         ((n : ℕ) → campaign.now.value.next_unit ≤ n → map.get campaign.now.value.units n ≡ None) }
@@ -48,8 +48,8 @@ fn are_units_before(campaign: &Campaign) -> bool
     campaign.units().all(|(number, _)| number < next)
 }
 
-/// Whether the next numbers follow: factions and structures are numbered from 1 without a gap. All
-/// units' numbers are below the next one. It takes no memory.
+/// Whether factions and structures are numbered from 1 without a gap, and next numbers are free.
+/// It takes no memory.
 pub(crate) fn are_numbered(campaign: &Campaign) -> bool
     ensures { IsTrue result ↔ (AreNumbered campaign.now.value) }
 {

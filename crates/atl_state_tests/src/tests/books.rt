@@ -9,7 +9,7 @@ use std::test::Fail;
 /// How many things the books count: money, people, wood and carts.
 const THINGS: usize = 4;
 
-/// Books some money and carts in empty books.
+/// Books -7 money as wages in empty books of `THINGS` things.
 fn books_some(books: &mut Books) -> Result<(), Fail> {
     if books.len() != THINGS || books.amount(Entry::Wages, Thing::Money) != 0 {
         return Err(Fail::new("empty books"));
@@ -18,7 +18,7 @@ fn books_some(books: &mut Books) -> Result<(), Fail> {
     Ok(())
 }
 
-/// Asserts the amounts that `books_some` booked, and that others are 0.
+/// Asserts the amount that `books_some` booked, and that others are 0.
 fn has_some(rt: &impl Abort, books: &Books) -> Result<(), Fail> {
     if books.len() != THINGS {
         return Err(Fail::new("four things"));

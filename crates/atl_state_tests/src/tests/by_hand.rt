@@ -64,7 +64,7 @@ fn no_rows(alloc: Global) -> Parts {
     }
 }
 
-/// Adds the campaign's own row.
+/// Adds the campaign row.
 fn add_head(
     alloc: Global,
     heads: &mut Sequence<StoredCampaignRow>,
@@ -82,7 +82,7 @@ fn add_head(
     Ok(())
 }
 
-/// Adds a row of a region for each: number, peasants and money.
+/// Adds a row of `region` for each triple: number, peasants and money.
 fn add_regions(regions: &mut Sequence<StoredRegion>, rows: &[[i64; 3]]) -> Result<(), Fail> {
     for [number, peasants, money] in rows.iter() {
         regions.push(StoredRegion {
@@ -94,7 +94,7 @@ fn add_regions(regions: &mut Sequence<StoredRegion>, rows: &[[i64; 3]]) -> Resul
     Ok(())
 }
 
-/// Adds a row of the books for each: entry, thing and amount.
+/// Adds a row of `books` for each triple: entry, thing and amount.
 fn add_books(books: &mut Sequence<StoredBooks>, rows: &[[i64; 3]]) -> Result<(), Fail> {
     for [entry, thing, amount] in rows.iter() {
         books.push(StoredBooks {
@@ -252,7 +252,7 @@ fn add_places(alloc: Global, parts: &mut Parts, rows: &Rows) -> Result<(), Fail>
     )
 }
 
-/// All rows of the campaign that `rows` says, in no particular order.
+/// The rows of all tables of the campaign that `rows` describes, in no particular order.
 pub(crate) fn parts(alloc: Global, rows: &Rows) -> Result<Parts, Fail> {
     let mut parts = no_rows(alloc);
     add_people(alloc, &mut parts, rows)?;

@@ -189,7 +189,7 @@ fn is_checked(rt: &impl Abort, alloc: Global, world: &World) -> Result<(), Fail>
     comes_back(rt, alloc, world, &campaign)
 }
 
-/// Asserts the broken rule of each case, and that good rows give their campaign.
+/// Asserts for each case the first broken rule, and that the rows of `GOOD` give their campaign.
 fn rows_tell(rt: &impl Abort, alloc: Global, world: &World) -> Result<(), Fail> {
     assert_rules(rt, alloc, world, &CASES)?;
     assert_rules(rt, alloc, world, &MARKET_CASES)?;

@@ -134,7 +134,7 @@ fn sets_all(rt: &impl Abort, alloc: Global, holding: &mut Holding) -> Result<(),
     Ok(())
 }
 
-/// Asserts single amounts after `CALLS`, of items and skills that are there and that aren't.
+/// Asserts amounts of single items and skills after `CALLS`, some that are listed and some not.
 fn has_amounts(rt: &impl Abort, holding: &Holding) {
     assert_amount(rt, holding.amount(7), 1);
     assert_amount(rt, holding.amount(2), 0);

@@ -8,7 +8,7 @@ use std::alloc::Global;
 use std::process::Abort;
 use std::test::Fail;
 
-/// Days of study, men, and the level that they give.
+/// Cases of levels: days of study, men, and the level that the days give them.
 static LEVELS: [(u32, u32, u32); 22] = [
     (0, 1, 0),
     (29, 1, 0),
@@ -129,7 +129,7 @@ fn weighs(rt: &impl Abort, world: &World, place: usize, holding: &Holding, row: 
     assert_row(rt, place, carry(world, holding), row.carry);
 }
 
-/// Asserts the weights of each row.
+/// Asserts the weights of a unit for each row of `LOADS`.
 fn weighs_all(rt: &impl Abort, alloc: Global, world: &World) -> Result<(), Fail> {
     let mut holding = one_man(alloc)?;
     for (place, row) in LOADS.iter().enumerate() {

@@ -49,7 +49,7 @@ pub(crate) fn joined_by(alloc: Global, text: &str) -> Result<Campaign, Fail> {
     joined_in(alloc, &world)
 }
 
-/// One man with nothing.
+/// The holding of a unit of one man with nothing.
 pub(crate) fn one_man(alloc: Global) -> Result<Holding, Fail> {
     let name = Text::from_str(alloc, "A man")?;
     Ok(Holding::new(name, 1, 0, Numbered::new(alloc), Numbered::new(alloc)))

@@ -174,7 +174,7 @@ fn case_holds(
     Ok(())
 }
 
-/// Asserts each case, one step after the other.
+/// Makes the step of each case in turn, and asserts the case after it.
 fn cases_hold(
     rt: &impl Abort,
     alloc: Global,
@@ -265,7 +265,7 @@ static SAILING: [Case; 4] = [
     },
 ];
 
-/// Asserts `AFTER` and `SAILING`, after all units entered the boat.
+/// Moves all units into the boat, and then asserts the cases of `AFTER` and of `SAILING`.
 fn sails(rt: &impl Abort, alloc: Global, campaign: &mut Campaign) -> Result<(), Fail> {
     does_all(alloc, campaign, &ENTERING)?;
     knows_owners(rt, campaign);

@@ -26,7 +26,7 @@ fn rows(alloc: Global) -> Result<Parts, Fail> {
     Ok(campaign.parts()?)
 }
 
-/// The wanted row of the campaign; the pass text is `gm`.
+/// The wanted campaign row; the pass text is `gm`.
 const HEAD: &str =
     "[StoredCampaignRow { id: 1, format: 2, month: 0, next_faction: 2, next_unit: 2, next_structure: 2, \
     pass: Sequence { items: [103, 109] } }]";

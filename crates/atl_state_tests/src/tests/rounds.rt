@@ -84,7 +84,7 @@ fn come_back(rt: &impl Abort, alloc: Global, world: &World, first: &Campaign) ->
     assert_steps(rt, alloc, &mut again, &AGAIN)
 }
 
-/// Asserts `MARKS` after `COMING`, and then `AGAIN`.
+/// Makes the steps of `COMING`, asserts `MARKS`, and then `AGAIN` of the campaign from its rows.
 fn go_round(rt: &impl Abort, alloc: Global, world: &World) -> Result<(), Fail> {
     let mut campaign = joined_in(alloc, world)?;
     does_all(alloc, &mut campaign, &COMING)?;

@@ -34,7 +34,7 @@ pub(crate) enum Ask {
     Total(Thing),
 }
 
-/// The answer where nothing has the number.
+/// The answer `none`, for a number that no faction, region, unit or structure has.
 fn none(alloc: Global) -> Result<String, Fail> {
     Ok(String::from_str(alloc, "none")?)
 }
@@ -228,7 +228,7 @@ fn add_lists(alloc: Global, text: &mut String, campaign: &Campaign) -> Result<()
     Ok(())
 }
 
-/// Names of single amounts that are marked, and of what has them.
+/// The word for a kind of single amounts that can be marked, and for what has them.
 #[derive(Clone, Copy)]
 struct Singles {
     amount: &'static str,
@@ -289,7 +289,7 @@ fn add_all_singles(
     Ok(())
 }
 
-/// Appends whether the campaign's own row, and the books' amounts of a joining, are marked.
+/// Appends whether the campaign row, and the money and people booked under Joining, are marked.
 fn add_own(text: &mut String, campaign: &Campaign) -> Result<(), Fail> {
     if campaign.is_row_marked() {
         text.push_str(", the campaign")?;
@@ -306,7 +306,7 @@ fn add_own(text: &mut String, campaign: &Campaign) -> Result<(), Fail> {
     Ok(())
 }
 
-/// How many parts are marked, and which.
+/// How many parts of a campaign are marked, and which.
 fn marks_text(alloc: Global, campaign: &Campaign) -> Result<String, Fail> {
     let count = campaign.marks();
     let mut text = format!(in alloc; "{count}")?;

@@ -156,7 +156,7 @@ fn changes_structure(
     Ok(())
 }
 
-/// Fails unless the number that was given is the one that the step says.
+/// Fails unless a unit or structure that was added got the number that its step names.
 fn gets(told: u32, number: u32) -> Result<(), Fail> {
     if told == number {
         Ok(())

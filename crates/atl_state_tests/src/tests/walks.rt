@@ -10,7 +10,7 @@ use std::alloc::Global;
 use std::process::Abort;
 use std::test::Fail;
 
-/// Asserts the only faction of the campaign.
+/// Asserts that a walk over the factions gives the only one, Avalon.
 fn walks_factions(rt: &impl Abort, campaign: &Campaign) -> Result<(), Fail> {
     assert_count(rt, campaign.factions().count(), 1);
     let (number, faction) = campaign.factions().next().ok_or("a faction")?;
@@ -19,7 +19,7 @@ fn walks_factions(rt: &impl Abort, campaign: &Campaign) -> Result<(), Fail> {
     Ok(())
 }
 
-/// Asserts the first of the four regions.
+/// Asserts that a walk over the four regions gives region 1 first.
 fn walks_regions(rt: &impl Abort, campaign: &Campaign) -> Result<(), Fail> {
     assert_count(rt, campaign.regions().count(), 4);
     let (number, region) = campaign.regions().next().ok_or("a region")?;
@@ -28,7 +28,7 @@ fn walks_regions(rt: &impl Abort, campaign: &Campaign) -> Result<(), Fail> {
     Ok(())
 }
 
-/// Asserts the only structure.
+/// Asserts that a walk over the structures gives the only one, a lodge.
 fn walks_structures(rt: &impl Abort, campaign: &Campaign) -> Result<(), Fail> {
     assert_count(rt, campaign.structures().count(), 1);
     let (number, structure) = campaign.structures().next().ok_or("a structure")?;
@@ -61,7 +61,7 @@ static TOTALS: [Row; 6] = [
     (Step::Nothing, Ask::Total(Thing::Item(1)), "0", "0"),
 ];
 
-/// Asserts each walk, and `TOTALS`.
+/// Asserts the walks over factions, regions and structures, and the rows of `TOTALS`.
 fn walks(rt: &impl Abort, alloc: Global, campaign: &mut Campaign) -> Result<(), Fail> {
     does_all(alloc, campaign, &MAKING)?;
     walks_factions(rt, campaign)?;

@@ -6,7 +6,7 @@ use Rattle.atl_state.specs.Roster.{Roster, skill_marked_at}
 use Rattle.atl_state.proofs.ListLaws.{AreUnitLists-set}
 use Rattle.atl_state.proofs.campaign.Campaign.set_days.Goals as goal
 
--- the units themselves are the same, whether the mark came or not
+-- if nothing but the mark of a skill changed, or nothing at all, the units are the same
 same_values : (r s : Roster) (n skill : ℕ) → (s ≡ r) ⊎ (s ≡ skill_marked_at r n skill) → s.values ≡ r.values
 same_values r s n skill (inl e) = ap (λ (t : Roster). t.values) e
 same_values r s n skill (inr e) = ap (λ (t : Roster). t.values) e

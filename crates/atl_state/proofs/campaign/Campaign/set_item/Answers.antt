@@ -6,7 +6,7 @@ use Rattle.atl_state.specs.Roster.{Roster, item_marked_at}
 use Rattle.atl_state.proofs.ListLaws.{AreUnitLists-set}
 use Rattle.atl_state.proofs.campaign.Campaign.set_item.Goals as goal
 
--- the units themselves are the same, whether the mark came or not
+-- if nothing but the mark of an item changed, or nothing at all, the units are the same
 same_values : (r s : Roster) (n item : ℕ) → (s ≡ r) ⊎ (s ≡ item_marked_at r n item) → s.values ≡ r.values
 same_values r s n item (inl e) = ap (λ (t : Roster). t.values) e
 same_values r s n item (inr e) = ap (λ (t : Roster). t.values) e

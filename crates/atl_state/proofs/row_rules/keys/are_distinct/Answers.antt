@@ -6,10 +6,12 @@ use Rattle.std.proofs.lemmas.Map.Keys.{IsDistinct-from_sorted}
 use Rattle.atl_state.proofs.KeyLaws.{stands_twice, still_apart, seen_more}
 use Rattle.atl_state.proofs.row_rules.keys.are_distinct.Goals as goal
 
+-- if r is `not b`, and r is false, b is true
 not_new : (b r : Bool) → r ≡ not b → r ≡ false → b ≡ true
 not_new true r h e = refl
 not_new false r h e = sym e ∙ h
 
+-- if r is `not b`, and r is true, b is false
 is_new : (b r : Bool) → r ≡ not b → r ≡ true → b ≡ false
 is_new true r h e = sym e ∙ h
 is_new false r h e = refl

@@ -6,6 +6,7 @@ use Rattle.atl_records.specs.declared.records.Unit.{Unit}
 use Rattle.atl_state.proofs.RuleLaws.{every_by_all}
 use Rattle.atl_state.proofs.rules.days.are_days.Goals as goal
 
+-- each skill listed of a unit has at least 1 day, and at most 450 for each of its men
 abbrev HasDays : ℕ → Unit → Type 0
 HasDays n u = Every (λ s days. (1 ≤ days) × (days ≤ most_days * u.holding.men)) u.holding.days
 

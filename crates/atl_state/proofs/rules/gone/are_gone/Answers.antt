@@ -11,12 +11,15 @@ use Rattle.atl_state.specs.Good.{GoneHaveNone, UnitlessAreGone}
 use Rattle.atl_state.proofs.RuleLaws.{every_by_all}
 use Rattle.atl_state.proofs.rules.gone.are_gone.Goals as goal
 
+-- a faction is gone exactly if it has no units
 abbrev IsGoneWithout : FinMap nat_cmp Unit → ℕ → Faction → Type 0
 IsGoneWithout units n f = (f.gone ≡ true → numbers_of n units ≡ []) × (numbers_of n units ≡ [] → f.gone ≡ true)
 
+-- if each faction is gone exactly if it has no units, those that are gone have none, and those without units are gone
 apart : (c : CampaignValue) → Every (IsGoneWithout c.units) c.factions → GoneHaveNone c × UnitlessAreGone c
 apart c every = (λ n f is. (every n f is).0, λ n f is. (every n f is).1)
 
+-- if factions that are gone have no units, and those without units are gone, each is gone exactly if it has none
 together : (c : CampaignValue) → GoneHaveNone c × UnitlessAreGone c → Every (IsGoneWithout c.units) c.factions
 together c both n f is = (both.0 n f is, both.1 n f is)
 

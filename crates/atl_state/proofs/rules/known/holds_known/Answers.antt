@@ -3,6 +3,7 @@ use Rattle.std.proofs.lemmas.Bool.{false≢true}
 use Rattle.atl_records.proofs.EveryLaws.{every-from_each, each-from_every}
 use Rattle.atl_state.proofs.rules.known.holds_known.Goals as goal
 
+-- the number n is below a count
 abbrev IsBelow : ℕ → ℕ → ℕ → Type 0
 IsBelow count n amount = n < count
 

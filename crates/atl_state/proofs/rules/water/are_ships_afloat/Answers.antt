@@ -7,6 +7,7 @@ use Rattle.atl_state.specs.Good.{is_ship}
 use Rattle.atl_state.proofs.RuleLaws.{every_by_all}
 use Rattle.atl_state.proofs.rules.water.are_ships_afloat.Goals as goal
 
+-- a structure, if it is on water, is a complete ship
 abbrev IsAfloat : WorldValue → ℕ → Structure → Type 0
 IsAfloat w n s = is_land_at w s.region ≡ false → (is_ship w s ≡ true) × (s.done ≡ size_of w s.kind)
 

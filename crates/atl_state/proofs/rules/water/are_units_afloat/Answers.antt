@@ -8,6 +8,7 @@ use Rattle.atl_state.specs.Good.{IsAboard}
 use Rattle.atl_state.proofs.RuleLaws.{every_by_all}
 use Rattle.atl_state.proofs.rules.water.are_units_afloat.Goals as goal
 
+-- a unit, if it is on water, is inside a ship
 abbrev IsAfloat : WorldValue → CampaignValue → ℕ → Unit → Type 0
 IsAfloat w c n u = is_land_at w u.region ≡ false → IsAboard w c u
 
