@@ -2,7 +2,7 @@
 """Checks the pages against the repository, and prints each fault with its line:
 
 - Under each heading (##) of docs/RULES.md is a paragraph that says where its definition, its code and its tests are, as
-  `Definition: [Share](../crates/atl_market/specs/Share.antt); code: [shares](../crates/atl_market/src/shares.rt); tests: [shares](..).`
+  `Definition: [Share](../crates/atl_shares/specs/Share.antt); code: [shares](../crates/atl_shares/src/shares.rt); tests: [shares](..).`
   Each file is there, some of the code cites one of the definitions, and a definition whose first line names sections of docs/RULES.md is under these.
 - Each link of a page leads to a file, and to a heading where it names one, and each file and folder that a page names is there.
 - Each section of a page that code, definitions, tests or pages name, as in `docs/RULES.md, "Shares"`, is there.

@@ -22,7 +22,7 @@ use Rattle.atl_market.specs.ItemGroups.{Groups, item_shares_in, region_shares, w
 use Rattle.atl_market.specs.ItemPots.{is_for, item_share, item_shares, wants_for}
 use Rattle.atl_market.specs.Pots.{share_of, shares_in, takers_in, want_of}
 use Rattle.atl_market.specs.Puts.{with_each}
-use Rattle.atl_market.specs.Share.{shares}
+use Rattle.atl_shares.specs.Share.{shares}
 use Rattle.atl_market.proofs.PotLaws.{Entries, IsApart, IsRisen, as_pairs, found_first, found_head, found_is, found_later, found_other, found_put, found_tail, given_apart, given_is, given_takes, left, pots_give, somewhere, takers_risen}
 
 -- ---- entries that agree with a function, put into a map in turn

@@ -1,4 +1,3 @@
-pub mod ShareLaws
 pub mod PotLaws
 pub mod TurnLaws
 pub mod WantLaws

@@ -23,10 +23,10 @@ use Rattle.atl_records.proofs.EveryLaws.{every-from_each, none_some, first, late
 use Rattle.atl_state.proofs.RegionLaws.{get-insert_same}
 use Rattle.atl_state.proofs.OrderLaws.{each_so}
 use Rattle.atl_market.specs.RegionsWithWants.{region_at, regions_with_wants}
-use Rattle.atl_market.specs.Share.{shares}
+use Rattle.atl_shares.specs.Share.{shares}
 use Rattle.atl_market.specs.Pots.{want_of, takers_in, wants_in, shares_in, pot_shares, share_of, OnlyTakersGet, EachTakerGets, SharesEachPot, GivesEachPot, OtherRegionsDoNotCount}
 use Rattle.atl_market.specs.Puts.{with_each}
-use Rattle.atl_market.proofs.ShareLaws.{all_is_given, share_at_most, length-shares}
+use Rattle.atl_shares.proofs.ShareLaws.{all_is_given, share_at_most, length-shares}
 
 -- pairs of a unit's number and an amount, such as its share
 abbrev pub Entries : Type 0

@@ -6,7 +6,7 @@ use Rattle.std.specs.FinMap.{FinMap, empty, entries, get, insert, keys}
 use Rattle.atl_tables.specs.Groups.{group_of}
 use Rattle.atl_state.specs.Campaign.{CampaignValue, numbers_in}
 use Rattle.atl_market.specs.Pots.{want_of}
-use Rattle.atl_market.specs.Share.{shares}
+use Rattle.atl_shares.specs.Share.{shares}
 
 -- the wants of units by item, and of each item by unit
 abbrev pub Groups : Type 0

@@ -1,4 +1,3 @@
-pub mod Share
 pub mod Pots
 pub mod Puts
 pub mod RegionsWithWants

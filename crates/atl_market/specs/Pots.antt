@@ -7,7 +7,7 @@ use Rattle.atl_tables.specs.Limits.{most_amount}
 use Rattle.atl_records.specs.Every.{Every, IsThere}
 use Rattle.atl_state.specs.Campaign.{CampaignValue, numbers_in}
 use Rattle.atl_records.specs.declared.records.Unit.{Unit}
-use Rattle.atl_market.specs.Share.{shares}
+use Rattle.atl_shares.specs.Share.{shares}
 
 -- each want is at most 999,999,999 (`most_amount`)
 abbrev pub AreWants : FinMap nat_cmp ℕ → Type 0

@@ -1,7 +1,7 @@
 use Rattle.std.proofs.Common.{◌∙◌, ap, length}
 use Rattle.std.proofs.lemmas.List.{length-map}
 use Rattle.atl_market.specs.Pots.{want_of}
-use Rattle.atl_market.proofs.ShareLaws.{length-shares}
+use Rattle.atl_shares.proofs.ShareLaws.{length-shares}
 use Rattle.atl_market.proofs.pots.share_pot.Goals as goal
 
 pub put_shares-requires-clause-length : goal.put_shares-requires-clause-length

@@ -5,7 +5,7 @@ use Rattle.atl_market.proofs.PotLaws.{none_asked}
 use Rattle.atl_market.specs.RegionsWithWants.{regions_with_wants}
 use Rattle.atl_market.specs.Pots.{takers_in, want_of}
 use Rattle.atl_market.specs.Puts.{with_each}
-use Rattle.atl_market.specs.Share.{shares}
+use Rattle.atl_shares.specs.Share.{shares}
 use Rattle.atl_market.proofs.pots.share_region.Goals as goal
 
 -- a list of length 0 is empty

@@ -1,11 +1,11 @@
 -- Laws of the shares of a pot: no share is above its want, the whole pot is given if the wants exceed it, and each
 -- share is within one of its exact part; and of the remainder that the code carries from share to share.
 use Rattle.std.proofs.Common.{◌≡◌, ℕ, ◌+◌, ◌-◌, ◌*◌, ◌/◌, ◌%◌, ◌<◌, ◌≤◌, List, [], ◌∷◌, ◌++◌, length, get_or, min, inl, inr, zero, suc, sum, refl, ap, sym, ◌∙◌, add-zero, zero-add, arith}
-use Rattle.std.proofs.Math.Nat.{mul-div-le, mul-add, add-mul-div_left, div-add-mod, mod-lt, mul-div_left, mul-zero, zero-div, div-lt_iff_lt-mul, lt-mul-div-succ, div-le_of_le-mul, mul-le-mul_left, le-div_iff_mul-le, mul_comm}
+use Rattle.std.proofs.Math.Nat.{mul-div-le, mul-add, add-mul-div_left, div-add-mod, mod-lt, mul-div_left, mul-zero, zero-div, div-lt_iff_lt-mul, lt-mul-div-succ, mul-le-mul_left, le-div_iff_mul-le, mul_comm}
 use Rattle.std.proofs.lemmas.List.Sums.{sum_by-cons, sum_by-append}
 use Rattle.std.proofs.lemmas.Bool.Decides.{nat_tests}
 use Rattle.std.proofs.lemmas.Bool.{cases_lt}
-use Rattle.atl_market.specs.Share.{IsNearPart, SplittingKeepsOthers, share_upto, shares, shares_after}
+use Rattle.atl_shares.specs.Share.{IsNearPart, SplittingKeepsOthers, share_upto, shares, shares_after}
 
 -- what the first wants together get is the quotient `pot * x / total`, rounded down
 quotient : (pot total x : ℕ) → 0 < total → (total * share_upto pot total x ≤ pot * x) × (pot * x < total * share_upto pot total x + total)

@@ -2,9 +2,9 @@ use Rattle.std.proofs.Common.{◌≡◌, ◌+◌, ◌-◌, ◌*◌, ◌/◌, ◌
 use Rattle.std.proofs.lemmas.List.{drop_more}
 use Rattle.std.proofs.lemmas.List.Sums.{sum_by_more}
 use Rattle.std.proofs.lemmas.Grind.{common_steps}
-use Rattle.atl_market.specs.Share.{share_upto}
-use Rattle.atl_market.proofs.ShareLaws.{next_share, next_left}
-use Rattle.atl_market.proofs.shares.proportional_shares.Goals as goal
+use Rattle.atl_shares.specs.Share.{share_upto}
+use Rattle.atl_shares.proofs.ShareLaws.{next_share, next_left}
+use Rattle.atl_shares.proofs.shares.proportional_shares.Goals as goal
 
 pub loop-want-preserved : goal.loop-want-preserved
 loop-want-preserved c =

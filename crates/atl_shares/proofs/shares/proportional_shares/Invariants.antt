@@ -1,7 +1,7 @@
 use Rattle.std.proofs.Common.{◌≡◌, ◌++◌, sum, take, drop}
-use Rattle.atl_market.specs.Share.{shares_after}
-use Rattle.atl_market.proofs.ShareLaws.{IsRemainder}
-use Rattle.atl_market.proofs.shares.proportional_shares.Given as goal
+use Rattle.atl_shares.specs.Share.{shares_after}
+use Rattle.atl_shares.proofs.ShareLaws.{IsRemainder}
+use Rattle.atl_shares.proofs.shares.proportional_shares.Given as goal
 
 abbrev pub invariant-loop-want : goal.invariant-loop-want
 invariant-loop-want l = record {

@@ -1,5 +1,0 @@
-use Rattle.atl_market.proofs.ShareLaws as laws
-use Rattle.atl_market.proofs.shares.splitting_keeps_others.Goals as goal
-
-pub returns : goal.returns
-returns c = laws.splitting_keeps_others
