@@ -8,11 +8,11 @@ use Rattle.atl_records.specs.declared.event.EventFault.{EventFault}
 use Rattle.atl_records.specs.declared.event.Outcome.TheVariants.{Fault}
 use Rattle.atl_records.specs.Events.{event_fault_number}
 use Rattle.atl_state.specs.Campaign.{CampaignValue}
-use Rattle.atl_instant.specs.Month.{Aliases, MonthValue}
-use Rattle.atl_instant.specs.Inside.{region_of}
-use Rattle.atl_instant.specs.PhaseOrders.{Task, orders_of, unit_of}
-use Rattle.atl_instant.specs.declared.phase_order.Arrangement.TheVariants.{ByUnit}
-use Rattle.atl_instant.specs.InTurn.{amount_in_turn}
+use Rattle.atl_phase.specs.Month.{Aliases, MonthValue}
+use Rattle.atl_phase.specs.Inside.{region_of}
+use Rattle.atl_phase.specs.PhaseOrders.{Task, orders_of, unit_of}
+use Rattle.atl_phase.specs.declared.phase_order.Arrangement.TheVariants.{ByUnit}
+use Rattle.atl_phase.specs.InTurn.{amount_in_turn}
 use Rattle.atl_action.specs.Learners.{Learning}
 use Rattle.atl_action.specs.Limits.{pupils_per_teacher}
 use Rattle.atl_action.specs.Teach.{AreTaughtOnce, NobodyIsTaughtTwice, TaughtMen, after_lessons, first_mentions, is_below, is_pupil, is_teaching, lesson, listed_units, men_at, teach, teach_fault, teach_order, untaught_men}

@@ -17,8 +17,8 @@ use Rattle.atl_records.specs.Amounts.{region_amount, unit_amount}
 use Rattle.atl_state.specs.Totals.{total}
 use Rattle.atl_state.proofs.InsideLaws.{inside_as_before}
 use Rattle.atl_state.proofs.RegionLaws.{same_len}
-use Rattle.atl_instant.proofs.OutcomeLaws.{false_true}
-use Rattle.atl_instant.proofs.StructureLaws.{at_number, get-changed}
+use Rattle.atl_phase.proofs.OutcomeLaws.{false_true}
+use Rattle.atl_phase.proofs.StructureLaws.{at_number, get-changed}
 use Rattle.atl_action.proofs.TravelLaws.{IsSameUnit}
 
 -- Before and after there are as many units, each faction has the same unit numbers,

@@ -32,21 +32,21 @@ use Rattle.atl_state.specs.Campaign.{CampaignValue, numbers_inside, with_guard, 
 use Rattle.atl_records.proofs.EveryLaws.{none_some, other_number}
 use Rattle.atl_state.proofs.InsideLaws.{inside_is_listed, is_no_zero, listed_is_inside}
 use Rattle.atl_state.proofs.NumberListLaws.{IsListed}
-use Rattle.atl_instant.specs.declared.phase_order.Arrangement.TheVariants.{ByUnit}
-use Rattle.atl_instant.specs.Month.{MonthValue}
-use Rattle.atl_instant.specs.Inside.{inside}
-use Rattle.atl_instant.specs.Outcomes.{first_fault, unless}
-use Rattle.atl_instant.specs.PhaseOrders.{Task, orders_of}
-use Rattle.atl_instant.specs.OrderEffects.{IsUnaffected, effect_on, faction_effect, meaning_by_orders, of_faction, one_order, order_result, spares_others}
-use Rattle.atl_instant.specs.Bounds.{IsOrderly, IsUnaffectedRelation, StepsWell, books_nothing}
-use Rattle.atl_instant.specs.Unbooked.{moves_nothing}
-use Rattle.atl_instant.proofs.MeaningLaws.{same_month_by}
-use Rattle.atl_instant.proofs.OutcomeLaws.{false_true, none_fits}
-use Rattle.atl_instant.proofs.RefitLaws.{under}
-use Rattle.atl_instant.proofs.StructureLaws.{at_number, changed_else, equal_passes, get-changed, len-changed}
-use Rattle.atl_instant.proofs.OrderEffectLaws.{carried_cases, well_same}
-use Rattle.atl_instant.specs.NoWorse.{IsUnchanged}
-use Rattle.atl_instant.proofs.UnbookedLaws.{stays_well}
+use Rattle.atl_phase.specs.declared.phase_order.Arrangement.TheVariants.{ByUnit}
+use Rattle.atl_phase.specs.Month.{MonthValue}
+use Rattle.atl_phase.specs.Inside.{inside}
+use Rattle.atl_phase.specs.Outcomes.{first_fault, unless}
+use Rattle.atl_phase.specs.PhaseOrders.{Task, orders_of}
+use Rattle.atl_phase.specs.OrderEffects.{IsUnaffected, effect_on, faction_effect, meaning_by_orders, of_faction, one_order, order_result, spares_others}
+use Rattle.atl_phase.specs.Bounds.{IsOrderly, IsUnaffectedRelation, StepsWell, books_nothing}
+use Rattle.atl_phase.specs.Unbooked.{moves_nothing}
+use Rattle.atl_phase.proofs.MeaningLaws.{same_month_by}
+use Rattle.atl_phase.proofs.OutcomeLaws.{false_true, none_fits}
+use Rattle.atl_phase.proofs.RefitLaws.{under}
+use Rattle.atl_phase.proofs.StructureLaws.{at_number, changed_else, equal_passes, get-changed, len-changed}
+use Rattle.atl_phase.proofs.OrderEffectLaws.{carried_cases, well_same}
+use Rattle.atl_phase.specs.NoWorse.{IsUnchanged}
+use Rattle.atl_phase.proofs.UnbookedLaws.{stays_well}
 use Rattle.atl_action.specs.Sail.{AreAtMostMoved, IsAtMostMoved, SailsWith, after_sailing, capacity, concerns_nobody, crew_needed, crew_of, is_complete_ship, is_sailing, is_way, sail, sail_effect, sail_fault, sail_spec, sail_step, sum_inside, with_unit_aboard}
 use Rattle.atl_action.specs.Regions.{is_region}
 use Rattle.atl_action.proofs.PeopleLaws.{AreSamePeople, elsewhere, elsewhere_at, elsewhere_inside, elsewhere_people, gone_if, gone_same, guards_stay, people_same, people_twice, total_people}

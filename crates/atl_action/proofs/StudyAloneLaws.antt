@@ -22,16 +22,16 @@ use Rattle.atl_records.specs.declared.records.Unit.{Unit}
 use Rattle.atl_records.specs.Holdings.{amount_of}
 use Rattle.atl_state.specs.Campaign.{CampaignValue}
 use Rattle.atl_state.proofs.RegionLaws.{get-insert_same}
-use Rattle.atl_instant.specs.Month.{MonthValue}
-use Rattle.atl_instant.specs.Outcomes.{unless}
-use Rattle.atl_instant.specs.PhaseOrders.{Task, orders_of}
-use Rattle.atl_instant.specs.StandOnce.{are_of_slot, share_slot}
-use Rattle.atl_instant.specs.OrderEffects.{OrderEffect, effect_on, faction_effect, meaning_by_orders, of_faction, one_order, order_result}
-use Rattle.atl_instant.specs.Bounds.{IsUnitOf}
-use Rattle.atl_instant.specs.declared.phase_order.Arrangement.TheVariants.{ByUnit}
-use Rattle.atl_instant.proofs.StandOnceLaws.{one_order_stands}
-use Rattle.atl_instant.proofs.OrderEffectLaws.{ordered_cases}
-use Rattle.atl_instant.proofs.PhaseOrderLaws.{orders_have_verbs}
+use Rattle.atl_phase.specs.Month.{MonthValue}
+use Rattle.atl_phase.specs.Outcomes.{unless}
+use Rattle.atl_phase.specs.PhaseOrders.{Task, orders_of}
+use Rattle.atl_phase.specs.StandOnce.{are_of_slot, share_slot}
+use Rattle.atl_phase.specs.OrderEffects.{OrderEffect, effect_on, faction_effect, meaning_by_orders, of_faction, one_order, order_result}
+use Rattle.atl_phase.specs.Bounds.{IsUnitOf}
+use Rattle.atl_phase.specs.declared.phase_order.Arrangement.TheVariants.{ByUnit}
+use Rattle.atl_phase.proofs.StandOnceLaws.{one_order_stands}
+use Rattle.atl_phase.proofs.OrderEffectLaws.{ordered_cases}
+use Rattle.atl_phase.proofs.PhaseOrderLaws.{orders_have_verbs}
 use Rattle.atl_action.specs.Learners.{is_studying, learners, study_tasks}
 use Rattle.atl_action.specs.Study.{after_study, days_after, is_helpful, study, study_effect, study_fault, study_step, with_study}
 use Rattle.atl_action.specs.StudyAlone.{UnitsStudyAsBegun}

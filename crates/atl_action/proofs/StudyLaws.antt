@@ -13,7 +13,7 @@ use Rattle.atl_orders.specs.declared.order.Operands.TheVariants as operands
 use Rattle.atl_orders.specs.Orders.{OperandsValue}
 use Rattle.atl_records.specs.Books.{amount_in, thing_index, amount_number}
 use Rattle.atl_records.specs.declared.books.Entry.{Entry}
-use Rattle.atl_records.specs.declared.books.Entry.TheVariants.{Lost, Study}
+use Rattle.atl_records.specs.declared.books.Entry.TheVariants.{Study}
 use Rattle.atl_records.specs.declared.books.Thing.{Thing}
 use Rattle.atl_records.specs.declared.books.Thing.TheVariants.{Item, Money, People}
 use Rattle.atl_records.specs.declared.event.EventFault.{EventFault}
@@ -32,18 +32,18 @@ use Rattle.atl_records.proofs.EveryLaws.{get-insert_other}
 use Rattle.atl_state.proofs.HavingLaws.{may_have}
 use Rattle.atl_state.proofs.HoldingLaws.{MayHold, steady-unit_amount, total-unit_amount}
 use Rattle.atl_state.proofs.RegionLaws.{steady-amount, total-amount}
-use Rattle.atl_instant.specs.Meaning.{moves_only}
-use Rattle.atl_instant.specs.Bounds.{HasRoom, HaveRoom, IsOrderly, IsUnaffectedRelation, StepsWell, UsesBound}
-use Rattle.atl_instant.specs.Outcomes.{unless}
-use Rattle.atl_instant.specs.OrderEffects.{IsOwnOrder, IsUnaffected}
+use Rattle.atl_phase.specs.Meaning.{moves_only}
+use Rattle.atl_phase.specs.Bounds.{HasRoom, HaveRoom, IsOrderly, IsUnaffectedRelation, StepsWell, UsesBound}
+use Rattle.atl_phase.specs.Outcomes.{unless}
+use Rattle.atl_phase.specs.OrderEffects.{IsOwnOrder, IsUnaffected}
 use Rattle.atl_records.proofs.HoldingLaws.{every_amount}
-use Rattle.atl_instant.proofs.MeaningLaws.{same_month_by}
-use Rattle.atl_instant.proofs.BookingLaws.{booked-near, within-neg}
-use Rattle.atl_instant.proofs.OutcomeLaws.{none_fits, not_less}
-use Rattle.atl_instant.proofs.QuitLaws.{quit_orderly}
-use Rattle.atl_instant.proofs.OrderEffectLaws.{drawn_near, well_same}
-use Rattle.atl_instant.proofs.UnbookedLaws.{other_unit}
-use Rattle.atl_instant.specs.NoWorse.{IsUnchanged}
+use Rattle.atl_phase.proofs.MeaningLaws.{same_month_by}
+use Rattle.atl_phase.proofs.BookingLaws.{booked-near, within-neg}
+use Rattle.atl_phase.proofs.OutcomeLaws.{none_fits, not_less}
+use Rattle.atl_phase.proofs.HeldLaws.{all_held_within}
+use Rattle.atl_phase.proofs.OrderEffectLaws.{drawn_near, well_same}
+use Rattle.atl_phase.proofs.UnbookedLaws.{other_unit}
+use Rattle.atl_phase.specs.NoWorse.{IsUnchanged}
 use Rattle.atl_action.specs.Study.{after_study, days_after, is_helpful, study, study_effect, study_fault, study_moves, study_step, with_study}
 use Rattle.atl_action.specs.Bounds.{study_reserve}
 use Rattle.atl_action.specs.Teach.{TaughtMen}
@@ -183,7 +183,7 @@ unchanged = record { same = λ u. refl; again = λ u v x one two. two ∙ one; f
 
 -- the money of all units is within the bound of the phase
 money_most : (w : WorldValue) (c : CampaignValue) → IsSteady w c → (e : Entry) (t : Thing) → study_reserve c e t ≤ study_moves e t
-money_most w c steady e t = by_amount (amount_number e t == amount_number Study Money) _ _ (quit_orderly.bounded w c steady Lost Money)
+money_most w c steady e t = by_amount (amount_number e t == amount_number Study Money) _ _ (all_held_within w c steady Money)
   where
     by_amount : (q : Bool) (a b : ℕ) → a ≤ b → (if q then a else 0) ≤ (if q then b else 0)
     by_amount true a b l = l

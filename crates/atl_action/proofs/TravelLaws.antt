@@ -14,7 +14,7 @@ use Rattle.atl_records.specs.Every.{Every, IsThere}
 use Rattle.atl_state.specs.Good.{AreAfloat, AreInRange, AreKnown, AreNumbered, AreOfOneFaction, IsAboard, IsBuilt, IsOwned, IsPlaced, IsSteady, guards, is_ship}
 use Rattle.atl_records.specs.Holdings.{IsHolding}
 use Rattle.atl_state.specs.Campaign.{CampaignValue, numbers_of}
-use Rattle.atl_instant.proofs.RefitLaws.{in_range_replaced, named_replaced, numbered_replaced, under}
+use Rattle.atl_phase.proofs.RefitLaws.{in_range_replaced, named_replaced, numbered_replaced, under}
 
 -- The unit after is the unit before, but for its region, structure and guard flag.
 pub record IsSameUnit (before after : Unit) : Type 0 where

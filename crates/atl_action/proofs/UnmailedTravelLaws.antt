@@ -13,9 +13,8 @@ use Rattle.atl_state.specs.Owners.{with_place}
 use Rattle.atl_state.specs.Campaign.{CampaignValue, numbers_inside, with_guard, with_structure_region}
 use Rattle.atl_action.specs.Sail.{IsAtMostMoved, after_sailing, is_sailing, sail, sail_effect, sail_fault, sail_spec, sail_step, with_unit_aboard}
 use Rattle.atl_action.specs.Walk.{after_walk, is_walking, walk, walk_effect, walk_fault, walk_spec, walk_step}
-use Rattle.atl_instant.proofs.PhaseSpecLaws.{PhaseLeavesUnmailed}
-use Rattle.atl_instant.proofs.UnmailedLaws.{HasItsItems, HaveTheirMen, OthersHaveMen, SparesMen, carried_leaves, items_of_no_worse, men_in_turn, men_same, men_twice, men_unless, others_men, own_faction, unmailed_spared}
-use Rattle.atl_instant.proofs.UnmailedStepLaws.{guard_men, place_men}
+use Rattle.atl_phase.proofs.PhaseSpecLaws.{PhaseLeavesUnmailed}
+use Rattle.atl_phase.proofs.UnmailedLaws.{HasItsItems, HaveTheirMen, OthersHaveMen, SparesMen, carried_leaves, guard_men, items_of_no_worse, men_in_turn, men_same, men_twice, men_unless, others_men, own_faction, place_men, unmailed_spared}
 
 -- all units keep their men when one of them goes elsewhere and its flag is cleared
 gone_men : (c : CampaignValue) (n r s : ℕ) → HaveTheirMen c (with_guard (with_place c n r s) n false)

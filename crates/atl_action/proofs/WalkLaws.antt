@@ -25,18 +25,18 @@ use Rattle.atl_state.specs.Owners.{after_handover, heir, placed, with_place, wit
 use Rattle.atl_state.specs.Campaign.{CampaignValue, with_guard}
 use Rattle.atl_records.proofs.EveryLaws.{none_some, other_number}
 use Rattle.atl_state.proofs.LeavingLaws.{owned_by}
-use Rattle.atl_instant.specs.Outcomes.{unless}
-use Rattle.atl_instant.specs.NoWorse.{IsNoWorse}
-use Rattle.atl_instant.specs.OrderEffects.{IsOwnOrder}
-use Rattle.atl_instant.specs.Bounds.{IsOrderly, StepsWell, books_nothing}
-use Rattle.atl_instant.specs.Unbooked.{moves_nothing}
-use Rattle.atl_instant.proofs.MeaningLaws.{same_month_by}
-use Rattle.atl_instant.proofs.OutcomeLaws.{false_true, none_fits}
-use Rattle.atl_instant.proofs.OwnerLaws.{heir_owns, owner_stays}
-use Rattle.atl_instant.proofs.PlacingLaws.{mapped_twice, owns_no_other, place_stays}
-use Rattle.atl_instant.proofs.StructureLaws.{changed_else, equal_passes, get-after_handover, handed_is, handed_on, len-after_handover}
-use Rattle.atl_instant.proofs.OrderEffectLaws.{no_worse_spares, well_same}
-use Rattle.atl_instant.proofs.UnbookedLaws.{stays_spared, stays_well}
+use Rattle.atl_phase.specs.Outcomes.{unless}
+use Rattle.atl_phase.specs.NoWorse.{IsNoWorse}
+use Rattle.atl_phase.specs.OrderEffects.{IsOwnOrder}
+use Rattle.atl_phase.specs.Bounds.{IsOrderly, StepsWell, books_nothing}
+use Rattle.atl_phase.specs.Unbooked.{moves_nothing}
+use Rattle.atl_phase.proofs.MeaningLaws.{same_month_by}
+use Rattle.atl_phase.proofs.OutcomeLaws.{false_true, none_fits}
+use Rattle.atl_phase.proofs.OwnerLaws.{heir_owns, owner_stays}
+use Rattle.atl_phase.proofs.PlacingLaws.{mapped_twice, owns_no_other, place_stays}
+use Rattle.atl_phase.proofs.StructureLaws.{changed_else, equal_passes, get-after_handover, handed_is, handed_on, len-after_handover}
+use Rattle.atl_phase.proofs.OrderEffectLaws.{no_worse_spares, well_same}
+use Rattle.atl_phase.proofs.UnbookedLaws.{stays_spared, stays_well}
 use Rattle.atl_action.specs.Walk.{after_walk, is_land_there, walk, walk_effect, walk_fault, walk_step}
 use Rattle.atl_action.proofs.PeopleLaws.{AreSamePeople, elsewhere, elsewhere_at, elsewhere_people, gone, gone_if, gone_same, guards_stay, total_people}
 use Rattle.atl_action.proofs.TravelLaws.{AreTravelled, IsPut, IsSameStructure, steady-travelled, travelled}

@@ -2,8 +2,8 @@
 use Rattle.atl_tables.specs.Sums.{sum_over}
 use Rattle.atl_records.specs.declared.books.Entry.TheVariants.{Study}
 use Rattle.atl_records.specs.declared.books.Thing.TheVariants.{Money}
-use Rattle.atl_instant.specs.Bounds.{RemainingBound}
-use Rattle.atl_instant.specs.Meaning.{moves_only}
+use Rattle.atl_phase.specs.Bounds.{RemainingBound}
+use Rattle.atl_phase.specs.Meaning.{moves_only}
 
 -- the remaining bound of STUDY: the money of all units under the entry study, and 0 for every other amount
 abbrev pub study_reserve : RemainingBound

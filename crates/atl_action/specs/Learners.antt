@@ -14,8 +14,8 @@ use Rattle.atl_records.specs.declared.records.Unit.{Unit}
 use Rattle.atl_records.specs.Every.{IsThere}
 use Rattle.atl_records.specs.Holdings.{HoldingValue}
 use Rattle.atl_state.specs.Campaign.{CampaignValue}
-use Rattle.atl_instant.specs.Month.{MonthValue}
-use Rattle.atl_instant.specs.PhaseOrders.{Task, orders_by_unit}
+use Rattle.atl_phase.specs.Month.{MonthValue}
+use Rattle.atl_phase.specs.PhaseOrders.{Task, orders_by_unit}
 
 -- whether a verb is STUDY
 abbrev pub is_studying : Verb → Bool

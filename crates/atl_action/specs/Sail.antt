@@ -22,14 +22,14 @@ use Rattle.atl_records.specs.Holdings.{HoldingValue, amount_of}
 use Rattle.atl_records.specs.Levels.{level_in_any, load_of}
 use Rattle.atl_state.specs.Owners.{is_owned_by, with_place}
 use Rattle.atl_state.specs.Campaign.{CampaignValue, numbers_inside, with_guard, with_structure_region}
-use Rattle.atl_instant.specs.Inside.{inside}
-use Rattle.atl_instant.specs.Meaning.{Frame}
-use Rattle.atl_instant.specs.Outcomes.{first_fault, unless}
-use Rattle.atl_instant.specs.PhaseOrders.{Task}
-use Rattle.atl_instant.specs.OrderEffects.{Affects, IsUnaffected, OrderEffect, OrderMeaning, meaning_by_orders, order_result, spares_others}
-use Rattle.atl_instant.specs.NoWorse.{IsUnchanged}
+use Rattle.atl_phase.specs.Inside.{inside}
+use Rattle.atl_phase.specs.Meaning.{Frame}
+use Rattle.atl_phase.specs.Outcomes.{first_fault, unless}
+use Rattle.atl_phase.specs.PhaseOrders.{Task}
+use Rattle.atl_phase.specs.OrderEffects.{Affects, IsUnaffected, OrderEffect, OrderMeaning, meaning_by_orders, order_result, spares_others}
+use Rattle.atl_phase.specs.NoWorse.{IsUnchanged}
 use Rattle.atl_action.specs.Regions.{is_region}
-use Rattle.atl_instant.specs.PhaseSpecs.{PhaseSpec, books_none}
+use Rattle.atl_phase.specs.PhaseSpecs.{PhaseSpec, books_none}
 
 -- ---- which orders are of the phase
 

@@ -19,14 +19,14 @@ use Rattle.atl_records.specs.Holdings.{HoldingValue, amount_of, with_amount_of}
 use Rattle.atl_state.specs.Lending.{with_held}
 use Rattle.atl_records.specs.Limits.{most_days}
 use Rattle.atl_state.specs.Campaign.{CampaignValue, with_amount}
-use Rattle.atl_instant.specs.Meaning.{BookBound, Frame, Meaning, most_moved, moves_only}
-use Rattle.atl_instant.specs.Outcomes.{first_fault, unless}
-use Rattle.atl_instant.specs.OrderEffects.{IsOwnOrder, OrderEffect, OrderMeaning, meaning_by_orders, spares_others}
-use Rattle.atl_instant.specs.NoWorse.{IsUnchanged}
+use Rattle.atl_phase.specs.Meaning.{BookBound, Frame, Meaning, most_moved, moves_only}
+use Rattle.atl_phase.specs.Outcomes.{first_fault, unless}
+use Rattle.atl_phase.specs.OrderEffects.{IsOwnOrder, OrderEffect, OrderMeaning, meaning_by_orders, spares_others}
+use Rattle.atl_phase.specs.NoWorse.{IsUnchanged}
 use Rattle.atl_action.specs.Learners.{is_studying, learners}
 use Rattle.atl_action.specs.Limits.{helped_days, month_days, taught_days}
 use Rattle.atl_action.specs.Teach.{TaughtMen, after_lessons}
-use Rattle.atl_instant.specs.PhaseSpecs.{PhaseSpec, books_money}
+use Rattle.atl_phase.specs.PhaseSpecs.{PhaseSpec, books_money}
 
 -- ---- days
 

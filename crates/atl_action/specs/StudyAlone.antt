@@ -9,9 +9,9 @@ use Rattle.atl_orders.specs.declared.verb.Verb.TheVariants.{Study}
 use Rattle.atl_orders.specs.Orders.{order_of}
 use Rattle.atl_records.specs.declared.records.Unit.{Unit}
 use Rattle.atl_state.specs.Campaign.{CampaignValue}
-use Rattle.atl_instant.specs.Month.{MonthValue}
-use Rattle.atl_instant.specs.Fit.{AreFit}
-use Rattle.atl_instant.specs.PhaseOrders.{Task}
+use Rattle.atl_phase.specs.Month.{MonthValue}
+use Rattle.atl_phase.specs.Fit.{AreFit}
+use Rattle.atl_phase.specs.PhaseOrders.{Task}
 use Rattle.atl_action.specs.Learners.{learners, study_tasks}
 use Rattle.atl_action.specs.Study.{learn_meaning, study}
 use Rattle.atl_action.specs.Teach.{after_lessons}

@@ -15,12 +15,12 @@ use Rattle.atl_records.specs.declared.event.Outcome.TheVariants.{Done, Fault}
 use Rattle.atl_records.specs.Events.{event_fault_number}
 use Rattle.atl_records.specs.Levels.{level_in}
 use Rattle.atl_state.specs.Campaign.{CampaignValue}
-use Rattle.atl_instant.specs.Month.{Aliases, MonthValue}
-use Rattle.atl_instant.specs.Inside.{region_of}
-use Rattle.atl_instant.specs.Outcomes.{first_fault}
-use Rattle.atl_instant.specs.PhaseOrders.{Task, orders_by_unit, unit_of}
-use Rattle.atl_instant.specs.OrderEffects.{is_own, with_event_of}
-use Rattle.atl_instant.specs.InTurn.{amount_in_turn}
+use Rattle.atl_phase.specs.Month.{Aliases, MonthValue}
+use Rattle.atl_phase.specs.Inside.{region_of}
+use Rattle.atl_phase.specs.Outcomes.{first_fault}
+use Rattle.atl_phase.specs.PhaseOrders.{Task, orders_by_unit, unit_of}
+use Rattle.atl_phase.specs.OrderEffects.{is_own, with_event_of}
+use Rattle.atl_phase.specs.InTurn.{amount_in_turn}
 use Rattle.atl_action.specs.Learners.{Learning}
 use Rattle.atl_action.specs.Limits.{pupils_per_teacher}
 

@@ -15,10 +15,10 @@ use Rattle.atl_records.specs.declared.records.Unit.{Unit}
 use Rattle.atl_records.specs.Levels.{carried_by, goods_of}
 use Rattle.atl_state.specs.Owners.{with_place}
 use Rattle.atl_state.specs.Campaign.{CampaignValue, with_guard}
-use Rattle.atl_instant.specs.Outcomes.{first_fault, unless}
-use Rattle.atl_instant.specs.NoWorse.{IsNoWorse}
-use Rattle.atl_instant.specs.OrderEffects.{IsOwnOrder, OrderEffect, OrderMeaning}
-use Rattle.atl_instant.specs.PhaseSpecs.{PhaseSpec, goes_by_orders}
+use Rattle.atl_phase.specs.Outcomes.{first_fault, unless}
+use Rattle.atl_phase.specs.NoWorse.{IsNoWorse}
+use Rattle.atl_phase.specs.OrderEffects.{IsOwnOrder, OrderEffect, OrderMeaning}
+use Rattle.atl_phase.specs.PhaseSpecs.{PhaseSpec, goes_by_orders}
 
 -- ---- which orders are of the phase
 

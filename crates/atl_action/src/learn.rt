@@ -6,7 +6,7 @@ ghost use Rattle.atl_action.specs.StudyAlone.{UnitsStudyAsBegun};
 use crate::learners::learners;
 use crate::study::StudyPhase;
 use crate::teach::teach_all;
-use atl_instant::{Month, Phase, PhaseResult, carry_out_orders};
+use atl_phase::{Month, Phase, PhaseResult, carry_out_orders};
 use atl_state::Campaign;
 use atl_tables::World;
 use std::alloc::Global;

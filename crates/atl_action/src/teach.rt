@@ -5,16 +5,14 @@ ghost use Rattle.atl_orders.specs.Orders.{named};
 ghost use Rattle.atl_records.specs.Holdings.{amount_of};
 ghost use Rattle.atl_records.specs.Limits.{men_limit};
 ghost use Rattle.atl_action.specs.Teach.{NobodyIsTaughtTwice, after_lessons, first_mentions, is_below, is_pupil, is_teaching, lesson, level_at, listed_units, men_at, teach, teach_fault, teach_order, untaught_men};
-ghost use Rattle.atl_instant.specs.Month.{with_events};
-ghost use Rattle.atl_instant.specs.PhaseOrders.{task_of, unit_of};
-ghost use Rattle.atl_instant.specs.OrderEffects.{is_own};
+ghost use Rattle.atl_phase.specs.Month.{with_events};
+ghost use Rattle.atl_phase.specs.PhaseOrders.{task_of, unit_of};
+ghost use Rattle.atl_phase.specs.OrderEffects.{is_own};
 ghost use Rattle.atl_records.specs.declared.event.Outcome.TheVariants.{Done};
 
 use crate::limits::PUPILS_PER_TEACHER;
-use atl_instant::{
-    Arrangement, Month, PhaseOrder, PhaseVerbs, add_events, fault_outcome, region_of,
-};
 use atl_orders::{Operands, UnitRef, Verb};
+use atl_phase::{Arrangement, Month, PhaseOrder, PhaseVerbs, add_events, fault_outcome, region_of};
 use atl_state::{Campaign, Event, EventFault, Outcome, level};
 use atl_tables::Numbered;
 use std::alloc::{AllocError, Global};

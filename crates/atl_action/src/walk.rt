@@ -2,11 +2,11 @@
 ghost use Rattle.std.specs.Prelude.{◌≡◌, IfOk, OnOk};
 ghost use Rattle.atl_state.specs.Covers.{MarksChanges};
 ghost use Rattle.atl_state.specs.Good.{IsSteady};
-ghost use Rattle.atl_instant.specs.OrderEffects.{faction_effect};
+ghost use Rattle.atl_phase.specs.OrderEffects.{faction_effect};
 ghost use Rattle.atl_action.specs.Walk.{after_walk, is_land_there, is_walking, walk, walk_fault, walk_step};
 
-use atl_instant::{Month, OrderPhase, PhaseOrder, PhaseVerbs, PlainPhase, fault_outcome, own_unit};
 use atl_orders::{Direction, Operands, Verb};
+use atl_phase::{Month, OrderPhase, PhaseOrder, PhaseVerbs, PlainPhase, fault_outcome, own_unit};
 use atl_state::{Campaign, EventFault, Outcome, Unit, carry, goods};
 use atl_tables::World;
 use std::alloc::{AllocError, Global};

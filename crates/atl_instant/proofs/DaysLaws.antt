@@ -9,7 +9,7 @@ use Rattle.std.proofs.lemmas.List.Folds.{list_any-append}
 use Rattle.atl_records.specs.Every.{EachOf, Every}
 use Rattle.atl_records.specs.Holdings.{HoldingValue, amount_of, with_amount_of}
 use Rattle.atl_records.proofs.EveryLaws.{each-from_every, every-empty}
-use Rattle.atl_instant.specs.Holdings.{with_days}
+use Rattle.atl_phase.specs.Holdings.{with_days}
 use Rattle.atl_instant.specs.SkillDays.{left_list, raised_list}
 use Rattle.atl_instant.specs.Transfer.{DaysGoWithMen, days_going, going_of, raised_of, staying_of, with_fewer, with_more}
 use Rattle.atl_instant.proofs.AmountsForLaws.{as_said, each_said, same_amounts}

@@ -12,18 +12,18 @@ use Rattle.atl_records.specs.Every.{Every}
 use Rattle.atl_state.specs.Good.{IsEarly}
 use Rattle.atl_records.specs.Limits.{last_unit}
 use Rattle.atl_state.specs.Campaign.{CampaignValue, with_unit_begun}
-use Rattle.atl_instant.specs.Month.{MonthValue}
+use Rattle.atl_phase.specs.Month.{MonthValue}
+use Rattle.atl_phase.specs.Inside.{inside, region_of}
+use Rattle.atl_phase.specs.Outcomes.{first_fault, unless}
+use Rattle.atl_phase.specs.PhaseOrders.{Task, orders_of}
+use Rattle.atl_phase.specs.OrderEffects.{is_of_faction}
+use Rattle.atl_phase.specs.Bounds.{StepsWell, books_nothing}
+use Rattle.atl_phase.specs.declared.phase_order.Arrangement.TheVariants.{ByFaction}
+use Rattle.atl_phase.proofs.OrderEffectLaws.{well_same}
 use Rattle.atl_instant.specs.Form.{form_by, form_fault, form_meaning, form_order, is_forming, is_unit_limit, new_unit, with_formed_unit}
 use Rattle.atl_instant.specs.Forming.{form_apart, forming_of}
-use Rattle.atl_instant.specs.Inside.{inside, region_of}
-use Rattle.atl_instant.specs.Outcomes.{first_fault, unless}
-use Rattle.atl_instant.specs.PhaseOrders.{Task, orders_of}
-use Rattle.atl_instant.specs.OrderEffects.{is_of_faction}
-use Rattle.atl_instant.specs.Bounds.{StepsWell, books_nothing}
-use Rattle.atl_instant.specs.declared.phase_order.Arrangement.TheVariants.{ByFaction}
 use Rattle.atl_instant.specs.declared.form.Forming.{Forming}
 use Rattle.atl_instant.proofs.FormingLaws.{begun_stays, begun_well, room}
-use Rattle.atl_instant.proofs.OrderEffectLaws.{well_same}
 
 module _ (w : WorldValue) (c : CampaignValue) (early : IsEarly w c) where
   -- there is no unit under the next unit number

@@ -26,10 +26,10 @@ use Rattle.atl_state.proofs.CoverLaws.{Row, Stays, Tells, marks-trans, marks-uni
 use Rattle.atl_records.proofs.EveryLaws.{every-empty, every-insert, get-insert_other, none_some, there-insert}
 use Rattle.atl_state.proofs.NumberListLaws.{none_passing}
 use Rattle.atl_state.proofs.TotalLaws.{total-with_unit}
+use Rattle.atl_phase.specs.Bounds.{StepsWell, books_nothing}
+use Rattle.atl_phase.proofs.MeaningLaws.{same_month_by}
+use Rattle.atl_phase.proofs.UnbookedLaws.{unbooked_well}
 use Rattle.atl_instant.specs.Form.{is_unit_limit, new_unit}
-use Rattle.atl_instant.specs.Bounds.{StepsWell, books_nothing}
-use Rattle.atl_instant.proofs.MeaningLaws.{same_month_by}
-use Rattle.atl_instant.proofs.UnbookedLaws.{unbooked_well}
 use Rattle.atl_state.proofs.NumberedNameLaws.{unit_name_ok}
 
 -- a map has one value more after an insertion under a number that had none

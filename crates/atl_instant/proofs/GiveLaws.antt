@@ -20,22 +20,22 @@ use Rattle.atl_state.specs.Lending.{with_held}
 use Rattle.atl_records.specs.Limits.{holding_limit}
 use Rattle.atl_state.specs.Campaign.{CampaignValue}
 use Rattle.atl_records.specs.Amounts.{unit_amount}
-use Rattle.atl_instant.specs.Give.{after_gift, give, give_effect, give_fault, give_step, give_to, held_of, with_held_of}
-use Rattle.atl_instant.specs.Month.{Aliases}
-use Rattle.atl_instant.specs.Outcomes.{unless}
-use Rattle.atl_instant.specs.NoWorse.{IsNoWorse}
-use Rattle.atl_instant.specs.PhaseOrders.{Task, unit_of}
-use Rattle.atl_instant.specs.OrderEffects.{IsOwnOrder, IsUnaffected}
-use Rattle.atl_instant.specs.Bounds.{IsOrderly, IsUnitOf, StepsWell}
-use Rattle.atl_instant.specs.declared.give.Gift.{Gift}
-use Rattle.atl_instant.specs.declared.give.Gift.TheVariants.{Item, Money}
+use Rattle.atl_phase.specs.Month.{Aliases}
+use Rattle.atl_phase.specs.Outcomes.{unless}
+use Rattle.atl_phase.specs.NoWorse.{IsNoWorse}
+use Rattle.atl_phase.specs.PhaseOrders.{Task, unit_of}
+use Rattle.atl_phase.specs.OrderEffects.{IsOwnOrder, IsUnaffected}
+use Rattle.atl_phase.specs.Bounds.{IsOrderly, IsUnitOf, StepsWell}
+use Rattle.atl_phase.proofs.OutcomeLaws.{none_fits, not_apart, not_less, unless_itself}
+use Rattle.atl_phase.proofs.NoWorseLaws.{no_worse}
+use Rattle.atl_phase.proofs.OrderEffectLaws.{no_worse_spares, well_same}
 use Rattle.atl_records.proofs.HoldingLaws.{alike, amount_within, every_amount, set_amount}
 use Rattle.atl_state.proofs.HavingLaws.{MayHave, may_have}
+use Rattle.atl_phase.proofs.UnbookedLaws.{other_unit}
+use Rattle.atl_instant.specs.Give.{after_gift, give, give_effect, give_fault, give_step, give_to, held_of, with_held_of}
+use Rattle.atl_instant.specs.declared.give.Gift.{Gift}
+use Rattle.atl_instant.specs.declared.give.Gift.TheVariants.{Item, Money}
 use Rattle.atl_instant.proofs.MovingLaws.{early-moved, moved, receiver_still, spared-moved, steps-moved}
-use Rattle.atl_instant.proofs.OutcomeLaws.{none_fits, not_apart, not_less, unless_itself}
-use Rattle.atl_instant.proofs.NoWorseLaws.{no_worse}
-use Rattle.atl_instant.proofs.OrderEffectLaws.{no_worse_spares, well_same}
-use Rattle.atl_instant.proofs.UnbookedLaws.{other_unit}
 
 -- what holds of two units where a gift has no fault
 pub record CanGive (gift : Gift) (n : ℕ) (itself : Bool) (u v : Unit) : Type 0 where

@@ -25,18 +25,18 @@ use Rattle.atl_records.proofs.EveryLaws.{every-insert, get-insert_other}
 use Rattle.atl_state.proofs.HoldingLaws.{marks-unit_row, total-unit_amount}
 use Rattle.atl_state.proofs.RegionLaws.{changed-known}
 use Rattle.atl_state.proofs.NumberListLaws.{IsListed, passing_listed}
-use Rattle.atl_instant.specs.Guard.{guard, guard_concerns, guard_effect, guard_fault, guard_step, guards_against, is_guarded_against}
-use Rattle.atl_instant.specs.Outcomes.{unless}
-use Rattle.atl_instant.specs.NoWorse.{IsNoWorse}
-use Rattle.atl_instant.specs.PhaseOrders.{Task}
-use Rattle.atl_instant.specs.OrderEffects.{IsUnaffected}
-use Rattle.atl_instant.specs.Bounds.{IsOrderly, IsUnitOf, StepsWell}
+use Rattle.atl_phase.specs.Outcomes.{unless}
+use Rattle.atl_phase.specs.NoWorse.{IsNoWorse}
+use Rattle.atl_phase.specs.PhaseOrders.{Task}
+use Rattle.atl_phase.specs.OrderEffects.{IsUnaffected}
+use Rattle.atl_phase.specs.Bounds.{IsOrderly, IsUnitOf, StepsWell}
+use Rattle.atl_phase.proofs.MeaningLaws.{same_month_by}
 use Rattle.atl_state.proofs.HavingLaws.{may_have, steady-having}
-use Rattle.atl_instant.proofs.MeaningLaws.{same_month_by}
-use Rattle.atl_instant.proofs.OutcomeLaws.{none_fits, not_apart}
-use Rattle.atl_instant.proofs.NoWorseLaws.{no_worse}
-use Rattle.atl_instant.proofs.OrderEffectLaws.{drawn_same, no_worse_spares, well_same}
-use Rattle.atl_instant.proofs.UnbookedLaws.{other_unit}
+use Rattle.atl_phase.proofs.OutcomeLaws.{none_fits, not_apart}
+use Rattle.atl_phase.proofs.NoWorseLaws.{no_worse}
+use Rattle.atl_phase.proofs.OrderEffectLaws.{drawn_same, no_worse_spares, well_same}
+use Rattle.atl_phase.proofs.UnbookedLaws.{other_unit}
+use Rattle.atl_instant.specs.Guard.{guard, guard_concerns, guard_effect, guard_fault, guard_step, guards_against, is_guarded_against}
 
 -- ---- other guards of the region
 

@@ -16,13 +16,13 @@ use Rattle.atl_state.specs.Totals.{total}
 use Rattle.atl_records.proofs.EveryLaws.{get-insert_other}
 use Rattle.atl_state.proofs.HoldingLaws.{total-unit_amount}
 use Rattle.atl_state.proofs.RegionLaws.{get-insert_same}
-use Rattle.atl_instant.specs.NoWorse.{IsNoWorse}
-use Rattle.atl_instant.specs.OrderEffects.{IsUnaffected}
-use Rattle.atl_instant.specs.Bounds.{StepsWell}
+use Rattle.atl_phase.specs.NoWorse.{IsNoWorse}
+use Rattle.atl_phase.specs.OrderEffects.{IsUnaffected}
+use Rattle.atl_phase.specs.Bounds.{StepsWell}
 use Rattle.atl_state.proofs.HavingLaws.{MayHave, early-having}
-use Rattle.atl_instant.proofs.MeaningLaws.{same_month_by}
-use Rattle.atl_instant.proofs.NoWorseLaws.{no_worse}
-use Rattle.atl_instant.proofs.OrderEffectLaws.{drawn_same}
+use Rattle.atl_phase.proofs.MeaningLaws.{same_month_by}
+use Rattle.atl_phase.proofs.NoWorseLaws.{no_worse}
+use Rattle.atl_phase.proofs.OrderEffectLaws.{drawn_same}
 
 -- ---- two units, of which one gives and the other gets
 

@@ -24,20 +24,20 @@ use Rattle.atl_records.specs.Amounts.{unit_amount}
 use Rattle.atl_state.specs.Totals.{total}
 use Rattle.atl_state.proofs.HoldingLaws.{MayHold, of_one_faction_kept, steady-unit_amount, total-unit_amount}
 use Rattle.atl_state.proofs.RegionLaws.{changed-known}
+use Rattle.atl_phase.specs.Outcomes.{unless}
+use Rattle.atl_phase.specs.PhaseOrders.{Task}
+use Rattle.atl_phase.specs.NoWorse.{IsNoWorse}
+use Rattle.atl_phase.specs.OrderEffects.{IsOwnOrder, IsUnaffected}
+use Rattle.atl_phase.specs.Bounds.{IsOrderly, IsUnitOf, StepsWell, books_nothing}
+use Rattle.atl_phase.specs.Unbooked.{moves_nothing}
+use Rattle.atl_phase.proofs.MeaningLaws.{same_month_among, same_month_by}
+use Rattle.atl_phase.proofs.OutcomeLaws.{false_true}
+use Rattle.atl_phase.proofs.RefitLaws.{IsRelabelled, early-relabelled}
+use Rattle.atl_phase.proofs.StructureLaws.{at_number, changed_else, get-changed, len-changed}
+use Rattle.atl_phase.proofs.OrderEffectLaws.{no_worse_spares, well_same}
+use Rattle.atl_phase.proofs.UnbookedLaws.{other_spared, same_total_of, unbooked_well}
 use Rattle.atl_instant.specs.Name.{name_concerns, name_effect, name_result, name_step, structure_fault, structure_name_result}
-use Rattle.atl_instant.specs.Outcomes.{unless}
-use Rattle.atl_instant.specs.PhaseOrders.{Task}
-use Rattle.atl_instant.specs.NoWorse.{IsNoWorse}
-use Rattle.atl_instant.specs.OrderEffects.{IsOwnOrder, IsUnaffected}
-use Rattle.atl_instant.specs.Bounds.{IsOrderly, IsUnitOf, StepsWell, books_nothing}
-use Rattle.atl_instant.specs.Unbooked.{moves_nothing}
-use Rattle.atl_instant.proofs.MeaningLaws.{same_month_among, same_month_by}
 use Rattle.atl_instant.proofs.FactionLaws.{count-faction_name, known-faction_name, steady-faction_name}
-use Rattle.atl_instant.proofs.OutcomeLaws.{false_true}
-use Rattle.atl_instant.proofs.RefitLaws.{IsRelabelled, early-relabelled}
-use Rattle.atl_instant.proofs.StructureLaws.{at_number, changed_else, get-changed, len-changed}
-use Rattle.atl_instant.proofs.OrderEffectLaws.{no_worse_spares, well_same}
-use Rattle.atl_instant.proofs.UnbookedLaws.{other_spared, same_total_of, unbooked_well}
 
 -- an order that is neither NAME nor GUARD 0 is passed over
 pub name_other : (w : WorldValue) (n : ℕ) (text : List ℕ) (o : Operands Span) → ((what : NameKind) (span : Span) → o ≡ operands.Name what span → ⊥) → (o ≡ operands.Flag false → ⊥) → name_effect w n (operands_in text o) ≡ None

@@ -21,21 +21,21 @@ use Rattle.atl_state.specs.Good.{IsEarly, IsOwned}
 use Rattle.atl_state.specs.Owners.{is_owned_by, with_place}
 use Rattle.atl_state.specs.Campaign.{CampaignValue, with_owner}
 use Rattle.atl_state.proofs.LeavingLaws.{owned_by}
-use Rattle.atl_instant.specs.Month.{Aliases}
-use Rattle.atl_instant.specs.Inside.{inside}
-use Rattle.atl_instant.specs.Outcomes.{first_fault, unless}
+use Rattle.atl_phase.specs.Month.{Aliases}
+use Rattle.atl_phase.specs.Inside.{inside}
+use Rattle.atl_phase.specs.Outcomes.{first_fault, unless}
+use Rattle.atl_phase.specs.PhaseOrders.{unit_of}
+use Rattle.atl_phase.specs.NoWorse.{IsNoWorse}
+use Rattle.atl_phase.specs.OrderEffects.{IsOwnOrder}
+use Rattle.atl_phase.specs.Bounds.{IsOrderly, StepsWell, books_nothing}
+use Rattle.atl_phase.specs.Unbooked.{moves_nothing}
+use Rattle.atl_phase.proofs.MeaningLaws.{same_month_by}
+use Rattle.atl_phase.proofs.PlacingLaws.{place_stays, place_well}
+use Rattle.atl_phase.proofs.RefitLaws.{IsRelabelled, early-relabelled}
+use Rattle.atl_phase.proofs.StructureLaws.{at_number, get-changed, len-changed}
+use Rattle.atl_phase.proofs.OrderEffectLaws.{no_worse_spares, well_same}
+use Rattle.atl_phase.proofs.UnbookedLaws.{same_total_of, stays_spared, unbooked_well}
 use Rattle.atl_instant.specs.Place.{enter, with_unit_inside, is_in, leave, leave_fault, enter_fault, place_effect, place_step, promote_fault, promote}
-use Rattle.atl_instant.specs.PhaseOrders.{unit_of}
-use Rattle.atl_instant.specs.NoWorse.{IsNoWorse}
-use Rattle.atl_instant.specs.OrderEffects.{IsOwnOrder}
-use Rattle.atl_instant.specs.Bounds.{IsOrderly, StepsWell, books_nothing}
-use Rattle.atl_instant.specs.Unbooked.{moves_nothing}
-use Rattle.atl_instant.proofs.MeaningLaws.{same_month_by}
-use Rattle.atl_instant.proofs.PlacingLaws.{place_stays, place_well}
-use Rattle.atl_instant.proofs.RefitLaws.{IsRelabelled, early-relabelled}
-use Rattle.atl_instant.proofs.StructureLaws.{at_number, get-changed, len-changed}
-use Rattle.atl_instant.proofs.OrderEffectLaws.{no_worse_spares, well_same}
-use Rattle.atl_instant.proofs.UnbookedLaws.{same_total_of, stays_spared, unbooked_well}
 
 -- an order that is neither LEAVE, ENTER nor PROMOTE is passed over
 pub place_other : (w : WorldValue) (a : Aliases) (f n : ℕ) (text : List ℕ) (o : Operands Span) → (o ≡ operands.Nothing → ⊥) → ((s : ℕ) → o ≡ operands.Number s → ⊥) → ((to : UnitRef) → o ≡ operands.Unit to → ⊥)

@@ -1,16 +1,14 @@
 -- Laws of QUIT: units leave, what they had is booked as gone, and nothing else changes; the campaign stays steady.
-use Rattle.std.proofs.Common.{◌≡◌, ◌≢◌, ◌==◌, ℕ, ◌+◌, ◌*◌, ◌≤◌, ◌<◌, not, Bool, true, false, cond, List, [], ◌∷◌, length, drop, get_or, Option, Some, None, sum_by, refl, sym, ap, subst, ◌∙◌, inl, inr, arith}
+use Rattle.std.proofs.Common.{◌≡◌, ◌≢◌, ◌==◌, ℕ, ◌+◌, ◌*◌, ◌≤◌, ◌<◌, not, Bool, true, false, cond, List, [], ◌∷◌, length, drop, get_or, Option, Some, None, refl, sym, ap, subst, ◌∙◌, inl, inr, arith}
 use Rattle.std.specs.Prelude.{ℤ, pos, neg_ℤ, ◌+ℤ◌, IfSome, fold, unwrap_or, if◌then◌else◌}
 use Rattle.std.proofs.lemmas.Int.{ints}
 use Rattle.std.proofs.lemmas.Bool.Decides.{nat_tests}
 use Rattle.std.proofs.lemmas.Bool.{and_parts}
 use Rattle.std.proofs.lemmas.List.{drop_more}
-use Rattle.std.proofs.lemmas.List.Sums.{sum_by-cons}
-use Rattle.std.proofs.Math.Nat.{suc-mul}
 use Rattle.std.specs.declared.cmp.Ordering.TheVariants.{Less, Equal, Greater}
 use Rattle.std.specs.Ordering.{nat_cmp, is_eq}
 use Rattle.std.specs.Cmp.{ranked}
-use Rattle.std.specs.FinMap.{FinMap, entries, find, get, get-entries, is_sorted, len, len-entries, nat_cmp-IsAntisymmetric, remove}
+use Rattle.std.specs.FinMap.{FinMap, entries, find, get, get-entries, is_sorted, len, nat_cmp-IsAntisymmetric, remove}
 use Rattle.atl_tables.specs.Worlds.{WorldValue}
 use Rattle.atl_tables.specs.Sums.{sum_over}
 use Rattle.atl_orders.specs.declared.order.Operands.TheVariants as operands
@@ -30,8 +28,8 @@ use Rattle.atl_records.specs.declared.records.Unit.{Unit}
 use Rattle.atl_records.specs.Every.{EachOf, Every, IsThere}
 use Rattle.atl_state.specs.Founding.{things_of}
 use Rattle.atl_state.specs.Good.{IsSteady}
-use Rattle.atl_records.specs.Holdings.{HoldingValue, IsHolding}
-use Rattle.atl_records.specs.Limits.{entry_count, holding_limit, most_units}
+use Rattle.atl_records.specs.Holdings.{HoldingValue}
+use Rattle.atl_records.specs.Limits.{entry_count}
 use Rattle.atl_state.specs.Owners.{heir, without_unit, without_unit_at}
 use Rattle.atl_state.specs.Campaign.{MarkedCampaign, CampaignValue, numbers_of}
 use Rattle.atl_records.specs.Amounts.{unit_amount}
@@ -44,20 +42,20 @@ use Rattle.atl_state.proofs.LeavingLaws.{only_reduced, steady-without, total-wit
 use Rattle.atl_state.proofs.RegionLaws.{steady-amount}
 use Rattle.atl_records.proofs.RemovedLaws.{get-remove_other, sum_over-remove}
 use Rattle.atl_state.proofs.NumberListLaws.{IsListed, listed_passing}
-use Rattle.atl_instant.specs.Meaning.{BookBound, IsNear, both_move, most_moved, moves_only}
-use Rattle.atl_instant.specs.Bounds.{HasRoom, HaveRoom, IsOrderly, IsUnitOf, StepsWell, UsesBound, loss_under, moving_items, quit_reserve}
-use Rattle.atl_instant.specs.Outcomes.{unless}
-use Rattle.atl_instant.specs.PhaseOrders.{Task}
-use Rattle.atl_instant.specs.Quit.{after_leaving, loss_entry, quit, quit_concerns, quit_effect, quit_fault, quit_moves, quit_step, with_all_losses, with_item_loss, with_loss, without_leaver}
-use Rattle.atl_instant.specs.NoWorse.{IsNoWorse}
-use Rattle.atl_instant.specs.OrderEffects.{IsUnaffected}
-use Rattle.atl_records.proofs.HoldingLaws.{amount_within}
-use Rattle.atl_instant.proofs.BookingLaws.{booked-near, booked-room, within-neg}
-use Rattle.atl_instant.proofs.MeaningLaws.{less_room, near_more, near_same, near_twice, room_less}
-use Rattle.atl_instant.proofs.OutcomeLaws.{none_fits, not_apart}
-use Rattle.atl_instant.proofs.NoWorseLaws.{no_worse}
-use Rattle.atl_instant.proofs.OrderEffectLaws.{drawn_near, no_worse_spares, well_same, well_twice}
-use Rattle.atl_instant.proofs.StructureLaws.{handed_is}
+use Rattle.atl_phase.specs.Meaning.{BookBound, IsNear, both_move, most_moved, moves_only}
+use Rattle.atl_phase.specs.Bounds.{HasRoom, HaveRoom, IsOrderly, IsUnitOf, StepsWell, UsesBound, moving_items}
+use Rattle.atl_phase.specs.Outcomes.{unless}
+use Rattle.atl_phase.specs.PhaseOrders.{Task}
+use Rattle.atl_phase.specs.NoWorse.{IsNoWorse}
+use Rattle.atl_phase.specs.OrderEffects.{IsUnaffected}
+use Rattle.atl_phase.proofs.HeldLaws.{all_held_within, sum_within}
+use Rattle.atl_phase.proofs.BookingLaws.{booked-near, booked-room, within-neg}
+use Rattle.atl_phase.proofs.MeaningLaws.{less_room, near_more, near_same, near_twice, room_less}
+use Rattle.atl_phase.proofs.OutcomeLaws.{none_fits, not_apart}
+use Rattle.atl_phase.proofs.NoWorseLaws.{no_worse}
+use Rattle.atl_phase.proofs.OrderEffectLaws.{drawn_near, no_worse_spares, well_same, well_twice}
+use Rattle.atl_phase.proofs.StructureLaws.{handed_is}
+use Rattle.atl_instant.specs.Quit.{after_leaving, loss_entry, loss_under, quit, quit_concerns, quit_effect, quit_fault, quit_moves, quit_reserve, quit_step, with_all_losses, with_item_loss, with_loss, without_leaver}
 
 -- ---- things and entries
 
@@ -444,38 +442,16 @@ quit_spares w c number u k x steady here other =
 
 -- ---- the phase
 
--- a sum of numbers of at most `most` is at most their count times `most`
-pub sum_within : {V : Type 0} (f : V → ℕ) (most : ℕ) (es : List (ℕ × V)) → EachOf (λ n v. f v ≤ most) es → sum_by (λ e. f e.1) es ≤ length es * most
-sum_within f most [] each = omega arith
-sum_within {V} f most (e ∷ es) each =
-    more (sum_by (λ (d : ℕ × V). f d.1) (e ∷ es)) (f e.1) (sum_by (λ (d : ℕ × V). f d.1) es) (length (e ∷ es) * most) (length es * most) most (sum_by-cons (λ (d : ℕ × V). f d.1) e es) (suc-mul (length es) most) each.0 (sum_within f most es each.1)
-  where
-    more : (s x y a b m : ℕ) → s ≡ x + y → a ≡ b + m → x ≤ m → y ≤ b → s ≤ a
-    more s x y a b m e f k l = omega (arith, e, f, k, l)
-
--- a unit holds at most the limit of each thing
-within_limit : (t : Thing) (h : HoldingValue) → IsHolding h → unit_amount t h ≤ holding_limit
-within_limit Money h is = is.money
-within_limit People h is = omega (arith, is.men)
-within_limit (Item i) h is = amount_within h i is
-
 -- what all units hold of a thing is within the bound of the phase
 reserve_within : (w : WorldValue) (c : CampaignValue) → IsSteady w c → (e : Entry) (t : Thing) → quit_reserve c e t ≤ quit_moves e t
 reserve_within w c steady e t = by_test (entry_index e == entry_index (loss_entry t))
   where
-    all_within : (b : Bool) (most : ℕ) → ((h : HoldingValue) → IsHolding h → (if b then unit_amount t h else 0) ≤ most) → sum_over (λ (u : Unit). if b then unit_amount t u.holding else 0) c.units ≤ length (entries c.units) * most
-    all_within b most each =
-        sum_within (λ (u : Unit). if b then unit_amount t u.holding else 0) most (entries c.units) (each-from_every (λ n u. (if b then unit_amount t u.holding else 0) ≤ most) c.units (λ n u is. each u.holding (steady.numbers.units n u is).1))
-
-    few : (s n : ℕ) → s ≤ n * holding_limit → n ≤ most_units → s ≤ most_moved
-    few s n l m = omega (arith, l, m)
-
     none : (s n : ℕ) → s ≤ n * 0 → s ≤ 0
     none s n l = omega (arith, l)
 
     by_test : (b : Bool) → sum_over (λ (u : Unit). if b then unit_amount t u.holding else 0) c.units ≤ (if b then most_moved else 0)
-    by_test true = few (sum_over (λ (u : Unit). unit_amount t u.holding) c.units) (length (entries c.units)) (all_within true holding_limit (λ h is. within_limit t h is)) (omega (arith, len-entries c.units, steady.numbers.few_units))
-    by_test false = none (sum_over (λ (u : Unit). 0) c.units) (length (entries c.units)) (all_within false 0 (λ h is. omega arith))
+    by_test true = all_held_within w c steady t
+    by_test false = none (sum_over (λ (u : Unit). 0) c.units) (length (entries c.units)) (sum_within (λ (u : Unit). 0) 0 (entries c.units) (each-from_every (λ n u. 0 ≤ 0) c.units (λ n u is. omega arith)))
 
 -- QUIT keeps a steady campaign steady, and a unit whose faction doesn't quit is no worse off (`IsOrderly`)
 pub quit_orderly : IsOrderly quit_step IsSteady quit_reserve quit_moves quit_concerns IsNoWorse

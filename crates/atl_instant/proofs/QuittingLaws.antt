@@ -12,18 +12,18 @@ use Rattle.atl_records.specs.Every.{Every}
 use Rattle.atl_state.specs.Good.{IsSteady}
 use Rattle.atl_state.specs.Campaign.{CampaignValue, numbers_of}
 use Rattle.atl_records.proofs.RemovedLaws.{every-remove}
-use Rattle.atl_instant.specs.Month.{MonthValue}
-use Rattle.atl_instant.specs.Fit.{AreFit}
-use Rattle.atl_instant.specs.Meaning.{Condition}
-use Rattle.atl_instant.specs.PhaseOrders.{Task, orders_of}
-use Rattle.atl_instant.specs.Quit.{QuitsFrom, after_leaving, is_quitting, quit, quit_effect, quit_keeps, quit_meaning, quit_moves, quit_step, without_leaver}
-use Rattle.atl_instant.specs.Bounds.{IsOrderly, IsUnitOf, StepsWell, quit_reserve}
-use Rattle.atl_instant.specs.NoWorse.{IsNoWorse}
-use Rattle.atl_instant.specs.OrderEffects.{is_of_faction, is_own, meaning_by_orders}
-use Rattle.atl_instant.specs.declared.phase_order.Arrangement.TheVariants.{ByUnit}
+use Rattle.atl_phase.specs.Month.{MonthValue}
+use Rattle.atl_phase.specs.Fit.{AreFit}
+use Rattle.atl_phase.specs.Meaning.{Condition}
+use Rattle.atl_phase.specs.PhaseOrders.{Task, orders_of}
+use Rattle.atl_phase.specs.Bounds.{IsOrderly, IsUnitOf, StepsWell}
+use Rattle.atl_phase.specs.NoWorse.{IsNoWorse}
+use Rattle.atl_phase.specs.OrderEffects.{is_of_faction, is_own, meaning_by_orders}
+use Rattle.atl_phase.specs.declared.phase_order.Arrangement.TheVariants.{ByUnit}
+use Rattle.atl_phase.proofs.StructureLaws.{equal_passes}
+use Rattle.atl_phase.proofs.OrderEffectLaws.{no_worse_spares, orders_fit, orders_spare}
+use Rattle.atl_instant.specs.Quit.{QuitsFrom, after_leaving, is_quitting, quit, quit_effect, quit_keeps, quit_meaning, quit_moves, quit_reserve, quit_step, without_leaver}
 use Rattle.atl_instant.proofs.QuitLaws.{left_well, quit_cases, quit_orderly, quit_well, units_behind}
-use Rattle.atl_instant.proofs.StructureLaws.{equal_passes}
-use Rattle.atl_instant.proofs.OrderEffectLaws.{no_worse_spares, orders_fit, orders_spare}
 
 -- ---- no unit comes, and none changes
 

@@ -16,10 +16,10 @@ use Rattle.atl_state.specs.Campaign.{CampaignValue, numbers_in, with_guard}
 use Rattle.atl_records.proofs.EveryLaws.{each-from_every, every-from_each, every-insert, get-insert_other, none_some}
 use Rattle.atl_state.proofs.RegionLaws.{get-insert_same}
 use Rattle.atl_state.proofs.NumberListLaws.{IsListed, listed_passing, passing_listed}
+use Rattle.atl_phase.specs.Outcomes.{first_fault}
+use Rattle.atl_phase.proofs.OutcomeLaws.{none_fits}
 use Rattle.atl_instant.specs.Guard.{guard_fault, guards_against, is_guarded_against}
 use Rattle.atl_instant.specs.RegionGuards.{AreRegionGuards, GuardMap, IsGuardOf, guard_map_of, has_other_guard, with_guard_of, with_guards_of}
-use Rattle.atl_instant.specs.Outcomes.{first_fault}
-use Rattle.atl_instant.proofs.OutcomeLaws.{none_fits}
 use Rattle.atl_instant.proofs.GuardingLaws.{flagged, flagged_is, guarding, own_guards}
 
 -- ---- as units are noted

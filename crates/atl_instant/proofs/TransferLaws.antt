@@ -23,21 +23,21 @@ use Rattle.atl_state.specs.Lending.{with_held}
 use Rattle.atl_records.specs.Limits.{men_limit, most_days}
 use Rattle.atl_state.specs.Campaign.{CampaignValue}
 use Rattle.atl_records.specs.Amounts.{unit_amount}
-use Rattle.atl_instant.specs.Month.{Aliases}
-use Rattle.atl_instant.specs.Outcomes.{unless}
-use Rattle.atl_instant.specs.NoWorse.{IsNoWorse}
-use Rattle.atl_instant.specs.PhaseOrders.{Task, unit_of}
-use Rattle.atl_instant.specs.OrderEffects.{IsOwnOrder, IsUnaffected}
-use Rattle.atl_instant.specs.Bounds.{IsOrderly, IsUnitOf, StepsWell}
+use Rattle.atl_phase.specs.Month.{Aliases}
+use Rattle.atl_phase.specs.Outcomes.{unless}
+use Rattle.atl_phase.specs.NoWorse.{IsNoWorse}
+use Rattle.atl_phase.specs.PhaseOrders.{Task, unit_of}
+use Rattle.atl_phase.specs.OrderEffects.{IsOwnOrder, IsUnaffected}
+use Rattle.atl_phase.specs.Bounds.{IsOrderly, IsUnitOf, StepsWell}
+use Rattle.atl_phase.proofs.OutcomeLaws.{none_fits, not_apart, not_less, unless_itself}
+use Rattle.atl_phase.proofs.NoWorseLaws.{no_worse}
+use Rattle.atl_phase.proofs.OrderEffectLaws.{no_worse_spares, well_same}
+use Rattle.atl_state.proofs.HavingLaws.{MayHave, may_have}
+use Rattle.atl_phase.proofs.UnbookedLaws.{other_unit}
 use Rattle.atl_instant.specs.Transfer.{after_transfer, days_going, going_of, raised_of, staying_of, transfer, transfer_effect, transfer_fault, transfer_step, transfer_to, with_fewer, with_more}
 use Rattle.atl_instant.proofs.AmountsForLaws.{each_said}
 use Rattle.atl_instant.proofs.DaysLaws.{days_go_with_men, none_go}
-use Rattle.atl_state.proofs.HavingLaws.{MayHave, may_have}
 use Rattle.atl_instant.proofs.MovingLaws.{early-moved, moved, receiver_still, spared-moved, steps-moved}
-use Rattle.atl_instant.proofs.OutcomeLaws.{none_fits, not_apart, not_less, unless_itself}
-use Rattle.atl_instant.proofs.NoWorseLaws.{no_worse}
-use Rattle.atl_instant.proofs.OrderEffectLaws.{no_worse_spares, well_same}
-use Rattle.atl_instant.proofs.UnbookedLaws.{other_unit}
 
 -- What holds of sender and receiver if a transfer of n men has no fault.
 pub record CanSend (n : ℕ) (itself : Bool) (u v : Unit) : Type 0 where

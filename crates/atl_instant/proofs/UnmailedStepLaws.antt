@@ -14,33 +14,32 @@ use Rattle.atl_records.specs.declared.event.Outcome.TheVariants.{Done}
 use Rattle.atl_records.specs.declared.records.Unit.{Unit}
 use Rattle.atl_records.specs.Holdings.{HoldingValue}
 use Rattle.atl_state.specs.Lending.{with_held}
-use Rattle.atl_state.specs.Owners.{after_handover, heir, placed, with_place, with_place_at}
+use Rattle.atl_state.specs.Owners.{with_place}
 use Rattle.atl_state.specs.Campaign.{CampaignValue, numbers_of, with_guard, with_owner, with_structure_name}
 use Rattle.atl_records.proofs.EveryLaws.{get-insert_other}
 use Rattle.atl_state.proofs.NumberListLaws.{IsListed, listed_passing}
-use Rattle.atl_instant.specs.Month.{Aliases, MonthValue}
+use Rattle.atl_phase.specs.Month.{Aliases, MonthValue}
+use Rattle.atl_phase.specs.Outcomes.{unless}
+use Rattle.atl_phase.specs.PhaseOrders.{Task, orders_of, unit_of}
+use Rattle.atl_phase.specs.OrderEffects.{IsUnaffected}
+use Rattle.atl_phase.specs.Bounds.{IsUnitOf}
+use Rattle.atl_phase.specs.Unmailed.{starved_in}
+use Rattle.atl_phase.specs.declared.phase_order.Arrangement.TheVariants.{ByFaction}
+use Rattle.atl_phase.proofs.PhaseSpecLaws.{PhaseLeavesUnmailed}
+use Rattle.atl_phase.proofs.UnmailedLaws.{HasItsMen, HaveTheirMen, LeavesUnmailed, OthersHaveMen, SparesMen, carried_leaves, guard_men, items_of_no_worse, men_changed, men_put, men_same, men_stay, men_twice, men_unless, others_men, own_faction, place_men, told_of_order, unmailed_spared, whole_leaves}
 use Rattle.atl_instant.specs.Form.{form_by, form_keeps, form_meaning, form_order, is_forming}
 use Rattle.atl_instant.specs.Give.{give, give_effect, give_spec, give_step, held_of, is_giving, with_held_of}
 use Rattle.atl_instant.specs.Guard.{guard, guard_concerns, guard_effect, guard_fault, guard_spec, guard_step, is_guarding}
 use Rattle.atl_instant.specs.Name.{is_naming, name_concerns, name_effect, name_result, name_spec, name_step, naming}
-use Rattle.atl_instant.specs.Outcomes.{unless}
 use Rattle.atl_instant.specs.Place.{enter, enter_fault, is_placing, leave, leave_fault, place_effect, place_spec, place_step, promote, promote_fault, with_unit_inside}
-use Rattle.atl_instant.specs.PhaseOrders.{Task, orders_of, unit_of}
 use Rattle.atl_instant.specs.Quit.{QuitsFrom, after_leaving, is_quitting, quit, quit_effect, quit_fault, quit_keeps, quit_meaning, quit_step}
-use Rattle.atl_instant.specs.OrderEffects.{IsUnaffected}
-use Rattle.atl_instant.specs.Bounds.{IsUnitOf}
 use Rattle.atl_instant.specs.Transfer.{is_transferring, transfer, transfer_effect, transfer_spec, transfer_step, with_fewer, with_more}
-use Rattle.atl_instant.specs.Unmailed.{starved_in}
 use Rattle.atl_instant.specs.declared.give.Gift.{Gift}
 use Rattle.atl_instant.specs.declared.give.Gift.TheVariants.{Item, Money}
-use Rattle.atl_instant.specs.declared.phase_order.Arrangement.TheVariants.{ByFaction}
 use Rattle.atl_instant.proofs.GiveLaws.{give_cases}
 use Rattle.atl_instant.proofs.MovingLaws.{moved, receiver_still}
 use Rattle.atl_instant.proofs.QuitLaws.{all_left_others}
-use Rattle.atl_instant.proofs.StructureLaws.{handed_is}
-use Rattle.atl_instant.proofs.PhaseSpecLaws.{PhaseLeavesUnmailed}
 use Rattle.atl_instant.proofs.TransferLaws.{transfer_cases}
-use Rattle.atl_instant.proofs.UnmailedLaws.{HasItsMen, HaveTheirMen, LeavesUnmailed, OthersHaveMen, SparesMen, carried_leaves, items_of_no_worse, men_changed, men_put, men_same, men_stay, men_twice, men_unless, others_men, own_faction, told_of_order, unmailed_spared, whole_leaves}
 
 -- ---- FORM
 
@@ -66,14 +65,6 @@ form_leaves =
 
 -- ---- NAME and GUARD 0
 
--- a unit keeps its men when its guard flag changes
-flag_men : (flag : Bool) (u : Unit) → HasItsMen u (record u { holding = record u.holding { guard = flag } })
-flag_men flag u = record { faction = refl; men = refl }
-
--- all units keep their men when the guard flag of one is set or cleared
-pub guard_men : (c : CampaignValue) (n : ℕ) (flag : Bool) → HaveTheirMen c (with_guard c n flag)
-guard_men c n flag = men_changed (λ u. record u { holding = record u.holding { guard = flag } }) (flag_men flag) c (with_guard c n flag) n refl
-
 -- NAME leaves all units their men, whatever it names
 named_men : (w : WorldValue) (c : CampaignValue) (n f s : ℕ) (what : NameKind) (name : List ℕ) → HaveTheirMen c (name_result w c n f s what name).0
 named_men w c n f s kinds.Unit name = men_changed (λ u. record u { holding = record u.holding { name = name } }) (λ u. record { faction = refl; men = refl }) c (name_result w c n f s kinds.Unit name).0 n refl
@@ -96,31 +87,6 @@ pub name_leaves : PhaseLeavesUnmailed name_spec
 name_leaves = carried_leaves name_step is_naming name_spares (unmailed_spared {concerns = name_concerns} is_naming (λ t n f h. own_faction t n f h.0) items_of_no_worse)
 
 -- ---- LEAVE, ENTER and PROMOTE
-
--- a handover of a structure leaves all units their men
-handed_men : (c : CampaignValue) (s from to : ℕ) → HaveTheirMen c (after_handover c s from to)
-handed_men c s from to = men_same c (after_handover c s from to) (ap (λ (d : CampaignValue). d.units) (handed_is c s from to))
-
--- all units keep their men when unit n goes to another region or structure
-pub place_men : (c : CampaignValue) (n r s : ℕ) → HaveTheirMen c (with_place c n r s)
-unfolding with_place
-place_men c n r s = by_unit (get c.units n)
-  where
-    there : CampaignValue
-    there = placed c n r s
-
-    put : HaveTheirMen c there
-    put = men_changed (λ u. record u { region = r; structure = s }) (λ u. record { faction = refl; men = refl }) c there n refl
-
-    by_test : (u : Unit) (b : Bool) → HaveTheirMen c (if b then placed c n r s else after_handover (after_handover (placed c n r s) u.structure n (heir c u.structure n)) s 0 n)
-    by_test u true = put
-    by_test u false =
-        let out = after_handover there u.structure n (heir c u.structure n) in
-        men_twice c there (after_handover out s 0 n) put (men_twice there out (after_handover out s 0 n) (handed_men there u.structure n (heir c u.structure n)) (handed_men out s 0 n))
-
-    by_unit : (o : Option Unit) → HaveTheirMen c (with_place_at c n r s o)
-    by_unit None = men_stay c
-    by_unit (Some u) = by_test u (u.structure == s)
 
 -- ENTER leaves all units their men
 entered_men : (c : CampaignValue) (n region s : ℕ) (b : Bool) → HaveTheirMen c (if b then c else with_place c n region s)

@@ -14,14 +14,14 @@ use Rattle.atl_records.specs.declared.records.Unit.{Unit}
 use Rattle.atl_records.specs.Every.{Every}
 use Rattle.atl_records.specs.Limits.{last_unit, most_units}
 use Rattle.atl_state.specs.Campaign.{CampaignValue, with_unit_begun}
-use Rattle.atl_instant.specs.Month.{Aliases, MonthValue, with_alias}
-use Rattle.atl_instant.specs.Inside.{inside, region_of}
-use Rattle.atl_instant.specs.Meaning.{Frame, Meaning}
-use Rattle.atl_instant.specs.Outcomes.{first_fault, unless}
-use Rattle.atl_instant.specs.PhaseOrders.{Task, orders_of}
-use Rattle.atl_instant.specs.OrderEffects.{event_for, is_of_faction}
-use Rattle.atl_instant.specs.declared.phase_order.Arrangement.TheVariants.{ByFaction}
-use Rattle.atl_instant.specs.PhaseSpecs.{PhaseSpec, books_none}
+use Rattle.atl_phase.specs.Month.{Aliases, MonthValue, with_alias}
+use Rattle.atl_phase.specs.Inside.{inside, region_of}
+use Rattle.atl_phase.specs.Meaning.{Frame, Meaning}
+use Rattle.atl_phase.specs.Outcomes.{first_fault, unless}
+use Rattle.atl_phase.specs.PhaseOrders.{Task, orders_of}
+use Rattle.atl_phase.specs.OrderEffects.{event_for, is_of_faction}
+use Rattle.atl_phase.specs.declared.phase_order.Arrangement.TheVariants.{ByFaction}
+use Rattle.atl_phase.specs.PhaseSpecs.{PhaseSpec, books_none}
 
 -- whether a verb is FORM
 abbrev pub is_forming : Verb → Bool

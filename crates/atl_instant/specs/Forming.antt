@@ -4,10 +4,10 @@ use Rattle.atl_records.specs.declared.event.Event.{Event}
 use Rattle.atl_records.specs.declared.event.EventVerb.TheVariants.{Order}
 use Rattle.atl_records.specs.declared.event.Outcome.{Outcome}
 use Rattle.atl_state.specs.Campaign.{CampaignValue}
+use Rattle.atl_phase.specs.Month.{MonthValue}
+use Rattle.atl_phase.specs.PhaseOrders.{Task}
 use Rattle.atl_instant.specs.declared.form.Forming.{Forming}
 use Rattle.atl_instant.specs.Form.{alias_of, aliases_after, form_by}
-use Rattle.atl_instant.specs.Month.{MonthValue}
-use Rattle.atl_instant.specs.PhaseOrders.{Task}
 
 -- the copy of an order of FORM: its unit, line, faction, verb and alias
 abbrev pub forming_of : Task → Forming

@@ -14,14 +14,14 @@ use Rattle.atl_records.specs.Holdings.{HoldingValue, amount_of, with_amount_of}
 use Rattle.atl_state.specs.Lending.{with_held}
 use Rattle.atl_records.specs.Limits.{holding_limit}
 use Rattle.atl_state.specs.Campaign.{CampaignValue}
-use Rattle.atl_instant.specs.Month.{Aliases}
-use Rattle.atl_instant.specs.Outcomes.{first_fault, unless}
-use Rattle.atl_instant.specs.PhaseOrders.{unit_of}
-use Rattle.atl_instant.specs.NoWorse.{IsNoWorse}
-use Rattle.atl_instant.specs.OrderEffects.{IsOwnOrder, OrderEffect, OrderMeaning}
+use Rattle.atl_phase.specs.Month.{Aliases}
+use Rattle.atl_phase.specs.Outcomes.{first_fault, unless}
+use Rattle.atl_phase.specs.PhaseOrders.{unit_of}
+use Rattle.atl_phase.specs.NoWorse.{IsNoWorse}
+use Rattle.atl_phase.specs.OrderEffects.{IsOwnOrder, OrderEffect, OrderMeaning}
+use Rattle.atl_phase.specs.PhaseSpecs.{PhaseSpec, goes_by_orders}
 use Rattle.atl_instant.specs.declared.give.Gift.{Gift}
 use Rattle.atl_instant.specs.declared.give.Gift.TheVariants.{Item, Money}
-use Rattle.atl_instant.specs.PhaseSpecs.{PhaseSpec, goes_by_orders}
 
 -- whether a verb is GIVE or PAY
 abbrev pub is_giving : Verb → Bool

@@ -12,10 +12,10 @@ use Rattle.atl_records.specs.declared.event.Outcome.TheVariants.{Done}
 use Rattle.atl_records.specs.declared.records.Unit.{Unit}
 use Rattle.atl_state.specs.Good.{guards}
 use Rattle.atl_state.specs.Campaign.{CampaignValue, numbers_in, with_guard}
-use Rattle.atl_instant.specs.Outcomes.{first_fault, unless}
-use Rattle.atl_instant.specs.NoWorse.{IsNoWorse}
-use Rattle.atl_instant.specs.OrderEffects.{Affects, IsOwnOrder, OrderEffect, OrderMeaning}
-use Rattle.atl_instant.specs.PhaseSpecs.{PhaseSpec, goes_by_orders}
+use Rattle.atl_phase.specs.Outcomes.{first_fault, unless}
+use Rattle.atl_phase.specs.NoWorse.{IsNoWorse}
+use Rattle.atl_phase.specs.OrderEffects.{Affects, IsOwnOrder, OrderEffect, OrderMeaning}
+use Rattle.atl_phase.specs.PhaseSpecs.{PhaseSpec, goes_by_orders}
 
 -- whether a verb is GUARD
 abbrev pub is_guarding : Verb → Bool

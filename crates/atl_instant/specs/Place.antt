@@ -15,13 +15,13 @@ use Rattle.atl_records.specs.declared.records.Structure.{Structure}
 use Rattle.atl_records.specs.declared.records.Unit.{Unit}
 use Rattle.atl_state.specs.Owners.{is_owned_by, with_place}
 use Rattle.atl_state.specs.Campaign.{CampaignValue, with_owner}
-use Rattle.atl_instant.specs.Month.{Aliases}
-use Rattle.atl_instant.specs.Inside.{inside}
-use Rattle.atl_instant.specs.Outcomes.{first_fault, unless}
-use Rattle.atl_instant.specs.PhaseOrders.{unit_of}
-use Rattle.atl_instant.specs.NoWorse.{IsNoWorse}
-use Rattle.atl_instant.specs.OrderEffects.{IsOwnOrder, OrderEffect, OrderMeaning}
-use Rattle.atl_instant.specs.PhaseSpecs.{PhaseSpec, goes_by_orders}
+use Rattle.atl_phase.specs.Month.{Aliases}
+use Rattle.atl_phase.specs.Inside.{inside}
+use Rattle.atl_phase.specs.Outcomes.{first_fault, unless}
+use Rattle.atl_phase.specs.PhaseOrders.{unit_of}
+use Rattle.atl_phase.specs.NoWorse.{IsNoWorse}
+use Rattle.atl_phase.specs.OrderEffects.{IsOwnOrder, OrderEffect, OrderMeaning}
+use Rattle.atl_phase.specs.PhaseSpecs.{PhaseSpec, goes_by_orders}
 
 -- ---- which orders are of the phase
 

@@ -1,6 +1,7 @@
 -- QUIT: a faction leaves the campaign with all its units. See docs/RULES.md, "Quitting".
 use Rattle.std.specs.Prelude.{◌≡◌, ℕ, pos, neg_ℤ, ◌==◌, not, Bool, true, false, [], ◌∷◌, fold, Option, Some, None, if◌then◌else◌}
 use Rattle.std.specs.FinMap.{entries, get}
+use Rattle.atl_tables.specs.Sums.{sum_over}
 use Rattle.atl_orders.specs.declared.order.Operands.TheVariants as operands
 use Rattle.atl_orders.specs.declared.verb.Verb.{Verb}
 use Rattle.atl_orders.specs.declared.verb.Verb.TheVariants as verbs
@@ -14,15 +15,17 @@ use Rattle.atl_records.specs.declared.event.EventFault.{EventFault}
 use Rattle.atl_records.specs.declared.event.EventFault.TheVariants.{WrongNumber}
 use Rattle.atl_records.specs.declared.event.Outcome.TheVariants.{Done}
 use Rattle.atl_records.specs.declared.records.Unit.{Unit}
+use Rattle.atl_records.specs.Amounts.{unit_amount}
 use Rattle.atl_records.specs.Holdings.{HoldingValue}
 use Rattle.atl_state.specs.Owners.{without_unit}
 use Rattle.atl_state.specs.Campaign.{CampaignValue, numbers_of, with_amount}
-use Rattle.atl_instant.specs.Meaning.{BookBound, Frame, Meaning, most_moved}
-use Rattle.atl_instant.specs.Outcomes.{first_fault, unless}
-use Rattle.atl_instant.specs.PhaseOrders.{Task}
-use Rattle.atl_instant.specs.NoWorse.{IsNoWorse}
-use Rattle.atl_instant.specs.OrderEffects.{Affects, OrderEffect, OrderMeaning, is_own, meaning_by_orders, spares_others}
-use Rattle.atl_instant.specs.PhaseSpecs.{PhaseSpec}
+use Rattle.atl_phase.specs.Meaning.{BookBound, Frame, Meaning, most_moved}
+use Rattle.atl_phase.specs.Bounds.{RemainingBound}
+use Rattle.atl_phase.specs.Outcomes.{first_fault, unless}
+use Rattle.atl_phase.specs.PhaseOrders.{Task}
+use Rattle.atl_phase.specs.NoWorse.{IsNoWorse}
+use Rattle.atl_phase.specs.OrderEffects.{Affects, OrderEffect, OrderMeaning, is_own, meaning_by_orders, spares_others}
+use Rattle.atl_phase.specs.PhaseSpecs.{PhaseSpec}
 
 -- whether a verb is QUIT
 abbrev pub is_quitting : Verb → Bool
@@ -103,6 +106,14 @@ quit_keeps w m before after = spares_others (QuitsFrom before) IsNoWorse is_quit
 -- the bound on the books: each thing may move by less than 10^14 under the entry of its loss, and nothing else
 abbrev pub quit_moves : BookBound
 quit_moves e t = if entry_index e == entry_index (loss_entry t) then most_moved else 0
+
+-- how much of a thing is booked under an entry when a unit leaves with all that it holds
+abbrev pub loss_under : Entry → Thing → HoldingValue → ℕ
+loss_under e t h = if entry_index e == entry_index (loss_entry t) then unit_amount t h else 0
+
+-- the remaining bound of QUIT: what all units hold of a thing, under the entry for its loss
+abbrev pub quit_reserve : RemainingBound
+quit_reserve c e t = sum_over (λ u. loss_under e t u.holding) c.units
 
 -- the specification of the phase of QUIT
 abbrev pub quit_spec : PhaseSpec

@@ -5,19 +5,16 @@ ghost use Rattle.atl_orders.specs.Orders.{named};
 ghost use Rattle.atl_state.specs.Covers.{MarksChanges};
 ghost use Rattle.atl_state.specs.Good.{IsEarly};
 ghost use Rattle.atl_records.specs.Limits.{last_unit};
+ghost use Rattle.atl_phase.specs.PhaseOrders.{orders_of, task_of};
+ghost use Rattle.atl_phase.specs.declared.phase_order.Arrangement.TheVariants.{ByFaction};
 ghost use Rattle.atl_instant.specs.Form.{alias_of, aliases_after, form_by, form_fault, form_keeps, form_meaning, is_forming, is_unit_limit, new_unit, with_formed_unit};
 ghost use Rattle.atl_instant.specs.Forming.{form_apart, forming_of};
-ghost use Rattle.atl_instant.specs.PhaseOrders.{orders_of, task_of};
-ghost use Rattle.atl_instant.specs.declared.phase_order.Arrangement.TheVariants.{ByFaction};
 
-use crate::inside::{region_of, structure_of};
-use crate::month::Month;
-use crate::order_phase::is_of_faction;
-use crate::orders::PhaseVerbs;
-use crate::outcome::fault_outcome;
-use crate::phase::{Phase, PhaseResult};
-use crate::phase_order::{Arrangement, PhaseOrder};
 use atl_orders::{Operands, Verb};
+use atl_phase::{
+    Arrangement, Month, Phase, PhaseOrder, PhaseResult, PhaseVerbs, fault_outcome, is_of_faction,
+    region_of, structure_of,
+};
 use atl_state::{
     Campaign, Event, EventFault, EventVerb, Holding, LAST_UNIT, MOST_UNITS, Outcome, Unit,
 };

@@ -3,20 +3,18 @@ ghost use Rattle.std.specs.Prelude.{◌≡◌, IfOk, OnOk};
 ghost use Rattle.atl_tables.specs.Worlds.{WorldValue};
 ghost use Rattle.atl_state.specs.Covers.{MarksChanges};
 ghost use Rattle.atl_state.specs.Campaign.{CampaignValue};
+ghost use Rattle.atl_phase.specs.Month.{MonthValue, with_events};
+ghost use Rattle.atl_phase.specs.PhaseOrders.{task_of};
+ghost use Rattle.atl_phase.specs.OrderEffects.{faction_effect, one_order, order_result};
 ghost use Rattle.atl_instant.specs.Guard.{guard, guard_effect, guard_fault, guard_spec, guard_step, is_guarding};
 ghost use Rattle.atl_instant.specs.RegionGuards.{AreRegionGuards};
-ghost use Rattle.atl_instant.specs.Month.{MonthValue, with_events};
-ghost use Rattle.atl_instant.specs.PhaseOrders.{task_of};
-ghost use Rattle.atl_instant.specs.OrderEffects.{faction_effect, one_order, order_result};
 
-use crate::month::{Month, add_events};
-use crate::order_phase::own_unit;
-use crate::orders::PhaseVerbs;
-use crate::outcome::fault_outcome;
-use crate::phase::{Phase, PhaseResult};
-use crate::phase_order::{Arrangement, PhaseOrder};
 use crate::region_guards::RegionGuards;
 use atl_orders::{Operands, Verb};
+use atl_phase::{
+    Arrangement, Month, Phase, PhaseOrder, PhaseResult, PhaseVerbs, add_events, fault_outcome,
+    own_unit,
+};
 use atl_state::{Campaign, Event, EventFault, Outcome, Unit};
 use atl_tables::World;
 use std::alloc::{AllocError, Global};

@@ -6,15 +6,11 @@ ghost use Rattle.atl_orders.specs.Orders.{name_in};
 ghost use Rattle.atl_state.specs.Campaign.{with_faction_name, with_guard, with_unit_name};
 ghost use Rattle.atl_state.specs.Covers.{MarksChanges};
 ghost use Rattle.atl_state.specs.Good.{IsEarly};
+ghost use Rattle.atl_phase.specs.OrderEffects.{faction_effect};
 ghost use Rattle.atl_instant.specs.Name.{is_naming, is_of_kind, leave_guard, name_concerns, name_result, name_step, naming, structure_fault, structure_name_result};
-ghost use Rattle.atl_instant.specs.OrderEffects.{faction_effect};
 
-use crate::month::Month;
-use crate::order_phase::{OrderPhase, PlainPhase, own_unit};
-use crate::orders::PhaseVerbs;
-use crate::outcome::fault_outcome;
-use crate::phase_order::PhaseOrder;
 use atl_orders::{Mailing, NameKind, Operands, Span, Verb};
+use atl_phase::{Month, OrderPhase, PhaseOrder, PhaseVerbs, PlainPhase, fault_outcome, own_unit};
 use atl_state::{Campaign, EventFault, Outcome, Structure};
 use atl_tables::{Text, World};
 use std::alloc::{AllocError, Global};

@@ -6,16 +6,13 @@ ghost use Rattle.atl_state.specs.Covers.{MarksChanges};
 ghost use Rattle.atl_state.specs.Good.{IsEarly};
 ghost use Rattle.atl_state.specs.Owners.{is_owned_by, with_place};
 ghost use Rattle.atl_state.specs.Campaign.{with_owner};
+ghost use Rattle.atl_phase.specs.OrderEffects.{faction_effect};
 ghost use Rattle.atl_instant.specs.Place.{enter, is_in, is_placing, leave, leave_fault, place_step, promote, promote_fault, with_unit_inside};
-ghost use Rattle.atl_instant.specs.OrderEffects.{faction_effect};
 
-use crate::inside::structure_of;
-use crate::month::Month;
-use crate::order_phase::{OrderPhase, PlainPhase, own_unit};
-use crate::orders::PhaseVerbs;
-use crate::outcome::fault_outcome;
-use crate::phase_order::PhaseOrder;
 use atl_orders::{Operands, Verb};
+use atl_phase::{
+    Month, OrderPhase, PhaseOrder, PhaseVerbs, PlainPhase, fault_outcome, own_unit, structure_of,
+};
 use atl_state::{Campaign, EventFault, Outcome, Unit};
 use atl_tables::World;
 use std::alloc::{AllocError, Global};

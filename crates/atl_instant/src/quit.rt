@@ -8,20 +8,16 @@ ghost use Rattle.atl_state.specs.Good.{IsSteady};
 ghost use Rattle.atl_state.specs.Marking.{mark_amount};
 ghost use Rattle.atl_records.specs.declared.books.Entry.TheVariants.{Left, Lost};
 ghost use Rattle.atl_records.specs.declared.books.Thing.TheVariants.{Money, People};
-ghost use Rattle.atl_instant.specs.Meaning.{both_move, moves_only};
-ghost use Rattle.atl_instant.specs.Bounds.{HasRoom, HaveRoom, moving_items, quit_reserve};
-ghost use Rattle.atl_instant.specs.Quit.{after_leaving, is_quitting, loss_entry, quit, quit_concerns, quit_fault, quit_keeps, quit_meaning, quit_moves, quit_step, with_item_loss, with_loss};
-ghost use Rattle.atl_instant.specs.OrderEffects.{faction_effect};
+ghost use Rattle.atl_phase.specs.Meaning.{both_move, moves_only};
+ghost use Rattle.atl_phase.specs.Bounds.{HasRoom, HaveRoom, moving_items};
+ghost use Rattle.atl_phase.specs.OrderEffects.{faction_effect};
+ghost use Rattle.atl_instant.specs.Quit.{after_leaving, is_quitting, loss_entry, quit, quit_concerns, quit_fault, quit_keeps, quit_meaning, quit_moves, quit_reserve, quit_step, with_item_loss, with_loss};
 
-use crate::booking::book_taken;
-use crate::items::items_of;
-use crate::month::Month;
-use crate::order_phase::{OrderPhase, carry_out_orders, own_unit};
-use crate::orders::PhaseVerbs;
-use crate::outcome::fault_outcome;
-use crate::phase::{Phase, PhaseResult};
-use crate::phase_order::PhaseOrder;
 use atl_orders::{Operands, Verb};
+use atl_phase::{
+    Month, OrderPhase, Phase, PhaseOrder, PhaseResult, PhaseVerbs, book_taken, carry_out_orders,
+    fault_outcome, items_of, own_unit,
+};
 use atl_state::{Campaign, Entry, EventFault, Outcome, Thing, Unit};
 use atl_tables::World;
 use std::alloc::{AllocError, Global};

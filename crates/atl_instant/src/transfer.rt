@@ -7,17 +7,14 @@ ghost use Rattle.atl_records.specs.Every.{Every};
 ghost use Rattle.atl_state.specs.Good.{AreDays, IsEarly};
 ghost use Rattle.atl_records.specs.Limits.{men_limit, most_days};
 ghost use Rattle.atl_records.specs.declared.records.Unit.{Unit};
+ghost use Rattle.atl_phase.specs.OrderEffects.{faction_effect};
 ghost use Rattle.atl_instant.specs.SkillDays.{left_list, raised_list};
 ghost use Rattle.atl_instant.specs.Transfer.{DaysGoWithMen, after_transfer, days_going, is_transferring, transfer, transfer_fault, transfer_step};
-ghost use Rattle.atl_instant.specs.OrderEffects.{faction_effect};
 
-use crate::holdings::set_people;
-use crate::month::Month;
-use crate::order_phase::{OrderPhase, PlainPhase, own_unit};
-use crate::orders::PhaseVerbs;
-use crate::outcome::fault_outcome;
-use crate::phase_order::PhaseOrder;
 use atl_orders::{Operands, Verb};
+use atl_phase::{
+    Month, OrderPhase, PhaseOrder, PhaseVerbs, PlainPhase, fault_outcome, own_unit, set_people,
+};
 use atl_state::{Campaign, EventFault, Holding, MEN_LIMIT, Outcome, Unit};
 use atl_tables::World;
 use std::alloc::{AllocError, Global};

@@ -21,8 +21,8 @@ use Rattle.atl_records.proofs.HoldingLaws.{set_other, set_same}
 use Rattle.atl_state.proofs.BackLaws.{Rise, entries_rise}
 use Rattle.atl_state.proofs.RegionLaws.{changed-known, get-insert_same}
 use Rattle.atl_state.proofs.StockLaws.{restocked}
-use Rattle.atl_instant.specs.PhaseOrders.{Task}
-use Rattle.atl_instant.proofs.StructureLaws.{changed_else}
+use Rattle.atl_phase.specs.PhaseOrders.{Task}
+use Rattle.atl_phase.proofs.StructureLaws.{changed_else}
 use Rattle.atl_market.specs.AtOnce.{HasNewStocks, UnitChange, paid_unit, stands_in}
 use Rattle.atl_market.specs.ItemPots.{is_for}
 use Rattle.atl_market.specs.AfterPots.{TradesAtOnce, stock_after, trader_of, with_trade}

@@ -13,7 +13,7 @@ use Rattle.atl_records.specs.Every.{IsThere}
 use Rattle.atl_state.specs.Campaign.{CampaignValue}
 use Rattle.atl_state.proofs.BackLaws.{Rise, entries_rise}
 use Rattle.atl_records.proofs.EveryLaws.{each-from_every, first, other_number, same_number}
-use Rattle.atl_instant.specs.PhaseOrders.{Task}
+use Rattle.atl_phase.specs.PhaseOrders.{Task}
 use Rattle.atl_market.specs.AtOnce.{PaysAtOnce, RegionChange, UnitChange, paid_unit, stands_in}
 use Rattle.atl_market.specs.PotPhase.{PotMeaning, after_sharing, given_by, items_by}
 use Rattle.atl_market.proofs.DrawLaws.{AreUntouched, Drawers, all_pairs, drawn, still, untouched, who_stand}

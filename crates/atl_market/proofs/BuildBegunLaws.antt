@@ -15,12 +15,12 @@ use Rattle.atl_state.specs.Campaign.{CampaignValue}
 use Rattle.atl_state.specs.Totals.{total}
 use Rattle.atl_state.proofs.BegunLaws.{IsFresh, built, raised, steady_built, steady_raised, total_built, total_raised}
 use Rattle.atl_state.proofs.NumberedNameLaws.{numbered_name_ok}
-use Rattle.atl_instant.specs.Meaning.{IsSameMonth}
-use Rattle.atl_instant.specs.Bounds.{StepsWell}
+use Rattle.atl_phase.specs.Meaning.{IsSameMonth}
+use Rattle.atl_phase.specs.Bounds.{StepsWell}
 use Rattle.atl_market.specs.Build.{name_prefix}
 use Rattle.atl_market.specs.Bounds.{CanBuild, build_reserve}
-use Rattle.atl_instant.proofs.MeaningLaws.{same_month_by}
-use Rattle.atl_instant.proofs.OrderEffectLaws.{not_drawn}
+use Rattle.atl_phase.proofs.MeaningLaws.{same_month_by}
+use Rattle.atl_phase.proofs.OrderEffectLaws.{not_drawn}
 
 -- ---- where units hold what they held, and nothing is booked
 

@@ -35,17 +35,17 @@ use Rattle.atl_records.specs.Limits.{holding_limit, most_structures, most_units}
 use Rattle.atl_state.specs.Owners.{with_place}
 use Rattle.atl_state.specs.Campaign.{CampaignValue, with_done}
 use Rattle.atl_records.proofs.EveryLaws.{each-from_every}
-use Rattle.atl_instant.specs.Meaning.{LeavesWell, most_moved}
-use Rattle.atl_instant.specs.Bounds.{HaveRoom, IsOrderly, StepsWell}
-use Rattle.atl_instant.specs.Outcomes.{unless}
-use Rattle.atl_instant.specs.NoWorse.{IsNoWorse}
-use Rattle.atl_instant.specs.OrderEffects.{IsOwnOrder, effect_on, faction_effect, of_faction}
+use Rattle.atl_phase.specs.Meaning.{LeavesWell, most_moved}
+use Rattle.atl_phase.specs.Bounds.{HaveRoom, IsOrderly, StepsWell}
+use Rattle.atl_phase.specs.Outcomes.{unless}
+use Rattle.atl_phase.specs.NoWorse.{IsNoWorse}
+use Rattle.atl_phase.specs.OrderEffects.{IsOwnOrder, effect_on, faction_effect, of_faction}
 use Rattle.atl_records.proofs.HoldingLaws.{amount_within}
-use Rattle.atl_instant.proofs.OutcomeLaws.{none_fits, not_less}
-use Rattle.atl_instant.proofs.PlacingLaws.{place_stays}
-use Rattle.atl_instant.proofs.QuitLaws.{sum_within}
-use Rattle.atl_instant.proofs.OrderEffectLaws.{no_worse_spares, well_same, well_twice}
-use Rattle.atl_instant.proofs.UnbookedLaws.{stays_spared}
+use Rattle.atl_phase.proofs.OutcomeLaws.{none_fits, not_less}
+use Rattle.atl_phase.proofs.PlacingLaws.{place_stays}
+use Rattle.atl_phase.proofs.HeldLaws.{sum_within}
+use Rattle.atl_phase.proofs.OrderEffectLaws.{no_worse_spares, well_same, well_twice}
+use Rattle.atl_phase.proofs.UnbookedLaws.{stays_spared}
 use Rattle.atl_market.specs.Build.{after_building_on, after_start, begin, begin_fault, build_effect, build_moves, build_step, go_on, go_on_at, inside_fault, is_structure_limit, new_structure, size_added, structure_and_kind_at, with_kind, with_new_structure}
 use Rattle.atl_market.specs.Bounds.{CanBuild, build_reserve}
 use Rattle.atl_market.specs.Making.{CanUse}

@@ -11,9 +11,9 @@ use Rattle.atl_records.specs.declared.records.Unit.{Unit}
 use Rattle.atl_state.specs.Good.{is_ship}
 use Rattle.atl_state.specs.Owners.{with_place}
 use Rattle.atl_state.specs.Campaign.{CampaignValue}
-use Rattle.atl_instant.specs.Bounds.{StepsWell}
-use Rattle.atl_instant.proofs.MeaningLaws.{same_month_by}
-use Rattle.atl_instant.proofs.PlacingLaws.{behind, place_is, placed_steady, placed_total}
+use Rattle.atl_phase.specs.Bounds.{StepsWell}
+use Rattle.atl_phase.proofs.MeaningLaws.{same_month_by}
+use Rattle.atl_phase.proofs.PlacingLaws.{behind, place_is, placed_steady, placed_total}
 use Rattle.atl_market.specs.Bounds.{CanBuild, build_reserve, usable}
 use Rattle.atl_market.proofs.BuildBegunLaws.{still_well}
 

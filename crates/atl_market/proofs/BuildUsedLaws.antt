@@ -23,11 +23,11 @@ use Rattle.atl_records.proofs.EveryEntryLaws.{entry_small}
 use Rattle.atl_records.proofs.EveryLaws.{get-insert_other}
 use Rattle.atl_state.proofs.RegionLaws.{get-insert_same}
 use Rattle.atl_records.proofs.RemovedLaws.{sum_over-remove}
-use Rattle.atl_instant.specs.Meaning.{LeavesWell, moves_only}
-use Rattle.atl_instant.specs.Bounds.{HasRoom, HaveRoom, StepsWell, UsesBound}
+use Rattle.atl_phase.specs.Meaning.{LeavesWell, moves_only}
+use Rattle.atl_phase.specs.Bounds.{HasRoom, HaveRoom, StepsWell, UsesBound}
 use Rattle.atl_records.proofs.HoldingLaws.{alike, set_amount}
-use Rattle.atl_instant.proofs.MeaningLaws.{less_room, near_more}
-use Rattle.atl_instant.proofs.OrderEffectLaws.{drawn_near}
+use Rattle.atl_phase.proofs.MeaningLaws.{less_room, near_more}
+use Rattle.atl_phase.proofs.OrderEffectLaws.{drawn_near}
 use Rattle.atl_market.specs.Bounds.{CanBuild, build_reserve, usable}
 use Rattle.atl_market.specs.Goods.{with_used}
 use Rattle.atl_market.proofs.GoodsLaws.{item_held, used_is, used_up_to}

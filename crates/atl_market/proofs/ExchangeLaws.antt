@@ -20,9 +20,9 @@ use Rattle.atl_records.proofs.BookLaws.{booked-after_booking, share_of}
 use Rattle.atl_state.proofs.HavingLaws.{MayHave, early-having}
 use Rattle.atl_state.proofs.HoldingLaws.{total-unit_amount}
 use Rattle.atl_state.proofs.RegionLaws.{steady-amount, total-amount, total-region}
-use Rattle.atl_instant.specs.Meaning.{LeavesWell, moves_only}
-use Rattle.atl_instant.proofs.BookingLaws.{booked-near}
-use Rattle.atl_instant.proofs.MeaningLaws.{same_month_by}
+use Rattle.atl_phase.specs.Meaning.{LeavesWell, moves_only}
+use Rattle.atl_phase.proofs.BookingLaws.{booked-near}
+use Rattle.atl_phase.proofs.MeaningLaws.{same_month_by}
 
 -- unit and region have together the people and items that they had, and the money that they had plus what is booked
 pub record KeepsTogether (u : Unit) (q : Region) (f : Region → Region) (more : HoldingValue) (z : ℤ) : Type 0 where

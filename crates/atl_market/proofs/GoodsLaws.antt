@@ -25,11 +25,11 @@ use Rattle.atl_records.proofs.BookLaws.{booked-after_booking, share_of}
 use Rattle.atl_state.proofs.HavingLaws.{MayHave, may_have}
 use Rattle.atl_state.proofs.HoldingLaws.{steady-unit_amount, total-unit_amount}
 use Rattle.atl_state.proofs.RegionLaws.{get-insert_same, steady-amount, total-amount}
-use Rattle.atl_instant.specs.Meaning.{LeavesWell, moves_only}
+use Rattle.atl_phase.specs.Meaning.{LeavesWell, moves_only}
 use Rattle.atl_records.proofs.HoldingLaws.{alike, amount_within, every_amount, set_amount}
-use Rattle.atl_instant.proofs.MeaningLaws.{same_month_by}
-use Rattle.atl_instant.proofs.BookingLaws.{booked-near, within-neg, within-pos}
-use Rattle.atl_instant.proofs.ChangeLaws.{changed_held, others_held}
+use Rattle.atl_phase.proofs.MeaningLaws.{same_month_by}
+use Rattle.atl_phase.proofs.BookingLaws.{booked-near, within-neg, within-pos}
+use Rattle.atl_phase.proofs.ChangeLaws.{changed_held, others_held}
 use Rattle.atl_market.specs.Goods.{with_made, with_used}
 use Rattle.atl_market.specs.Making.{CanMake, CanUse}
 use Rattle.atl_market.proofs.ThereLaws.{by_unit, unit_there}

@@ -17,7 +17,7 @@ use Rattle.atl_state.proofs.BackLaws.{append_each}
 use Rattle.atl_records.proofs.EveryLaws.{each-from_every, first, found_of, get-insert_other, none_some, other_number, same_number}
 use Rattle.atl_state.proofs.OrderLaws.{each_so}
 use Rattle.atl_state.proofs.RegionLaws.{get-insert_same}
-use Rattle.atl_instant.proofs.MappedLaws.{no_entries}
+use Rattle.atl_phase.proofs.MappedLaws.{no_entries}
 use Rattle.atl_market.specs.ItemGroups.{Groups, item_shares_in, region_shares, with_item_want, with_want}
 use Rattle.atl_market.specs.ItemPots.{is_for, item_share, item_shares, wants_for}
 use Rattle.atl_market.specs.Pots.{share_of, shares_in, takers_in, want_of}

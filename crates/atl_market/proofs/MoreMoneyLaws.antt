@@ -7,8 +7,8 @@ use Rattle.atl_state.specs.Campaign.{CampaignValue, with_money}
 use Rattle.atl_records.specs.declared.records.Unit.{Unit}
 use Rattle.atl_records.proofs.EveryLaws.{get-insert_other}
 use Rattle.atl_state.proofs.RegionLaws.{changed-known, get-insert_same}
-use Rattle.atl_instant.specs.NoWorse.{AreNoWorse, IsNoWorse}
-use Rattle.atl_instant.proofs.NoWorseLaws.{no_worse}
+use Rattle.atl_phase.specs.NoWorse.{AreNoWorse, IsNoWorse}
+use Rattle.atl_phase.proofs.NoWorseLaws.{no_worse}
 
 module _ (c : CampaignValue) (n : ℕ) (u : Unit) (money : ℕ) where
   -- what unit `u` holds after it got `money`

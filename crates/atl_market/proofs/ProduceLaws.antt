@@ -26,12 +26,12 @@ use Rattle.atl_records.specs.Limits.{holding_limit, most_units}
 use Rattle.atl_state.specs.Campaign.{CampaignValue}
 use Rattle.atl_state.proofs.BackLaws.{Rise, entries_rise}
 use Rattle.atl_records.proofs.EveryLaws.{each-from_every, none_some, same_number}
-use Rattle.atl_instant.specs.Outcomes.{first_fault}
-use Rattle.atl_instant.specs.Meaning.{BookBound, LeavesWell, both_move, most_moved, moves_only}
-use Rattle.atl_instant.specs.Bounds.{HasRoom, HaveRoom, moved_times}
-use Rattle.atl_instant.specs.PhaseOrders.{Task}
+use Rattle.atl_phase.specs.Outcomes.{first_fault}
+use Rattle.atl_phase.specs.Meaning.{BookBound, LeavesWell, both_move, most_moved, moves_only}
+use Rattle.atl_phase.specs.Bounds.{HasRoom, HaveRoom, moved_times}
+use Rattle.atl_phase.specs.PhaseOrders.{Task}
 use Rattle.atl_records.proofs.HoldingLaws.{amount_within}
-use Rattle.atl_instant.proofs.MeaningLaws.{MovesLess, both_leave_well, less_room, room_behind, room_less, well_unchanged, well_within}
+use Rattle.atl_phase.proofs.MeaningLaws.{MovesLess, both_leave_well, less_room, room_behind, room_less, well_unchanged, well_within}
 use Rattle.atl_market.specs.Making.{CanMake, CanMakeOf, CanProduce, CanUse, HasRoomAndRaw}
 use Rattle.atl_market.specs.PotPhase.{after_sharing, given_by, item_in, items_by}
 use Rattle.atl_market.specs.Bounds.{CanInTurn}

@@ -30,12 +30,12 @@ use Rattle.atl_state.proofs.CoverLaws.{marks-amount, marks-region, marks-trans}
 use Rattle.atl_records.proofs.EveryLaws.{each-from_every, get-insert_other}
 use Rattle.atl_state.proofs.HoldingLaws.{marks-unit_row}
 use Rattle.atl_state.proofs.RegionLaws.{IsRegion-peasants, get-insert_same, steady-region}
-use Rattle.atl_instant.specs.Meaning.{LeavesWell, BookBound, most_moved}
-use Rattle.atl_instant.specs.Bounds.{HaveRoom, moved_times}
-use Rattle.atl_instant.specs.PhaseOrders.{Task}
-use Rattle.atl_instant.proofs.BookingLaws.{within-neg}
-use Rattle.atl_instant.proofs.MarkLaws.{marks_by}
-use Rattle.atl_instant.proofs.MeaningLaws.{room_less, well_within}
+use Rattle.atl_phase.specs.Meaning.{LeavesWell, BookBound, most_moved}
+use Rattle.atl_phase.specs.Bounds.{HaveRoom, moved_times}
+use Rattle.atl_phase.specs.PhaseOrders.{Task}
+use Rattle.atl_phase.proofs.BookingLaws.{within-neg}
+use Rattle.atl_phase.proofs.MarkLaws.{marks_by}
+use Rattle.atl_phase.proofs.MeaningLaws.{room_less, well_within}
 use Rattle.atl_market.specs.PotPhase.{after_sharing, given_by}
 use Rattle.atl_market.specs.Bounds.{CanInTurn}
 use Rattle.atl_market.specs.Recruit.{after_recruiting, recruit_moves, recruit_pots, recruits_at, with_paid_recruits}

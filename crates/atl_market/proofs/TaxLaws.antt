@@ -25,14 +25,14 @@ use Rattle.atl_state.proofs.CoverLaws.{marks-region, marks-trans}
 use Rattle.atl_records.proofs.EveryLaws.{each-from_every}
 use Rattle.atl_state.proofs.HoldingLaws.{marks-unit_row, may_hold_money, of_one_faction_kept, steady-unit_amount, total-unit_amount}
 use Rattle.atl_state.proofs.RegionLaws.{IsRegion-money, steady-region, total-region}
-use Rattle.atl_instant.specs.Meaning.{LeavesWell}
-use Rattle.atl_instant.specs.Bounds.{moved_times}
-use Rattle.atl_instant.specs.NoWorse.{AreNoWorse}
-use Rattle.atl_instant.specs.Unbooked.{moves_nothing}
-use Rattle.atl_instant.specs.PhaseOrders.{Task}
-use Rattle.atl_instant.proofs.MarkLaws.{marks_by}
-use Rattle.atl_instant.proofs.MeaningLaws.{near_same, same_month_by, well_within}
-use Rattle.atl_instant.proofs.NoWorseLaws.{are_no_worse, are_no_worse_twice}
+use Rattle.atl_phase.specs.Meaning.{LeavesWell}
+use Rattle.atl_phase.specs.Bounds.{moved_times}
+use Rattle.atl_phase.specs.NoWorse.{AreNoWorse}
+use Rattle.atl_phase.specs.Unbooked.{moves_nothing}
+use Rattle.atl_phase.specs.PhaseOrders.{Task}
+use Rattle.atl_phase.proofs.MarkLaws.{marks_by}
+use Rattle.atl_phase.proofs.MeaningLaws.{near_same, same_month_by, well_within}
+use Rattle.atl_phase.proofs.NoWorseLaws.{are_no_worse, are_no_worse_twice}
 use Rattle.atl_market.specs.PotPhase.{after_sharing, given_by}
 use Rattle.atl_market.specs.Bounds.{CanInTurn}
 use Rattle.atl_market.specs.Tax.{after_tax, money_at, tax_pots}

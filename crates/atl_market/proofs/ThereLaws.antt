@@ -5,7 +5,7 @@ use Rattle.std.specs.FinMap.{get}
 use Rattle.atl_records.specs.declared.records.Region.{Region}
 use Rattle.atl_records.specs.declared.records.Unit.{Unit}
 use Rattle.atl_state.specs.Campaign.{CampaignValue}
-use Rattle.atl_instant.specs.There.{at_region, at_unit}
+use Rattle.atl_phase.specs.There.{at_region, at_unit}
 
 -- P holds of the result of a change that is made only if there is a value, if it holds with the value and without one
 pub by_option : {A B : Type 0} (P : B → Type 0) (f : A → B) (o : Option A) (otherwise : B) → P otherwise → ((x : A) → o ≡ Some x → P (f x)) → P (option_map_or f o otherwise)

@@ -38,14 +38,14 @@ use Rattle.atl_records.proofs.EveryLaws.{each-from_every, get-insert_other, none
 use Rattle.atl_state.proofs.HavingLaws.{MayHave, may_have}
 use Rattle.atl_records.proofs.HoldingLaws.{alike, amount_within, every_amount, set_amount}
 use Rattle.atl_state.proofs.StockLaws.{restocked, steady-stock}
-use Rattle.atl_instant.specs.Meaning.{LeavesWell, BookBound, moves_only, most_moved}
-use Rattle.atl_instant.specs.Bounds.{HasRoom, HaveRoom, moved_times}
-use Rattle.atl_instant.specs.Holdings.{ChangesHolding}
-use Rattle.atl_instant.specs.PhaseOrders.{Task}
-use Rattle.atl_instant.proofs.BookingLaws.{within-neg, within-pos}
-use Rattle.atl_instant.proofs.ChangeLaws.{changed_held}
-use Rattle.atl_instant.proofs.MarkLaws.{marks_by}
-use Rattle.atl_instant.proofs.MeaningLaws.{room_less, well_unchanged, well_within}
+use Rattle.atl_phase.specs.Meaning.{LeavesWell, BookBound, moves_only, most_moved}
+use Rattle.atl_phase.specs.Bounds.{HasRoom, HaveRoom, moved_times}
+use Rattle.atl_phase.specs.Holdings.{ChangesHolding}
+use Rattle.atl_phase.specs.PhaseOrders.{Task}
+use Rattle.atl_phase.proofs.BookingLaws.{within-neg, within-pos}
+use Rattle.atl_phase.proofs.ChangeLaws.{changed_held}
+use Rattle.atl_phase.proofs.MarkLaws.{marks_by}
+use Rattle.atl_phase.proofs.MeaningLaws.{room_less, well_unchanged, well_within}
 use Rattle.atl_market.specs.AtOnce.{stands_in}
 use Rattle.atl_market.specs.ItemPots.{is_for, wants_for}
 use Rattle.atl_market.specs.PotPhase.{after_sharing, count_in, given_by, item_in, items_by, wants_by}

@@ -9,9 +9,9 @@ use Rattle.atl_records.specs.declared.books.Thing.{Thing}
 use Rattle.atl_records.specs.Limits.{holding_limit, most_units}
 use Rattle.atl_records.specs.Books.{amount_number}
 use Rattle.atl_state.specs.Campaign.{CampaignValue}
-use Rattle.atl_instant.specs.Meaning.{BookBound, Condition, LeavesWell, both_move, most_moved, moves_only}
-use Rattle.atl_instant.specs.Bounds.{HaveRoom, moved_times}
-use Rattle.atl_instant.proofs.MeaningLaws.{MovesLess, both_leave_well, room_behind, room_less, well_unchanged, well_within}
+use Rattle.atl_phase.specs.Meaning.{BookBound, Condition, LeavesWell, both_move, most_moved, moves_only}
+use Rattle.atl_phase.specs.Bounds.{HaveRoom, moved_times}
+use Rattle.atl_phase.proofs.MeaningLaws.{MovesLess, both_leave_well, room_behind, room_less, well_unchanged, well_within}
 use Rattle.atl_market.specs.Bounds.{CanInTurn}
 
 -- As many steps as there may be units, each of which moves one amount by at most 999,999,999, move it by less than

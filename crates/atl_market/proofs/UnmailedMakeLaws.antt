@@ -17,9 +17,8 @@ use Rattle.atl_records.specs.Holdings.{amount_of, with_amount_of}
 use Rattle.atl_state.specs.Owners.{with_place}
 use Rattle.atl_state.specs.Campaign.{CampaignValue, with_amount, with_item}
 use Rattle.atl_state.proofs.RegionLaws.{changed-known}
-use Rattle.atl_instant.proofs.PhaseSpecLaws.{PhaseLeavesUnmailed}
-use Rattle.atl_instant.proofs.UnmailedLaws.{HaveTheirMen, OthersHaveMen, SparesMen, carried_leaves, items_of_no_worse, men_put, men_same, men_stay, men_twice, men_unless, others_men, own_faction, unmailed_spared}
-use Rattle.atl_instant.proofs.UnmailedStepLaws.{place_men}
+use Rattle.atl_phase.proofs.PhaseSpecLaws.{PhaseLeavesUnmailed}
+use Rattle.atl_phase.proofs.UnmailedLaws.{HaveTheirMen, OthersHaveMen, SparesMen, carried_leaves, items_of_no_worse, men_put, men_same, men_stay, men_twice, men_unless, others_men, own_faction, place_men, unmailed_spared}
 use Rattle.atl_market.specs.Build.{after_building_on, after_start, begin, begin_fault, build_effect, build_spec, build_step, go_on, go_on_at, inside_fault, is_building, outside_fault, size_added, with_kind, with_new_structure}
 use Rattle.atl_market.specs.Goods.{with_made, with_used}
 use Rattle.atl_market.specs.Produce as produce

@@ -14,14 +14,14 @@ use Rattle.atl_records.specs.declared.event.Event.{Event}
 use Rattle.atl_records.specs.declared.records.Unit.{Unit}
 use Rattle.atl_state.specs.Campaign.{CampaignValue, with_amount, with_money, with_region_money}
 use Rattle.atl_records.proofs.EveryLaws.{other_number}
-use Rattle.atl_instant.specs.Month.{MonthValue}
-use Rattle.atl_instant.specs.Meaning.{Frame, Meaning}
-use Rattle.atl_instant.specs.PhaseOrders.{Task, orders_by_unit}
-use Rattle.atl_instant.specs.NoWorse.{AreNoWorse}
-use Rattle.atl_instant.specs.Unmailed.{men_starved_by, starved_in}
-use Rattle.atl_instant.specs.declared.phase_order.Arrangement.TheVariants.{ByUnit}
-use Rattle.atl_instant.proofs.PhaseSpecLaws.{PhaseLeavesUnmailed}
-use Rattle.atl_instant.proofs.UnmailedLaws.{HasItsItems, HasItsMen, HaveTheirMen, LeavesUnmailed, UnmailedAre, items_of_no_worse, men_changed, men_in_turn, men_stay, none_ordered, whole_leaves}
+use Rattle.atl_phase.specs.Month.{MonthValue}
+use Rattle.atl_phase.specs.Meaning.{Frame, Meaning}
+use Rattle.atl_phase.specs.PhaseOrders.{Task, orders_by_unit}
+use Rattle.atl_phase.specs.NoWorse.{AreNoWorse}
+use Rattle.atl_phase.specs.Unmailed.{men_starved_by, starved_in}
+use Rattle.atl_phase.specs.declared.phase_order.Arrangement.TheVariants.{ByUnit}
+use Rattle.atl_phase.proofs.PhaseSpecLaws.{PhaseLeavesUnmailed}
+use Rattle.atl_phase.proofs.UnmailedLaws.{HasItsItems, HasItsMen, HaveTheirMen, LeavesUnmailed, UnmailedAre, items_of_no_worse, men_changed, men_in_turn, men_stay, none_ordered, whole_leaves}
 use Rattle.atl_market.specs.PotPhase.{PotMeaning, after_sharing, event_of, events_by, given_by, items_by, pots_meaning}
 use Rattle.atl_market.specs.Recruit.{is_recruit, recruit_pots, recruit_spec, recruits_at}
 use Rattle.atl_market.specs.Tax.{after_tax, is_tax, tax_pots, tax_spec}

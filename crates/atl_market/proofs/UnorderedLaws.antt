@@ -12,8 +12,8 @@ use Rattle.atl_records.specs.declared.event.EventFault.{EventFault}
 use Rattle.atl_records.specs.declared.records.Unit.{Unit}
 use Rattle.atl_state.specs.Campaign.{CampaignValue}
 use Rattle.atl_records.proofs.EveryLaws.{each-from_every, get-insert_other, none_some}
-use Rattle.atl_instant.specs.PhaseOrders.{Task}
-use Rattle.atl_instant.proofs.NoWorseLaws.{no_worse}
+use Rattle.atl_phase.specs.PhaseOrders.{Task}
+use Rattle.atl_phase.proofs.NoWorseLaws.{no_worse}
 use Rattle.atl_market.specs.PotPhase.{PotMeaning, after_sharing, given_by, items_by, unit_for, want_by, wants_by}
 use Rattle.atl_market.specs.Puts.{with_any, with_each}
 use Rattle.atl_market.specs.Unordered.{OthersAreNoWorse, is_ordered}

@@ -25,9 +25,9 @@ use Rattle.atl_state.specs.Campaign.{CampaignValue}
 use Rattle.atl_state.proofs.BackLaws.{Rise, entries_rise}
 use Rattle.atl_records.proofs.EveryLaws.{every-empty, every-insert, get-insert_other, none_some}
 use Rattle.atl_state.proofs.RegionLaws.{get-insert_same}
-use Rattle.atl_instant.specs.PhaseOrders.{Task}
-use Rattle.atl_instant.specs.OrderEffects.{of_faction}
-use Rattle.atl_instant.proofs.ListedLaws.{find_is}
+use Rattle.atl_phase.specs.PhaseOrders.{Task}
+use Rattle.atl_phase.specs.OrderEffects.{of_faction}
+use Rattle.atl_phase.proofs.ListedLaws.{find_is}
 use Rattle.atl_market.proofs.PotLaws.{put_in_turn}
 use Rattle.atl_market.specs.PotPhase.{PotMeaning, given_by, item_by, item_in, items_by, unit_for, want_by, wants_by}
 use Rattle.atl_market.specs.Pots.{AreWants}

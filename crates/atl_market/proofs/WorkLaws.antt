@@ -31,14 +31,14 @@ use Rattle.atl_state.proofs.CoverLaws.{marks-amount, marks-trans}
 use Rattle.atl_records.proofs.EveryLaws.{each-from_every}
 use Rattle.atl_state.proofs.HoldingLaws.{marks-unit_row, may_hold_money, steady-unit_amount, total-unit_amount}
 use Rattle.atl_state.proofs.RegionLaws.{steady-amount, total-amount}
-use Rattle.atl_instant.specs.Meaning.{LeavesWell, BookBound, most_moved}
-use Rattle.atl_instant.specs.Bounds.{HaveRoom, moved_times}
-use Rattle.atl_instant.specs.NoWorse.{AreNoWorse}
-use Rattle.atl_instant.specs.PhaseOrders.{Task}
-use Rattle.atl_instant.proofs.BookingLaws.{booked-near, within-pos}
-use Rattle.atl_instant.proofs.MarkLaws.{marks_by}
-use Rattle.atl_instant.proofs.MeaningLaws.{room_less, same_month_by, well_within}
-use Rattle.atl_instant.proofs.NoWorseLaws.{are_no_worse, are_no_worse_twice}
+use Rattle.atl_phase.specs.Meaning.{LeavesWell, BookBound, most_moved}
+use Rattle.atl_phase.specs.Bounds.{HaveRoom, moved_times}
+use Rattle.atl_phase.specs.NoWorse.{AreNoWorse}
+use Rattle.atl_phase.specs.PhaseOrders.{Task}
+use Rattle.atl_phase.proofs.BookingLaws.{booked-near, within-pos}
+use Rattle.atl_phase.proofs.MarkLaws.{marks_by}
+use Rattle.atl_phase.proofs.MeaningLaws.{room_less, same_month_by, well_within}
+use Rattle.atl_phase.proofs.NoWorseLaws.{are_no_worse, are_no_worse_twice}
 use Rattle.atl_market.specs.PotPhase.{after_sharing, given_by}
 use Rattle.atl_market.specs.Bounds.{CanInTurn}
 use Rattle.atl_market.specs.Work.{after_work, places_at, wages_for, work_moves, work_pots, work_want}

@@ -20,13 +20,13 @@ use Rattle.atl_state.proofs.BackLaws.{append_apart, append_each, entries_rise, f
 use Rattle.atl_state.proofs.GroupLaws.{filter_apart, filter_each}
 use Rattle.atl_records.proofs.EveryLaws.{each-from_every, get-insert_other, other_number, same_number}
 use Rattle.atl_state.proofs.OrderLaws.{each_so}
-use Rattle.atl_instant.specs.Month.{MonthValue}
-use Rattle.atl_instant.specs.PhaseOrders.{Task, is_month_long, key_of, orders_by_unit, task_of}
-use Rattle.atl_instant.specs.declared.phase_order.Arrangement.TheVariants.{ByUnit}
-use Rattle.atl_instant.specs.declared.phase_order.PhaseOrder.{PhaseOrder}
-use Rattle.atl_instant.proofs.MappedLaws.{no_entries}
-use Rattle.atl_instant.proofs.OrderLaws.{listed_tasks}
-use Rattle.atl_instant.specs.OrderEffects.{is_of_faction}
+use Rattle.atl_phase.specs.Month.{MonthValue}
+use Rattle.atl_phase.specs.PhaseOrders.{Task, is_month_long, key_of, orders_by_unit, task_of}
+use Rattle.atl_phase.specs.declared.phase_order.Arrangement.TheVariants.{ByUnit}
+use Rattle.atl_phase.specs.declared.phase_order.PhaseOrder.{PhaseOrder}
+use Rattle.atl_phase.proofs.MappedLaws.{no_entries}
+use Rattle.atl_phase.proofs.OrderLaws.{listed_tasks}
+use Rattle.atl_phase.specs.OrderEffects.{is_of_faction}
 use Rattle.atl_market.specs.Puts.{with_each}
 use Rattle.atl_market.specs.Idle.{all_idle, all_work, idle_by, own_unit, own_writers}
 use Rattle.atl_market.specs.Unordered.{is_ordered}

@@ -10,7 +10,7 @@ use Rattle.atl_tables.specs.declared.world.Market.{Market}
 use Rattle.atl_records.specs.declared.records.Unit.{Unit}
 use Rattle.atl_records.specs.Holdings.{HoldingValue, amount_of, with_amount_of}
 use Rattle.atl_state.specs.Campaign.{CampaignValue}
-use Rattle.atl_instant.specs.PhaseOrders.{Task}
+use Rattle.atl_phase.specs.PhaseOrders.{Task}
 use Rattle.atl_market.specs.AtOnce.{PaysAtOnce, PaysItemsAtOnce, RegionChange, UnitChange, unchanged_region}
 use Rattle.atl_market.specs.PotPhase.{items_by}
 use Rattle.atl_market.specs.Produce.{produce_pots}

@@ -9,7 +9,7 @@ use Rattle.atl_records.specs.declared.records.Region.{Region}
 use Rattle.atl_records.specs.declared.records.Unit.{Unit}
 use Rattle.atl_records.specs.Holdings.{amount_of}
 use Rattle.atl_state.specs.Campaign.{CampaignValue}
-use Rattle.atl_instant.specs.PhaseOrders.{Task}
+use Rattle.atl_phase.specs.PhaseOrders.{Task}
 use Rattle.atl_market.specs.ItemPots.{is_for}
 use Rattle.atl_market.specs.PotPhase.{PotMeaning, after_sharing, given_by}
 

@@ -13,7 +13,7 @@ use Rattle.atl_records.specs.declared.books.Thing.TheVariants.{Item}
 use Rattle.atl_records.specs.Holdings.{HoldingValue, amount_of}
 use Rattle.atl_state.specs.Good.{IsSteady}
 use Rattle.atl_state.specs.Campaign.{CampaignValue}
-use Rattle.atl_instant.specs.Bounds.{RemainingBound}
+use Rattle.atl_phase.specs.Bounds.{RemainingBound}
 
 -- each step of a list can be carried out (`can`) in the campaign that the steps ahead of it leave
 abbrev pub CanInTurn : {X : Type 0} → (CampaignValue → X → Type 0) → (CampaignValue → X → CampaignValue) → CampaignValue → List X → Type 0

@@ -24,11 +24,11 @@ use Rattle.atl_records.specs.Levels.{level_in}
 use Rattle.atl_records.specs.Limits.{most_structures}
 use Rattle.atl_state.specs.Owners.{with_place}
 use Rattle.atl_state.specs.Campaign.{CampaignValue, with_done, with_structure_begun}
-use Rattle.atl_instant.specs.Meaning.{BookBound, most_moved}
-use Rattle.atl_instant.specs.Outcomes.{first_fault, unless}
-use Rattle.atl_instant.specs.NoWorse.{IsNoWorse}
-use Rattle.atl_instant.specs.OrderEffects.{IsOwnOrder, OrderEffect, OrderMeaning}
-use Rattle.atl_instant.specs.PhaseSpecs.{PhaseSpec, goes_by_orders}
+use Rattle.atl_phase.specs.Meaning.{BookBound, most_moved}
+use Rattle.atl_phase.specs.Outcomes.{first_fault, unless}
+use Rattle.atl_phase.specs.NoWorse.{IsNoWorse}
+use Rattle.atl_phase.specs.OrderEffects.{IsOwnOrder, OrderEffect, OrderMeaning}
+use Rattle.atl_phase.specs.PhaseSpecs.{PhaseSpec, goes_by_orders}
 use Rattle.atl_market.specs.Goods.{with_used}
 
 -- whether a verb is BUILD

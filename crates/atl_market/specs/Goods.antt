@@ -4,7 +4,7 @@ use Rattle.atl_records.specs.declared.books.Entry.TheVariants.{Made, Used}
 use Rattle.atl_records.specs.declared.books.Thing.TheVariants.{Item}
 use Rattle.atl_records.specs.Holdings.{amount_of}
 use Rattle.atl_state.specs.Campaign.{CampaignValue, with_amount, with_item}
-use Rattle.atl_instant.specs.There.{at_unit}
+use Rattle.atl_phase.specs.There.{at_unit}
 
 -- a campaign after unit `n` used `amount` of item `i`, booked as used; unchanged where the unit isn't there
 abbrev pub with_used : CampaignValue → ℕ → (item amount : ℕ) → CampaignValue

@@ -13,7 +13,7 @@ use Rattle.atl_state.specs.Good.{IsSteady}
 use Rattle.atl_records.specs.Holdings.{amount_of}
 use Rattle.atl_records.specs.Limits.{holding_limit}
 use Rattle.atl_state.specs.Campaign.{CampaignValue}
-use Rattle.atl_instant.specs.Bounds.{HasRoom, HaveRoom}
+use Rattle.atl_phase.specs.Bounds.{HasRoom, HaveRoom}
 use Rattle.atl_market.specs.Produce.{produce_moves, with_raw_used}
 
 -- unit `n` can use `amount` of item `i`: it is there and holds enough, and the books have room for it

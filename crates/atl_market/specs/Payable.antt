@@ -7,7 +7,7 @@ use Rattle.atl_records.specs.declared.records.Unit.{Unit}
 use Rattle.atl_state.specs.Good.{IsEarly, IsSteady}
 use Rattle.atl_records.specs.Limits.{holding_limit, men_limit}
 use Rattle.atl_state.specs.Campaign.{CampaignValue}
-use Rattle.atl_instant.specs.Bounds.{HaveRoom}
+use Rattle.atl_phase.specs.Bounds.{HaveRoom}
 use Rattle.atl_market.specs.Recruit.{recruit_moves}
 use Rattle.atl_market.specs.Work.{wages_for, work_moves}
 

@@ -18,10 +18,10 @@ use Rattle.atl_records.specs.declared.event.Outcome.TheVariants.{Done, Fault}
 use Rattle.atl_records.specs.declared.records.Unit.{Unit}
 use Rattle.atl_records.specs.Events.{event_fault_number}
 use Rattle.atl_state.specs.Campaign.{CampaignValue}
-use Rattle.atl_instant.specs.Month.{MonthValue, with_events}
-use Rattle.atl_instant.specs.PhaseOrders.{Task, orders_by_unit}
-use Rattle.atl_instant.specs.OrderEffects.{event_for, of_faction}
-use Rattle.atl_instant.specs.Meaning.{Meaning}
+use Rattle.atl_phase.specs.Month.{MonthValue, with_events}
+use Rattle.atl_phase.specs.PhaseOrders.{Task, orders_by_unit}
+use Rattle.atl_phase.specs.OrderEffects.{event_for, of_faction}
+use Rattle.atl_phase.specs.Meaning.{Meaning}
 
 -- ---- what an order names
 

@@ -18,9 +18,9 @@ use Rattle.atl_records.specs.Holdings.{HoldingValue, amount_of}
 use Rattle.atl_records.specs.Levels.{level_in_any}
 use Rattle.atl_records.specs.Limits.{holding_limit}
 use Rattle.atl_state.specs.Campaign.{CampaignValue}
-use Rattle.atl_instant.specs.Meaning.{BookBound, Frame, Meaning, most_moved}
-use Rattle.atl_instant.specs.Outcomes.{first_fault}
-use Rattle.atl_instant.specs.PhaseSpecs.{PhaseSpec}
+use Rattle.atl_phase.specs.Meaning.{BookBound, Frame, Meaning, most_moved}
+use Rattle.atl_phase.specs.Outcomes.{first_fault}
+use Rattle.atl_phase.specs.PhaseSpecs.{PhaseSpec}
 use Rattle.atl_market.specs.Goods.{with_made, with_used}
 use Rattle.atl_market.specs.ItemPots.{item_share}
 use Rattle.atl_market.specs.PotPhase.{PotMeaning, item_in, pots_by_orders}

@@ -14,13 +14,13 @@ use Rattle.atl_records.specs.Holdings.{HoldingValue}
 use Rattle.atl_state.specs.Lending.{with_holding}
 use Rattle.atl_records.specs.Limits.{men_limit}
 use Rattle.atl_state.specs.Campaign.{CampaignValue, with_amount, with_peasants}
-use Rattle.atl_instant.specs.Meaning.{BookBound, Frame, Meaning, moves_only}
-use Rattle.atl_instant.specs.Outcomes.{first_fault}
-use Rattle.atl_instant.specs.There.{at_region, at_unit}
+use Rattle.atl_phase.specs.Meaning.{BookBound, Frame, Meaning, moves_only}
+use Rattle.atl_phase.specs.Outcomes.{first_fault}
+use Rattle.atl_phase.specs.There.{at_region, at_unit}
 use Rattle.atl_market.specs.Pots.{pot_shares}
 use Rattle.atl_market.specs.PotPhase.{PotMeaning, count_in, pots_by_orders}
 use Rattle.atl_market.specs.Unordered.{spares_unordered}
-use Rattle.atl_instant.specs.PhaseSpecs.{PhaseSpec, books_money}
+use Rattle.atl_phase.specs.PhaseSpecs.{PhaseSpec, books_money}
 
 -- whether a verb is RECRUIT
 abbrev pub is_recruit : Verb → Bool

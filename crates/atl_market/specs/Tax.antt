@@ -10,13 +10,13 @@ use Rattle.atl_records.specs.declared.event.EventFault.TheVariants.{NoMen, NotGu
 use Rattle.atl_records.specs.declared.records.Unit.{Unit}
 use Rattle.atl_records.specs.Limits.{holding_limit}
 use Rattle.atl_state.specs.Campaign.{CampaignValue, with_money, with_region_money}
-use Rattle.atl_instant.specs.Meaning.{Meaning}
-use Rattle.atl_instant.specs.NoWorse.{spares_all}
-use Rattle.atl_instant.specs.Outcomes.{first_fault}
-use Rattle.atl_instant.specs.There.{at_region, at_unit}
+use Rattle.atl_phase.specs.Meaning.{Meaning}
+use Rattle.atl_phase.specs.NoWorse.{spares_all}
+use Rattle.atl_phase.specs.Outcomes.{first_fault}
+use Rattle.atl_phase.specs.There.{at_region, at_unit}
 use Rattle.atl_market.specs.Pots.{pot_shares}
 use Rattle.atl_market.specs.PotPhase.{PotMeaning, pots_by_orders}
-use Rattle.atl_instant.specs.PhaseSpecs.{PhaseSpec, books_none}
+use Rattle.atl_phase.specs.PhaseSpecs.{PhaseSpec, books_none}
 
 -- whether a verb is TAX
 abbrev pub is_tax : Verb → Bool

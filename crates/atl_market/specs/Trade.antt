@@ -19,10 +19,10 @@ use Rattle.atl_state.specs.Lending.{with_holding}
 use Rattle.atl_records.specs.Limits.{holding_limit}
 use Rattle.atl_state.specs.Stocks.{stock_of}
 use Rattle.atl_state.specs.Campaign.{CampaignValue, with_amount, with_stock}
-use Rattle.atl_instant.specs.Meaning.{BookBound, Frame, Meaning, moves_only}
-use Rattle.atl_instant.specs.Outcomes.{first_fault}
-use Rattle.atl_instant.specs.There.{at_unit}
-use Rattle.atl_instant.specs.PhaseSpecs.{PhaseSpec, books_money}
+use Rattle.atl_phase.specs.Meaning.{BookBound, Frame, Meaning, moves_only}
+use Rattle.atl_phase.specs.Outcomes.{first_fault}
+use Rattle.atl_phase.specs.There.{at_unit}
+use Rattle.atl_phase.specs.PhaseSpecs.{PhaseSpec, books_money}
 use Rattle.atl_market.specs.declared.trade.TradeResult.{TradeResult}
 use Rattle.atl_market.specs.declared.trade.Trade.{Trade}
 use Rattle.atl_market.specs.declared.trade.Trade.TheVariants.{Sell, Buy}

@@ -13,7 +13,7 @@ use Rattle.atl_state.specs.Good.{IsEarly}
 use Rattle.atl_records.specs.Holdings.{HoldingValue, amount_of}
 use Rattle.atl_records.specs.Limits.{holding_limit}
 use Rattle.atl_state.specs.Campaign.{CampaignValue}
-use Rattle.atl_instant.specs.Bounds.{HasRoom, HaveRoom}
+use Rattle.atl_phase.specs.Bounds.{HasRoom, HaveRoom}
 use Rattle.atl_market.specs.declared.trade.TradeResult.{TradeResult}
 use Rattle.atl_market.specs.declared.trade.Trade.{Trade}
 use Rattle.atl_market.specs.declared.trade.Trade.TheVariants.{Sell, Buy}

@@ -6,9 +6,9 @@ use Rattle.atl_records.specs.declared.records.Unit.{Unit}
 use Rattle.atl_records.specs.Every.{Every}
 use Rattle.atl_state.specs.Campaign.{CampaignValue}
 use Rattle.atl_orders.specs.declared.verb.Verb.{Verb}
-use Rattle.atl_instant.specs.Meaning.{Frame}
-use Rattle.atl_instant.specs.PhaseOrders.{Task, orders_by_unit}
-use Rattle.atl_instant.specs.NoWorse.{IsNoWorse}
+use Rattle.atl_phase.specs.Meaning.{Frame}
+use Rattle.atl_phase.specs.PhaseOrders.{Task, orders_by_unit}
+use Rattle.atl_phase.specs.NoWorse.{IsNoWorse}
 
 -- whether one of these orders is for a unit, by its number, and of the unit's own faction
 abbrev pub is_ordered : List Task → ℕ → Unit → Bool

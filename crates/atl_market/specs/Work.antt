@@ -18,17 +18,17 @@ use Rattle.atl_records.specs.declared.event.EventFault.TheVariants.{NoMen}
 use Rattle.atl_records.specs.declared.records.Unit.{Unit}
 use Rattle.atl_records.specs.Limits.{holding_limit}
 use Rattle.atl_state.specs.Campaign.{CampaignValue, with_amount, with_money}
-use Rattle.atl_instant.specs.Month.{MonthValue}
-use Rattle.atl_instant.specs.Meaning.{BookBound, Meaning, moves_only}
-use Rattle.atl_instant.specs.PhaseOrders.{Task, is_month_long, key_of, orders_by_unit}
-use Rattle.atl_instant.specs.NoWorse.{spares_all}
-use Rattle.atl_instant.specs.declared.phase_order.Arrangement.TheVariants.{ByUnit}
-use Rattle.atl_instant.specs.Outcomes.{first_fault}
-use Rattle.atl_instant.specs.There.{at_unit}
+use Rattle.atl_phase.specs.Month.{MonthValue}
+use Rattle.atl_phase.specs.Meaning.{BookBound, Meaning, moves_only}
+use Rattle.atl_phase.specs.PhaseOrders.{Task, is_month_long, key_of, orders_by_unit}
+use Rattle.atl_phase.specs.NoWorse.{spares_all}
+use Rattle.atl_phase.specs.declared.phase_order.Arrangement.TheVariants.{ByUnit}
+use Rattle.atl_phase.specs.Outcomes.{first_fault}
+use Rattle.atl_phase.specs.There.{at_unit}
 use Rattle.atl_market.specs.Unordered.{is_ordered}
 use Rattle.atl_market.specs.PotPhase.{PotMeaning, pots_meaning}
 use Rattle.atl_market.specs.Pots.{pot_shares}
-use Rattle.atl_instant.specs.PhaseSpecs.{PhaseSpec, books_money}
+use Rattle.atl_phase.specs.PhaseSpecs.{PhaseSpec, books_money}
 
 -- ---- who works
 

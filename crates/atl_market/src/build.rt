@@ -9,18 +9,18 @@ ghost use Rattle.atl_state.specs.Covers.{MarksChanges};
 ghost use Rattle.atl_state.specs.Good.{IsNumbered};
 ghost use Rattle.atl_records.specs.Limits.{last_unit, most_structures};
 ghost use Rattle.atl_records.specs.declared.records.Unit.{Unit};
-ghost use Rattle.atl_instant.specs.Bounds.{HaveRoom};
-ghost use Rattle.atl_instant.specs.OrderEffects.{faction_effect};
+ghost use Rattle.atl_phase.specs.Bounds.{HaveRoom};
+ghost use Rattle.atl_phase.specs.OrderEffects.{faction_effect};
 ghost use Rattle.atl_market.specs.Build.{after_building_on, after_start, begin, begin_fault, build_moves, build_spec, build_step, go_on, inside_fault, is_building, is_structure_limit, name_prefix, outside_fault, size_added, with_new_structure};
 ghost use Rattle.atl_market.specs.Bounds.{CanBuild, build_reserve};
 ghost use Rattle.atl_market.specs.Making.{CanUse};
 
 use crate::goods::use_item;
-use atl_instant::{
+use atl_orders::{Operands, Verb};
+use atl_phase::{
     Month, OrderPhase, Phase, PhaseOrder, PhaseResult, PhaseVerbs, carry_out_orders, fault_outcome,
     own_unit,
 };
-use atl_orders::{Operands, Verb};
 use atl_state::{
     Campaign, EventFault, Holding, MOST_STRUCTURES, Outcome, Structure, Unit, level_in,
 };

@@ -7,7 +7,7 @@ ghost use Rattle.atl_records.specs.declared.records.Unit.{Unit};
 ghost use Rattle.atl_market.specs.Goods.{with_made, with_used};
 ghost use Rattle.atl_market.specs.Making.{CanMake, CanUse};
 
-use atl_instant::book_taken;
+use atl_phase::book_taken;
 use atl_state::{Campaign, Entry, Thing};
 use atl_tables::World;
 use std::alloc::AllocError;

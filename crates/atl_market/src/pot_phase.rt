@@ -8,14 +8,14 @@ ghost use Rattle.atl_tables.specs.Worlds.{WorldValue};
 ghost use Rattle.atl_state.specs.Covers.{MarksChanges};
 ghost use Rattle.atl_state.specs.Campaign.{CampaignValue};
 ghost use Rattle.std.specs.Ordering.{nat_cmp};
-ghost use Rattle.atl_instant.specs.PhaseOrders.{task_of};
+ghost use Rattle.atl_phase.specs.PhaseOrders.{task_of};
 ghost use Rattle.atl_market.specs.PotPhase.{PotMeaning, after_sharing, count_in, event_of, events_by, given_by, item_by, item_in, items_by, unit_for, want_by, wants_by};
 ghost use Rattle.atl_market.specs.Bounds.{CanInTurn};
 ghost use Rattle.atl_market.specs.Pots.{AreWants};
 ghost use Rattle.atl_market.specs.Puts.{with_any};
 
-use atl_instant::{PhaseOrder, own_unit};
 use atl_orders::Operands;
+use atl_phase::{PhaseOrder, own_unit};
 use atl_state::{Campaign, Event, EventFault, Outcome, Unit};
 use atl_tables::{Numbered, World};
 use std::alloc::{AllocError, Global};

@@ -8,19 +8,19 @@ ghost use Rattle.atl_state.specs.Good.{IsEarly};
 ghost use Rattle.atl_state.specs.Lending.{with_holding};
 ghost use Rattle.atl_records.specs.Limits.{holding_limit, men_limit};
 ghost use Rattle.atl_state.specs.Campaign.{with_amount, with_peasants};
-ghost use Rattle.atl_instant.specs.Holdings.{MarksNoGoods};
-ghost use Rattle.atl_instant.specs.Meaning.{most_moved};
-ghost use Rattle.atl_instant.specs.Bounds.{HaveRoom};
+ghost use Rattle.atl_phase.specs.Holdings.{MarksNoGoods};
+ghost use Rattle.atl_phase.specs.Meaning.{most_moved};
+ghost use Rattle.atl_phase.specs.Bounds.{HaveRoom};
 ghost use Rattle.atl_market.specs.Recruit.{after_recruiting, is_recruit, recruit_keeps, recruit_meaning, recruit_moves, recruit_pots, recruits_at, with_paid_recruits};
 ghost use Rattle.atl_market.specs.Payable.{CanRecruit};
 ghost use Rattle.atl_market.specs.AfterPots.{RecruitsAtOnce};
 
 use crate::pot_phase::{PotPhase, named_count, share_out};
 use crate::pots::{Pots, pot_shares};
-use atl_instant::{
+use atl_orders::Verb;
+use atl_phase::{
     Arrangement, Month, Phase, PhaseOrder, PhaseResult, PhaseVerbs, add_events, book_taken,
 };
-use atl_orders::Verb;
 use atl_state::{Campaign, Entry, EventFault, MEN_LIMIT, Thing, Unit};
 use atl_tables::{Numbered, World};
 use std::alloc::{AllocError, Global};

@@ -16,11 +16,11 @@ use Rattle.atl_state.specs.Totals.{Balances, total}
 use Rattle.atl_orders.specs.Mailing.{Reading}
 use Rattle.atl_records.proofs.EveryLaws.{every-empty}
 use Rattle.atl_state.proofs.GoodLaws.{posted-steady, posted-unsent}
-use Rattle.atl_instant.specs.Month.{MonthValue}
-use Rattle.atl_instant.specs.Meaning.{BookBound, Condition, IsNear, IsSameMonth, LeavesWell, Meaning}
-use Rattle.atl_instant.specs.Bounds.{HaveRoom}
-use Rattle.atl_instant.proofs.MonthLaws.{mailings_have_no_order}
-use Rattle.atl_instant.proofs.MeaningLaws.{MovesLess, near_more, room_when_sound}
+use Rattle.atl_phase.specs.Month.{MonthValue}
+use Rattle.atl_phase.specs.Meaning.{BookBound, Condition, IsNear, IsSameMonth, LeavesWell, Meaning}
+use Rattle.atl_phase.specs.Bounds.{HaveRoom}
+use Rattle.atl_phase.proofs.MonthLaws.{mailings_have_no_order}
+use Rattle.atl_phase.proofs.MeaningLaws.{MovesLess, near_more, room_when_sound}
 use Rattle.atl_month.specs.Month.{BooksAreNear, MailOrderDoesNotCount, after_month, month_meaning, month_moves, month_of, new_month, phases_moving}
 use Rattle.atl_month.specs.AfterSweep.{IsSwept}
 use Rattle.atl_month.proofs.CountLaws.{has_all_back}

@@ -5,10 +5,10 @@ use Rattle.std.proofs.lemmas.Bool.Decides.{nat_tests}
 use Rattle.atl_records.specs.declared.books.Thing.TheVariants.{Item, Money, People}
 use Rattle.atl_records.specs.Limits.{most_in_month}
 use Rattle.atl_records.proofs.EveryEntryLaws.{each_entry}
-use Rattle.atl_instant.specs.Meaning.{BookBound}
-use Rattle.atl_instant.specs.PhaseSpecs.{EachPhase, MovesItsOwn}
-use Rattle.atl_instant.proofs.MeaningLaws.{MovesLess}
-use Rattle.atl_instant.proofs.PhaseSpecLaws.{each_also, moved_within}
+use Rattle.atl_phase.specs.Meaning.{BookBound}
+use Rattle.atl_phase.specs.PhaseSpecs.{EachPhase, MovesItsOwn}
+use Rattle.atl_phase.proofs.MeaningLaws.{MovesLess}
+use Rattle.atl_phase.proofs.PhaseSpecLaws.{each_also, moved_within}
 use Rattle.atl_month.specs.Month.{PhasesMoveLittle, TwoMoveAtMost, early_phases, last_phases, later_phases, month_moves, moving_phases, phases_moving}
 use Rattle.atl_month.proofs.PhaseLaws.{IsPhase, early_are, last_move, later_are}
 

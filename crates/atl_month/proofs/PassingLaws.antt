@@ -30,13 +30,13 @@ use Rattle.atl_records.proofs.BookLaws.{booked-after_booking}
 use Rattle.atl_records.proofs.EveryLaws.{every-insert, get-insert_other}
 use Rattle.atl_state.proofs.HoldingLaws.{MayHold, may_hold_money, steady-unit_amount, total-unit_amount}
 use Rattle.atl_state.proofs.RegionLaws.{changed-known, get-insert_same, steady-amount, total-amount}
-use Rattle.atl_instant.specs.Meaning.{BookBound, IsNear, IsSameMonth, both_move, moves_only}
-use Rattle.atl_instant.proofs.MeaningLaws.{near_same, near_twice, same_month_by, same_month_twice}
+use Rattle.atl_phase.specs.Meaning.{BookBound, IsNear, IsSameMonth, both_move, moves_only}
+use Rattle.atl_phase.proofs.MeaningLaws.{near_same, near_twice, same_month_by, same_month_twice}
 use Rattle.atl_records.proofs.HoldingLaws.{amount_within, every_amount, set_amount}
-use Rattle.atl_instant.proofs.BookingLaws.{booked-near, within-neg}
+use Rattle.atl_phase.proofs.BookingLaws.{booked-near, within-neg}
+use Rattle.atl_phase.proofs.NoWorseLaws.{no_worse, no_worse_twice}
+use Rattle.atl_phase.specs.Bounds.{moving_items}
 use Rattle.atl_instant.proofs.QuitLaws.{owing_items, part_of}
-use Rattle.atl_instant.proofs.NoWorseLaws.{no_worse, no_worse_twice}
-use Rattle.atl_instant.specs.Bounds.{moving_items}
 use Rattle.atl_month.specs.Sweep.{IsKept, accepted_of, after_passing_item, after_passing_money, with_lost}
 
 -- ---- more than is booked

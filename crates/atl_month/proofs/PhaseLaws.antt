@@ -11,11 +11,11 @@ use Rattle.atl_records.specs.Books.{entry_index, thing_index, amount_number}
 use Rattle.atl_records.specs.Limits.{entry_count}
 use Rattle.atl_records.proofs.EveryEntryLaws.{entry_small}
 use Rattle.atl_records.proofs.EveryLaws.{other_number}
-use Rattle.atl_instant.specs.Meaning.{BookBound, both_move, most_moved, moves_only}
+use Rattle.atl_phase.specs.Meaning.{BookBound, both_move, most_moved, moves_only}
+use Rattle.atl_phase.specs.PhaseSpecs.{EachPhase, MovedEntries, MovesItsOwn, PhaseSpec, may_move, no_moved_entries}
+use Rattle.atl_phase.specs.Unbooked.{moves_nothing}
+use Rattle.atl_phase.proofs.PhaseSpecLaws.{CloseTogether, PhaseLeavesUnmailed}
 use Rattle.atl_instant.specs.Quit.{quit_spec}
-use Rattle.atl_instant.specs.PhaseSpecs.{EachPhase, MovedEntries, MovesItsOwn, PhaseSpec, may_move, no_moved_entries}
-use Rattle.atl_instant.specs.Unbooked.{moves_nothing}
-use Rattle.atl_instant.proofs.PhaseSpecLaws.{CloseTogether, PhaseLeavesUnmailed}
 use Rattle.atl_instant.proofs.UnmailedStepLaws.{form_leaves, give_leaves, guard_leaves, name_leaves, place_leaves, quit_leaves, transfer_leaves}
 use Rattle.atl_action.proofs.UnmailedLearnLaws.{learn_leaves}
 use Rattle.atl_action.proofs.UnmailedTravelLaws.{sail_leaves, walk_leaves}

@@ -37,11 +37,11 @@ use Rattle.atl_records.proofs.EveryEntryLaws.{entry_small}
 use Rattle.atl_records.proofs.EveryLaws.{each-from_every, sorted}
 use Rattle.atl_state.proofs.RegionLaws.{steady-amount, total-amount}
 use Rattle.atl_state.proofs.StockLaws.{steady-stock, total-stock, total-stock_other}
-use Rattle.atl_instant.specs.Meaning.{BookBound, LeavesWell, moves_only}
-use Rattle.atl_instant.specs.Bounds.{HasRoom, HaveRoom}
-use Rattle.atl_instant.proofs.BookingLaws.{booked-near, within-pos}
-use Rattle.atl_instant.proofs.MarkLaws.{marks_by}
-use Rattle.atl_instant.proofs.MeaningLaws.{both_leave_well, room_behind, room_less, same_month_by, well_unchanged, well_within}
+use Rattle.atl_phase.specs.Meaning.{BookBound, LeavesWell, moves_only}
+use Rattle.atl_phase.specs.Bounds.{HasRoom, HaveRoom}
+use Rattle.atl_phase.proofs.BookingLaws.{booked-near, within-pos}
+use Rattle.atl_phase.proofs.MarkLaws.{marks_by}
+use Rattle.atl_phase.proofs.MeaningLaws.{both_leave_well, room_behind, room_less, same_month_by, well_unchanged, well_within}
 use Rattle.atl_month.specs.Restock.{after_market_restock, after_restock, markets_of, restock, stocks_by}
 
 -- ---- how far new goods move the books

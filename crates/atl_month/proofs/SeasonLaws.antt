@@ -30,12 +30,12 @@ use Rattle.atl_records.proofs.BookLaws.{booked-after_booking, share_of}
 use Rattle.atl_state.proofs.CoverLaws.{marks-amount, marks-region, marks-trans}
 use Rattle.atl_state.proofs.RegionLaws.{IsRegion-money, IsRegion-peasants, region-changed, steady-amount, steady-region, total-amount, total-region}
 use Rattle.atl_records.proofs.EveryLaws.{none_some}
-use Rattle.atl_instant.specs.Meaning.{IsNear, LeavesWell, both_move, most_moved, moves_only}
-use Rattle.atl_instant.specs.Bounds.{HaveRoom, moved_times}
-use Rattle.atl_instant.specs.There.{at_region}
-use Rattle.atl_instant.proofs.MarkLaws.{marks_by}
-use Rattle.atl_instant.proofs.MeaningLaws.{both_leave_well, fold_leaves_well, near_more, near_twice, room_behind_one, room_for_one, room_less, same_month_by, well_unchanged, well_within}
-use Rattle.atl_instant.proofs.BookingLaws.{booked-near, within-pos}
+use Rattle.atl_phase.specs.Meaning.{IsNear, LeavesWell, both_move, most_moved, moves_only}
+use Rattle.atl_phase.specs.Bounds.{HaveRoom, moved_times}
+use Rattle.atl_phase.specs.There.{at_region}
+use Rattle.atl_phase.proofs.MarkLaws.{marks_by}
+use Rattle.atl_phase.proofs.MeaningLaws.{both_leave_well, fold_leaves_well, near_more, near_twice, room_behind_one, room_for_one, room_less, same_month_by, well_unchanged, well_within}
+use Rattle.atl_phase.proofs.BookingLaws.{booked-near, within-pos}
 use Rattle.atl_month.specs.Restock.{after_restock, is_item, markets_of, stocks_by}
 use Rattle.atl_month.specs.Season.{births, grows_by, income, season, season_at, season_moves, season_of, with_growth}
 use Rattle.atl_month.proofs.RestockLaws.{restocked_keeps, restocked_leaves_well}

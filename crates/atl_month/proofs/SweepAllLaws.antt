@@ -24,9 +24,9 @@ use Rattle.atl_state.specs.Good.{HaveMen, IsSteady, UnitlessAreGone}
 use Rattle.atl_state.specs.Owners.{without_unit}
 use Rattle.atl_state.specs.Campaign.{CampaignValue, active, numbers_of, with_gone}
 use Rattle.atl_records.proofs.EveryLaws.{none_some}
-use Rattle.atl_instant.specs.Meaning.{LeavesWell, BookBound, both_move, most_moved}
-use Rattle.atl_instant.specs.Bounds.{moved_times}
-use Rattle.atl_instant.proofs.MeaningLaws.{both_leave_well, fold_leaves_well, near_same, same_month_among, well_unchanged, well_within}
+use Rattle.atl_phase.specs.Meaning.{LeavesWell, BookBound, both_move, most_moved}
+use Rattle.atl_phase.specs.Bounds.{moved_times}
+use Rattle.atl_phase.proofs.MeaningLaws.{both_leave_well, fold_leaves_well, near_same, same_month_among, well_unchanged, well_within}
 use Rattle.atl_month.specs.Sweep.{IsKept, after_passing_all, after_sweeping_faction, after_sweeping_unit, is_empty, loses_by, menless_units, receiver, sweep}
 use Rattle.atl_month.specs.AfterSweep.{IsSwept}
 use Rattle.atl_state.proofs.NumberListLaws.{IsListed, passing_listed}

@@ -28,11 +28,11 @@ use Rattle.atl_records.specs.Amounts.{unit_amount}
 use Rattle.atl_state.specs.Totals.{Balances, total}
 use Rattle.atl_records.proofs.EveryEntryLaws.{entry_small}
 use Rattle.atl_records.proofs.EveryLaws.{each-from_every, sorted}
-use Rattle.atl_instant.specs.Meaning.{BookBound, IsNear, LeavesWell, both_move, moves_only}
+use Rattle.atl_phase.specs.Meaning.{BookBound, IsNear, LeavesWell, both_move, moves_only}
 use Rattle.atl_records.proofs.HoldingLaws.{amount_within}
-use Rattle.atl_instant.proofs.MeaningLaws.{near_more}
+use Rattle.atl_phase.proofs.MeaningLaws.{near_more}
+use Rattle.atl_phase.specs.Bounds.{moving_items}
 use Rattle.atl_instant.proofs.QuitLaws.{no_money, no_people, of_item, owing_items, part_of}
-use Rattle.atl_instant.specs.Bounds.{moving_items}
 use Rattle.atl_month.specs.Sweep.{IsKept, after_passing_all, after_passing_money, loses_by, receiver, receives}
 use Rattle.atl_records.proofs.RemovedLaws.{get-remove_other, still}
 use Rattle.atl_state.proofs.NumberListLaws.{IsListed, listed_passing}

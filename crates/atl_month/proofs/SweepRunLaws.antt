@@ -18,10 +18,10 @@ use Rattle.atl_state.specs.Marking.{mark_amount, mark_faction, mark_unit_row}
 use Rattle.atl_state.specs.Campaign.{MarkedCampaign, CampaignValue, with_gone, with_item, with_money}
 use Rattle.atl_state.proofs.CoverLaws.{marks-amount, marks-trans}
 use Rattle.atl_state.proofs.HoldingLaws.{marks-unit_row}
-use Rattle.atl_instant.specs.Meaning.{BookBound, IsNear, both_move, moves_only}
-use Rattle.atl_instant.specs.Bounds.{HaveRoom, moving_items}
-use Rattle.atl_instant.proofs.MarkLaws.{marks_by}
-use Rattle.atl_instant.proofs.MeaningLaws.{near_room, room_less}
+use Rattle.atl_phase.specs.Meaning.{BookBound, IsNear, both_move, moves_only}
+use Rattle.atl_phase.specs.Bounds.{HaveRoom, moving_items}
+use Rattle.atl_phase.proofs.MarkLaws.{marks_by}
+use Rattle.atl_phase.proofs.MeaningLaws.{near_room, room_less}
 use Rattle.atl_instant.proofs.QuitLaws.{part_of}
 use Rattle.atl_month.specs.Sweep.{accepted_of, after_passing_item, after_passing_money, loses_by, with_lost}
 use Rattle.atl_state.proofs.GoneLaws.{marks-gone_faction}

@@ -12,12 +12,12 @@ use Rattle.atl_orders.specs.declared.mailing.Mailing.{Mailing}
 use Rattle.atl_records.specs.declared.event.Event.{Event}
 use Rattle.atl_records.specs.Every.{Every}
 use Rattle.atl_state.specs.Campaign.{CampaignValue}
-use Rattle.atl_instant.specs.Month.{MonthValue, by_faction}
-use Rattle.atl_instant.specs.Meaning.{Frame, Meaning}
-use Rattle.atl_instant.specs.OrderEffects.{IsUnaffected}
-use Rattle.atl_instant.specs.Unmailed.{IsLeft, IsLessBy, starved_in}
-use Rattle.atl_instant.proofs.UnmailedLaws.{ClosesUnmailed, both_leave, then_closes}
-use Rattle.atl_instant.proofs.PhaseSpecLaws.{closed_together, each_also, leave_together}
+use Rattle.atl_phase.specs.Month.{MonthValue, by_faction}
+use Rattle.atl_phase.specs.Meaning.{Frame, Meaning}
+use Rattle.atl_phase.specs.OrderEffects.{IsUnaffected}
+use Rattle.atl_phase.specs.Unmailed.{IsLeft, IsLessBy, starved_in}
+use Rattle.atl_phase.proofs.UnmailedLaws.{ClosesUnmailed, both_leave, then_closes}
+use Rattle.atl_phase.proofs.PhaseSpecLaws.{closed_together, each_also, leave_together}
 use Rattle.atl_month.specs.Month.{early_phases, last_phases, later_phases, month_keeps, month_meaning, month_of, new_month}
 use Rattle.atl_month.proofs.PhaseLaws.{IsPhase, early_are, last_leave, later_are}
 use Rattle.atl_month.specs.Unmailed.{SentNone, UnmailedAreLeft}

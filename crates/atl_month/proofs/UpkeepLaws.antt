@@ -38,17 +38,17 @@ use Rattle.atl_state.proofs.CoverLaws.{marks-amount, marks-trans}
 use Rattle.atl_records.proofs.EveryLaws.{each-from_every, every-empty, get-insert_other}
 use Rattle.atl_state.proofs.HoldingLaws.{MayHold, steady-unit_amount, total-unit_amount}
 use Rattle.atl_state.proofs.RegionLaws.{steady-amount, total-amount}
-use Rattle.atl_instant.specs.Meaning.{IsNear, LeavesWell, BookBound, moves_only, most_moved}
-use Rattle.atl_instant.specs.Bounds.{HaveRoom, moved_times}
+use Rattle.atl_phase.specs.Meaning.{IsNear, LeavesWell, BookBound, moves_only, most_moved}
+use Rattle.atl_phase.specs.Bounds.{HaveRoom, moved_times}
+use Rattle.atl_phase.specs.Holdings.{with_days}
+use Rattle.atl_phase.proofs.MarkLaws.{marks_by}
+use Rattle.atl_phase.proofs.MeaningLaws.{MovesLess, near_twice, room_less, same_month_by, well_within}
+use Rattle.atl_phase.proofs.BookingLaws.{booked-near, within-neg}
 use Rattle.atl_instant.specs.Amounts.{amounts_for}
-use Rattle.atl_instant.specs.Holdings.{with_days}
 use Rattle.atl_instant.specs.Transfer.{going_of}
 use Rattle.atl_instant.proofs.AmountsForLaws.{as_said, each_said, same_amounts}
-use Rattle.atl_instant.proofs.DaysLaws.{none_go, set_again, set_each}
-use Rattle.atl_instant.proofs.MarkLaws.{marks_by}
-use Rattle.atl_instant.proofs.MeaningLaws.{MovesLess, near_twice, room_less, same_month_by, well_within}
 use Rattle.atl_records.proofs.HoldingLaws.{every_amount}
-use Rattle.atl_instant.proofs.BookingLaws.{booked-near, within-neg}
+use Rattle.atl_instant.proofs.DaysLaws.{none_go, set_again, set_each}
 use Rattle.atl_market.specs.Bounds.{CanInTurn}
 use Rattle.atl_market.proofs.TurnLaws.{first_room, later_room, turns_leave_well}
 use Rattle.atl_month.specs.declared.upkeep_sharing.UpkeepInput.{UpkeepInput}

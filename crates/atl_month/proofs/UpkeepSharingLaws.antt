@@ -17,7 +17,7 @@ use Rattle.atl_month.specs.declared.accounts.Account.{Account}
 use Rattle.atl_month.specs.declared.upkeep_sharing.UpkeepInput.{UpkeepInput}
 use Rattle.atl_month.specs.declared.upkeep_sharing.UpkeepResult.{UpkeepResult}
 use Rattle.atl_month.specs.Accounts.{AccountMap, IsOpen, account_after, account_at, account_of, left_among, no_account, short_among, upkeep_result_by, with_account, with_counted}
-use Rattle.atl_instant.specs.InTurn.{amount_in_turn}
+use Rattle.atl_phase.specs.InTurn.{amount_in_turn}
 use Rattle.atl_month.specs.UpkeepSharing.{AreInOrder, EachCanSpare, given_among, is_input_of, left_of, paid_by, peers_of, short_of, starved_of, upkeep_result_among}
 
 -- ---- an account is set in the map

@@ -12,9 +12,9 @@ use Rattle.atl_records.specs.declared.books.Thing.{Thing}
 use Rattle.atl_records.specs.declared.event.Event.{Event}
 use Rattle.atl_records.specs.Books.{amount_in}
 use Rattle.atl_state.specs.Campaign.{CampaignValue, with_month, without_mail}
-use Rattle.atl_instant.specs.Month.{MonthValue, HaveOwnFactions, by_faction}
-use Rattle.atl_instant.specs.Meaning.{BookBound, Frame, IsNear, Meaning, both_keep, both_move, most_moved, then_also}
-use Rattle.atl_instant.specs.PhaseSpecs.{EachPhase, MovesItsOwn, PhaseSpec, keeps_of, meaning_of, moving_of, moving_phases_of}
+use Rattle.atl_phase.specs.Month.{MonthValue, HaveOwnFactions, by_faction}
+use Rattle.atl_phase.specs.Meaning.{BookBound, Frame, IsNear, Meaning, both_keep, both_move, most_moved, then_also}
+use Rattle.atl_phase.specs.PhaseSpecs.{EachPhase, MovesItsOwn, PhaseSpec, keeps_of, meaning_of, moving_of, moving_phases_of}
 use Rattle.atl_instant.specs.Form.{form_spec}
 use Rattle.atl_instant.specs.Give.{give_spec}
 use Rattle.atl_instant.specs.Guard.{guard_spec}

@@ -12,7 +12,7 @@ use Rattle.atl_records.specs.declared.books.Thing.TheVariants.{Item, Money, Peop
 use Rattle.atl_records.specs.Books.{entry_index}
 use Rattle.atl_state.specs.Campaign.{CampaignValue, with_amount, with_stock}
 use Rattle.atl_state.specs.Stocks.{stock_of}
-use Rattle.atl_instant.specs.Meaning.{BookBound}
+use Rattle.atl_phase.specs.Meaning.{BookBound}
 
 -- the markets of a region of the world, by their items; none where there is no such region
 abbrev pub markets_of : WorldValue → (region : ℕ) → FinMap nat_cmp Market

@@ -9,11 +9,11 @@ use Rattle.atl_records.specs.declared.books.Entry.TheVariants.{Births, Income, S
 use Rattle.atl_records.specs.declared.books.Thing.TheVariants.{Money, People}
 use Rattle.atl_records.specs.declared.records.Region.{Region}
 use Rattle.atl_state.specs.Campaign.{CampaignValue, with_amount, with_peasants, with_region_money}
-use Rattle.atl_instant.specs.Month.{MonthValue}
-use Rattle.atl_instant.specs.Meaning.{BookBound, Frame, both_move, most_moved, moves_only}
+use Rattle.atl_phase.specs.Month.{MonthValue}
+use Rattle.atl_phase.specs.Meaning.{BookBound, Frame, both_move, most_moved, moves_only}
 use Rattle.atl_month.specs.Limits.{per_hundred}
-use Rattle.atl_instant.specs.PhaseSpecs.{PhaseSpec}
-use Rattle.atl_instant.specs.There.{at_region}
+use Rattle.atl_phase.specs.PhaseSpecs.{PhaseSpec}
+use Rattle.atl_phase.specs.There.{at_region}
 use Rattle.atl_month.specs.Restock.{after_restock, markets_of, stocks_by}
 
 -- How many peasants are born: a percentage of them from 0 to `growth`, by the word of the dice, at most up to `limit`.

@@ -15,11 +15,11 @@ use Rattle.atl_records.specs.Holdings.{amount_of}
 use Rattle.atl_records.specs.Limits.{holding_limit}
 use Rattle.atl_state.specs.Owners.{first_or_zero, without_unit}
 use Rattle.atl_state.specs.Campaign.{CampaignValue, active, numbers_of, with_amount, with_gone, with_item, with_money}
-use Rattle.atl_instant.specs.Month.{MonthValue}
-use Rattle.atl_instant.specs.Meaning.{BookBound, Frame, most_moved}
-use Rattle.atl_instant.specs.NoWorse.{IsNoWorse}
-use Rattle.atl_instant.specs.PhaseSpecs.{PhaseSpec}
-use Rattle.atl_instant.specs.There.{at_unit}
+use Rattle.atl_phase.specs.Month.{MonthValue}
+use Rattle.atl_phase.specs.Meaning.{BookBound, Frame, most_moved}
+use Rattle.atl_phase.specs.NoWorse.{IsNoWorse}
+use Rattle.atl_phase.specs.PhaseSpecs.{PhaseSpec}
+use Rattle.atl_phase.specs.There.{at_unit}
 
 -- ---- who gets what a unit leaves
 

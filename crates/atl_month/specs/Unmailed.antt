@@ -5,7 +5,7 @@ use Rattle.atl_orders.specs.declared.mailing.Mailing.{Mailing}
 use Rattle.atl_records.specs.declared.event.Event.{Event}
 use Rattle.atl_records.specs.Every.{Every}
 use Rattle.atl_state.specs.Campaign.{CampaignValue}
-use Rattle.atl_instant.specs.Unmailed.{IsLeft, starved_in}
+use Rattle.atl_phase.specs.Unmailed.{IsLeft, starved_in}
 
 -- none of these mailings is the faction's
 abbrev pub SentNone : List Mailing → (faction : ℕ) → Type 0

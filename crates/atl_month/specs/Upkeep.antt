@@ -13,14 +13,14 @@ use Rattle.atl_records.specs.Every.{Every}
 use Rattle.atl_records.specs.Holdings.{HoldingValue}
 use Rattle.atl_state.specs.Lending.{with_held}
 use Rattle.atl_state.specs.Campaign.{CampaignValue, with_amount}
-use Rattle.atl_instant.specs.Month.{MonthValue}
-use Rattle.atl_instant.specs.Meaning.{BookBound, Frame, both_move, moves_only}
+use Rattle.atl_phase.specs.Month.{MonthValue}
+use Rattle.atl_phase.specs.Meaning.{BookBound, Frame, both_move, moves_only}
 use Rattle.atl_month.specs.declared.upkeep_sharing.UpkeepInput.{UpkeepInput}
 use Rattle.atl_month.specs.declared.upkeep_sharing.UpkeepResult.{UpkeepResult}
 use Rattle.atl_month.specs.UpkeepSharing.{peers_of, upkeep_result_among, upkeep_results_of}
+use Rattle.atl_phase.specs.PhaseSpecs.{PhaseSpec, books_money_and_people}
+use Rattle.atl_phase.specs.There.{at_unit}
 use Rattle.atl_instant.specs.Amounts.{amounts_for}
-use Rattle.atl_instant.specs.PhaseSpecs.{PhaseSpec, books_money_and_people}
-use Rattle.atl_instant.specs.There.{at_unit}
 use Rattle.atl_instant.specs.Transfer.{going_of}
 
 -- ---- the upkeep of one unit

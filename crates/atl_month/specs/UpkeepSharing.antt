@@ -5,7 +5,7 @@ use Rattle.std.specs.List.{AllPairs, sum_by}
 use Rattle.atl_records.specs.Limits.{holding_limit, men_limit}
 use Rattle.atl_month.specs.declared.upkeep_sharing.UpkeepInput.{UpkeepInput}
 use Rattle.atl_month.specs.declared.upkeep_sharing.UpkeepResult.{UpkeepResult}
-use Rattle.atl_instant.specs.InTurn.{amount_in_turn}
+use Rattle.atl_phase.specs.InTurn.{amount_in_turn}
 
 -- the men and the money of a unit are within the limits of a holding
 pub record IsUpkeepInput (input : UpkeepInput) : Type 0 where

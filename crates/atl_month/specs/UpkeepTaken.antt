@@ -8,7 +8,7 @@ use Rattle.atl_records.specs.declared.records.Unit.{Unit}
 use Rattle.atl_state.specs.Good.{IsSteady}
 use Rattle.atl_state.specs.Lending.{with_held}
 use Rattle.atl_state.specs.Campaign.{CampaignValue}
-use Rattle.atl_instant.specs.Bounds.{HaveRoom}
+use Rattle.atl_phase.specs.Bounds.{HaveRoom}
 use Rattle.atl_month.specs.declared.upkeep_sharing.UpkeepResult.{UpkeepResult}
 use Rattle.atl_month.specs.UpkeepSharing.{CanSpare}
 use Rattle.atl_month.specs.Upkeep.{after_upkeep, takes_up_to}

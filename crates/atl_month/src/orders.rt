@@ -4,10 +4,10 @@ ghost use Rattle.atl_month.specs.Month.{orders_keep, orders_meaning, orders_movi
 
 use atl_action::{LearnPhase, MovePhase, SailPhase};
 use atl_instant::{
-    FormPhase, GivePhase, GuardPhase, Month, NamePhase, Phase, PhaseResult, PlacePhase, QuitPhase,
-    TransferPhase,
+    FormPhase, GivePhase, GuardPhase, NamePhase, PlacePhase, QuitPhase, TransferPhase,
 };
 use atl_market::{BuildPhase, BuyPhase, ProducePhase, RecruitPhase, SellPhase, TaxPhase};
+use atl_phase::{Month, Phase, PhaseResult};
 use atl_state::Campaign;
 use atl_tables::World;
 use std::alloc::Global;

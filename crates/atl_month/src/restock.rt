@@ -9,8 +9,8 @@ ghost use Rattle.atl_records.specs.Every.{IsThere};
 ghost use Rattle.atl_state.specs.Good.{IsSteady};
 ghost use Rattle.atl_records.specs.declared.books.Entry.TheVariants.{Stocked};
 ghost use Rattle.atl_records.specs.declared.books.Thing.TheVariants.{Item};
-ghost use Rattle.atl_instant.specs.Meaning.{moves_only};
-ghost use Rattle.atl_instant.specs.Bounds.{HaveRoom};
+ghost use Rattle.atl_phase.specs.Meaning.{moves_only};
+ghost use Rattle.atl_phase.specs.Bounds.{HaveRoom};
 ghost use Rattle.atl_month.specs.Restock.{after_market_restock, after_restock, markets_of, restock, stocks_by};
 
 use atl_state::{Campaign, Entry, Thing};

@@ -9,14 +9,14 @@ ghost use Rattle.atl_state.specs.Good.{IsSteady};
 ghost use Rattle.atl_state.specs.Marking.{mark_amount};
 ghost use Rattle.atl_records.specs.declared.books.Entry.TheVariants.{Lost};
 ghost use Rattle.atl_records.specs.declared.books.Thing.TheVariants.{Item, Money};
-ghost use Rattle.atl_instant.specs.Meaning.{most_moved};
-ghost use Rattle.atl_instant.specs.Bounds.{HasRoom, HaveRoom, moved_times, moving_items};
+ghost use Rattle.atl_phase.specs.Meaning.{most_moved};
+ghost use Rattle.atl_phase.specs.Bounds.{HasRoom, HaveRoom, moved_times, moving_items};
 ghost use Rattle.atl_month.specs.Sweep.{accepted_of, after_passing_item, after_passing_money, after_sweeping_faction, after_sweeping_unit, loses_by, menless_units, sweep_keeps, sweep_meaning, with_lost};
 ghost use Rattle.atl_month.specs.Receivers.{AreReceivers};
 ghost use Rattle.atl_month.specs.AfterSweep.{IsSwept};
 
 use crate::receivers::{Receivers, receiver_in, receivers_of};
-use atl_instant::{Month, Phase, PhaseResult, book_taken, items_of};
+use atl_phase::{Month, Phase, PhaseResult, book_taken, items_of};
 use atl_state::{Campaign, Entry, HOLDING_LIMIT, Thing};
 use atl_tables::World;
 use std::alloc::{AllocError, Global};

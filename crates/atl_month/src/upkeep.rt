@@ -2,15 +2,15 @@
 ghost use Rattle.std.specs.Prelude.{◌≡◌, ◌≤◌, ◌++◌, All, IfOk, OnOk, Some, filter, map};
 ghost use Rattle.atl_tables.specs.Worlds.{WorldValue};
 ghost use Rattle.atl_state.specs.Covers.{MarksChanges};
-ghost use Rattle.atl_instant.specs.Holdings.{MarksNoGoods, MarksNoItems};
-ghost use Rattle.atl_instant.specs.Meaning.{most_moved};
+ghost use Rattle.atl_phase.specs.Holdings.{MarksNoGoods, MarksNoItems};
+ghost use Rattle.atl_phase.specs.Meaning.{most_moved};
 ghost use Rattle.atl_market.specs.Bounds.{CanInTurn};
 ghost use Rattle.atl_month.specs.UpkeepSharing.{IsUpkeepInput};
 ghost use Rattle.atl_month.specs.UpkeepTaken.{CanPayUpkeep, IsAfterUpkeep, staying_list};
 ghost use Rattle.atl_month.specs.Upkeep.{starved_event, starves, takes_up_to, upkeep, upkeep_at, upkeep_inputs_of, upkeep_keeps, upkeep_meaning};
 
 use crate::upkeep_sharing::{UpkeepInput, UpkeepResult, upkeep_payments};
-use atl_instant::{Month, Phase, PhaseResult, book_taken, set_people};
+use atl_phase::{Month, Phase, PhaseResult, book_taken, set_people};
 use atl_state::{Campaign, Entry, Event, EventVerb, Holding, Outcome, Thing};
 use atl_tables::World;
 use std::alloc::{AllocError, Global};

@@ -5,10 +5,10 @@ use Rattle.std.specs.Prelude.{if◌then◌else◌}
 use Rattle.atl_tables.specs.Worlds.{WorldValue}
 use Rattle.atl_state.specs.Good.{IsGood}
 use Rattle.atl_state.specs.Campaign.{CampaignValue}
-use Rattle.atl_instant.specs.Meaning.{most_moved}
-use Rattle.atl_instant.specs.Bounds.{HaveRoom}
-use Rattle.atl_instant.specs.PhaseSpecs.{MovesItsOwn, PhaseSpec, may_move}
-use Rattle.atl_instant.proofs.MeaningLaws.{room_when_sound}
+use Rattle.atl_phase.specs.Meaning.{most_moved}
+use Rattle.atl_phase.specs.Bounds.{HaveRoom}
+use Rattle.atl_phase.specs.PhaseSpecs.{MovesItsOwn, PhaseSpec, may_move}
+use Rattle.atl_phase.proofs.MeaningLaws.{room_when_sound}
 use Rattle.atl_market.specs.Produce.{produce_spec}
 use Rattle.atl_market.specs.Recruit.{recruit_spec}
 use Rattle.atl_market.specs.Tax.{tax_spec}

@@ -1,5 +1,5 @@
-//! Tests of atl_instant, atl_market, atl_action, atl_month and atl_report by their public calls
-//! alone.
+//! Tests of atl_phase, atl_instant, atl_market, atl_action, atl_month and atl_report by their
+//! public calls alone.
 mod agreeing;
 mod crowd;
 mod laws;

@@ -7,10 +7,10 @@ use Rattle.atl_records.specs.declared.books.Thing.{Thing}
 use Rattle.atl_records.specs.Books.{amount_in}
 use Rattle.atl_state.specs.Good.{IsGood}
 use Rattle.atl_state.specs.Campaign.{CampaignValue}
-use Rattle.atl_instant.specs.Meaning.{BookBound, both_move, most_moved}
-use Rattle.atl_instant.specs.Bounds.{HasRoom, HaveRoom}
-use Rattle.atl_instant.specs.PhaseSpecs.{MovesItsOwn, PhaseSpec, may_move}
-use Rattle.atl_instant.proofs.MeaningLaws.{room_less, room_when_sound}
+use Rattle.atl_phase.specs.Meaning.{BookBound, both_move, most_moved}
+use Rattle.atl_phase.specs.Bounds.{HasRoom, HaveRoom}
+use Rattle.atl_phase.specs.PhaseSpecs.{MovesItsOwn, PhaseSpec, may_move}
+use Rattle.atl_phase.proofs.MeaningLaws.{room_less, room_when_sound}
 use Rattle.atl_market.specs.Work.{work_spec}
 use Rattle.atl_month.specs.Month.{orders_moving}
 use Rattle.atl_month.specs.Season.{season_spec}

@@ -1,7 +1,7 @@
 -- For these tests alone: campaigns whose books have room for any of the phases that the cases play.
 use Rattle.std.specs.Prelude.{ℕ}
 use Rattle.atl_state.specs.Campaign.{CampaignValue}
-use Rattle.atl_instant.specs.Bounds.{HaveRoom}
+use Rattle.atl_phase.specs.Bounds.{HaveRoom}
 
 -- The room that the proofs ask for: far more than one month can book.
 abbrev pub much : ℕ

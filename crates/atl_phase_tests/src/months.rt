@@ -1,12 +1,12 @@
 //! Reads mailings, and makes the month that the phases of a case work on.
 ghost use Rattle.std.specs.Prelude.{◌≡◌, All, IfOk, map};
 ghost use Rattle.atl_orders.specs.Mailing.{IsReadWith};
-ghost use Rattle.atl_instant.specs.Month.{HaveOwnFactions};
-ghost use Rattle.atl_instant.specs.Fit.{AreFit};
+ghost use Rattle.atl_phase.specs.Month.{HaveOwnFactions};
+ghost use Rattle.atl_phase.specs.Fit.{AreFit};
 
 use crate::failed::Failed;
-use atl_instant::Month;
 use atl_orders::{Mailing, read_mailing};
+use atl_phase::Month;
 use atl_state::are_distinct;
 use atl_tables::World;
 use std::alloc::{AllocError, Global};

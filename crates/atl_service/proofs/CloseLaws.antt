@@ -34,7 +34,7 @@ use Rattle.atl_records.proofs.EveryLaws.{each-from_every, sorted}
 use Rattle.atl_state.proofs.GoodLaws.{IsGood-with_report}
 use Rattle.atl_state.proofs.PostLaws.{marks-month, marks-no_mail, marks-report}
 use Rattle.atl_state.proofs.SlotLaws.{keys_rise}
-use Rattle.atl_instant.specs.Month.{HaveOwnFactions, by_faction}
+use Rattle.atl_phase.specs.Month.{HaveOwnFactions, by_faction}
 use Rattle.atl_month.specs.Month.{after_month, month_of}
 use Rattle.atl_report.specs.Report.{report_of}
 use Rattle.atl_report.specs.Sight.{view_of}

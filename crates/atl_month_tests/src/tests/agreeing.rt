@@ -1,7 +1,7 @@
 //! Tests that seven phases and `share` give the results of a plain reference calculation
 //! (`reference`). The phases are SELL, BUY, TAX, RECRUIT, PRODUCE, WORK and upkeep.
 ghost use Rattle.atl_state.specs.Good.{IsGood};
-ghost use Rattle.atl_instant.specs.Fit.{AreFit};
+ghost use Rattle.atl_phase.specs.Fit.{AreFit};
 
 use super::crowd::{crowd, crowd_month, crowd_world};
 use super::reference::plain::Plain;
@@ -9,9 +9,9 @@ use super::reference::sharing::Sharing;
 use super::reference::trade::Trade;
 use super::reference::{shares, sharing, upkeep};
 use super::shares::{are_small, assert_shares};
-use atl_instant::{Month, Phase};
 use atl_market::{BuyPhase, ProducePhase, RecruitPhase, SellPhase, TaxPhase, WorkPhase, share};
 use atl_month::UpkeepPhase;
+use atl_phase::{Month, Phase};
 use atl_state::Campaign;
 use atl_tables::World;
 use std::alloc::{AllocError, Global};

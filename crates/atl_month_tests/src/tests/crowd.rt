@@ -3,10 +3,10 @@
 //! its number from tables whose lengths have no common factor.
 ghost use Rattle.std.specs.Prelude.{◌≤◌, IfOk, length};
 ghost use Rattle.atl_state.specs.Good.{IsGood};
-ghost use Rattle.atl_instant.specs.Fit.{AreFit};
+ghost use Rattle.atl_phase.specs.Fit.{AreFit};
 
 use super::months::month;
-use atl_instant::Month;
+use atl_phase::Month;
 use atl_state::parts::{
     Parts, StoredBooks, StoredCampaignRow, StoredFaction, StoredHas, StoredMarket, StoredReport,
     StoredUnit,

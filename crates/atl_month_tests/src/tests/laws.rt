@@ -1,9 +1,7 @@
 //! Calls each law of the crates under test once and asserts nothing: a law does nothing, and its
 //! clause is proved.
 use atl_action::{nobody_is_taught_twice, units_learn_by_orders, units_study_as_begun};
-use atl_instant::{
-    days_go_with_men, mailings_have_no_order, one_order_stands, orders_are_in_mailings,
-};
+use atl_instant::days_go_with_men;
 use atl_market::pots::{each_pot_is_shared, takers_alone_get};
 use atl_market::produce::units_produce_all_at_once;
 use atl_market::recruit::recruits_join_all_at_once;
@@ -13,6 +11,7 @@ use atl_market::{units_trade_all_at_once, work_pays_all_at_once};
 use atl_month::{
     each_unit_can_spare, months_have_no_order, one_phase_has_room, phases_move_little,
 };
+use atl_phase::{mailings_have_no_order, one_order_stands, orders_are_in_mailings};
 use atl_report::{only_what_is_seen_is_told, others_events_are_not_told};
 
 /// Each law of the crates under test can be called. Nothing is asserted: the clause of each law is

@@ -1,11 +1,11 @@
 //! Makes the worlds of these tests, and months of mailings that are given as texts.
 ghost use Rattle.std.specs.Prelude.{◌≡◌, All, IfOk, map};
 ghost use Rattle.atl_orders.specs.Mailing.{IsReadWith};
-ghost use Rattle.atl_instant.specs.Month.{HaveOwnFactions};
-ghost use Rattle.atl_instant.specs.Fit.{AreFit};
+ghost use Rattle.atl_phase.specs.Month.{HaveOwnFactions};
+ghost use Rattle.atl_phase.specs.Fit.{AreFit};
 
-use atl_instant::Month;
 use atl_orders::{Mailing, read_mailing};
+use atl_phase::Month;
 use atl_state::are_distinct;
 use atl_tables::{World, read_world};
 use atl_test_worlds::{SMALL, WOOD_AND_SAILING};

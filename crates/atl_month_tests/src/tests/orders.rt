@@ -3,9 +3,10 @@
 use super::months::{month, world};
 use super::phases::{Studying, Working};
 use super::telling::assert_row;
-use atl_instant::{Arrangement, FormPhase, GivePhase, Month, MonthLongVerbs, PhaseVerbs};
+use atl_instant::{FormPhase, GivePhase};
 use atl_market::RecruitPhase;
 use atl_orders::Verb;
+use atl_phase::{Arrangement, Month, MonthLongVerbs, PhaseVerbs};
 use atl_state::{Event, EventVerb, Outcome};
 use atl_tables::World;
 use std::alloc::Global;

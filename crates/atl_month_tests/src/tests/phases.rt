@@ -1,8 +1,8 @@
 //! Two phases that only these tests have: one with the verb STUDY alone, and one with WORK alone.
 ghost use Rattle.atl_month_tests.specs.Phases.{is_studying, is_working};
 
-use atl_instant::PhaseVerbs;
 use atl_orders::Verb;
+use atl_phase::PhaseVerbs;
 
 /// A phase whose only verb is STUDY.
 pub(crate) struct Studying;

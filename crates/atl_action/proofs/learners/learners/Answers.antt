@@ -1,8 +1,8 @@
 use Rattle.std.proofs.Common.{ap, ◌∙◌, map, arith}
 use Rattle.std.specs.Prelude.{fold}
 use Rattle.std.specs.FinMap.{empty}
-use Rattle.atl_instant.specs.PhaseOrders.{task_of}
-use Rattle.atl_instant.proofs.FoldLaws.{fold_ended, fold_mapped}
+use Rattle.atl_phase.specs.PhaseOrders.{task_of}
+use Rattle.atl_phase.proofs.FoldLaws.{fold_ended, fold_mapped}
 use Rattle.atl_action.specs.Learners.{learners, with_learner}
 use Rattle.atl_action.proofs.learners.learners.Goals as goal
 

@@ -1,5 +1,5 @@
 use Rattle.atl_state.proofs.LeavingLaws.{marks-structure}
-use Rattle.atl_instant.proofs.MarkLaws.{marks_by}
+use Rattle.atl_phase.proofs.MarkLaws.{marks_by}
 use Rattle.atl_action.proofs.sail.put_ship.Goals as goal
 
 pub returns-clause-marks : goal.returns-clause-marks

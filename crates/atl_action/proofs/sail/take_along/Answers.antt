@@ -3,7 +3,7 @@ use Rattle.atl_state.specs.Marking.{mark_unit_row}
 use Rattle.atl_state.specs.Campaign.{with_guard}
 use Rattle.atl_state.proofs.CoverLaws.{marks-trans}
 use Rattle.atl_state.proofs.HoldingLaws.{marks-unit_row}
-use Rattle.atl_instant.proofs.MarkLaws.{marks-place, marks_by}
+use Rattle.atl_phase.proofs.MarkLaws.{marks-place, marks_by}
 use Rattle.atl_action.proofs.sail.take_along.Goals as goal
 
 pub returns-clause-marks : goal.returns-clause-marks

@@ -1,7 +1,7 @@
 use Rattle.std.proofs.Common.{◌-◌, sym, ap}
 use Rattle.atl_records.specs.Holdings.{with_amount_of}
-use Rattle.atl_instant.proofs.ChangeLaws.{changes_as, money_changes, nobody_changes, skill_changes, then_changes}
-use Rattle.atl_instant.proofs.MarkLaws.{on_ok_both}
+use Rattle.atl_phase.proofs.ChangeLaws.{changes_as, money_changes, nobody_changes, skill_changes, then_changes}
+use Rattle.atl_phase.proofs.MarkLaws.{on_ok_both}
 use Rattle.atl_action.specs.Study.{with_study}
 use Rattle.atl_action.proofs.study.learn.Goals as goal
 

@@ -1,5 +1,5 @@
 use Rattle.std.proofs.Common.{◌≡◌, ◌++◌, drop, filter, map}
-use Rattle.atl_instant.specs.PhaseOrders.{unit_of}
+use Rattle.atl_phase.specs.PhaseOrders.{unit_of}
 use Rattle.atl_action.specs.Teach.{is_pupil}
 use Rattle.atl_action.proofs.teach.pupils_of.Given as goal
 

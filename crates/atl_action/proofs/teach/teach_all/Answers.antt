@@ -5,10 +5,10 @@ use Rattle.std.specs.Prelude.{fold, unwrap_or}
 use Rattle.std.specs.Ordering.{nat_cmp}
 use Rattle.std.specs.FinMap.{empty, get-empty}
 use Rattle.atl_records.specs.Holdings.{amount_of}
-use Rattle.atl_instant.specs.Month.{MonthValue, with_events}
-use Rattle.atl_instant.specs.PhaseOrders.{orders_by_unit, task_of}
-use Rattle.atl_instant.specs.declared.phase_order.PhaseOrder.{PhaseOrder}
-use Rattle.atl_instant.proofs.FoldLaws.{fold_behind, fold_ended, fold_mapped}
+use Rattle.atl_phase.specs.Month.{MonthValue, with_events}
+use Rattle.atl_phase.specs.PhaseOrders.{orders_by_unit, task_of}
+use Rattle.atl_phase.specs.declared.phase_order.PhaseOrder.{PhaseOrder}
+use Rattle.atl_phase.proofs.FoldLaws.{fold_behind, fold_ended, fold_mapped}
 use Rattle.atl_action.specs.Teach.{TaughtMen, after_lessons, is_teaching, teach_order}
 use Rattle.atl_action.proofs.teach.teach_all.Goals as goal
 

@@ -1,8 +1,8 @@
 use Rattle.std.proofs.Common.{◌≡◌, [], drop}
 use Rattle.std.specs.Prelude.{fold}
 use Rattle.atl_records.specs.Holdings.{amount_of}
-use Rattle.atl_instant.specs.Month.{with_events}
-use Rattle.atl_instant.specs.PhaseOrders.{task_of}
+use Rattle.atl_phase.specs.Month.{with_events}
+use Rattle.atl_phase.specs.PhaseOrders.{task_of}
 use Rattle.atl_action.specs.Teach.{teach_order}
 use Rattle.atl_action.proofs.teach.teach_all.Given as goal
 

@@ -1,6 +1,6 @@
 use Rattle.std.proofs.Common.{◌≡◌, ◌++◌, map, drop}
+use Rattle.atl_phase.specs.PhaseOrders.{task_of}
 use Rattle.atl_instant.specs.Forming.{forming_of}
-use Rattle.atl_instant.specs.PhaseOrders.{task_of}
 use Rattle.atl_instant.proofs.form.formings.Given as goal
 
 abbrev pub invariant-loop-order : goal.invariant-loop-order

@@ -1,6 +1,6 @@
 use Rattle.std.proofs.Common.{sym}
-use Rattle.atl_instant.proofs.ChangeLaws.{item_changes, money_changes}
-use Rattle.atl_instant.proofs.MarkLaws.{on_ok_both}
+use Rattle.atl_phase.proofs.ChangeLaws.{item_changes, money_changes}
+use Rattle.atl_phase.proofs.MarkLaws.{on_ok_both}
 use Rattle.atl_instant.proofs.give.set_held.Goals as goal
 
 pub returns-in-Money : goal.returns-in-Money

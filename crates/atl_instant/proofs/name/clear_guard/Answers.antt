@@ -2,7 +2,7 @@ use Rattle.std.proofs.Common.{false, refl}
 use Rattle.atl_state.specs.Marking.{mark_unit_row}
 use Rattle.atl_state.specs.Campaign.{with_guard}
 use Rattle.atl_state.proofs.HoldingLaws.{marks-unit_row}
-use Rattle.atl_instant.proofs.MarkLaws.{marks_by}
+use Rattle.atl_phase.proofs.MarkLaws.{marks_by}
 use Rattle.atl_instant.proofs.name.clear_guard.Goals as goal
 
 pub returns-clause-marks : goal.returns-clause-marks

@@ -1,5 +1,5 @@
 use Rattle.atl_state.proofs.CoverLaws.{marks-faction}
-use Rattle.atl_instant.proofs.MarkLaws.{marks_by}
+use Rattle.atl_phase.proofs.MarkLaws.{marks_by}
 use Rattle.atl_instant.proofs.name.name_faction.Goals as goal
 
 pub returns-clause-marks : goal.returns-clause-marks

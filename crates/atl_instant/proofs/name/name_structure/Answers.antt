@@ -1,7 +1,7 @@
 use Rattle.atl_state.specs.Marking.{mark_structure}
 use Rattle.atl_state.specs.Campaign.{with_structure_name}
 use Rattle.atl_state.proofs.LeavingLaws.{marks-structure}
-use Rattle.atl_instant.proofs.MarkLaws.{marks_by}
+use Rattle.atl_phase.proofs.MarkLaws.{marks_by}
 use Rattle.atl_instant.proofs.name.name_structure.Goals as goal
 
 pub returns-in-None-clause-marks : goal.returns-in-None-clause-marks

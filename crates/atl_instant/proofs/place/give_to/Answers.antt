@@ -1,7 +1,7 @@
 use Rattle.atl_state.specs.Marking.{mark_structure}
 use Rattle.atl_state.specs.Campaign.{with_owner}
 use Rattle.atl_state.proofs.LeavingLaws.{marks-structure, owned_by}
-use Rattle.atl_instant.proofs.MarkLaws.{marks_by}
+use Rattle.atl_phase.proofs.MarkLaws.{marks_by}
 use Rattle.atl_instant.proofs.place.give_to.Goals as goal
 
 pub returns-clause-marks : goal.returns-clause-marks

@@ -1,4 +1,4 @@
-use Rattle.atl_instant.proofs.MarkLaws.{marks-place, on_ok_both}
+use Rattle.atl_phase.proofs.MarkLaws.{marks-place, on_ok_both}
 use Rattle.atl_instant.proofs.place.put_inside.Goals as goal
 
 pub returns-clause-marks : goal.returns-clause-marks

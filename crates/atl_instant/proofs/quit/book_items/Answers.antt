@@ -1,11 +1,11 @@
 use Rattle.std.proofs.Common.{◌≡◌, ◌+◌, ℕ, drop, get_or}
 use Rattle.atl_records.specs.declared.books.Thing.TheVariants.{Item}
 use Rattle.atl_state.proofs.CoverLaws.{marks-trans}
+use Rattle.atl_phase.proofs.FoldLaws.{fold_behind}
+use Rattle.atl_phase.specs.Bounds.{moving_items}
 use Rattle.atl_instant.specs.Quit.{with_item_loss}
-use Rattle.atl_instant.proofs.FoldLaws.{fold_behind}
 use Rattle.atl_instant.proofs.QuitLaws.{gone_marks, known_ahead, next_room, rest_room, room_ahead}
 use Rattle.atl_instant.proofs.quit.book_items.Goals as goal
-use Rattle.atl_instant.specs.Bounds.{moving_items}
 
 pub book_loss-requires-clause-room : goal.book_loss-requires-clause-room
 book_loss-requires-clause-room c = next_room c.args.items.now c.loop-item.item-index c.loop-item.campaign.value c.loop-item-test.true c.loop-item.invariant.room

@@ -1,11 +1,11 @@
 use Rattle.atl_records.specs.declared.books.Entry.TheVariants.{Lost}
 use Rattle.atl_records.specs.declared.books.Thing.TheVariants.{Money, People}
 use Rattle.atl_state.proofs.CoverLaws.{marks-trans}
-use Rattle.atl_instant.specs.Meaning.{both_move, moves_only}
+use Rattle.atl_phase.specs.Meaning.{both_move, moves_only}
+use Rattle.atl_phase.specs.Bounds.{moving_items}
 use Rattle.atl_instant.specs.Quit.{with_loss}
 use Rattle.atl_instant.proofs.QuitLaws.{first_room, gone_marks, rest_room}
 use Rattle.atl_instant.proofs.quit.book_off.Goals as goal
-use Rattle.atl_instant.specs.Bounds.{moving_items}
 
 pub book_loss-requires-clause-room : goal.book_loss-requires-clause-room
 book_loss-requires-clause-room c =

@@ -1,9 +1,9 @@
 use Rattle.std.proofs.Common.{◌≡◌, ℕ, get_or}
 use Rattle.atl_state.proofs.CoverLaws.{marks-trans}
+use Rattle.atl_phase.proofs.FoldLaws.{fold_behind}
+use Rattle.atl_phase.proofs.OrderEffectLaws.{room_left}
 use Rattle.atl_instant.specs.Quit.{after_leaving}
-use Rattle.atl_instant.proofs.FoldLaws.{fold_behind}
 use Rattle.atl_instant.proofs.QuitLaws.{left_well}
-use Rattle.atl_instant.proofs.OrderEffectLaws.{room_left}
 use Rattle.atl_instant.proofs.quit.leave_all.Goals as goal
 
 pub loop-number-preserved : goal.loop-number-preserved

@@ -2,8 +2,8 @@ use Rattle.std.proofs.Common.{◌≡◌, drop}
 use Rattle.std.specs.Prelude.{fold}
 use Rattle.atl_state.specs.Covers.{MarksChanges}
 use Rattle.atl_state.specs.Good.{IsSteady}
-use Rattle.atl_instant.specs.Bounds.{HaveRoom, quit_reserve}
-use Rattle.atl_instant.specs.Quit.{after_leaving}
+use Rattle.atl_phase.specs.Bounds.{HaveRoom}
+use Rattle.atl_instant.specs.Quit.{after_leaving, quit_reserve}
 use Rattle.atl_instant.proofs.quit.leave_all.Given as goal
 
 abbrev pub invariant-loop-number : goal.invariant-loop-number

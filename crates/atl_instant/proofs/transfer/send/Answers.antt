@@ -5,9 +5,9 @@ use Rattle.atl_records.specs.Every.{Every}
 use Rattle.atl_records.specs.Holdings.{HoldingValue}
 use Rattle.atl_records.specs.declared.records.Unit.{Unit}
 use Rattle.atl_state.proofs.CoverLaws.{marks-trans}
-use Rattle.atl_instant.specs.Holdings.{with_days}
+use Rattle.atl_phase.specs.Holdings.{with_days}
+use Rattle.atl_phase.proofs.ChangeLaws.{changed_held}
 use Rattle.atl_instant.specs.Transfer.{with_fewer, with_more}
-use Rattle.atl_instant.proofs.ChangeLaws.{changed_held}
 use Rattle.atl_instant.proofs.DaysLaws.{fewer_is, more_is}
 use Rattle.atl_instant.proofs.TransferLaws.{sent_is}
 use Rattle.atl_instant.proofs.transfer.send.Goals as goal

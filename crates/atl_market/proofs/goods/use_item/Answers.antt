@@ -3,8 +3,8 @@ use Rattle.std.specs.Prelude.{neg_ℤ, pos}
 use Rattle.atl_state.specs.Campaign.{CampaignValue, with_amount, with_item}
 use Rattle.atl_records.specs.declared.books.Entry.TheVariants.{Used}
 use Rattle.atl_records.specs.declared.books.Thing.TheVariants.{Item}
-use Rattle.atl_instant.proofs.ChangeLaws.{item_changes}
-use Rattle.atl_instant.proofs.MarkLaws.{booked_marks}
+use Rattle.atl_phase.proofs.ChangeLaws.{item_changes}
+use Rattle.atl_phase.proofs.MarkLaws.{booked_marks}
 use Rattle.atl_market.proofs.ThereLaws.{unit_there}
 use Rattle.atl_market.proofs.goods.use_item.Goals as goal
 

@@ -1,5 +1,5 @@
 use Rattle.std.proofs.Common.{◌≡◌, ◌++◌, drop, map}
-use Rattle.atl_instant.specs.PhaseOrders.{task_of}
+use Rattle.atl_phase.specs.PhaseOrders.{task_of}
 use Rattle.atl_market.specs.PotPhase.{event_of}
 use Rattle.atl_market.proofs.pot_phase.events_of.Given as goal
 

@@ -1,6 +1,6 @@
 use Rattle.std.proofs.Common.{◌≡◌, drop, map}
 use Rattle.std.specs.List.{filter_map}
-use Rattle.atl_instant.specs.PhaseOrders.{task_of}
+use Rattle.atl_phase.specs.PhaseOrders.{task_of}
 use Rattle.atl_market.specs.PotPhase.{item_by, items_by}
 use Rattle.atl_market.specs.Puts.{with_each}
 use Rattle.atl_market.proofs.pot_phase.items_of.Given as goal

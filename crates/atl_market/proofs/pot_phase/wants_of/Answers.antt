@@ -1,5 +1,5 @@
 use Rattle.std.proofs.Common.{◌≤◌, ◌∙◌, ℕ, ap, map}
-use Rattle.atl_instant.specs.PhaseOrders.{task_of}
+use Rattle.atl_phase.specs.PhaseOrders.{task_of}
 use Rattle.std.specs.List.{filter_map}
 use Rattle.atl_tables.specs.Limits.{most_amount}
 use Rattle.atl_records.proofs.EveryLaws.{every-empty}

@@ -1,5 +1,5 @@
 use Rattle.std.proofs.Common.{◌≡◌, drop, map}
-use Rattle.atl_instant.specs.PhaseOrders.{task_of}
+use Rattle.atl_phase.specs.PhaseOrders.{task_of}
 use Rattle.std.specs.List.{filter_map}
 use Rattle.atl_market.specs.PotPhase.{want_by, wants_by}
 use Rattle.atl_market.specs.Pots.{AreWants}

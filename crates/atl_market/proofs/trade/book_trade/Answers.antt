@@ -5,8 +5,8 @@ use Rattle.atl_state.specs.Lending.{with_holding}
 use Rattle.atl_records.specs.Limits.{holding_limit}
 use Rattle.atl_state.specs.Campaign.{with_amount, with_stock}
 use Rattle.atl_records.specs.declared.books.Thing.TheVariants.{Money}
-use Rattle.atl_instant.proofs.BookingLaws.{booking_fits}
-use Rattle.atl_instant.proofs.MarkLaws.{booked_marks}
+use Rattle.atl_phase.proofs.BookingLaws.{booking_fits}
+use Rattle.atl_phase.proofs.MarkLaws.{booked_marks}
 use Rattle.atl_market.specs.Trade.{with_trade_result}
 use Rattle.atl_market.proofs.TradeLaws.{settled_books, settled_marks, settled_what}
 use Rattle.atl_market.proofs.trade.book_trade.Goals as goal

@@ -1,6 +1,6 @@
 use Rattle.atl_records.specs.Holdings.{with_amount_of}
-use Rattle.atl_instant.proofs.ChangeLaws.{item_changes, money_changes, then_changes}
-use Rattle.atl_instant.proofs.MarkLaws.{on_ok_both}
+use Rattle.atl_phase.proofs.ChangeLaws.{item_changes, money_changes, then_changes}
+use Rattle.atl_phase.proofs.MarkLaws.{on_ok_both}
 use Rattle.atl_market.proofs.trade.set_goods.Goals as goal
 
 pub returns : goal.returns

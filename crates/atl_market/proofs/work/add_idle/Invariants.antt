@@ -1,6 +1,6 @@
 use Rattle.std.proofs.Common.{◌≡◌, ◌++◌, map}
 use Rattle.std.specs.List.{flat_map}
-use Rattle.atl_instant.specs.PhaseOrders.{task_of}
+use Rattle.atl_phase.specs.PhaseOrders.{task_of}
 use Rattle.atl_market.specs.Idle.{all_idle, idle_by, own_writers}
 use Rattle.atl_market.proofs.work.add_idle.Given as goal
 

@@ -4,7 +4,7 @@ use Rattle.atl_records.specs.Books.{amount_in}
 use Rattle.atl_records.specs.Limits.{holding_limit}
 use Rattle.atl_records.specs.declared.books.Entry.TheVariants.{Wages}
 use Rattle.atl_records.specs.declared.books.Thing.TheVariants.{Money}
-use Rattle.atl_instant.proofs.BookingLaws.{booking_fits, within-pos}
+use Rattle.atl_phase.proofs.BookingLaws.{booking_fits, within-pos}
 use Rattle.atl_market.proofs.WorkLaws.{wages_marks}
 use Rattle.atl_market.proofs.work.pay_wages.Goals as goal
 

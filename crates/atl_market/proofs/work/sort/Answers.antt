@@ -1,7 +1,7 @@
 use Rattle.std.proofs.Common.{rules}
 use Rattle.std.proofs.lemmas.Fn.{always_returns_same}
-use Rattle.atl_instant.specs.PhaseOrders.{key_of, task_of}
-use Rattle.atl_instant.specs.declared.phase_order.Arrangement.TheVariants.{ByUnit}
+use Rattle.atl_phase.specs.PhaseOrders.{key_of, task_of}
+use Rattle.atl_phase.specs.declared.phase_order.Arrangement.TheVariants.{ByUnit}
 use Rattle.atl_market.proofs.work.sort.Goals as goal
 
 pub returns-clause-sorted : goal.returns-clause-sorted

@@ -1,6 +1,6 @@
 use Rattle.std.proofs.Common.{◌≡◌, rules}
 use Rattle.std.specs.Prelude.{map}
-use Rattle.atl_instant.specs.PhaseOrders.{is_month_long, orders_by_unit, task_of}
+use Rattle.atl_phase.specs.PhaseOrders.{is_month_long, orders_by_unit, task_of}
 use Rattle.atl_market.specs.Idle.{all_work}
 use Rattle.atl_market.proofs.WorkOrderLaws.{work_sorted}
 use Rattle.atl_market.proofs.work.work_orders.Goals as goal

@@ -1,5 +1,5 @@
 use Rattle.std.proofs.Common.{◌≡◌, ◌++◌, drop, filter, map}
-use Rattle.atl_instant.specs.PhaseOrders.{task_of}
+use Rattle.atl_phase.specs.PhaseOrders.{task_of}
 use Rattle.atl_market.specs.Work.{is_work}
 use Rattle.atl_market.proofs.work.written_work.Given as goal
 

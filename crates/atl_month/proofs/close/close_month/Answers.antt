@@ -1,11 +1,11 @@
 use Rattle.std.proofs.Common.{rules, ◌≡◌, map, subst}
 use Rattle.std.proofs.lemmas.List.Elements.{recursion_from_All}
 use Rattle.atl_orders.specs.Mailing.{IsReadWith, reading_of}
-use Rattle.atl_instant.specs.Fit.{AreFit}
-use Rattle.atl_instant.specs.Month.{MonthValue, by_faction}
+use Rattle.atl_phase.specs.Fit.{AreFit}
+use Rattle.atl_phase.specs.Month.{MonthValue, by_faction}
 use Rattle.atl_month.specs.Month.{month_keeps, new_month, phases_moving}
 use Rattle.atl_month.proofs.MonthLaws.{books_near, factions_stay, finished_good, month_is}
-use Rattle.atl_instant.proofs.FitLaws.{read_fit}
+use Rattle.atl_phase.proofs.FitLaws.{read_fit}
 use Rattle.atl_month.proofs.MoveLaws.{phases_little}
 use Rattle.atl_month.proofs.UnmailedMonthLaws.{unmailed_left}
 use Rattle.atl_month.proofs.close.close_month.Goals as goal

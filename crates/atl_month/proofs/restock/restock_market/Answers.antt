@@ -4,7 +4,7 @@ use Rattle.atl_tables.specs.Limits.{most_amount}
 use Rattle.atl_records.specs.declared.books.Entry.TheVariants.{Stocked}
 use Rattle.atl_records.specs.declared.books.Thing.TheVariants.{Item}
 use Rattle.atl_records.specs.Books.{amount_in}
-use Rattle.atl_instant.proofs.BookingLaws.{booking_fits, within-pos}
+use Rattle.atl_phase.proofs.BookingLaws.{booking_fits, within-pos}
 use Rattle.atl_month.proofs.RestockLaws.{market_marks, restock_small, room_alone}
 use Rattle.atl_month.proofs.restock.restock_market.Goals as goal
 

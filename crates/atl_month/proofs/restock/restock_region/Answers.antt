@@ -6,8 +6,8 @@ use Rattle.atl_tables.specs.declared.world.Market.{Market}
 use Rattle.atl_records.specs.Every.{EachOf, IsThere}
 use Rattle.atl_state.proofs.CoverLaws.{marks-refl, marks-trans}
 use Rattle.atl_records.proofs.EveryLaws.{sorted}
-use Rattle.atl_instant.specs.Bounds.{HaveRoom}
-use Rattle.atl_instant.proofs.MeaningLaws.{room_less}
+use Rattle.atl_phase.specs.Bounds.{HaveRoom}
+use Rattle.atl_phase.proofs.MeaningLaws.{room_less}
 use Rattle.atl_month.specs.Restock.{after_market_restock, after_restock, stocks_by}
 use Rattle.atl_month.proofs.RestockLaws.{IsMarketOf, markets_are, markets_there, none_of, one_leaves_well, room_behind_market, room_for_market, stocking, stocks_little}
 use Rattle.atl_month.proofs.restock.restock_region.Goals as goal

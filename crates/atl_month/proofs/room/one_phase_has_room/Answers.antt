@@ -1,4 +1,4 @@
-use Rattle.atl_instant.proofs.RoomLaws.{one_phase_has_room}
+use Rattle.atl_phase.proofs.RoomLaws.{one_phase_has_room}
 use Rattle.atl_month.proofs.room.one_phase_has_room.Goals as goal
 
 pub returns : goal.returns

@@ -4,8 +4,8 @@ use Rattle.atl_records.specs.declared.books.Entry.TheVariants.{Births, Income}
 use Rattle.atl_records.specs.declared.books.Thing.TheVariants.{People, Money}
 use Rattle.atl_records.specs.Books.{amount_in}
 use Rattle.atl_tables.specs.Limits.{most_amount}
-use Rattle.atl_instant.specs.Meaning.{moves_only}
-use Rattle.atl_instant.proofs.BookingLaws.{booked-room, booking_fits, within-pos}
+use Rattle.atl_phase.specs.Meaning.{moves_only}
+use Rattle.atl_phase.proofs.BookingLaws.{booked-room, booking_fits, within-pos}
 use Rattle.atl_month.proofs.SeasonLaws.{births_first, growth_marks}
 use Rattle.atl_month.proofs.season.grow.Goals as goal
 

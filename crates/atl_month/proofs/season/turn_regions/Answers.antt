@@ -4,9 +4,9 @@ use Rattle.std.proofs.lemmas.List.{drop_more}
 use Rattle.std.specs.FinMap.{entries, len-entries}
 use Rattle.atl_tables.specs.Limits.{most_amount, most_regions}
 use Rattle.atl_state.proofs.CoverLaws.{marks-refl, marks-trans}
-use Rattle.atl_instant.specs.Meaning.{most_moved}
-use Rattle.atl_instant.specs.Bounds.{moved_times}
-use Rattle.atl_instant.proofs.MeaningLaws.{room_less}
+use Rattle.atl_phase.specs.Meaning.{most_moved}
+use Rattle.atl_phase.specs.Bounds.{moved_times}
+use Rattle.atl_phase.proofs.MeaningLaws.{room_less}
 use Rattle.atl_month.specs.Season.{season_moves, season_at}
 use Rattle.atl_month.proofs.SeasonLaws.{season_little, room_goes_on, room_now, season_at_leaves_well, season_goes_on}
 use Rattle.atl_month.proofs.season.turn_regions.Goals as goal

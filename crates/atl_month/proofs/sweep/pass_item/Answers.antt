@@ -4,9 +4,9 @@ use Rattle.atl_records.specs.declared.books.Entry.TheVariants.{Lost}
 use Rattle.atl_records.specs.declared.books.Thing.TheVariants.{Item}
 use Rattle.atl_records.specs.Books.{amount_in}
 use Rattle.atl_state.specs.Campaign.{CampaignValue}
-use Rattle.atl_instant.proofs.ChangeLaws.{item_changes}
-use Rattle.atl_instant.proofs.MarkLaws.{booked_marks}
-use Rattle.atl_instant.proofs.MeaningLaws.{less_room}
+use Rattle.atl_phase.proofs.ChangeLaws.{item_changes}
+use Rattle.atl_phase.proofs.MarkLaws.{booked_marks}
+use Rattle.atl_phase.proofs.MeaningLaws.{less_room}
 use Rattle.atl_month.proofs.SweepRunLaws.{lost_marks, passed_item_is}
 use Rattle.atl_month.proofs.sweep.pass_item.Goals as goal
 

@@ -3,7 +3,7 @@ use Rattle.std.specs.Prelude.{fold}
 use Rattle.atl_state.specs.Covers.{MarksChanges}
 use Rattle.atl_records.specs.Every.{EachOf}
 use Rattle.atl_state.specs.Good.{IsSteady}
-use Rattle.atl_instant.specs.Bounds.{HaveRoom, moving_items}
+use Rattle.atl_phase.specs.Bounds.{HaveRoom, moving_items}
 use Rattle.atl_month.specs.Sweep.{after_passing_item}
 use Rattle.atl_month.proofs.sweep.pass_items.Given as goal
 

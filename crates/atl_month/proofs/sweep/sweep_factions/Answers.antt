@@ -1,5 +1,5 @@
 use Rattle.atl_state.proofs.CoverLaws.{marks-trans}
-use Rattle.atl_instant.proofs.FoldLaws.{fold_behind}
+use Rattle.atl_phase.proofs.FoldLaws.{fold_behind}
 use Rattle.atl_month.specs.Sweep.{after_sweeping_faction}
 use Rattle.atl_month.proofs.sweep.sweep_factions.Goals as goal
 

@@ -6,7 +6,7 @@ use Rattle.atl_records.specs.declared.books.Thing.TheVariants.{Money}
 use Rattle.atl_records.specs.Books.{amount_in}
 use Rattle.atl_state.proofs.CoverLaws.{marks-trans}
 use Rattle.atl_state.proofs.LeavingLaws.{marks-without}
-use Rattle.atl_instant.proofs.MeaningLaws.{less_room}
+use Rattle.atl_phase.proofs.MeaningLaws.{less_room}
 use Rattle.atl_instant.proofs.QuitLaws.{known_held}
 use Rattle.atl_month.proofs.SweepRunLaws.{items_room, money_steady}
 use Rattle.atl_month.proofs.sweep.sweep_unit.Goals as goal

@@ -2,9 +2,9 @@ use Rattle.std.proofs.Common.{◌≡◌, ◌∷◌, ◌+◌, ℕ, List, length, 
 use Rattle.std.proofs.lemmas.List.{drop_more}
 use Rattle.atl_tables.specs.Limits.{most_amount}
 use Rattle.atl_state.proofs.CoverLaws.{marks-trans}
-use Rattle.atl_instant.specs.Bounds.{HaveRoom, moved_times}
-use Rattle.atl_instant.proofs.FoldLaws.{fold_behind}
-use Rattle.atl_instant.proofs.MeaningLaws.{room_behind_one, room_for_one}
+use Rattle.atl_phase.specs.Bounds.{HaveRoom, moved_times}
+use Rattle.atl_phase.proofs.FoldLaws.{fold_behind}
+use Rattle.atl_phase.proofs.MeaningLaws.{room_behind_one, room_for_one}
 use Rattle.atl_month.specs.Sweep.{after_sweeping_unit, loses_by}
 use Rattle.atl_month.proofs.ReceiverLaws.{receiver_stays}
 use Rattle.atl_month.proofs.SweepAllLaws.{swept_at_leaves_well}

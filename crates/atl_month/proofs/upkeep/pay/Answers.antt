@@ -1,4 +1,4 @@
-use Rattle.atl_instant.proofs.ChangeLaws.{money_changes}
+use Rattle.atl_phase.proofs.ChangeLaws.{money_changes}
 use Rattle.atl_month.proofs.UpkeepLaws.{pays_nothing}
 use Rattle.atl_month.proofs.upkeep.pay.Goals as goal
 

@@ -7,9 +7,9 @@ use Rattle.atl_records.specs.Holdings.{HoldingValue}
 use Rattle.atl_state.specs.Lending.{with_held}
 use Rattle.atl_state.specs.Marks.{Marks}
 use Rattle.atl_records.specs.declared.records.Unit.{Unit}
-use Rattle.atl_instant.specs.Holdings.{ChangesHolding, with_days}
-use Rattle.atl_instant.proofs.ChangeLaws.{changed_held, money_changes, then_changes}
-use Rattle.atl_instant.proofs.MarkLaws.{on_ok_both}
+use Rattle.atl_phase.specs.Holdings.{ChangesHolding, with_days}
+use Rattle.atl_phase.proofs.ChangeLaws.{changed_held, money_changes, then_changes}
+use Rattle.atl_phase.proofs.MarkLaws.{on_ok_both}
 use Rattle.atl_month.specs.UpkeepSharing.{CanSpare}
 use Rattle.atl_month.specs.Upkeep.{after_upkeep}
 use Rattle.atl_month.proofs.UpkeepLaws.{starved_supplied}

@@ -5,9 +5,9 @@ use Rattle.atl_records.specs.Books.{after_booking, amount_in}
 use Rattle.atl_records.specs.declared.books.Entry.TheVariants.{Starved, Upkeep}
 use Rattle.atl_records.specs.declared.books.Thing.TheVariants.{Money, People}
 use Rattle.atl_state.specs.Campaign.{CampaignValue}
-use Rattle.atl_instant.specs.Meaning.{moves_only}
-use Rattle.atl_instant.proofs.BookingLaws.{booked-room, within-neg}
-use Rattle.atl_instant.proofs.MeaningLaws.{less_room}
+use Rattle.atl_phase.specs.Meaning.{moves_only}
+use Rattle.atl_phase.proofs.BookingLaws.{booked-room, within-neg}
+use Rattle.atl_phase.proofs.MeaningLaws.{less_room}
 use Rattle.atl_month.proofs.UpkeepLaws.{few_paid, few_starved, upkeep_at_is, upkeep_marks}
 use Rattle.atl_month.proofs.upkeep.upkeep_of.Goals as goal
 

@@ -1,7 +1,7 @@
 //! Shares pots in the reference calculation; for each pot it looks at all units.
 use super::plain::{Person, Plain};
 use super::shares::share;
-use atl_instant::PhaseOrder;
+use atl_phase::PhaseOrder;
 use atl_state::{EventFault, Outcome};
 use std::alloc::{AllocError, Global};
 

@@ -2,8 +2,8 @@
 //! each.
 use super::plain::{Land, Person, Plain};
 use super::pots::{Claim, Given, Pot, own};
-use atl_instant::PhaseOrder;
 use atl_orders::Operands;
+use atl_phase::PhaseOrder;
 use atl_state::{Entry, EventFault, Thing};
 use atl_tables::World;
 use std::alloc::AllocError;

@@ -4,9 +4,9 @@ use super::plain::{Land, Plain};
 use super::pots::{Claim, Claimed, Given, Pot, given_to, outcome, shared};
 use super::trade::Trade;
 use super::{produce, recruit, tax, trade, work};
-use atl_instant::{Arrangement, Month, MonthLongVerbs, PhaseOrder};
 use atl_market::{BuyPhase, ProducePhase, RecruitPhase, SellPhase, TaxPhase};
 use atl_orders::{Mailing, Operands, Order, Verb};
+use atl_phase::{Arrangement, Month, MonthLongVerbs, PhaseOrder};
 use atl_tables::{Sequence, World};
 use std::alloc::{AllocError, Global};
 

@@ -1,7 +1,7 @@
 //! TAX in the reference calculation: units that guard share the money of their region.
 use super::plain::{Land, Plain};
 use super::pots::{Claim, Given, Pot, own};
-use atl_instant::PhaseOrder;
+use atl_phase::PhaseOrder;
 use atl_state::EventFault;
 use atl_tables::World;
 

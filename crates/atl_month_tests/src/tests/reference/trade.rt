@@ -3,8 +3,8 @@
 use super::plain::{Good, Person, Plain, Stock};
 use super::pots::{Claim, Given, Pot, own};
 use super::tax::MOST_MONEY;
-use atl_instant::PhaseOrder;
 use atl_orders::Operands;
+use atl_phase::PhaseOrder;
 use atl_state::{Entry, EventFault, Thing};
 use atl_tables::{Market, World};
 use std::alloc::AllocError;

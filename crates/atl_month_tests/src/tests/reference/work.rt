@@ -2,8 +2,8 @@
 use super::plain::{Person, Plain};
 use super::pots::{Claim, Given, Pot, given_to, own};
 use super::tax::MOST_MONEY;
-use atl_instant::PhaseOrder;
 use atl_orders::Verb;
+use atl_phase::PhaseOrder;
 use atl_state::{Entry, EventFault, Thing};
 use atl_tables::World;
 use std::alloc::{AllocError, Global};

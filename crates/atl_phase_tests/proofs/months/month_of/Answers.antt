@@ -1,9 +1,9 @@
 use Rattle.std.proofs.Common.{subst, sym}
 use Rattle.std.proofs.lemmas.List.Elements.{recursion_from_All}
 use Rattle.atl_orders.specs.Mailing.{IsReadWith}
-use Rattle.atl_instant.specs.Month.{MonthValue}
-use Rattle.atl_instant.specs.Fit.{AreFit}
-use Rattle.atl_instant.proofs.FitLaws.{read_fit}
+use Rattle.atl_phase.specs.Month.{MonthValue}
+use Rattle.atl_phase.specs.Fit.{AreFit}
+use Rattle.atl_phase.proofs.FitLaws.{read_fit}
 use Rattle.atl_phase_tests.proofs.months.month_of.Goals as goal
 
 pub returns : goal.returns

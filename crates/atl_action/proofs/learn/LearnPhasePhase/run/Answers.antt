@@ -2,11 +2,11 @@ use Rattle.std.proofs.Common.{ap, subst, sym, ◌∙◌}
 use Rattle.std.specs.Ordering.{nat_cmp}
 use Rattle.std.specs.FinMap.{FinMap, get, values}
 use Rattle.atl_orders.specs.Mailing.{Reading}
-use Rattle.atl_instant.specs.Month.{Aliases}
-use Rattle.atl_instant.specs.PhaseOrders.{orders_of}
-use Rattle.atl_instant.specs.OrderEffects.{AreUnaffected, IsOwnOrder}
-use Rattle.atl_instant.specs.declared.phase_order.Arrangement.TheVariants.{ByUnit}
-use Rattle.atl_instant.specs.NoWorse.{IsUnchanged}
+use Rattle.atl_phase.specs.Month.{Aliases}
+use Rattle.atl_phase.specs.PhaseOrders.{orders_of}
+use Rattle.atl_phase.specs.OrderEffects.{AreUnaffected, IsOwnOrder}
+use Rattle.atl_phase.specs.declared.phase_order.Arrangement.TheVariants.{ByUnit}
+use Rattle.atl_phase.specs.NoWorse.{IsUnchanged}
 use Rattle.atl_action.specs.Learners.{is_studying}
 use Rattle.atl_action.proofs.learn.LearnPhasePhase.run.Goals as goal
 

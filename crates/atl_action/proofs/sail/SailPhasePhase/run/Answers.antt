@@ -1,6 +1,6 @@
 use Rattle.std.proofs.Common.{ap, subst, sym}
-use Rattle.atl_instant.specs.OrderEffects.{spares_others}
-use Rattle.atl_instant.specs.NoWorse.{IsUnchanged}
+use Rattle.atl_phase.specs.OrderEffects.{spares_others}
+use Rattle.atl_phase.specs.NoWorse.{IsUnchanged}
 use Rattle.atl_action.specs.Sail.{SailsWith, is_sailing}
 use Rattle.atl_action.proofs.SailLaws.{all_carried, sail_spares_others}
 use Rattle.atl_action.proofs.sail.SailPhasePhase.run.Goals as goal

@@ -4,11 +4,11 @@ use Rattle.std.specs.FinMap.{get}
 use Rattle.atl_state.specs.Good.{IsEarly}
 use Rattle.atl_state.specs.Campaign.{CampaignValue}
 use Rattle.atl_state.proofs.CoverLaws.{marks-refl, marks-trans}
-use Rattle.atl_instant.specs.Month.{MonthValue}
-use Rattle.atl_instant.specs.Bounds.{StepsWell, books_nothing}
-use Rattle.atl_instant.proofs.FoldLaws.{fold_behind, fold_ended}
+use Rattle.atl_phase.specs.Month.{MonthValue}
+use Rattle.atl_phase.specs.Bounds.{StepsWell, books_nothing}
+use Rattle.atl_phase.proofs.FoldLaws.{fold_behind, fold_ended}
+use Rattle.atl_phase.proofs.OrderEffectLaws.{leaves_well, well_same, well_twice}
 use Rattle.atl_instant.proofs.FormLaws.{all_formed, free_number, order_stays, order_well}
-use Rattle.atl_instant.proofs.OrderEffectLaws.{leaves_well, well_same, well_twice}
 use Rattle.atl_instant.proofs.form.FormPhasePhase.run.Goals as goal
 use Rattle.atl_orders.specs.declared.verb.Verb.TheVariants.{Form}
 use Rattle.atl_instant.specs.Forming.{form_apart}

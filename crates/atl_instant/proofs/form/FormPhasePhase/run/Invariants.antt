@@ -4,7 +4,7 @@ use Rattle.std.specs.FinMap.{get}
 use Rattle.atl_state.specs.Covers.{MarksChanges}
 use Rattle.atl_records.specs.Every.{Every}
 use Rattle.atl_state.specs.Good.{IsEarly}
-use Rattle.atl_instant.specs.Bounds.{StepsWell, books_nothing}
+use Rattle.atl_phase.specs.Bounds.{StepsWell, books_nothing}
 use Rattle.atl_instant.proofs.form.FormPhasePhase.run.Given as goal
 use Rattle.atl_instant.specs.Forming.{form_apart}
 

@@ -5,18 +5,18 @@ use Rattle.atl_orders.specs.Bounds.{IsOrderOf}
 use Rattle.atl_state.specs.Good.{IsSteady}
 use Rattle.atl_state.specs.Campaign.{CampaignValue}
 use Rattle.atl_state.proofs.CoverLaws.{marks-refl, marks-trans}
-use Rattle.atl_instant.specs.Month.{MonthValue, with_events}
+use Rattle.atl_phase.specs.Month.{MonthValue, with_events}
+use Rattle.atl_phase.specs.PhaseOrders.{orders_by_unit, task_of}
+use Rattle.atl_phase.specs.NoWorse.{IsNoWorse}
+use Rattle.atl_phase.specs.declared.phase_order.PhaseOrder.{PhaseOrder}
+use Rattle.atl_phase.specs.OrderEffects.{AreUnaffected, meaning_by_orders, one_order}
+use Rattle.atl_phase.specs.Bounds.{StepsWell, books_nothing}
+use Rattle.atl_phase.proofs.FoldLaws.{each_mapped, fold_behind, fold_ended, fold_mapped}
+use Rattle.atl_phase.proofs.OrderEffectLaws.{leaves_well, order_well, orders_fit, orders_spare, well_same, well_twice}
 use Rattle.atl_instant.specs.Guard.{guard_concerns, guard_step, is_guarding}
 use Rattle.atl_instant.specs.RegionGuards.{AreRegionGuards}
-use Rattle.atl_instant.specs.PhaseOrders.{orders_by_unit, task_of}
-use Rattle.atl_instant.specs.NoWorse.{IsNoWorse}
-use Rattle.atl_instant.specs.declared.phase_order.PhaseOrder.{PhaseOrder}
-use Rattle.atl_instant.specs.OrderEffects.{AreUnaffected, meaning_by_orders, one_order}
-use Rattle.atl_instant.specs.Bounds.{StepsWell, books_nothing}
-use Rattle.atl_instant.proofs.FoldLaws.{each_mapped, fold_behind, fold_ended, fold_mapped}
 use Rattle.atl_instant.proofs.GuardingLaws.{guard_orderly}
 use Rattle.atl_instant.proofs.RegionGuardLaws.{holders_are}
-use Rattle.atl_instant.proofs.OrderEffectLaws.{leaves_well, order_well, orders_fit, orders_spare, well_same, well_twice}
 use Rattle.atl_instant.proofs.guard.GuardPhasePhase.run.Goals as goal
 
 pub loop-order-init : goal.loop-order-init

@@ -2,12 +2,12 @@ use Rattle.std.proofs.Common.{◌≡◌, [], drop}
 use Rattle.std.specs.Prelude.{fold}
 use Rattle.atl_state.specs.Covers.{MarksChanges}
 use Rattle.atl_state.specs.Good.{IsSteady}
+use Rattle.atl_phase.specs.Month.{with_events}
+use Rattle.atl_phase.specs.PhaseOrders.{task_of}
+use Rattle.atl_phase.specs.OrderEffects.{one_order}
+use Rattle.atl_phase.specs.Bounds.{StepsWell, books_nothing}
 use Rattle.atl_instant.specs.Guard.{guard_step}
 use Rattle.atl_instant.specs.RegionGuards.{AreRegionGuards}
-use Rattle.atl_instant.specs.Month.{with_events}
-use Rattle.atl_instant.specs.PhaseOrders.{task_of}
-use Rattle.atl_instant.specs.OrderEffects.{one_order}
-use Rattle.atl_instant.specs.Bounds.{StepsWell, books_nothing}
 use Rattle.atl_instant.proofs.guard.GuardPhasePhase.run.Given as goal
 
 abbrev pub invariant-loop-order : goal.invariant-loop-order

@@ -1,6 +1,6 @@
 use Rattle.atl_orders.specs.Orders.{name_in}
+use Rattle.atl_phase.proofs.OrderEffectLaws.{told_some}
 use Rattle.atl_instant.specs.Name.{naming}
-use Rattle.atl_instant.proofs.OrderEffectLaws.{told_some}
 use Rattle.atl_instant.proofs.name.NamePhaseOrderPhase.carry_out.Goals as goal
 
 pub returns-in_ok-give_name-in-Name-clause-step : goal.returns-in_ok-give_name-in-Name-clause-step

@@ -1,7 +1,7 @@
 use Rattle.std.proofs.Common.{◌≡◌, map, subst, sym, rules}
 use Rattle.atl_state.specs.Good.{IsSteady}
-use Rattle.atl_instant.specs.Meaning.{LeavesWell, most_moved}
-use Rattle.atl_instant.specs.PhaseOrders.{orders_by_unit, task_of}
+use Rattle.atl_phase.specs.Meaning.{LeavesWell, most_moved}
+use Rattle.atl_phase.specs.PhaseOrders.{orders_by_unit, task_of}
 use Rattle.atl_market.specs.Produce.{is_produce, produce_moves}
 use Rattle.atl_market.specs.Unordered.{OthersAreNoWorse}
 use Rattle.atl_market.proofs.ProduceLaws.{can_share_out, produce_keeps_others, produce_leaves_well}

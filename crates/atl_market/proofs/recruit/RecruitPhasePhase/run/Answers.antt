@@ -1,7 +1,7 @@
 use Rattle.std.proofs.Common.{◌≡◌, map, subst, sym, rules}
 use Rattle.atl_state.specs.Good.{IsEarly}
-use Rattle.atl_instant.specs.Meaning.{LeavesWell, most_moved}
-use Rattle.atl_instant.specs.PhaseOrders.{orders_by_unit, task_of}
+use Rattle.atl_phase.specs.Meaning.{LeavesWell, most_moved}
+use Rattle.atl_phase.specs.PhaseOrders.{orders_by_unit, task_of}
 use Rattle.atl_market.specs.Recruit.{is_recruit, recruit_moves}
 use Rattle.atl_market.specs.Unordered.{OthersAreNoWorse}
 use Rattle.atl_market.proofs.RecruitLaws.{all_recruits_leave_well, can_share_out, recruit_keeps_others}

@@ -1,9 +1,9 @@
 use Rattle.std.proofs.Common.{map, subst, sym}
 use Rattle.atl_state.specs.Good.{IsEarly}
-use Rattle.atl_instant.specs.PhaseOrders.{task_of}
-use Rattle.atl_instant.specs.Meaning.{LeavesWell}
-use Rattle.atl_instant.specs.NoWorse.{AreNoWorse}
-use Rattle.atl_instant.specs.Unbooked.{moves_nothing}
+use Rattle.atl_phase.specs.PhaseOrders.{task_of}
+use Rattle.atl_phase.specs.Meaning.{LeavesWell}
+use Rattle.atl_phase.specs.NoWorse.{AreNoWorse}
+use Rattle.atl_phase.specs.Unbooked.{moves_nothing}
 use Rattle.atl_market.proofs.TaxLaws.{all_taxes_leave_well, can_share_out, tax_keeps_units}
 use Rattle.atl_market.proofs.tax.TaxPhasePhase.run.Goals as goal
 

@@ -1,8 +1,8 @@
 use Rattle.std.proofs.Common.{◌≡◌, map, subst, sym, rules}
 use Rattle.atl_state.specs.Good.{IsEarly}
-use Rattle.atl_instant.specs.Meaning.{LeavesWell, most_moved}
-use Rattle.atl_instant.specs.Bounds.{HaveRoom}
-use Rattle.atl_instant.specs.PhaseOrders.{orders_by_unit, task_of}
+use Rattle.atl_phase.specs.Meaning.{LeavesWell, most_moved}
+use Rattle.atl_phase.specs.Bounds.{HaveRoom}
+use Rattle.atl_phase.specs.PhaseOrders.{orders_by_unit, task_of}
 use Rattle.atl_market.specs.Trade.{is_trade, trade_moves}
 use Rattle.atl_market.specs.Unordered.{OthersAreNoWorse}
 use Rattle.atl_market.proofs.TradeLaws.{all_trades_leave_well, can_share_out, trade_keeps_others}

@@ -1,8 +1,8 @@
 use Rattle.std.proofs.Common.{map, subst, sym}
 use Rattle.atl_state.specs.Good.{IsSteady}
-use Rattle.atl_instant.specs.PhaseOrders.{task_of}
-use Rattle.atl_instant.specs.Meaning.{LeavesWell, most_moved}
-use Rattle.atl_instant.specs.NoWorse.{AreNoWorse}
+use Rattle.atl_phase.specs.PhaseOrders.{task_of}
+use Rattle.atl_phase.specs.Meaning.{LeavesWell, most_moved}
+use Rattle.atl_phase.specs.NoWorse.{AreNoWorse}
 use Rattle.atl_market.specs.Work.{work_moves}
 use Rattle.atl_market.proofs.WorkLaws.{can_share_out, work_keeps_units, work_leaves_well}
 use Rattle.atl_market.proofs.work.WorkPhasePhase.run.Goals as goal

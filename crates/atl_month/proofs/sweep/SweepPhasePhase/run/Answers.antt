@@ -2,9 +2,9 @@ use Rattle.std.proofs.Common.{rules, ◌≡◌, length, refl, arith}
 use Rattle.std.proofs.lemmas.Grind.{common_steps}
 use Rattle.atl_tables.specs.Limits.{most_amount}
 use Rattle.atl_state.proofs.CoverLaws.{marks-trans}
-use Rattle.atl_instant.specs.Meaning.{most_moved}
-use Rattle.atl_instant.specs.Bounds.{moved_times}
-use Rattle.atl_instant.proofs.MeaningLaws.{room_less}
+use Rattle.atl_phase.specs.Meaning.{most_moved}
+use Rattle.atl_phase.specs.Bounds.{moved_times}
+use Rattle.atl_phase.proofs.MeaningLaws.{room_less}
 use Rattle.atl_month.specs.Sweep.{loses_by, menless_units, sweep}
 use Rattle.atl_month.proofs.SweepAllLaws.{few_menless, loses_little, sweep_keeps_all, sweep_leaves_well}
 use Rattle.atl_month.proofs.sweep.SweepPhasePhase.run.Goals as goal

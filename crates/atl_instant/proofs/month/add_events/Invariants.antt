@@ -1,6 +1,0 @@
-use Rattle.std.proofs.Common.{◌≡◌, drop}
-use Rattle.atl_instant.specs.Month.{with_events}
-use Rattle.atl_instant.proofs.month.add_events.Given as goal
-
-abbrev pub invariant-loop-event : goal.invariant-loop-event
-invariant-loop-event l = with_events l.month (drop l.event-index l.events) ≡ with_events l.fn.month l.events

@@ -1,5 +1,0 @@
-use Rattle.atl_instant.proofs.OrderIndexLaws.{Added}
-use Rattle.atl_instant.proofs.order_indices.add_standing.Given as goal
-
-abbrev pub invariant-loop-place : goal.invariant-loop-place
-invariant-loop-place l = Added l.aliases l.mailings l.at l.fn.list.items l.place l.list.items

@@ -1,5 +1,0 @@
-use Rattle.atl_instant.proofs.StandOnceLaws as laws
-use Rattle.atl_instant.proofs.orders.one_order_stands.Goals as goal
-
-pub returns : goal.returns
-returns c = laws.one_order_stands

@@ -1,0 +1,117 @@
+-- Laws of a change to the holding of one unit: the campaign after it, and which marks are set.
+use Rattle.std.proofs.Common.{◌≡◌, ◌≢◌, ℕ, Option, Some, None, refl, sym, ap, ◌∙◌}
+use Rattle.std.specs.Ordering.{nat_cmp}
+use Rattle.std.specs.FinMap.{FinMap, get, insert}
+use Rattle.atl_tables.specs.Sums.{changed_at}
+use Rattle.atl_tables.proofs.Maps.{insert_over}
+use Rattle.atl_tables.proofs.SumLaws.{put_same}
+use Rattle.atl_records.specs.declared.records.Unit.{Unit}
+use Rattle.atl_records.specs.Holdings.{HoldingValue, with_amount_of}
+use Rattle.atl_state.specs.Lending.{with_held}
+use Rattle.atl_state.specs.Marking.{mark_item, mark_skill, mark_unit_row}
+use Rattle.atl_state.specs.Marks.{Marks}
+use Rattle.atl_state.specs.Campaign.{MarkedCampaign, CampaignValue, unit_changed, with_item, with_men, with_money, with_skill}
+use Rattle.atl_state.proofs.CoverLaws.{marks-refl, marks-trans}
+use Rattle.atl_records.proofs.EveryLaws.{get-insert_other}
+use Rattle.atl_state.proofs.HoldingLaws.{marks-item, marks-skill, marks-unit_row}
+use Rattle.atl_state.proofs.RegionLaws.{get-insert_same}
+use Rattle.atl_phase.specs.Holdings.{ChangesHolding}
+use Rattle.atl_phase.proofs.MarkLaws.{marks_by}
+
+-- to change a unit by f and then by g is to change it by f and g at once
+pub changed_twice : (f g : Unit → Unit) (c : CampaignValue) (n : ℕ) → unit_changed g (unit_changed f c n) n ≡ unit_changed (λ u. g (f u)) c n
+changed_twice f g c n = by_unit (get c.units n) refl
+  where
+    by_unit : (o : Option Unit) → get c.units n ≡ o → unit_changed g (record c { units = changed_at f c.units n o }) n ≡ record c { units = changed_at (λ u. g (f u)) c.units n o }
+    by_unit None is = ap (λ o. record c { units = changed_at g c.units n o }) is
+    by_unit (Some u) is =
+        ap (λ o. record c { units = changed_at g (insert c.units n (f u)) n o }) (get-insert_same c.units n (f u)) ∙ ap (λ m. record c { units = m }) (insert_over c.units n (f u) (g (f u)))
+
+-- a change that leaves the unit as it is leaves the campaign as it is
+pub same_held : (c : CampaignValue) (n : ℕ) → unit_changed (λ u. u) c n ≡ c
+same_held c n = by_unit (get c.units n) refl
+  where
+    by_unit : (o : Option Unit) → get c.units n ≡ o → record c { units = changed_at (λ u. u) c.units n o } ≡ c
+    by_unit None is = refl
+    by_unit (Some u) is = ap (λ m. record c { units = m }) (put_same c.units n u u is refl)
+
+-- to change what a unit holds is to set it to the new holding (`with_held`), if the unit is there
+pub changed_held : (f : HoldingValue → HoldingValue) (c d : CampaignValue) (n : ℕ) → d ≡ unit_changed (λ u. record u { holding = f u.holding }) c n → (u : Unit) → get c.units n ≡ Some u → d ≡ with_held c n (f u.holding) (Some u)
+changed_held f c d n what u is = what ∙ ap (λ o. record c { units = changed_at (λ (v : Unit). record v { holding = f v.holding }) c.units n o }) is
+
+-- a change of unit n leaves every other unit as it is
+pub others_held : (f : Unit → Unit) (c : CampaignValue) (n k : ℕ) → k ≢ n → get (unit_changed f c n).units k ≡ get c.units k
+others_held f c n k apart = by_unit (get c.units n)
+  where
+    by_unit : (o : Option Unit) → get (changed_at f c.units n o) k ≡ get c.units k
+    by_unit None = refl
+    by_unit (Some u) = get-insert_other c.units n k (f u) apart
+
+-- ---- what calls leave
+
+-- if unit n isn't there, an unchanged campaign satisfies `ChangesHolding` for every change of its holding
+pub nobody_changes : (c : MarkedCampaign) (n : ℕ) (f : HoldingValue → HoldingValue) → get c.value.units n ≡ None → ChangesHolding c c n f
+nobody_changes c n f none = record {
+  value = sym (ap (λ o. record c.value { units = changed_at (λ (u : Unit). record u { holding = f u.holding }) c.value.units n o }) none);
+  marks = marks-refl c;
+  goods = refl;
+}
+
+-- a campaign changed by f (`ChangesHolding`) is changed by g, if f and g make the same of what the unit held
+pub changes_as : (c d : MarkedCampaign) (n : ℕ) (f g : HoldingValue → HoldingValue) (u : Unit) → get c.value.units n ≡ Some u → f u.holding ≡ g u.holding → ChangesHolding c d n f → ChangesHolding c d n g
+changes_as c d n f g u is same old = record {
+  value =
+      changed_held f c.value d.value n old.value u is ∙ ap (λ h. with_held c.value n h (Some u)) same
+      ∙ sym (changed_held g c.value (unit_changed (λ v. record v { holding = g v.holding }) c.value n) n refl u is);
+  marks = old.marks;
+  goods = old.goods;
+}
+
+-- a change by f and then one by g is a change by both in turn
+pub then_changes : (a b d : MarkedCampaign) (n : ℕ) (f g : HoldingValue → HoldingValue) → ChangesHolding a b n f → ChangesHolding b d n g → ChangesHolding a d n (λ h. g (f h))
+then_changes a b d n f g one two = record {
+  value =
+      two.value ∙ ap (λ c. unit_changed (λ u. record u { holding = g u.holding }) c n) one.value
+      ∙ changed_twice (λ u. record u { holding = f u.holding }) (λ u. record u { holding = g u.holding }) a.value n;
+  marks = marks-trans a b d one.marks two.marks;
+  goods = two.goods ∙ one.goods;
+}
+
+-- the items and the days of a unit
+abbrev goods_of : HoldingValue → FinMap nat_cmp ℕ × FinMap nat_cmp ℕ
+goods_of h = (h.items, h.days)
+
+-- a setter that changes neither items nor days, and marks the unit's row, marks all that it changes (`ChangesHolding`)
+row_changes : (f : HoldingValue → HoldingValue) → ((h : HoldingValue) → goods_of (f h) ≡ goods_of h) → (c d : MarkedCampaign) (n : ℕ)
+    → d.value ≡ unit_changed (λ u. record u { holding = f u.holding }) c.value n → d.marks ≡ mark_unit_row c n → ChangesHolding c d n f
+row_changes f same c d n what marks =
+    let with_other : Unit → Unit = λ u. record u { holding = f u.holding } in
+    record {
+      value = what;
+      marks = marks_by c d (record { value = unit_changed with_other c.value n; marks = mark_unit_row c n }) what marks (marks-unit_row with_other (λ u. same u.holding) c n);
+      goods = ap (λ (m : Marks). m.goods) marks;
+    }
+
+-- setting a unit's men changes nothing else of its holding, and marks the change (`ChangesHolding`)
+pub men_changes : (c d : MarkedCampaign) (n men : ℕ) → d.value ≡ with_men c.value n men → d.marks ≡ mark_unit_row c n → ChangesHolding c d n (λ h. record h { men = men })
+men_changes c d n men = row_changes (λ h. record h { men = men }) (λ h. refl) c d n
+
+-- setting a unit's money changes nothing else of its holding, and marks the change (`ChangesHolding`)
+pub money_changes : (c d : MarkedCampaign) (n money : ℕ) → d.value ≡ with_money c.value n money → d.marks ≡ mark_unit_row c n → ChangesHolding c d n (λ h. record h { money = money })
+money_changes c d n money = row_changes (λ h. record h { money = money }) (λ h. refl) c d n
+
+-- setting a unit's amount of one item changes nothing else of its holding, and marks the change (`ChangesHolding`)
+pub item_changes : (c d : MarkedCampaign) (n item amount : ℕ) → d.value ≡ with_item c.value n item amount → d.marks ≡ mark_item c n item → ChangesHolding c d n (λ h. record h { items = with_amount_of h.items item amount })
+item_changes c d n item amount what marks = record {
+  value = what;
+  marks = marks_by c d (record { value = with_item c.value n item amount; marks = mark_item c n item }) what marks (marks-item c n item amount);
+  goods = ap (λ (m : Marks). m.goods) marks;
+}
+
+-- setting a unit's days of one skill changes nothing else of its holding, and marks the change (`ChangesHolding`)
+pub skill_changes : (c d : MarkedCampaign) (n skill days : ℕ) → d.value ≡ with_skill c.value n skill days → d.marks ≡ mark_skill c n skill → ChangesHolding c d n (λ h. record h { days = with_amount_of h.days skill days })
+skill_changes c d n skill days what marks = record {
+  value = what;
+  marks = marks_by c d (record { value = with_skill c.value n skill days; marks = mark_skill c n skill }) what marks (marks-skill c n skill days);
+  goods = ap (λ (m : Marks). m.goods) marks;
+}

@@ -1,0 +1,143 @@
+-- Laws of phases and steps in turn: what holds after them, how far they move the books, and what room that needs.
+use Rattle.std.proofs.Common.{◌≡◌, ℕ, ◌+◌, ◌*◌, ◌≤◌, List, [], ◌∷◌, length, refl, sym, ap, subst, ◌∙◌, arith}
+use Rattle.std.specs.Prelude.{ℤ, fold}
+use Rattle.std.specs.Ordering.{nat_cmp}
+use Rattle.std.specs.FinMap.{FinMap, len}
+use Rattle.std.proofs.lemmas.Int.{ints}
+use Rattle.std.proofs.Math.Nat.{suc-mul}
+use Rattle.atl_tables.specs.Worlds.{WorldValue}
+use Rattle.atl_state.specs.Campaign.{CampaignValue}
+use Rattle.atl_records.specs.declared.books.Entry.{Entry}
+use Rattle.atl_records.specs.declared.books.Thing.{Thing}
+use Rattle.atl_records.specs.Books.{IsWithin, amount_in}
+use Rattle.atl_records.specs.declared.records.Faction.{Faction}
+use Rattle.atl_records.specs.Every.{IsThere}
+use Rattle.atl_state.specs.Good.{IsSound, amount_bound}
+use Rattle.atl_phase.specs.Month.{MonthValue}
+use Rattle.atl_phase.specs.Meaning.{BookBound, Condition, Frame, IsNear, IsSameMonth, LeavesWell, Meaning, both_keep, both_move}
+use Rattle.atl_phase.specs.Bounds.{HasRoom, HaveRoom, moved_times}
+
+-- two moves, of at most j and at most k, are together one of at most j + k
+pub near_twice : (j k : ℕ) (a b c : ℤ) → IsNear j a b → IsNear k b c → IsNear (j + k) a c
+near_twice j k a b c g h = record { above = omega (arith, ints, g.above, h.above); below = omega (arith, ints, g.below, h.below) }
+
+-- amounts that differ by at most j differ by at most a greater k
+pub near_more : (j k : ℕ) (a b : ℤ) → j ≤ k → IsNear j a b → IsNear k a b
+near_more j k a b l h = record { above = omega (arith, ints, h.above); below = omega (arith, ints, h.below) }
+
+-- an amount differs from itself by at most any number
+pub near_same : (k : ℕ) (a : ℤ) → IsNear k a a
+near_same k a = record { above = omega (arith, ints); below = omega (arith, ints) }
+
+-- an amount with room for j + k has room for k after a move of at most j
+pub near_room : (j k : ℕ) (a b : ℤ) → IsNear j a b → HasRoom (j + k) a → HasRoom k b
+near_room j k a b near room = record { above = omega (arith, ints, near.above, room.above); below = omega (arith, ints, near.below, room.below) }
+
+-- an amount with room for k has room for a smaller j
+pub less_room : (j k : ℕ) (a : ℤ) → j ≤ k → HasRoom k a → HasRoom j a
+less_room j k a l room = record { above = omega (arith, ints, room.above); below = omega (arith, ints, room.below) }
+
+-- the first bound is at most the second for each amount
+abbrev pub MovesLess : BookBound → BookBound → Type 0
+MovesLess less more = (e : Entry) (t : Thing) → less e t ≤ more e t
+
+-- books with room for a bound have room for a smaller one
+pub room_less : (j k : BookBound) (c : CampaignValue) → MovesLess j k → HaveRoom k c → HaveRoom j c
+room_less j k c l room e t = less_room (j e t) (k e t) (amount_in c.books e t) (l e t) (room e t)
+
+-- the books of a sound campaign have room for any bound of at most 5*10^18
+pub room_when_sound : (w : WorldValue) (c : CampaignValue) (moving : BookBound) → MovesLess moving (λ e t. 5000000000000000000) → IsSound w c → HaveRoom moving c
+room_when_sound w c moving l sound e t =
+    let few : amount_bound c ≤ 3000000000000000000 = omega (arith, sound.steady.numbers.month, sound.steady.numbers.few_factions) in
+    within (amount_in c.books e t) (amount_bound c) (moving e t) few (l e t) (sound.amounts e t)
+  where
+    within : (a : ℤ) (bound change : ℕ) → bound ≤ 3000000000000000000 → change ≤ 5000000000000000000 → IsWithin bound a → HasRoom change a
+    within a bound change few little h = record { above = omega (arith, ints, h.most); below = omega (arith, ints, h.least) }
+
+-- books with room for two phases have room for the second after the first
+pub room_behind : {leaves : Condition} (j k : BookBound) (w : WorldValue) (c d : CampaignValue) → LeavesWell leaves j w c d → HaveRoom (both_move j k) c → HaveRoom k d
+room_behind j k w c d well room e t = near_room (j e t) (k e t) (amount_in c.books e t) (amount_in d.books e t) (well.near e t) (room e t)
+
+-- ---- the same month
+
+-- the number of the month last closed, and the reports
+abbrev pub counted_month : CampaignValue → ℕ × FinMap nat_cmp (List ℕ)
+counted_month c = (c.month, c.reports)
+
+-- a campaign is of the same month if its month, its reports and its number of factions stay, and no faction is added
+pub same_month_among : {c d : CampaignValue} → counted_month d ≡ counted_month c → len d.factions ≡ len c.factions → ((n : ℕ) → IsThere d.factions n → IsThere c.factions n) → IsSameMonth c d
+same_month_among {c} {d} same count factions = record {
+  month = ap (λ (p : ℕ × FinMap nat_cmp (List ℕ)). p.0) same;
+  reports = ap (λ (p : ℕ × FinMap nat_cmp (List ℕ)). p.1) same;
+  count = count;
+  factions = factions;
+}
+
+-- all that stays in a month: the month last closed, the reports and the factions
+abbrev pub kept_in_month : CampaignValue → (ℕ × FinMap nat_cmp (List ℕ)) × FinMap nat_cmp Faction
+kept_in_month c = (counted_month c, c.factions)
+
+-- a campaign is of the same month if the month last closed, the reports and the factions stay
+pub same_month_by : {c d : CampaignValue} → kept_in_month d ≡ kept_in_month c → IsSameMonth c d
+same_month_by {c} {d} same =
+    let factions : d.factions ≡ c.factions = ap (λ (p : (ℕ × FinMap nat_cmp (List ℕ)) × FinMap nat_cmp Faction). p.1) same in
+    same_month_among (ap (λ (p : (ℕ × FinMap nat_cmp (List ℕ)) × FinMap nat_cmp Faction). p.0) same) (ap len factions) (λ n there. subst (λ (m : FinMap nat_cmp Faction). IsThere m n) factions there)
+
+-- an unchanged campaign is of the same month
+pub same_month : (c : CampaignValue) → IsSameMonth c c
+same_month c = same_month_by refl
+
+-- if each of two changes keeps the month (`IsSameMonth`), both together do
+pub same_month_twice : (a b c : CampaignValue) → IsSameMonth a b → IsSameMonth b c → IsSameMonth a c
+same_month_twice a b c one two = record {
+  month = two.month ∙ one.month;
+  reports = two.reports ∙ one.reports;
+  count = two.count ∙ one.count;
+  factions = λ n there. one.factions n (two.factions n there);
+}
+
+-- two phases in turn keep books balanced and amounts within the sum of their bounds, if each does so (`LeavesWell`)
+pub both_leave_well : {between leaves : Condition} (j k : BookBound) (w : WorldValue) (a b c : CampaignValue) → LeavesWell between j w a b → LeavesWell leaves k w b c → LeavesWell leaves (both_move j k) w a c
+both_leave_well j k w a b c one two = record {
+  leaves_it = two.leaves_it;
+  same_month = same_month_twice a b c one.same_month two.same_month;
+  balances = λ h. two.balances (one.balances h);
+  near = λ e t. near_twice (j e t) (k e t) (amount_in a.books e t) (amount_in b.books e t) (amount_in c.books e t) (one.near e t) (two.near e t);
+}
+
+-- two phases in turn keep what each keeps, if the first phase makes the campaign and month that the second one gets
+pub both_keep_well : (first : Meaning) (early late : Frame) (w : WorldValue) (m n : MonthValue) (a b c : CampaignValue)
+    → (b, n) ≡ first w a m → early w m a b → late w n b c → both_keep first early late w m a c
+both_keep_well first early late w m n a b c is one two = rw (sym is) (one, two)
+
+-- a phase that keeps its promises within a bound on the books (`LeavesWell`) keeps them within a greater bound
+pub well_within : {leaves : Condition} (j k : BookBound) (w : WorldValue) (a b : CampaignValue) → MovesLess j k → LeavesWell leaves j w a b → LeavesWell leaves k w a b
+well_within j k w a b l h = record { leaves_it = h.leaves_it; same_month = h.same_month; balances = h.balances; near = λ e t. near_more (j e t) (k e t) (amount_in a.books e t) (amount_in b.books e t) (l e t) (h.near e t) }
+
+-- an unchanged campaign keeps its books within any bound and in balance (`LeavesWell`), if it has the condition
+pub well_unchanged : {leaves : Condition} (moving : BookBound) (w : WorldValue) (c : CampaignValue) → leaves w c → LeavesWell leaves moving w c c
+well_unchanged moving w c h = record { leaves_it = h; same_month = same_month c; balances = λ b. b; near = λ e t. near_same (moving e t) (amount_in c.books e t) }
+
+-- steps of one kind in turn, each of which keeps the books in balance and within one bound (`LeavesWell`)
+module _ {A : Type 0} {leaves : Condition} (moving : BookBound) (w : WorldValue) (step : CampaignValue → A → CampaignValue) (each : (c : CampaignValue) (x : A) → leaves w c → LeavesWell leaves moving w c (step c x)) where
+  -- the bound of one step and then of the others is within the bound of all steps
+  more : {B : Type 0} (x : B) (xs : List B) → MovesLess (both_move moving (moved_times (length xs) moving)) (moved_times (length (x ∷ xs)) moving)
+  more x xs e t = let one : length (x ∷ xs) * moving e t ≡ length xs * moving e t + moving e t = suc-mul (length xs) (moving e t) in omega arith
+
+  -- the steps in turn keep the books in balance, and within the bound of one step times their number (`LeavesWell`)
+  pub fold_leaves_well : (c : CampaignValue) (xs : List A) → leaves w c → LeavesWell leaves (moved_times (length xs) moving) w c (fold step c xs)
+  fold_leaves_well c [] h = well_unchanged (moved_times 0 moving) w c h
+  fold_leaves_well c (x ∷ xs) h =
+      let one = each c x h in
+      well_within (both_move moving (moved_times (length xs) moving)) (moved_times (length (x ∷ xs)) moving) w c (fold step (step c x) xs) (more x xs)
+      (both_leave_well moving (moved_times (length xs) moving) w c (step c x) (fold step (step c x) xs) one (fold_leaves_well (step c x) xs one.leaves_it))
+
+  -- books with room for one or more steps together have room for one of them
+  pub room_for_one : {B : Type 0} (c : CampaignValue) (y : B) (ys : List B) → HaveRoom (moved_times (length (y ∷ ys)) moving) c → HaveRoom moving c
+  room_for_one c y ys room = room_less moving (moved_times (length (y ∷ ys)) moving) c (λ e t. omega (arith, more y ys e t)) room
+
+  -- after the first of some steps, the books have room for the other steps, if they had room for all before
+  pub room_behind_one : {B : Type 0} (c : CampaignValue) (x : A) (y : B) (ys : List B) → leaves w c → HaveRoom (moved_times (length (y ∷ ys)) moving) c → HaveRoom (moved_times (length ys) moving) (step c x)
+  room_behind_one c x y ys h room =
+      room_behind moving (moved_times (length ys) moving) w c (step c x) (each c x h)
+      (room_less (both_move moving (moved_times (length ys) moving)) (moved_times (length (y ∷ ys)) moving) c (more y ys) room)

@@ -1,0 +1,187 @@
+-- Laws of a phase that carries out its orders one by one: what holds after it, and which units it spares.
+use Rattle.std.proofs.Common.{suc, zero, ◌≡◌, ◌==◌, ◌+◌, ℕ, ◌≤◌, Bool, true, false, List, [], ◌∷◌, Option, Some, None, refl, sym, ap, subst, ◌∙◌, arith}
+use Rattle.std.proofs.lemmas.Option.{same_Some}
+use Rattle.std.specs.Prelude.{ℤ, fold, IfSome, OnOk, Result, Ok, Err, if◌then◌else◌}
+use Rattle.std.specs.List.{All, AllByRecursion, slice_get}
+use Rattle.std.proofs.lemmas.List.Elements.{recursion_from_All}
+use Rattle.std.specs.FinMap.{FinMap, get, values}
+use Rattle.std.specs.Ordering.{nat_cmp}
+use Rattle.std.proofs.lemmas.Int.{ints}
+use Rattle.atl_tables.specs.Worlds.{WorldValue}
+use Rattle.atl_tables.proofs.GeneralLaws.{is_equal}
+use Rattle.atl_orders.specs.declared.verb.Verb.{Verb}
+use Rattle.atl_orders.specs.Bounds.{IsEntry, IsOrderOf, IsReading}
+use Rattle.atl_orders.specs.Mailing.{EntryValue, Reading}
+use Rattle.atl_records.specs.declared.books.Entry.{Entry}
+use Rattle.atl_records.specs.declared.books.Thing.{Thing}
+use Rattle.atl_records.specs.declared.event.Outcome.{Outcome}
+use Rattle.atl_records.specs.declared.event.Outcome.TheVariants.{Fault}
+use Rattle.atl_records.specs.declared.records.Unit.{Unit}
+use Rattle.atl_records.specs.Books.{amount_in}
+use Rattle.atl_state.specs.Campaign.{CampaignValue}
+use Rattle.atl_phase.specs.Month.{Aliases, MonthValue}
+use Rattle.atl_phase.specs.Fit.{AreFit}
+use Rattle.atl_phase.specs.Meaning.{BookBound, Condition, IsNear, LeavesWell}
+use Rattle.atl_phase.specs.Bounds.{HasRoom, HaveRoom, IsOrderly, IsUnaffectedRelation, IsUnitOf, RemainingBound, StepsWell, UsesBound}
+use Rattle.atl_phase.specs.PhaseOrders.{IsInMailing, Task, orders_of}
+use Rattle.atl_phase.specs.NoWorse.{IsNoWorse}
+use Rattle.atl_phase.specs.OrderEffects.{AreUnaffected, Affects, IsUnaffected, OrderEffect, Unaffected, OrderMeaning, faction_effect, effect_on, of_faction, one_order, order_result, with_event_of}
+use Rattle.atl_phase.specs.declared.phase_order.Arrangement.TheVariants.{ByUnit}
+use Rattle.atl_phase.proofs.MeaningLaws.{less_room, same_month}
+use Rattle.atl_phase.proofs.NoWorseLaws.{no_worse, no_worse_twice}
+use Rattle.atl_phase.proofs.PhaseOrderLaws.{orders_are_in_mailings}
+
+-- ---- amounts
+
+-- an unchanged amount uses nothing of its remaining bound
+pub drawn_same : (r : ℕ) (a : ℤ) → UsesBound r r a a
+drawn_same r a = record { above = omega (arith, ints); below = omega (arith, ints) }
+
+-- an amount that stays uses nothing of its remaining bound (`UsesBound`), if the bound stays the same
+pub not_drawn : (r s : ℕ) (a b : ℤ) → s ≡ r → b ≡ a → UsesBound r s a b
+not_drawn r s a b e f = record { above = omega (arith, ints, e, f); below = omega (arith, ints, e, f) }
+
+-- two moves within `UsesBound` in turn are one
+pub drawn_twice : (r s t : ℕ) (a b c : ℤ) → UsesBound r s a b → UsesBound s t b c → UsesBound r t a c
+drawn_twice r s t a b c one two = record { above = omega (arith, ints, one.above, two.above); below = omega (arith, ints, one.below, two.below) }
+
+-- an amount that moves by at most x uses x of its remaining bound
+pub drawn_near : (x reserve left : ℕ) (a b : ℤ) → left + x ≡ reserve → IsNear x a b → UsesBound reserve left a b
+drawn_near x reserve left a b e near = record { above = omega (arith, ints, e, near.above); below = omega (arith, ints, e, near.below) }
+
+-- an amount that moves within its remaining bound moves by at most that bound
+near_drawn : (r s most : ℕ) (a b : ℤ) → r ≤ most → UsesBound r s a b → IsNear most a b
+near_drawn r s most a b l h = record { above = omega (arith, ints, h.above); below = omega (arith, ints, h.below) }
+
+-- an amount with room for its remaining bound has room, after a move, for the bound that remains then
+room_drawn : (r s : ℕ) (a b : ℤ) → UsesBound r s a b → HasRoom r a → HasRoom s b
+room_drawn r s a b h room = record { above = omega (arith, ints, h.above, room.above); below = omega (arith, ints, h.below, room.below) }
+
+-- ---- steps
+
+-- an unchanged campaign keeps its condition, month, balance and remaining bound (`StepsWell`)
+pub well_same : {holds : Condition} {reserve : RemainingBound} (w : WorldValue) (c : CampaignValue) → holds w c → StepsWell holds reserve w c c
+well_same {holds} {reserve} w c h = record { holds_still = h; same_month = same_month c; balances = λ b. b; drawn = λ e t. drawn_same (reserve c e t) (amount_in c.books e t) }
+
+-- two steps in turn keep condition, month and balance within the remaining bound (`StepsWell`), if each does
+pub well_twice : {holds : Condition} {reserve : RemainingBound} (w : WorldValue) (a b c : CampaignValue) → StepsWell holds reserve w a b → StepsWell holds reserve w b c → StepsWell holds reserve w a c
+well_twice {holds} {reserve} w a b c one two = record {
+  holds_still = two.holds_still;
+  same_month = record {
+    month = two.same_month.month ∙ one.same_month.month;
+    reports = two.same_month.reports ∙ one.same_month.reports;
+    count = two.same_month.count ∙ one.same_month.count;
+    factions = λ n there. one.same_month.factions n (two.same_month.factions n there);
+  };
+  balances = λ h. two.balances (one.balances h);
+  drawn = λ e t. drawn_twice (reserve a e t) (reserve b e t) (reserve c e t) (amount_in a.books e t) (amount_in b.books e t) (amount_in c.books e t) (one.drawn e t) (two.drawn e t);
+}
+
+-- if the books have room for the remaining bound before a step, they have room for the remaining bound after it
+pub room_left : {holds : Condition} {reserve : RemainingBound} (w : WorldValue) (a b : CampaignValue) → StepsWell holds reserve w a b → HaveRoom (reserve a) a → HaveRoom (reserve b) b
+room_left {holds} {reserve} w a b well room e t = room_drawn (reserve a e t) (reserve b e t) (amount_in a.books e t) (amount_in b.books e t) (well.drawn e t) (room e t)
+
+-- steps within their remaining bound (`StepsWell`) are within a bound of the phase that is as large (`LeavesWell`)
+pub leaves_well : {holds : Condition} {reserve : RemainingBound} {moving : BookBound} (w : WorldValue) (a b : CampaignValue) → ((e : Entry) (t : Thing) → reserve a e t ≤ moving e t) → StepsWell holds reserve w a b → LeavesWell holds moving w a b
+leaves_well {holds} {reserve} {moving} w a b l h = record {
+  leaves_it = h.holds_still;
+  same_month = h.same_month;
+  balances = h.balances;
+  near = λ e t. near_drawn (reserve a e t) (reserve b e t) (moving e t) (amount_in a.books e t) (amount_in b.books e t) (l e t) (h.drawn e t);
+}
+
+-- books with room for all that a phase may move have room for the remaining bound, if this is within the phase's bound
+pub room_reserved : (reserve : RemainingBound) (moving : BookBound) (c : CampaignValue) → ((e : Entry) (t : Thing) → reserve c e t ≤ moving e t) → HaveRoom moving c → HaveRoom (reserve c) c
+room_reserved reserve moving c l room e t = less_room (reserve c e t) (moving e t) (amount_in c.books e t) (l e t) (room e t)
+
+-- ---- what stays
+
+-- `IsNoWorse` is reflexive and transitive, and keeps the faction
+pub no_worse_spares : IsUnaffectedRelation IsNoWorse
+no_worse_spares = record { same = no_worse; again = no_worse_twice; faction = λ u v h. h.faction }
+
+-- ---- orders
+
+-- P holds of the result of a faction's order, if it holds of no change with NotYours, and of the effect on its own unit
+pub carried_cases : (P : CampaignValue × Outcome → Type 0) (deed : OrderEffect) (c : CampaignValue) (faction n : ℕ) → P (c, Fault 1) → ((u : Unit) → get c.units n ≡ Some u → u.faction ≡ faction → P (deed c u)) → P (faction_effect deed c faction n)
+carried_cases P deed c faction n other own = by_unit (get c.units n) refl
+  where
+    by_faction : (u : Unit) → get c.units n ≡ Some u → (b : Bool) → (u.faction == faction) ≡ b → P (effect_on deed c (if b then Some u else None))
+    by_faction u there true is = own u there (is_equal u.faction faction is)
+    by_faction u there false is = other
+
+    by_unit : (o : Option Unit) → get c.units n ≡ o → P (effect_on deed c (of_faction faction o))
+    by_unit None there = other
+    by_unit (Some u) there = by_faction u there (u.faction == faction) refl
+
+-- P holds of the campaign after an order, if it holds without a change and after the effect on the order's unit
+pub ordered_cases : (P : CampaignValue → Type 0) (step : Option OrderEffect) (c : CampaignValue) (t : Task) → P c → ((x : Unit) → IsUnitOf c t x → IfSome step (λ deed. P (deed c x).0)) → P (order_result step c t.faction t.unit).0
+ordered_cases P None c t same done = same
+ordered_cases P (Some deed) c t same done = carried_cases (λ p. P p.0) deed c t.faction t.unit same (λ x there faction. done x (record { there = there; faction = faction }))
+
+-- a result, with its outcome as one that is there (`Some`)
+abbrev with_some : CampaignValue × Outcome → CampaignValue × Option Outcome
+with_some p = (p.0, Some p.1)
+
+-- an order that isn't passed over has the campaign of its effect, and the outcome of its effect
+pub told_some : (deed : OrderEffect) (c d : CampaignValue) (faction n : ℕ) (o : Outcome) → (d, o) ≡ faction_effect deed c faction n → (d, Some o) ≡ order_result (Some deed) c faction n
+told_some deed c d faction n o is = ap with_some is
+
+module _ (step : OrderMeaning) {holds : Condition} {reserve : RemainingBound} {moving : BookBound} {concerns : Affects} {spares : Unaffected} (orderly : IsOrderly step holds reserve moving concerns spares) (w : WorldValue) where
+  -- an order keeps the condition, the month and the balance of the books (`StepsWell`), if its phase is `IsOrderly`
+  pub order_well : (a : Aliases) (c : CampaignValue) (t : Task) → holds w c → IsOrderOf w t.order_value → StepsWell holds reserve w c (order_result (step w a t) c t.faction t.unit).0
+  order_well a c t h fit = ordered_cases (StepsWell holds reserve w c) (step w a t) c t (well_same w c h) (λ x own. orderly.well w a c t x h fit own)
+
+  -- an order spares each unit that it doesn't concern, if its phase is `IsOrderly`
+  order_spares : (a : Aliases) (c : CampaignValue) (t : Task) → holds w c → (n : ℕ) (u : Unit) → get c.units n ≡ Some u → (concerns t n u.faction → ⊥) → IsUnaffected spares (order_result (step w a t) c t.faction t.unit).0 n u
+  order_spares a c t h n u there other =
+      ordered_cases (λ d. IsUnaffected spares d n u) (step w a t) c t (record { unit = u; there = there; spared = orderly.sparing.same u }) (λ x own. orderly.spared w a c t x h own n u there other)
+
+  -- orders spare a unit that none of them concerns, if their phase is `IsOrderly`
+  orders_spare_one : (c : CampaignValue) (m : MonthValue) (ts : List Task) → holds w c → AllByRecursion (λ t. IsOrderOf w t.order_value) ts → (n : ℕ) (u : Unit) → get c.units n ≡ Some u → AllByRecursion (λ t. concerns t n u.faction → ⊥) ts
+      → IsUnaffected spares (fold (one_order step w) (c, m) ts).0 n u
+  orders_spare_one c m [] h fit n u there others = record { unit = u; there = there; spared = orderly.sparing.same u }
+  orders_spare_one c m (t ∷ ts) h fit n u there others =
+      let next = one_order step w (c, m) t in
+      let one = order_spares m.aliases c t h n u there others.0 in
+      let same_faction = orderly.sparing.faction u one.unit one.spared in
+      let rest = orders_spare_one next.0 next.1 ts (order_well m.aliases c t h fit.0).holds_still fit.1 n one.unit one.there (subst (λ f. AllByRecursion (λ t. concerns t n f → ⊥) ts) (sym same_faction) others.1) in
+      record { unit = rest.unit; there = rest.there; spared = orderly.sparing.again u one.unit rest.unit one.spared rest.spared }
+
+  -- orders spare each unit that none of them concerns, if their phase is `IsOrderly`
+  pub orders_spare : (c : CampaignValue) (m : MonthValue) (ts : List Task) → holds w c → All (λ t. IsOrderOf w t.order_value) ts → AreUnaffected concerns spares ts c (fold (one_order step w) (c, m) ts).0
+  orders_spare c m ts h fit n u there others =
+      orders_spare_one c m ts h (recursion_from_All (λ t. IsOrderOf w t.order_value) ts fit) n u there (recursion_from_All (λ t. concerns t n u.faction → ⊥) ts others)
+
+-- ---- the orders of a phase
+
+module _ (w : WorldValue) where
+  -- if all entries can be read with the world, the entry at an index can be
+  fit_at : (es : List EntryValue) (k : ℕ) (e : EntryValue) → AllByRecursion (IsEntry w) es → slice_get es k ≡ Some e → IsEntry w e
+  fit_at [] k e all is = cc
+  fit_at (x ∷ es) zero e all is = subst (IsEntry w) (same_Some _ _ is) all.0
+  fit_at (x ∷ es) (suc k) e all is = fit_at es k e all.1 is
+
+  -- if a reading can be read with the world, the order at an index of the reading can be
+  entry_fit : (r : Reading) (k : ℕ) (e : EntryValue) → IsReading w r → slice_get r.entries k ≡ Some e → IsOrderOf w e.order_value
+  entry_fit r k e fit is = (fit_at r.entries k e (recursion_from_All (IsEntry w) r.entries fit.entries) is).order
+
+  module _ (aliases : Aliases) (readings : FinMap nat_cmp Reading) (fit : AreFit w readings) where
+    -- an order in a mailing can be read with the world, if the readings can be
+    in_mailing_fit : (t : Task) → IsInMailing aliases readings t → IsOrderOf w t.order_value
+    in_mailing_fit t h = subst (IsOrderOf w) h.says (entry_fit h.reading t.place h.entry (fit t.faction h.reading h.of_faction) h.at_place)
+
+    -- each order of a phase can be read with the world, if the mailings can
+    pub orders_fit : (is_of : Verb → Bool) → All (λ t. IsOrderOf w t.order_value) (values (orders_of is_of ByUnit aliases readings))
+    orders_fit is_of k d l = in_mailing_fit _ (orders_are_in_mailings is_of ByUnit aliases readings k d l)
+
+-- ---- the mailings stay
+
+-- adding an event leaves the readings as they are
+told_readings : (m : MonthValue) (t : Task) (o : Option Outcome) → (with_event_of m t o).readings ≡ m.readings
+told_readings m t None = refl
+told_readings m t (Some outcome) = refl
+
+-- an order leaves the readings of the month as they are
+pub order_readings : (step : OrderMeaning) (w : WorldValue) (p : CampaignValue × MonthValue) (t : Task) → (one_order step w p t).1.readings ≡ p.1.readings
+order_readings step w p t = told_readings p.1 t (order_result (step w p.1.aliases t) p.0 t.faction t.unit).1

@@ -1,0 +1,123 @@
+-- Laws of the indices of orders that count: those of one mailing, order by order, and those of all mailings.
+use Rattle.std.proofs.Common.{◌≡◌, ◌==◌, ℕ, ◌+◌, ◌<◌, ◌≤◌, Bool, true, false, cond, Option, Some, None, List, [], ◌∷◌, ◌++◌, map, filter, drop, length, get_or, All, refl, sym, ap, subst, ◌∙◌}
+use Rattle.std.proofs.lemmas.List.{append-nil, append_assoc, drop_all, drop_more, map-append}
+use Rattle.std.proofs.lemmas.List.Elements.{All-push}
+use Rattle.atl_orders.specs.declared.mailing.Entry.{Entry}
+use Rattle.atl_orders.specs.declared.mailing.Mailing.{Mailing}
+use Rattle.atl_orders.specs.declared.verb.Slot.{Slot}
+use Rattle.atl_orders.specs.Mailing.{entry_value, reading_of}
+use Rattle.atl_orders.specs.Verbs.{row_of}
+use Rattle.atl_phase.specs.declared.order_indices.OrderIndex.{OrderIndex}
+use Rattle.atl_phase.specs.Month.{Aliases}
+use Rattle.atl_phase.specs.PhaseOrders.{Task, stands, stands_in, tasks_for, tasks_from, unit_of}
+use Rattle.atl_phase.specs.OrderIndices.{AddsMailing, AreLastLines, IsThere, Lines, all_tasks, every_verb, mailing_at, no_entry, no_mailing, stands_by, task_at, tasks_at}
+
+-- an order counts by the last lines exactly if it counts among the orders of its mailing
+by_lines : (ts : List Task) (lines : Lines) (t : Task) → AreLastLines ts lines → (o : Option Slot) → stands_by lines t.unit t.line o ≡ stands_in ts t o
+by_lines ts lines t last None = refl
+by_lines ts lines t last (Some slot) = ap (λ n. t.line == n) (last slot t.unit)
+
+module _ (aliases : Aliases) (ms : List Mailing) (at : ℕ) where
+  -- the mailing whose orders are gone over
+  abbrev read : Mailing
+  read = mailing_at ms at
+
+  -- the entry at an index of the mailing
+  abbrev entry_at : ℕ → Entry
+  entry_at i = get_or read.entries i no_entry
+
+  -- the orders of the mailing that count, from index i on
+  abbrev pub rest_from : ℕ → List Task
+  rest_from i = filter (stands (tasks_at aliases ms at)) (tasks_from aliases read.faction i (map (entry_value read.text) (drop i read.entries)))
+
+  -- the `OrderIndex` of the order at an index of the mailing
+  abbrev place_of : ℕ → OrderIndex
+  place_of i = record { unit = unit_of aliases read.faction (entry_at i).target; line = (entry_at i).line; faction = read.faction; mailing = at; place = i }
+
+  -- whether the order at index i of the mailing counts
+  abbrev counts : ℕ → Bool
+  counts i = stands (tasks_at aliases ms at) (task_at ms (place_of i))
+
+  -- the orders that count from index i on are the one at i, if it counts, and those from i + 1 on
+  opened : (i : ℕ) → i < length read.entries → rest_from i ≡ cond (counts i) (task_at ms (place_of i) ∷ rest_from (i + 1)) (rest_from (i + 1))
+  opened i h = ap (λ es. filter (stands (tasks_at aliases ms at)) (tasks_from aliases read.faction i (map (entry_value read.text) es))) (drop_more read.entries i no_entry h)
+
+  -- the list has the indices of the orders that count up to index i of the mailing, after those of `old`
+  pub record Added (old : List OrderIndex) (i : ℕ) (list : List OrderIndex) : Type 0 where
+    pub there : All (IsThere ms) old → All (IsThere ms) list
+    pub tasks : map (task_at ms) list ++ rest_from i ≡ map (task_at ms) old ++ rest_from 0
+
+  module _ (old list : List OrderIndex) (i : ℕ) (h : i < length read.entries) (before : Added old i list) where
+    -- an order that doesn't count adds no index
+    pub passed : counts i ≡ false → Added old (i + 1) list
+    passed skipped = record {
+      there = before.there;
+      tasks = ap (λ ts. map (task_at ms) list ++ ts) (sym (opened i h ∙ ap (λ b. cond b (task_at ms (place_of i) ∷ rest_from (i + 1)) (rest_from (i + 1))) skipped)) ∙ before.tasks;
+    }
+
+    -- an order that counts adds its own index to the list
+    pub pushed : at < length ms → counts i ≡ true → Added old (i + 1) (list ++ place_of i ∷ [])
+    pushed within counted = record {
+      there = λ all. All-push (IsThere ms) list (place_of i) (before.there all) (record { mailing = within; entry = h });
+      tasks =
+          ap (λ ts. ts ++ rest_from (i + 1)) (map-append (task_at ms) list (place_of i ∷ []))
+          ∙ append_assoc (map (task_at ms) list) (task_at ms (place_of i) ∷ []) (rest_from (i + 1))
+          ∙ ap (λ ts. map (task_at ms) list ++ ts) (sym (opened i h ∙ ap (λ b. cond b (task_at ms (place_of i) ∷ rest_from (i + 1)) (rest_from (i + 1))) counted)) ∙ before.tasks;
+    }
+
+  -- the mailing, the entry and the unit that the code reads
+  module _ (i : ℕ) (m : Mailing) (e : Entry) (unit : ℕ) (here : m ≡ read) (entry : e ≡ entry_at i) (for_unit : unit ≡ unit_of aliases m.faction e.target) where
+    -- the `OrderIndex` that the code makes of the mailing, the entry and the unit that it reads
+    abbrev found : OrderIndex
+    found = record { unit = unit; line = e.line; faction = m.faction; mailing = at; place = i }
+
+    -- the `OrderIndex` that the code makes is that of the order at index i
+    found_is : found ≡ place_of i
+    found_is k = record {
+      unit = (for_unit ∙ (λ j. unit_of aliases (here j).faction (entry j).target)) k;
+      line = (entry k).line;
+      faction = (here k).faction;
+      mailing = at;
+      place = i;
+    }
+
+    -- the code's test of an order is whether it counts
+    pub counts_by : (lines : Lines) (b : Bool) → AreLastLines (tasks_at aliases ms at) lines → b ≡ stands_by lines unit e.line (row_of e.order.verb).slot → counts i ≡ b
+    counts_by lines b last is =
+        let t = task_at ms (place_of i) in
+        sym (is ∙ (λ k. stands_by lines (found_is k).unit (found_is k).line (row_of (entry k).order.verb).slot) ∙ by_lines (tasks_at aliases ms at) lines t last (row_of t.order_value.verb).slot)
+
+    -- the index that the code makes of an order that counts is the one to be added
+    pub added : (old list new : List OrderIndex) → i < length read.entries → Added old i list → at < length ms → counts i ≡ true → new ≡ list ++ found ∷ [] → Added old (i + 1) new
+    added old list new h before within counted is = subst (Added old (i + 1)) (sym (is ∙ ap (λ p. list ++ p ∷ []) found_is)) (pushed old list i h before within counted)
+
+  -- past the last order of a mailing the list has the old indices and those
+  -- of all its orders that count (`AddsMailing`)
+  pub ended : (old list : List OrderIndex) (i : ℕ) → length read.entries ≤ i → Added old i list → AddsMailing aliases ms at old list
+  ended old list i h before = record {
+    there = before.there;
+    tasks =
+        sym (append-nil (map (task_at ms) list))
+        ∙ ap (λ es. map (task_at ms) list ++ filter (stands (tasks_at aliases ms at)) (tasks_from aliases read.faction i (map (entry_value read.text) es))) (sym (drop_all i read.entries h))
+        ∙ before.tasks;
+  }
+
+-- ---- the orders that count, mailing by mailing
+
+module _ (aliases : Aliases) (ms : List Mailing) where
+  -- the orders of all mailings that count, from the mailing at index i on
+  abbrev pub all_from : ℕ → List Task
+  all_from i = all_tasks every_verb aliases (map reading_of (drop i ms))
+
+  -- if one more mailing's indices are added, the indices so far and the orders still to come name all orders that count
+  pub next_mailing : (old new : List OrderIndex) (i : ℕ) (ts : List Task) → i < length ms → AddsMailing aliases ms i old new → map (task_at ms) old ++ all_from i ≡ ts → map (task_at ms) new ++ all_from (i + 1) ≡ ts
+  next_mailing old new i ts h adds before =
+      ap (λ us. us ++ all_from (i + 1)) adds.tasks
+      ∙ append_assoc (map (task_at ms) old) (tasks_for every_verb (tasks_at aliases ms i)) (all_from (i + 1))
+      ∙ ap (λ ns. map (task_at ms) old ++ all_tasks every_verb aliases (map reading_of ns)) (sym (drop_more ms i no_mailing h)) ∙ before
+
+  -- past the last mailing the indices name all orders that count
+  pub last_mailing : (list : List OrderIndex) (i : ℕ) (ts : List Task) → length ms ≤ i → map (task_at ms) list ++ all_from i ≡ ts → map (task_at ms) list ≡ ts
+  last_mailing list i ts h before =
+      sym (append-nil (map (task_at ms) list))
+      ∙ ap (λ ns. map (task_at ms) list ++ all_tasks every_verb aliases (map reading_of ns)) (sym (drop_all i ms h)) ∙ before

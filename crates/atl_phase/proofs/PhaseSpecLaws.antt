@@ -1,0 +1,62 @@
+-- Laws of several phases in turn: what holds of all together, if it holds of each.
+use Rattle.std.proofs.Common.{◌≡◌, ◌-◌, ◌+◌, ◌*◌, ◌≤◌, ℕ, Bool, true, false, List, [], ◌∷◌, refl, arith}
+use Rattle.std.specs.Prelude.{if◌then◌else◌}
+use Rattle.atl_records.specs.declared.books.Entry.{Entry}
+use Rattle.atl_records.specs.declared.books.Thing.{Thing}
+use Rattle.atl_phase.specs.Meaning.{most_moved}
+use Rattle.atl_phase.specs.PhaseSpecs.{EachPhase, MovesItsOwn, PhaseSpec, keeps_of, may_move, meaning_of, moving_of, moving_phases_of}
+use Rattle.atl_phase.specs.Unmailed.{starved_in}
+use Rattle.atl_phase.proofs.UnmailedLaws.{ClosesUnmailed, LeavesUnmailed, both_leave, then_closes}
+
+-- if P implies Q for every phase, and P holds of each phase of a list, Q does
+pub each_also : {P Q : PhaseSpec → Type 0} → ((phase : PhaseSpec) → P phase → Q phase) → (phases : List PhaseSpec) → EachPhase P phases → EachPhase Q phases
+each_also also [] each = tt
+each_also also (phase ∷ rest) each = (also phase each.0, each_also also rest each.1)
+
+-- ---- the books
+
+-- if one phase and the others each move an amount within `most_moved` for each phase that may move it, all together do
+counted : (b : Bool) (rest moved most : ℕ) → moved ≤ (if b then most_moved else 0) → rest ≤ most * most_moved → moved + rest ≤ ((if b then 1 else 0) + most) * most_moved
+counted true rest moved most one others = omega (arith, one, others)
+counted false rest moved most one others = omega (arith, one, others)
+
+-- phases in turn move an amount by at most `most_moved` times the number of them that may move it
+pub moved_within : (phases : List PhaseSpec) → EachPhase MovesItsOwn phases → (e : Entry) (t : Thing) → moving_of phases e t ≤ moving_phases_of phases e t * most_moved
+moved_within [] each e t = omega arith
+moved_within (phase ∷ []) each e t = alone (may_move phase.moved e t) (each.0 e t)
+  where
+    alone : (b : Bool) → phase.moving e t ≤ (if b then most_moved else 0) → phase.moving e t ≤ ((if b then 1 else 0) + 0) * most_moved
+    alone true one = omega (arith, one)
+    alone false one = omega (arith, one)
+moved_within (phase ∷ next ∷ rest) each e t = counted (may_move phase.moved e t) (moving_of (next ∷ rest) e t) (phase.moving e t) (moving_phases_of (next ∷ rest) e t) (each.0 e t) (moved_within (next ∷ rest) each.1 e t)
+
+-- ---- a faction without a mailing
+
+-- the phase, by its effect and what it keeps, leaves the units of factions without a mailing (`LeavesUnmailed`)
+abbrev pub PhaseLeavesUnmailed : PhaseSpec → Type 0
+PhaseLeavesUnmailed phase = LeavesUnmailed phase.meaning phase.keeps
+
+-- all phases leave units of factions without a mailing what is theirs; after the last, a unit may have starved out
+abbrev pub CloseTogether : List PhaseSpec → Type 0
+CloseTogether [] = ⊥
+CloseTogether (phase ∷ []) = ClosesUnmailed phase.meaning phase.keeps
+CloseTogether (phase ∷ next ∷ rest) = PhaseLeavesUnmailed phase × CloseTogether (next ∷ rest)
+
+-- phases in turn leave units of factions without a mailing what is theirs, if each does (`CloseTogether`)
+pub closed_together : (phases : List PhaseSpec) → CloseTogether phases → ClosesUnmailed (meaning_of phases) (keeps_of phases)
+closed_together [] none = absurd none
+closed_together (phase ∷ []) closes = closes
+closed_together (phase ∷ next ∷ rest) each = then_closes each.0 (closed_together (next ∷ rest) each.1)
+
+-- phases in turn leave units of factions without a mailing what is theirs, if each does (`LeavesUnmailed`)
+pub leave_together : (phases : List PhaseSpec) → EachPhase PhaseLeavesUnmailed phases → LeavesUnmailed (meaning_of phases) (keeps_of phases)
+leave_together [] each = record {
+  readings = λ w c m. refl;
+  told = λ w c m n. omega arith;
+  left = λ w c m keeps n u there none. record { unit = u; there = there; spared = record { faction = refl; name = refl; men = nobody (starved_in m.events n) u.holding.men; items = λ i. omega arith } };
+}
+  where
+    nobody : (x a : ℕ) → a ≡ a - (x - x)
+    nobody x a = omega arith
+leave_together (phase ∷ []) each = each.0
+leave_together (phase ∷ next ∷ rest) each = both_leave each.0 (leave_together (next ∷ rest) each.1)

@@ -1,0 +1,218 @@
+-- Laws of a unit that goes from one structure to another of its region, or to none:
+-- the campaign stays steady, other units stay.
+use Rattle.std.proofs.Common.{◌≡◌, ◌≢◌, ◌==◌, ◌&&◌, ℕ, ◌≤◌, Bool, true, false, Option, Some, None, refl, sym, ap, subst, ◌∙◌, arith}
+use Rattle.std.proofs.lemmas.Bool.{true≢false}
+use Rattle.std.proofs.lemmas.Option.{same_Some}
+use Rattle.std.specs.Prelude.{option_map, if◌then◌else◌}
+use Rattle.std.specs.FinMap.{get}
+use Rattle.atl_tables.specs.Worlds.{WorldValue}
+use Rattle.atl_tables.specs.ByNumber.{is_land_at}
+use Rattle.atl_tables.proofs.GeneralLaws.{is_equal, is_unequal}
+use Rattle.atl_records.specs.declared.records.Structure.{Structure}
+use Rattle.atl_records.specs.declared.records.Unit.{Unit}
+use Rattle.atl_records.specs.Every.{Every}
+use Rattle.atl_state.specs.Good.{IsEarly, IsOwned, IsSteady, is_ship}
+use Rattle.atl_records.specs.declared.books.Thing.{Thing}
+use Rattle.atl_state.specs.Owners.{after_handover, heir, is_owned_by, placed, with_place, with_place_at}
+use Rattle.atl_state.specs.Campaign.{CampaignValue, with_owner}
+use Rattle.atl_state.specs.Totals.{total}
+use Rattle.atl_records.proofs.EveryLaws.{get-insert_other, other_number}
+use Rattle.atl_state.proofs.InsideLaws.{is_no_zero}
+use Rattle.atl_state.proofs.LeavingLaws.{owned_by}
+use Rattle.atl_state.proofs.RegionLaws.{changed-known, get-insert_same}
+use Rattle.atl_phase.specs.Bounds.{StepsWell, books_nothing}
+use Rattle.atl_phase.proofs.MeaningLaws.{same_month_by}
+use Rattle.atl_phase.proofs.OwnerLaws.{heir_owns, owner_stays}
+use Rattle.atl_phase.proofs.RefitLaws.{IsRefit, IsRelabelled, early-refitted, refitted, steady-refitted, total-refitted}
+use Rattle.atl_phase.proofs.StructureLaws.{changed_else, equal_passes, get-after_handover, handed_is, handed_on, len-after_handover}
+use Rattle.atl_phase.proofs.UnbookedLaws.{unbooked_well}
+
+-- to map a looked-up value by one function and then by another is to map it by both in turn
+pub mapped_twice : {A : Type 0} (f g : A → A) (o : Option A) → option_map f (option_map g o) ≡ option_map (λ y. f (g y)) o
+mapped_twice f g None = refl
+mapped_twice f g (Some y) = refl
+
+-- a structure that gets another owner, or keeps its own, is the same but for the owner
+relabelled_if : (b : Bool) (to : ℕ) (y : Structure) → IsRelabelled y (if b then owned_by to y else y)
+relabelled_if true to y = record { kind = refl; region = refl; done = refl; name = λ old. old }
+relabelled_if false to y = record { kind = refl; region = refl; done = refl; name = λ old. old }
+
+-- a structure that is relabelled twice is relabelled
+relabelled_twice : (x y z : Structure) → IsRelabelled x y → IsRelabelled y z → IsRelabelled x z
+relabelled_twice x y z one two = record { kind = two.kind ∙ one.kind; region = two.region ∙ one.region; done = two.done ∙ one.done; name = λ old. two.name (one.name old) }
+
+-- a unit owns no structure but the one that it is inside
+pub owns_no_other : (w : WorldValue) (c : CampaignValue) (n : ℕ) (u : Unit) → get c.units n ≡ Some u → IsSteady w c → (q : ℕ) (y : Structure) → get c.structures q ≡ Some y → q ≢ u.structure → y.owner ≢ n
+owns_no_other w c n u is steady q y there other own =
+    let least = (steady.numbers.units n u is).0 in
+    let (v, here, inside) = (steady.owners q y there).owned (λ none. absurd (omega (arith, own, none, least))) in
+    let one : Some v ≡ Some u = sym here ∙ ap (get c.units) own ∙ is in
+    let unit : v ≡ u = cc in
+    other (sym inside ∙ ap (λ (x : Unit). x.structure) unit)
+
+module _ (w : WorldValue) (c : CampaignValue) (n : ℕ) (u : Unit) (s : ℕ) (is : get c.units n ≡ Some u) (steady : IsSteady w c) (apart : u.structure ≢ s) where
+  -- the structure that the unit leaves
+  abbrev old_place : ℕ
+  old_place = u.structure
+
+  -- the unit that owns that structure next
+  abbrev next : ℕ
+  next = heir c old_place n
+
+  -- unit n as it is inside structure s
+  abbrev moved : Unit
+  moved = record u { structure = s }
+
+  -- the campaign with the unit inside structure s, before owners change
+  abbrev begun : CampaignValue
+  begun = placed c n u.region s
+
+  -- the campaign after the structure that the unit left got its next owner
+  abbrev gone_out : CampaignValue
+  gone_out = after_handover begun old_place n next
+
+  -- the campaign after the unit also became the owner of the structure that it entered, if nobody owned this
+  abbrev gone_in : CampaignValue
+  gone_in = after_handover gone_out s 0 n
+
+  -- structure q with its owner after both handovers
+  abbrev owner_behind : ℕ → Structure → Structure
+  owner_behind q y = handed_on s 0 n q (handed_on old_place n next q y)
+
+  -- the campaign after the unit went
+  abbrev pub behind : CampaignValue
+  behind = refitted w c n u s is gone_in.structures owner_behind
+
+  -- `with_place` makes the campaign `gone_in`
+  placed_is : with_place c n u.region s ≡ gone_in
+  unfolding with_place
+  placed_is = ap (with_place_at c n u.region s) is ∙ ap (λ b. if b then begun else gone_in) (other_number old_place s apart)
+
+  -- the campaign `gone_in` is `behind`, a refitted campaign
+  behind_is : gone_in ≡ behind
+  behind_is =
+      handed_is gone_out s 0 n ∙ ap (λ (d : CampaignValue). record d { structures = gone_in.structures }) (handed_is begun old_place n next)
+      ∙ ap (λ m. record c { units = m; structures = gone_in.structures }) (changed-known (λ (x : Unit). record x { region = u.region; structure = s }) c.units n u is)
+
+  -- `with_place` makes the campaign `behind`
+  pub place_is : with_place c n u.region s ≡ behind
+  place_is = placed_is ∙ behind_is
+
+  -- a look-up of a structure after both handovers
+  at : (q : ℕ) → get gone_in.structures q ≡ option_map (λ y. handed_on s 0 n q (handed_on old_place n next q y)) (get c.structures q)
+  at q =
+      get-after_handover gone_out s 0 n q ∙ ap (option_map (handed_on s 0 n q)) (get-after_handover begun old_place n next q)
+      ∙ mapped_twice (handed_on s 0 n q) (handed_on old_place n next q) (get c.structures q)
+
+  -- a structure is the same but for its owner after both handovers
+  same : (q : ℕ) (y : Structure) → IsRelabelled y (handed_on s 0 n q (handed_on old_place n next q y))
+  same q y =
+      let x = handed_on old_place n next q y in
+      relabelled_twice y x (handed_on s 0 n q x) (relabelled_if (q == old_place && y.owner == n) next y) (relabelled_if (q == s && x.owner == 0) n x)
+
+  -- ---- the owners of the structures after the move
+
+  -- unit numbers begin at 1
+  low : Every (λ k v. 1 ≤ k) c.units
+  low k v there = (steady.numbers.units k v there).0
+
+  -- every unit but n stays as it was
+  away : (k : ℕ) → k ≢ n → get behind.units k ≡ get c.units k
+  away k other = get-insert_other c.units n k moved other
+
+  -- unit n is inside structure s after it went
+  stands : (v : Unit) → get behind.units n ≡ Some v → v.structure ≡ s
+  stands v there = sym (ap (λ (x : Unit). x.structure) (same_Some moved v (sym (get-insert_same c.units n moved) ∙ there)))
+
+  -- a structure keeps its owner if unit n doesn't own it, and doesn't enter it where nobody owns it
+  still_owned : (q : ℕ) (y : Structure) → get c.structures q ≡ Some y → y.owner ≢ n → (y.owner ≡ 0 → s ≢ q) → IsOwned behind q y
+  still_owned q y there other free = owner_stays c behind n away q y (steady.owners q y there) other (λ none v here inside. free none (sym (stands v here) ∙ inside))
+
+  -- the structure that a unit, if it is there, is inside; otherwise that of the second unit
+  structure_in : Option Unit → Unit → ℕ
+  structure_in (Some x) v = x.structure
+  structure_in None v = v.structure
+
+  -- structure s has its right owner after the unit entered it
+  entered_owned : (q : ℕ) (y : Structure) → get c.structures q ≡ Some y → q ≢ old_place → q ≡ s → (z : Bool) → (y.owner == 0) ≡ z → IsOwned behind q (if z then owned_by n y else y)
+  entered_owned q y there other here true t = record {
+    owned = λ some. (moved, get-insert_same c.units n moved, sym here);
+    ownerless = λ none. let least = low n u is in absurd (omega (arith, none, least));
+  }
+  entered_owned q y there other here false t = still_owned q y there (owns_no_other w c n u is steady q y there other) (λ none. absurd (true≢false (sym (equal_passes y.owner 0 none) ∙ t)))
+
+  -- a structure with its owner after both handovers, by whether it is the one left, was the unit's own,
+  -- and is the one entered
+  abbrev given : (a e b : Bool) → Structure → Structure
+  given a e b y = let x = if a && e then owned_by next y else y in if b && x.owner == 0 then owned_by n x else x
+
+  -- each structure has its right owner after both handovers, in each case of the three tests
+  by_tests : (q : ℕ) (y : Structure) → get c.structures q ≡ Some y → (a e b : Bool) → (q == old_place) ≡ a → (y.owner == n) ≡ e → (q == s) ≡ b → IsOwned behind q (given a e b y)
+  by_tests q y there true e true p r t = absurd (apart (sym (is_equal q old_place p) ∙ is_equal q s t))
+  by_tests q y there true true false p r t = subst (λ k. IsOwned behind k (owned_by next y)) (sym (is_equal q old_place p)) (heir_owns c behind n away old_place (λ zero. is_no_zero c.structures c.next_structure steady.next.structures q y there (is_equal q old_place p ∙ zero)) low (λ v here inside. apart (sym inside ∙ stands v here)) y)
+  by_tests q y there true false false p r t = still_owned q y there (is_unequal y.owner n r) (λ none here. is_unequal q s t (sym here))
+  by_tests q y there false e true p r t = entered_owned q y there (is_unequal q old_place p) (is_equal q s t) (y.owner == 0) refl
+  by_tests q y there false e false p r t = still_owned q y there (owns_no_other w c n u is steady q y there (is_unequal q old_place p)) (λ none here. is_unequal q s t (sym here))
+
+  -- ---- the campaign
+
+  module _ (inside : s ≢ 0 → (x : Structure) × (get c.structures s ≡ Some x) × (x.region ≡ u.region)) (afloat : is_land_at w u.region ≡ false → (x : Structure) × (get c.structures s ≡ Some x) × (is_ship w x ≡ true)) where
+    -- the campaign `behind` is a refit (`IsRefit`)
+    refit : IsRefit w c n u s is gone_in.structures owner_behind
+    refit = record {
+      at = at;
+      count = len-after_handover gone_out s 0 n ∙ len-after_handover begun old_place n next;
+      same = λ q y there. same q y;
+      owned = λ q y there. by_tests q y there (q == old_place) (y.owner == n) (q == s) refl refl refl;
+      inside = inside;
+      afloat = afloat;
+    }
+
+    -- a steady campaign stays steady, if the unit's new structure is in its region, and on water is a ship
+    pub placed_steady : IsSteady w behind
+    placed_steady = steady-refitted w c n u s is gone_in.structures owner_behind refit steady
+
+    -- an early campaign stays early, if the unit's new structure is in its region, and on water is a ship
+    pub placed_early : IsEarly w c → IsEarly w behind
+    placed_early early = early-refitted w c n u s is gone_in.structures owner_behind refit early
+
+    -- the totals stay the same when the unit goes to another structure
+    pub placed_total : (t : Thing) → total behind t ≡ total c t
+    placed_total = total-refitted w c n u s is gone_in.structures owner_behind
+
+module _ (w : WorldValue) (c : CampaignValue) (n : ℕ) (u : Unit) (s : ℕ) (is : get c.units n ≡ Some u) (early : IsEarly w c) (apart : u.structure ≢ s) where
+  -- A move to another structure of the region, or on land to none, keeps an early campaign early and in balance
+  -- (`StepsWell`). On water the structure must be a ship.
+  pub place_well : (s ≢ 0 → (x : Structure) × (get c.structures s ≡ Some x) × (x.region ≡ u.region)) → (is_land_at w u.region ≡ false → (x : Structure) × (get c.structures s ≡ Some x) × (is_ship w x ≡ true)) → StepsWell IsEarly books_nothing w c (with_place c n u.region s)
+  place_well inside afloat =
+      let steady = early.steady in
+      subst (StepsWell IsEarly books_nothing w c) (sym (place_is w c n u s is steady apart))
+      (unbooked_well w c (behind w c n u s is steady apart) (placed_early w c n u s is steady apart inside afloat early)
+      (same_month_by refl) refl (placed_total w c n u s is steady apart inside afloat))
+
+-- ---- other units stay
+
+-- a handover of a structure changes no unit
+handed_units : (c : CampaignValue) (k from to : ℕ) → (after_handover c k from to).units ≡ c.units
+handed_units c k from to = by_test (is_owned_by (get c.structures k) from)
+  where
+    by_test : (b : Bool) → (if b then with_owner c k to else c).units ≡ c.units
+    by_test true = refl
+    by_test false = refl
+
+-- every unit but n stays as it was when unit n is put in region r and structure s
+pub place_stays : (c : CampaignValue) (n r s k : ℕ) → k ≢ n → get (with_place c n r s).units k ≡ get c.units k
+unfolding with_place
+place_stays c n r s k apart = by_unit (get c.units n)
+  where
+    one_placed : get (placed c n r s).units k ≡ get c.units k
+    one_placed = changed_else (λ (x : Unit). record x { region = r; structure = s }) c.units n k apart (get c.units n)
+
+    by_test : (u : Unit) (b : Bool) → get (if b then placed c n r s else after_handover (after_handover (placed c n r s) u.structure n (heir c u.structure n)) s 0 n).units k ≡ get c.units k
+    by_test u true = one_placed
+    by_test u false =
+        ap (λ m. get m k) (handed_units (after_handover (placed c n r s) u.structure n (heir c u.structure n)) s 0 n ∙ handed_units (placed c n r s) u.structure n (heir c u.structure n)) ∙ one_placed
+
+    by_unit : (o : Option Unit) → get (with_place_at c n r s o).units k ≡ get c.units k
+    by_unit None = refl
+    by_unit (Some u) = by_test u (u.structure == s)

@@ -1,0 +1,63 @@
+-- Laws of steps that book nothing, and that change no unit but that of the order.
+use Rattle.std.proofs.Common.{◌≡◌, ◌≢◌, ◌+◌, ℕ, Option, Some, None, refl, sym, ap, ◌∙◌}
+use Rattle.std.proofs.lemmas.Option.{same_Some}
+use Rattle.std.specs.Prelude.{IfSome, pos}
+use Rattle.std.specs.FinMap.{get}
+use Rattle.atl_tables.specs.Worlds.{WorldValue}
+use Rattle.atl_tables.specs.Sums.{sum_over}
+use Rattle.atl_records.specs.declared.books.Thing.{Thing}
+use Rattle.atl_records.specs.declared.records.Region.{Region}
+use Rattle.atl_records.specs.declared.records.Unit.{Unit}
+use Rattle.atl_records.specs.Books.{amount_in, booked}
+use Rattle.atl_state.specs.Good.{IsEarly}
+use Rattle.atl_state.specs.Campaign.{CampaignValue}
+use Rattle.atl_records.specs.Amounts.{region_amount, unit_amount}
+use Rattle.atl_state.specs.Totals.{total}
+use Rattle.atl_phase.specs.Meaning.{Condition, IsSameMonth}
+use Rattle.atl_phase.specs.PhaseOrders.{Task}
+use Rattle.atl_phase.specs.NoWorse.{IsNoWorse}
+use Rattle.atl_phase.specs.OrderEffects.{IsOwnOrder, IsUnaffected, OrderEffect}
+use Rattle.atl_phase.specs.Bounds.{IsUnitOf, StepsWell, books_nothing}
+use Rattle.atl_phase.proofs.NoWorseLaws.{no_worse}
+use Rattle.atl_phase.proofs.OrderEffectLaws.{not_drawn}
+
+-- a step satisfies `StepsWell` if `holds` is true of the campaign after it, and month, books and totals stay the same
+pub stays_well : (holds : Condition) (w : WorldValue) (c d : CampaignValue) → holds w d → IsSameMonth c d → d.books ≡ c.books → ((t : Thing) → total d t ≡ total c t) → StepsWell holds books_nothing w c d
+stays_well holds w c d still same books totals = record {
+  holds_still = still;
+  same_month = same;
+  balances = λ old t. ap pos (totals t) ∙ old t ∙ ap (λ b. booked b t) (sym books);
+  drawn = λ e t. not_drawn 0 0 (amount_in c.books e t) (amount_in d.books e t) refl (ap (λ b. amount_in b e t) books);
+}
+
+-- a step satisfies `StepsWell` if the campaign is early after it, and month, books and totals stay the same
+pub unbooked_well : (w : WorldValue) (c d : CampaignValue) → IsEarly w d → IsSameMonth c d → d.books ≡ c.books → ((t : Thing) → total d t ≡ total c t) → StepsWell IsEarly books_nothing w c d
+unbooked_well = stays_well IsEarly
+
+-- campaigns with the same units and regions have the same totals
+pub same_total_of : (c d : CampaignValue) → d.units ≡ c.units → d.regions ≡ c.regions → (t : Thing) → total d t ≡ total c t
+unfolding total
+same_total_of c d units regions t =
+    let stock = λ (x : Unit). unit_amount t x.holding in
+    let keep = λ (r : Region). region_amount t r in
+    ap (λ m. sum_over stock m + sum_over keep d.regions) units ∙ ap (λ m. sum_over stock c.units + sum_over keep m) regions
+
+-- ---- the unit of an order
+
+-- a unit for which its own faction didn't write the order isn't the order's unit,
+-- if the order is for a unit of its faction
+pub other_unit : (c : CampaignValue) (t : Task) (x : Unit) (k : ℕ) (v : Unit) → IsUnitOf c t x → get c.units k ≡ Some v → (IsOwnOrder t k v.faction → ⊥) → k ≢ t.unit
+other_unit c t x k v own there apart same =
+    let unit : x ≡ v = same_Some _ _ (sym own.there ∙ ap (get c.units) (sym same) ∙ there) in
+    apart (record { unit = sym same; faction = sym own.faction ∙ ap (λ (y : Unit). y.faction) unit })
+
+-- a unit for which its own faction didn't write the order is no worse off, if no unit but the order's changes
+pub other_spared : (c d : CampaignValue) (t : Task) (x : Unit) → ((k : ℕ) → k ≢ t.unit → get d.units k ≡ get c.units k) → IsUnitOf c t x → (k : ℕ) (v : Unit) → get c.units k ≡ Some v → (IsOwnOrder t k v.faction → ⊥) → IsUnaffected IsNoWorse d k v
+other_spared c d t x stay own k v there apart = record { unit = v; there = stay k (other_unit c t x k v own there apart) ∙ there; spared = no_worse v }
+
+-- a unit for which its own faction didn't write the order is no worse off,
+-- if the order's effect changes no other unit than its own
+pub stays_spared : (step : Option OrderEffect) (c : CampaignValue) (t : Task) (x : Unit) → IsUnitOf c t x → (k : ℕ) (v : Unit) → get c.units k ≡ Some v → (IsOwnOrder t k v.faction → ⊥)
+    → ((j : ℕ) → j ≢ t.unit → IfSome step (λ deed. get (deed c x).0.units j ≡ get c.units j)) → IfSome step (λ deed. IsUnaffected IsNoWorse (deed c x).0 k v)
+stays_spared None c t x own k v there apart stay = tt
+stays_spared (Some deed) c t x own k v there apart stay = other_spared c (deed c x).0 t x stay own k v there apart

@@ -1,0 +1,328 @@
+-- Laws of phases and the units of a faction that sent no mailing:
+-- these keep their names, items and men, less those who starve.
+use Rattle.std.proofs.Common.{◌≡◌, ◌≢◌, ◌==◌, ℕ, ◌+◌, ◌-◌, ◌≤◌, ◌<◌, Bool, true, false, List, [], ◌∷◌, ◌++◌, Option, Some, None, refl, sym, ap, subst, ◌∙◌, inl, inr, arith}
+use Rattle.std.proofs.lemmas.Option.{same_Some}
+use Rattle.std.specs.Prelude.{IfSome, fold, option_map, if◌then◌else◌}
+use Rattle.std.specs.List.{All, AllByRecursion}
+use Rattle.std.specs.Ordering.{nat_cmp}
+use Rattle.std.specs.FinMap.{FinMap, get, insert, values}
+use Rattle.std.proofs.lemmas.Bool.{cases_eq}
+use Rattle.std.proofs.lemmas.List.Elements.{recursion_from_All}
+use Rattle.std.proofs.lemmas.List.Sums.{sum_by_push}
+use Rattle.atl_tables.specs.Worlds.{WorldValue}
+use Rattle.atl_tables.specs.Sums.{changed}
+use Rattle.atl_orders.specs.declared.verb.Verb.{Verb}
+use Rattle.atl_orders.specs.Mailing.{Reading}
+use Rattle.atl_records.specs.declared.event.Event.{Event}
+use Rattle.atl_records.specs.declared.event.EventFault.{EventFault}
+use Rattle.atl_records.specs.declared.event.Outcome.{Outcome}
+use Rattle.atl_records.specs.declared.records.Unit.{Unit}
+use Rattle.atl_records.specs.Every.{Every}
+use Rattle.atl_records.specs.Holdings.{amount_of}
+use Rattle.atl_state.specs.Campaign.{CampaignValue, with_guard}
+use Rattle.atl_state.specs.Owners.{after_handover, heir, placed, with_place, with_place_at}
+use Rattle.atl_records.proofs.EveryLaws.{get-insert_other, none_some}
+use Rattle.atl_state.proofs.RegionLaws.{get-insert_same}
+use Rattle.atl_phase.specs.Month.{Aliases, MonthValue}
+use Rattle.atl_phase.specs.Meaning.{Frame, Meaning, both_keep, then_also}
+use Rattle.atl_phase.specs.Outcomes.{unless}
+use Rattle.atl_phase.specs.PhaseOrders.{Task, orders_of}
+use Rattle.atl_phase.specs.NoWorse.{IsNoWorse}
+use Rattle.atl_phase.specs.OrderEffects.{Affects, IsOwnOrder, IsUnaffected, OrderMeaning, Unaffected, event_for, meaning_by_orders, one_order, order_result, spares_others, with_event_of}
+use Rattle.atl_phase.specs.Bounds.{IsUnitOf}
+use Rattle.atl_phase.specs.Unmailed.{IsLeft, IsLessBy, men_starved_by, starved_in}
+use Rattle.atl_phase.specs.declared.phase_order.Arrangement.{Arrangement}
+use Rattle.atl_phase.specs.declared.phase_order.Arrangement.TheVariants.{ByUnit}
+use Rattle.atl_phase.proofs.OrderEffectLaws.{order_readings, ordered_cases}
+use Rattle.atl_phase.proofs.StructureLaws.{at_number, get-changed, handed_is}
+use Rattle.atl_phase.proofs.PhaseOrderLaws.{orders_are_in_mailings}
+
+-- ---- phases one after the other
+
+-- The phase keeps the mailings and takes back no Starved event.
+-- Each unit of a faction without a mailing is there after, with its name, its items,
+-- and its men less exactly those who starve.
+pub record LeavesUnmailed (meaning : Meaning) (keeps : Frame) : Type 0 where
+  pub readings : (w : WorldValue) (c : CampaignValue) (m : MonthValue) → (meaning w c m).1.readings ≡ m.readings
+  pub told : (w : WorldValue) (c : CampaignValue) (m : MonthValue) (n : ℕ) → starved_in m.events n ≤ starved_in (meaning w c m).1.events n
+  pub left : (w : WorldValue) (c : CampaignValue) (m : MonthValue) → keeps w m c (meaning w c m).0 →
+      Every (λ n u. get m.readings u.faction ≡ None → IsUnaffected (IsLessBy (starved_in (meaning w c m).1.events n - starved_in m.events n)) (meaning w c m).0 n u) c.units
+
+-- The phase takes back no Starved event; it may change the mailings.
+-- Each unit of a faction without a mailing of which not all men starve is there after, with name, items,
+-- and men less those who starve.
+pub record ClosesUnmailed (meaning : Meaning) (keeps : Frame) : Type 0 where
+  pub told : (w : WorldValue) (c : CampaignValue) (m : MonthValue) (n : ℕ) → starved_in m.events n ≤ starved_in (meaning w c m).1.events n
+  pub left : (w : WorldValue) (c : CampaignValue) (m : MonthValue) → keeps w m c (meaning w c m).0 →
+      Every (λ n u. get m.readings u.faction ≡ None → IsLeft (starved_in (meaning w c m).1.events n - starved_in m.events n) (meaning w c m).0 n u) c.units
+
+-- a unit with y - x men less, and then z - y less, has z - x less
+less_twice : (x y z : ℕ) (u v t : Unit) → x ≤ y → y ≤ z → IsLessBy (y - x) u v → IsLessBy (z - y) v t → IsLessBy (z - x) u t
+less_twice x y z u v t l k one two = record {
+  faction = two.faction ∙ one.faction;
+  name = two.name ∙ one.name;
+  men = less u.holding.men v.holding.men t.holding.men one.men two.men;
+  items = λ i. omega (arith, one.items i, two.items i);
+}
+  where
+    less : (a b d : ℕ) → b ≡ a - (y - x) → d ≡ b - (z - y) → d ≡ a - (z - x)
+    less a b d e f = omega (arith, l, k)
+
+-- if fewer men starved in two changes than there were, fewer starved in the second than were left after the first
+some_left : (x y z a b : ℕ) → x ≤ y → y ≤ z → b ≡ a - (y - x) → z - x < a → z - y < b
+some_left x y z a b l k e some = omega arith
+
+-- a faction that sent no mailing still has none after a phase that keeps the mailings (`LeavesUnmailed`)
+still_none : {first : Meaning} {early : Frame} → LeavesUnmailed first early → (w : WorldValue) (c : CampaignValue) (m : MonthValue) (f g : ℕ) → g ≡ f → get m.readings f ≡ None → get (first w c m).1.readings g ≡ None
+still_none one w c m f g same none = ap (λ (r : FinMap nat_cmp Reading). get r g) (one.readings w c m) ∙ ap (get m.readings) same ∙ none
+
+module _ {first second : Meaning} {early late : Frame} where
+  -- two phases in turn leave units of factions without a mailing what is theirs (`LeavesUnmailed`), if each does
+  pub both_leave : LeavesUnmailed first early → LeavesUnmailed second late → LeavesUnmailed (then_also first second) (both_keep first early late)
+  both_leave one two = record {
+    readings = λ w c m. two.readings w (first w c m).0 (first w c m).1 ∙ one.readings w c m;
+    told = λ w c m n. omega (arith, one.told w c m n, two.told w (first w c m).0 (first w c m).1 n);
+    left = λ w c m keeps n u there none.
+        let between = first w c m in
+        let a = one.left w c m keeps.0 n u there none in
+        let b = two.left w between.0 between.1 keeps.1 n a.unit a.there (still_none one w c m u.faction a.unit.faction a.spared.faction none) in
+        record { unit = b.unit; there = b.there; spared = less_twice _ _ _ u a.unit b.unit (one.told w c m n) (two.told w between.0 between.1 n) a.spared b.spared };
+  }
+
+  -- a phase that `LeavesUnmailed` and then one that `ClosesUnmailed` are in turn one that `ClosesUnmailed`
+  pub then_closes : LeavesUnmailed first early → ClosesUnmailed second late → ClosesUnmailed (then_also first second) (both_keep first early late)
+  then_closes one two = record {
+    told = λ w c m n. omega (arith, one.told w c m n, two.told w (first w c m).0 (first w c m).1 n);
+    left = λ w c m keeps n u there none some.
+        let between = first w c m in
+        let a = one.left w c m keeps.0 n u there none in
+        let early = one.told w c m n in
+        let late = two.told w between.0 between.1 n in
+        let b = two.left w between.0 between.1 keeps.1 n a.unit a.there (still_none one w c m u.faction a.unit.faction a.spared.faction none)
+        (some_left _ _ _ u.holding.men a.unit.holding.men early late a.spared.men some) in
+        record { unit = b.unit; there = b.there; spared = less_twice _ _ _ u a.unit b.unit early late a.spared b.spared };
+  }
+
+-- ---- a phase in which nobody starves: men and items
+
+-- The unit has the same faction and exactly as many men.
+pub record HasItsMen (before after : Unit) : Type 0 where
+  pub faction : after.faction ≡ before.faction
+  pub men : after.holding.men ≡ before.holding.men
+
+-- each unit is there after, and has exactly as many men as before
+abbrev pub HaveTheirMen : CampaignValue → CampaignValue → Type 0
+HaveTheirMen before after = Every (λ n u. IsUnaffected HasItsMen after n u) before.units
+
+-- all units have their men (`HaveTheirMen`) in an unchanged campaign
+pub men_stay : (c : CampaignValue) → HaveTheirMen c c
+men_stay c n u there = record { unit = u; there = there; spared = record { faction = refl; men = refl } }
+
+-- units that have their men after each of two changes have them after both
+pub men_twice : (a b c : CampaignValue) → HaveTheirMen a b → HaveTheirMen b c → HaveTheirMen a c
+men_twice a b c one two n u there =
+    let x = one n u there in
+    let y = two n x.unit x.there in
+    record { unit = y.unit; there = y.there; spared = record { faction = y.spared.faction ∙ x.spared.faction; men = y.spared.men ∙ x.spared.men } }
+
+-- all units have their men (`HaveTheirMen`) if no unit changes
+pub men_same : (c d : CampaignValue) → d.units ≡ c.units → HaveTheirMen c d
+men_same c d same n u there = record { unit = u; there = ap (λ (m : FinMap nat_cmp Unit). get m n) same ∙ there; spared = record { faction = refl; men = refl } }
+
+-- all units have their men (`HaveTheirMen`) after a change of unit k by f, if f keeps the men of each unit
+pub men_changed : (f : Unit → Unit) → ((u : Unit) → HasItsMen u (f u)) → (c d : CampaignValue) (k : ℕ) → d.units ≡ changed f c.units k → HaveTheirMen c d
+men_changed f stay c d k same n u there =
+    record { unit = at_number f c.units k n u; there = ap (λ (m : FinMap nat_cmp Unit). get m n) same ∙ get-changed f c.units k n ∙ ap (option_map (at_number f c.units k n)) there; spared = by_number (n == k) }
+  where
+    by_number : (b : Bool) → HasItsMen u (if b then f u else u)
+    by_number true = stay u
+    by_number false = record { faction = refl; men = refl }
+
+-- all units have their men after one unit is replaced by a unit of its faction with as many men
+pub men_put : (c d : CampaignValue) (k : ℕ) (v x : Unit) → get c.units k ≡ Some v → HasItsMen v x → d.units ≡ insert c.units k x → HaveTheirMen c d
+men_put c d k v x here stay same n u there = elim (cases_eq n k) [
+  | inl own ↦
+      let unit : v ≡ u = same_Some _ _ (sym here ∙ ap (get c.units) (sym own) ∙ there) in
+      record { unit = x; there = ap (λ (m : FinMap nat_cmp Unit). get m n) same ∙ ap (get (insert c.units k x)) own ∙ get-insert_same c.units k x; spared = subst (λ y. HasItsMen y x) unit stay }
+  | inr apart ↦
+      record { unit = u; there = ap (λ (m : FinMap nat_cmp Unit). get m n) same ∙ get-insert_other c.units k n x apart ∙ there; spared = record { faction = refl; men = refl } }
+]
+
+-- all units have their men after steps each of which keeps them
+pub men_in_turn : {X : Type 0} (step : CampaignValue → X → CampaignValue) → ((c : CampaignValue) (x : X) → HaveTheirMen c (step c x)) → (c : CampaignValue) (xs : List X) → HaveTheirMen c (fold step c xs)
+men_in_turn step each c [] = men_stay c
+men_in_turn step each c (x ∷ xs) = men_twice c (step c x) (fold step (step c x) xs) (each c x) (men_in_turn step each (step c x) xs)
+
+-- all units have their men (`HaveTheirMen`) after an order, if they have when the order has no fault
+pub men_unless : (c d : CampaignValue) (o : Outcome) (fault : Option EventFault) → HaveTheirMen c d → HaveTheirMen c (unless c fault (d, o)).0
+men_unless c d o (Some fault) h = men_stay c
+men_unless c d o None h = h
+
+-- a unit keeps its men when its guard flag changes
+flag_men : (flag : Bool) (u : Unit) → HasItsMen u (record u { holding = record u.holding { guard = flag } })
+flag_men flag u = record { faction = refl; men = refl }
+
+-- all units keep their men when the guard flag of one is set or cleared
+pub guard_men : (c : CampaignValue) (n : ℕ) (flag : Bool) → HaveTheirMen c (with_guard c n flag)
+guard_men c n flag = men_changed (λ u. record u { holding = record u.holding { guard = flag } }) (flag_men flag) c (with_guard c n flag) n refl
+
+-- a handover of a structure leaves all units their men
+handed_men : (c : CampaignValue) (s from to : ℕ) → HaveTheirMen c (after_handover c s from to)
+handed_men c s from to = men_same c (after_handover c s from to) (ap (λ (d : CampaignValue). d.units) (handed_is c s from to))
+
+-- all units keep their men when unit n goes to another region or structure
+pub place_men : (c : CampaignValue) (n r s : ℕ) → HaveTheirMen c (with_place c n r s)
+unfolding with_place
+place_men c n r s = by_unit (get c.units n)
+  where
+    there : CampaignValue
+    there = placed c n r s
+
+    put : HaveTheirMen c there
+    put = men_changed (λ u. record u { region = r; structure = s }) (λ u. record { faction = refl; men = refl }) c there n refl
+
+    by_test : (u : Unit) (b : Bool) → HaveTheirMen c (if b then placed c n r s else after_handover (after_handover (placed c n r s) u.structure n (heir c u.structure n)) s 0 n)
+    by_test u true = put
+    by_test u false =
+        let out = after_handover there u.structure n (heir c u.structure n) in
+        men_twice c there (after_handover out s 0 n) put (men_twice there out (after_handover out s 0 n) (handed_men there u.structure n (heir c u.structure n)) (handed_men out s 0 n))
+
+    by_unit : (o : Option Unit) → HaveTheirMen c (with_place_at c n r s o)
+    by_unit None = men_stay c
+    by_unit (Some u) = by_test u (u.structure == s)
+
+-- The unit has the same name, and no less of any item.
+pub record HasItsItems (before after : Unit) : Type 0 where
+  pub name : after.holding.name ≡ before.holding.name
+  pub items : (i : ℕ) → amount_of before.holding.items i ≤ amount_of after.holding.items i
+
+-- a unit that is no worse off keeps its name and items
+pub items_of_no_worse : (u v : Unit) → IsNoWorse u v → HasItsItems u v
+items_of_no_worse u v h = record { name = h.name; items = h.items }
+
+-- `spares` holds of each unit whose faction sent no mailing
+abbrev pub UnmailedAre : Unaffected → MonthValue → CampaignValue → CampaignValue → Type 0
+UnmailedAre spares m before after = Every (λ n u. get m.readings u.faction ≡ None → IsUnaffected spares after n u) before.units
+
+-- a unit that keeps its men, name and items has 0 men less (`IsLessBy`)
+whole : (x y : ℕ) (u v : Unit) → y ≡ x → HasItsMen u v → HasItsItems u v → IsLessBy (y - x) u v
+whole x y u v same men items = record { faction = men.faction; name = items.name; men = nobody u.holding.men v.holding.men men.men; items = items.items }
+  where
+    nobody : (a b : ℕ) → b ≡ a → b ≡ a - (y - x)
+    nobody a b e = omega (arith, same)
+
+module _ {meaning : Meaning} {keeps : Frame} (readings : (w : WorldValue) (c : CampaignValue) (m : MonthValue) → (meaning w c m).1.readings ≡ m.readings)
+    (nobody : (w : WorldValue) (c : CampaignValue) (m : MonthValue) (n : ℕ) → starved_in (meaning w c m).1.events n ≡ starved_in m.events n)
+    (men : (w : WorldValue) (c : CampaignValue) (m : MonthValue) → keeps w m c (meaning w c m).0 → UnmailedAre HasItsMen m c (meaning w c m).0)
+    (items : (w : WorldValue) (c : CampaignValue) (m : MonthValue) → keeps w m c (meaning w c m).0 → UnmailedAre HasItsItems m c (meaning w c m).0) where
+  -- A phase in which nobody starves leaves the units of factions without a mailing, if it keeps the mailings,
+  -- and these units keep their men and items.
+  pub whole_leaves : LeavesUnmailed meaning keeps
+  whole_leaves = record {
+    readings = readings;
+    told = λ w c m n. omega (arith, nobody w c m n);
+    left = λ w c m h n u there none.
+        let one = men w c m h n u there none in
+        let two = items w c m h n u there none in
+        let unit : two.unit ≡ one.unit = same_Some _ _ (sym two.there ∙ one.there) in
+        record { unit = one.unit; there = one.there; spared = whole _ _ u one.unit (nobody w c m n) one.spared (subst (HasItsItems u) unit two.spared) };
+  }
+
+-- ---- a phase whose orders are carried out one by one
+
+-- a faction that sent no mailing wrote none of the orders of a phase
+pub none_ordered : (is_of : Verb → Bool) (arrangement : Arrangement) (m : MonthValue) (f : ℕ) → get m.readings f ≡ None → All (λ t. t.faction ≢ f) (values (orders_of is_of arrangement m.aliases m.readings))
+none_ordered is_of arrangement m f none k d l same =
+    let h = orders_are_in_mailings is_of arrangement m.aliases m.readings k d l in
+    none_some h.reading (sym none ∙ ap (get m.readings) (sym same) ∙ h.of_faction)
+
+-- the event of an order reports no men who starved
+pub told_of_order : (events : List Event) (t : Task) (outcome : Outcome) (n : ℕ) → starved_in (events ++ event_for t outcome ∷ []) n ≡ starved_in events n
+told_of_order events t outcome n =
+    sum_by_push (λ (e : Event). if e.unit == n then men_starved_by e.verb e.outcome else 0) events (event_for t outcome) ∙ by_unit (t.unit == n) (starved_in events n)
+  where
+    by_unit : (b : Bool) (x : ℕ) → x + (if b then 0 else 0) ≡ x
+    by_unit true x = omega arith
+    by_unit false x = omega arith
+
+-- each unit of another faction than this one is there after, and has exactly its men
+abbrev pub OthersHaveMen : (faction : ℕ) → CampaignValue → CampaignValue → Type 0
+OthersHaveMen f c d = Every (λ n u. f ≢ u.faction → IsUnaffected HasItsMen d n u) c.units
+
+-- if all units have their men (`HaveTheirMen`), the units of other factions than f have (`OthersHaveMen`)
+pub others_men : (f : ℕ) (c d : CampaignValue) → HaveTheirMen c d → OthersHaveMen f c d
+others_men f c d men n u there other = men n u there
+
+-- after an order each unit of another faction than the order's has its men (`OthersHaveMen`)
+abbrev pub SparesMen : OrderMeaning → Type 0
+SparesMen step = (w : WorldValue) (a : Aliases) (c : CampaignValue) (t : Task) (x : Unit) → IsUnitOf c t x → IfSome (step w a t) (λ deed. OthersHaveMen t.faction c (deed c x).0)
+
+module _ (step : OrderMeaning) where
+  -- if a step satisfies `SparesMen`, an order leaves units of other factions than the one that wrote it their men
+  order_spares : SparesMen step → (w : WorldValue) (a : Aliases) (c : CampaignValue) (t : Task) → OthersHaveMen t.faction c (order_result (step w a t) c t.faction t.unit).0
+  order_spares spares w a c t = ordered_cases (OthersHaveMen t.faction c) (step w a t) c t (others_men t.faction c c (men_stay c)) (λ x own. spares w a c t x own)
+
+  -- if a step satisfies `SparesMen`, orders of other factions leave a unit its men
+  orders_spare : SparesMen step → (w : WorldValue) (c : CampaignValue) (m : MonthValue) (ts : List Task) → (n : ℕ) (u : Unit) → get c.units n ≡ Some u → AllByRecursion (λ t. t.faction ≢ u.faction) ts → IsUnaffected HasItsMen (fold (one_order step w) (c, m) ts).0 n u
+  orders_spare spares w c m [] n u there others = men_stay c n u there
+  orders_spare spares w c m (t ∷ ts) n u there others =
+      let next = one_order step w (c, m) t in
+      let one = order_spares spares w m.aliases c t n u there others.0 in
+      let two = orders_spare spares w next.0 next.1 ts n one.unit one.there (subst (λ f. AllByRecursion (λ t. t.faction ≢ f) ts) (sym one.spared.faction) others.1) in
+      record { unit = two.unit; there = two.there; spared = record { faction = two.spared.faction ∙ one.spared.faction; men = two.spared.men ∙ one.spared.men } }
+
+  -- orders leave the readings as they are
+  orders_readings : (w : WorldValue) (p : CampaignValue × MonthValue) (ts : List Task) → (fold (one_order step w) p ts).1.readings ≡ p.1.readings
+  orders_readings w p [] = refl
+  orders_readings w p (t ∷ ts) = orders_readings w (one_order step w p t) ts ∙ order_readings step w p t
+
+  -- one order adds no men who starved to the events
+  order_told : (w : WorldValue) (p : CampaignValue × MonthValue) (t : Task) (n : ℕ) → starved_in (one_order step w p t).1.events n ≡ starved_in p.1.events n
+  order_told w p t n = by_outcome (order_result (step w p.1.aliases t) p.0 t.faction t.unit).1
+    where
+      by_outcome : (o : Option Outcome) → starved_in (with_event_of p.1 t o).events n ≡ starved_in p.1.events n
+      by_outcome None = refl
+      by_outcome (Some outcome) = told_of_order p.1.events t outcome n
+
+  -- orders carried out one by one add no men who starved to the events
+  orders_told : (w : WorldValue) (p : CampaignValue × MonthValue) (ts : List Task) (n : ℕ) → starved_in (fold (one_order step w) p ts).1.events n ≡ starved_in p.1.events n
+  orders_told w p [] n = refl
+  orders_told w p (t ∷ ts) n = orders_told w (one_order step w p t) ts n ∙ order_told w p t n
+
+  module _ (is_of : Verb → Bool) where
+    -- a phase that carries out its orders one by one keeps the readings
+    pub carried_readings : (w : WorldValue) (c : CampaignValue) (m : MonthValue) → (meaning_by_orders step is_of w c m).1.readings ≡ m.readings
+    unfolding meaning_by_orders
+    carried_readings w c m = orders_readings w (c, m) (values (orders_of is_of ByUnit m.aliases m.readings))
+
+    -- a phase that carries out its orders one by one adds no men who starved to the events
+    pub carried_told : (w : WorldValue) (c : CampaignValue) (m : MonthValue) (n : ℕ) → starved_in (meaning_by_orders step is_of w c m).1.events n ≡ starved_in m.events n
+    unfolding meaning_by_orders
+    carried_told w c m n = orders_told w (c, m) (values (orders_of is_of ByUnit m.aliases m.readings)) n
+
+    -- if its step satisfies `SparesMen`, a phase leaves units of factions without a mailing their men
+    pub carried_men : SparesMen step → (w : WorldValue) (c : CampaignValue) (m : MonthValue) → UnmailedAre HasItsMen m c (meaning_by_orders step is_of w c m).0
+    unfolding meaning_by_orders
+    carried_men spares w c m n u there none =
+        let ts = values (orders_of is_of ByUnit m.aliases m.readings) in
+        orders_spare spares w c m ts n u there (recursion_from_All (λ t. t.faction ≢ u.faction) ts (none_ordered is_of ByUnit m u.faction none))
+
+    -- A phase leaves units of factions without a mailing what is theirs (`LeavesUnmailed`), if each of its steps leaves
+    -- units of other factions their men (`SparesMen`), and units of factions without a mailing keep their items.
+    pub carried_leaves : {keeps : Frame} → SparesMen step → ((w : WorldValue) (c d : CampaignValue) (m : MonthValue) → keeps w m c d → UnmailedAre HasItsItems m c d) → LeavesUnmailed (meaning_by_orders step is_of) keeps
+    carried_leaves {keeps} spares items =
+        whole_leaves {meaning = meaning_by_orders step is_of} {keeps = keeps} carried_readings carried_told
+        (λ w c m h. carried_men spares w c m) (λ w c m h. items w c (meaning_by_orders step is_of w c m).0 m h)
+
+-- an order for a unit by its own faction is of that faction
+pub own_faction : (t : Task) (n f : ℕ) → IsOwnOrder t n f → t.faction ≡ f
+own_faction t n f h = h.faction
+
+-- A phase that spares units which no order concerns leaves units of factions without a mailing their items.
+-- For this only orders of a unit's own faction may concern the unit, and a unit that is spared must keep its items.
+pub unmailed_spared : {concerns : Affects} {spares : Unaffected} (is_of : Verb → Bool) → ((t : Task) (n f : ℕ) → concerns t n f → t.faction ≡ f) → ((u v : Unit) → spares u v → HasItsItems u v)
+    → (w : WorldValue) (c d : CampaignValue) (m : MonthValue) → spares_others concerns spares is_of w m c d → UnmailedAre HasItsItems m c d
+unmailed_spared {concerns} {spares} is_of own items w c d m h n u there none =
+    let others = none_ordered is_of ByUnit m u.faction none in
+    let one = h n u there (λ k e l concerned. others k e l (own _ n u.faction concerned)) in
+    record { unit = one.unit; there = one.there; spared = items u one.unit one.spared }

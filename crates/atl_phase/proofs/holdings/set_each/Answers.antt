@@ -1,0 +1,51 @@
+use Rattle.std.proofs.Common.{◌≡◌, ℕ, List, [], ◌∷◌, ◌+◌, drop, get_or, refl, sym, ap, ◌∙◌}
+use Rattle.std.proofs.Math.ListN.{drop_of_length-le}
+use Rattle.std.proofs.lemmas.List.{drop_more}
+use Rattle.atl_records.specs.declared.records.Unit.{Unit}
+use Rattle.atl_state.specs.Campaign.{CampaignValue, unit_changed}
+use Rattle.atl_records.specs.Holdings.{with_amount_of}
+use Rattle.atl_state.specs.Marks.{Marks}
+use Rattle.atl_state.proofs.CoverLaws.{marks-refl, marks-trans}
+use Rattle.atl_phase.specs.Holdings.{with_days}
+use Rattle.atl_phase.proofs.ChangeLaws.{changed_twice, same_held, skill_changes}
+use Rattle.atl_phase.proofs.holdings.set_each.Goals as goal
+
+-- the unit with the days of each listed skill set, one skill after another
+abbrev set_all : List (ℕ × ℕ) → Unit → Unit
+set_all list u = record u { holding = record u.holding { days = with_days u.holding.days list } }
+
+pub loop-skill-init : goal.loop-skill-init
+loop-skill-init c = record { value = refl; marks = marks-refl c.args.campaign.now; goods = refl; items = refl }
+
+pub loop-skill-preserved : goal.loop-skill-preserved
+loop-skill-preserved c =
+    let list = c.args.list.now in
+    let i = c.loop-skill.skill-index in
+    let x : ℕ × ℕ = get_or list i (0, 0) in
+    let rest = drop (i + 1) list in
+    let before = c.loop-skill.campaign in
+    let after = c.set_days.new.self in
+    let old = c.loop-skill.invariant in
+    let behind : drop i list ≡ x ∷ rest = drop_more list i (0, 0) c.loop-skill-test.true in
+    let one = skill_changes before after c.args.unit x.0 x.1 c.in_ok-set_days.ensures.ok c.in_ok-set_days.ensures.marks in
+    record {
+      value =
+          ap (λ (d : CampaignValue). unit_changed (set_all rest) d c.args.unit) one.value
+          ∙ changed_twice (λ u. record u { holding = record u.holding { days = with_amount_of u.holding.days x.0 x.1 } }) (set_all rest) before.value c.args.unit
+          ∙ sym (ap (λ (xs : List (ℕ × ℕ)). unit_changed (set_all xs) before.value c.args.unit) behind)
+          ∙ old.value;
+      marks = marks-trans c.args.campaign.now before after old.marks one.marks;
+      goods = one.goods ∙ old.goods;
+      items = ap (λ (m : Marks). m.items) c.in_ok-set_days.ensures.marks ∙ old.items;
+    }
+
+pub returns-clause-what : goal.returns-clause-what
+returns-clause-what c =
+    let after = c.loop-skill.campaign.value in
+    let old = c.loop-skill.invariant in
+    let none : drop c.loop-skill.skill-index c.args.list.now ≡ [] = drop_of_length-le c.args.list.now c.loop-skill-test.false in
+    record {
+      value = sym (same_held after c.args.unit) ∙ sym (ap (λ (xs : List (ℕ × ℕ)). unit_changed (set_all xs) after c.args.unit) none) ∙ old.value;
+      marks = old.marks;
+      goods = old.goods;
+    }

@@ -1,0 +1,15 @@
+use Rattle.std.proofs.Common.{◌≡◌, drop}
+use Rattle.atl_state.specs.Campaign.{unit_changed}
+use Rattle.atl_state.specs.Covers.{MarksChanges}
+use Rattle.atl_phase.specs.Holdings.{with_days}
+use Rattle.atl_phase.proofs.holdings.set_each.Given as goal
+
+abbrev pub invariant-loop-skill : goal.invariant-loop-skill
+invariant-loop-skill l = record {
+  value :
+      unit_changed (λ u. record u { holding = record u.holding { days = with_days u.holding.days (drop l.skill-index l.list) } }) l.campaign.value l.unit
+      ≡ unit_changed (λ u. record u { holding = record u.holding { days = with_days u.holding.days l.list } }) l.initial.campaign.value l.unit;
+  marks : MarksChanges l.initial.campaign l.campaign;
+  goods : l.campaign.marks.goods ≡ l.initial.campaign.marks.goods;
+  items : l.campaign.marks.items ≡ l.initial.campaign.marks.items;
+}

@@ -1,0 +1,11 @@
+use Rattle.std.proofs.Common.{◌≡◌, ◌<◌, ◌++◌, length}
+use Rattle.std.specs.FinMap.{entries}
+use Rattle.atl_records.specs.Every.{EachOf}
+use Rattle.atl_phase.proofs.items.items_of.Given as goal
+
+abbrev pub invariant-loop-item : goal.invariant-loop-item
+invariant-loop-item l =
+    (goal.iterator-loop-item).can_next l.item-iterator ×
+    (goal.iterator-loop-item).is_finite l.item-iterator ×
+    (l.list.items ++ l.item-iterator ≡ entries l.holding.items) ×
+    EachOf (λ i amount. i < length l.world.items) l.item-iterator

@@ -1,0 +1,5 @@
+use Rattle.atl_phase.proofs.OrderIndexLaws.{Added}
+use Rattle.atl_phase.proofs.order_indices.add_standing.Given as goal
+
+abbrev pub invariant-loop-place : goal.invariant-loop-place
+invariant-loop-place l = Added l.aliases l.mailings l.at l.fn.list.items l.place l.list.items

@@ -1,0 +1,104 @@
+use Rattle.std.proofs.Common.{◌≡◌, [], ap, subst, sym, ◌∙◌, map, arith}
+use Rattle.std.proofs.lemmas.List.{append-nil}
+use Rattle.std.specs.Prelude.{fold}
+use Rattle.atl_orders.specs.Bounds.{IsOrderOf}
+use Rattle.atl_state.proofs.CoverLaws.{marks-refl, marks-trans}
+use Rattle.atl_state.specs.Campaign.{CampaignValue}
+use Rattle.atl_phase.specs.Month.{MonthValue, with_events}
+use Rattle.atl_phase.specs.PhaseOrders.{orders_by_unit, task_of}
+use Rattle.atl_phase.specs.declared.phase_order.PhaseOrder.{PhaseOrder}
+use Rattle.atl_phase.specs.OrderEffects.{AreUnaffected, meaning_by_orders, one_order}
+use Rattle.atl_phase.specs.Bounds.{StepsWell}
+use Rattle.atl_phase.proofs.FoldLaws.{each_mapped, fold_behind, fold_ended, fold_mapped}
+use Rattle.atl_phase.proofs.OrderEffectLaws.{leaves_well, order_well, orders_fit, orders_spare, room_left, room_reserved, well_same, well_twice}
+use Rattle.atl_phase.proofs.order_phase.carry_out_orders.Goals as goal
+
+pub loop-order-init : goal.loop-order-init
+loop-order-init g c =
+    let P = g.P.OrderPhase in
+    let m = c.args.month.now in
+    record {
+      orders = ap (λ es. fold (λ p o. one_order (P.step c.args.phase.now) c.args.world.now p (task_of o)) (c.args.campaign.now.value, with_events m es) c.deref-order-items.result.now) c.new-events.ensures.items;
+      well = well_same c.args.world.now c.args.campaign.now.value c.requires.holds;
+      marks = marks-refl c.args.campaign.now;
+    }
+
+pub carry_one-requires-clause-holds : goal.carry_one-requires-clause-holds
+carry_one-requires-clause-holds g c = c.loop-order.invariant.well.holds_still
+
+pub carry_one-requires-clause-room : goal.carry_one-requires-clause-room
+carry_one-requires-clause-room g c =
+    let P = g.P.OrderPhase in
+    room_left c.args.world.now c.args.campaign.now.value c.loop-order.campaign.value c.loop-order.invariant.well
+    (room_reserved P.reserve P.moving c.args.campaign.now.value (c.is_orderly.ensures.bounded c.args.world.now c.args.campaign.now.value c.requires.holds) c.requires.room)
+
+pub carry_one-requires-clause-fit : goal.carry_one-requires-clause-fit
+carry_one-requires-clause-fit g c =
+    let w = c.args.world.now in
+    let m = c.args.month.now in
+    let o = c.order-item.result in
+    subst (λ x. IsOrderOf w (task_of x).order_value) (sym c.order-item.is)
+    (each_mapped (λ t. IsOrderOf w t.order_value) task_of c.deref-order-items.result.now (orders_by_unit g.P.PhaseVerbs.is_of m)
+    (ap (map task_of) c.deref-order-items.ensures.value ∙ c.in_ok-orders.ensures) (orders_fit w m.aliases m.readings c.requires.read g.P.PhaseVerbs.is_of)
+    c.loop-order.order-index o c.loop-order-test.true)
+
+pub loop-order-preserved : goal.loop-order-preserved
+loop-order-preserved g c =
+    let P = g.P.OrderPhase in
+    let w = c.args.world.now in
+    let m = c.args.month.now in
+    let before : CampaignValue × MonthValue = (c.loop-order.campaign.value, with_events m c.loop-order.events.items) in
+    let step = c.in_ok-carry_one.ensures.step in
+    let o = c.order-item.result in
+    let xs = c.deref-order-items.result.now in
+    let one = λ (p : CampaignValue × MonthValue) (x : PhaseOrder). one_order (P.step c.args.phase.now) w p (task_of x) in
+    let fit =
+    subst (λ x. IsOrderOf w (task_of x).order_value) (sym c.order-item.is)
+    (each_mapped (λ t. IsOrderOf w t.order_value) task_of xs (orders_by_unit g.P.PhaseVerbs.is_of m)
+    (ap (map task_of) c.deref-order-items.ensures.value ∙ c.in_ok-orders.ensures) (orders_fit w m.aliases m.readings c.requires.read g.P.PhaseVerbs.is_of)
+    c.loop-order.order-index o c.loop-order-test.true) in
+    let well = order_well (P.step c.args.phase.now) c.is_orderly.ensures w m.aliases c.loop-order.campaign.value (task_of o) c.loop-order.invariant.well.holds_still fit in
+    record {
+      orders = fold_behind one xs c.loop-order.order-index o before c.loop-order-test.true (step ∙ ap (one before) c.order-item.is) c.loop-order.invariant.orders;
+      well =
+          well_twice w c.args.campaign.now.value c.loop-order.campaign.value _ c.loop-order.invariant.well
+          (subst (StepsWell P.holds P.reserve w c.loop-order.campaign.value) (sym (ap (λ (p : CampaignValue × MonthValue). p.0) step)) well);
+      marks = marks-trans c.args.campaign.now c.loop-order.campaign _ c.loop-order.invariant.marks c.in_ok-carry_one.ensures.marks;
+    }
+
+pub returns-clause-meaning : goal.returns-clause-meaning
+unfolding meaning_by_orders
+returns-clause-meaning g c =
+    let P = g.P.OrderPhase in
+    let w = c.args.world.now in
+    let m = c.args.month.now in
+    let old = c.args.campaign.now.value in
+    let step = one_order (P.step c.args.phase.now) w in
+    let behind : CampaignValue × MonthValue = (c.loop-order.campaign.value, with_events m c.loop-order.events.items) in
+    let xs = c.deref-order-items.result.now in
+    let start : CampaignValue × MonthValue = (old, with_events m []) in
+    let none : start ≡ (old, m) = ap (λ es. (old, record m { events = es })) (append-nil m.events) in
+    ap (λ n. (c.loop-order.campaign.value, n)) c.in_ok-add_events.ensures
+    ∙ ap (λ es. (c.loop-order.campaign.value, with_events m es)) c.deref.ensures.value
+    ∙ fold_ended (λ p o. step p (task_of o)) xs c.loop-order.order-index behind (omega (arith, c.loop-order-test.false)) c.loop-order.invariant.orders
+    ∙ fold_mapped step task_of start xs
+    ∙ ap (fold step start) (ap (map task_of) c.deref-order-items.ensures.value ∙ c.in_ok-orders.ensures)
+    ∙ ap (λ p. fold step p (orders_by_unit g.P.PhaseVerbs.is_of m)) none
+
+pub returns-clause-leaves : goal.returns-clause-leaves
+returns-clause-leaves g c =
+    leaves_well c.args.world.now c.args.campaign.now.value c.loop-order.campaign.value
+    (c.is_orderly.ensures.bounded c.args.world.now c.args.campaign.now.value c.requires.holds) c.loop-order.invariant.well
+
+pub returns-clause-keeps : goal.returns-clause-keeps
+unfolding meaning_by_orders
+returns-clause-keeps g c =
+    let P = g.P.OrderPhase in
+    let w = c.args.world.now in
+    let m = c.args.month.now in
+    let ts = orders_by_unit g.P.PhaseVerbs.is_of m in
+    subst (λ d. AreUnaffected P.concerns P.spares ts c.args.campaign.now.value d) (sym (ap (λ p. p.0) (returns-clause-meaning g c)))
+    (orders_spare (P.step c.args.phase.now) c.is_orderly.ensures w c.args.campaign.now.value m ts c.requires.holds (orders_fit w m.aliases m.readings c.requires.read g.P.PhaseVerbs.is_of))
+
+pub returns-clause-marks : goal.returns-clause-marks
+returns-clause-marks g c = c.loop-order.invariant.marks

@@ -1,0 +1,90 @@
+-- Bounds on the amounts of the books: the room that each phase requires (`HaveRoom`). The rest is for proofs alone:
+-- the conditions on the step that carries out one order.
+use Rattle.std.specs.Prelude.{ℕ, ℤ, pos, ◌≡◌, ◌≤◌, ◌+◌, ◌*◌, ◌+ℤ◌, ◌≤ℤ◌, List, [], ◌∷◌, Some, IfSome}
+use Rattle.std.specs.FinMap.{get}
+use Rattle.atl_tables.specs.Worlds.{WorldValue}
+use Rattle.atl_orders.specs.Bounds.{IsOrderOf}
+use Rattle.atl_records.specs.declared.books.Entry.{Entry}
+use Rattle.atl_records.specs.declared.books.Entry.TheVariants.{Lost}
+use Rattle.atl_records.specs.declared.books.Thing.{Thing}
+use Rattle.atl_records.specs.declared.books.Thing.TheVariants.{Item}
+use Rattle.atl_records.specs.declared.records.Unit.{Unit}
+use Rattle.atl_records.specs.Books.{amount_in}
+use Rattle.atl_state.specs.Campaign.{CampaignValue}
+use Rattle.atl_state.specs.Totals.{Balances}
+use Rattle.atl_phase.specs.Meaning.{BookBound, Condition, IsSameMonth, most_moved, moves_only}
+use Rattle.atl_phase.specs.Month.{Aliases}
+use Rattle.atl_phase.specs.OrderEffects.{Affects, IsUnaffected, OrderMeaning, Unaffected}
+use Rattle.atl_phase.specs.PhaseOrders.{Task}
+use Rattle.atl_phase.specs.Unbooked.{moves_nothing}
+
+-- ---- by how much the amounts of the books may move
+
+-- the bound on the books of a number of steps, each of which moves the amounts by at most this bound
+abbrev pub moved_times : ℕ → BookBound → BookBound
+moved_times steps moving e t = steps * moving e t
+
+-- the greatest size of an amount of the books, above or below 0: 9*10^18 + 99999999999999
+abbrev pub amount_limit : ℕ
+amount_limit = 9000000000000000000 + most_moved
+
+-- an amount that can move by `most`, up or down, without passing `amount_limit` in size
+pub record HasRoom (most : ℕ) (amount : ℤ) : Type 0 where
+  pub above : (amount +ℤ pos most) ≤ℤ pos amount_limit
+  pub below : pos most ≤ℤ (amount +ℤ pos amount_limit)
+
+-- each amount of the books can move as far as its bound says without passing `amount_limit` in size
+abbrev pub HaveRoom : BookBound → CampaignValue → Type 0
+HaveRoom moving c = (e : Entry) (t : Thing) → HasRoom (moving e t) (amount_in c.books e t)
+
+-- by how much each amount of the books may still be moved, as a function of the campaign so far
+abbrev pub RemainingBound : Type 0
+RemainingBound = CampaignValue → BookBound
+
+-- an amount moves, up or down, by at most what its remaining bound falls: from `reserve` to `left`
+pub record UsesBound (reserve left : ℕ) (before after : ℤ) : Type 0 where
+  pub above : (after +ℤ pos left) ≤ℤ (before +ℤ pos reserve)
+  pub below : (before +ℤ pos left) ≤ℤ (after +ℤ pos reserve)
+
+-- ---- the step of one order
+
+-- After a step `holds` is true of the campaign, which is of the same month, and whose books balance if they did before.
+-- No amount of the books moves further than its remaining bound falls.
+pub record StepsWell (holds : Condition) (reserve : RemainingBound) (w : WorldValue) (before after : CampaignValue) : Type 0 where
+  pub holds_still : holds w after
+  pub same_month : IsSameMonth before after
+  pub balances : Balances before → Balances after
+  pub drawn : (e : Entry) (t : Thing) → UsesBound (reserve before e t) (reserve after e t) (amount_in before.books e t) (amount_in after.books e t)
+
+-- `spares` is reflexive and transitive, and relates only units of the same faction
+pub record IsUnaffectedRelation (spares : Unaffected) : Type 0 where
+  pub same : (u : Unit) → spares u u
+  pub again : (u v x : Unit) → spares u v → spares v x → spares u x
+  pub faction : (u v : Unit) → spares u v → v.faction ≡ u.faction
+
+-- unit u is there under the number that an order is for, and is of the faction that wrote the order
+pub record IsUnitOf (c : CampaignValue) (t : Task) (u : Unit) : Type 0 where
+  pub there : get c.units t.unit ≡ Some u
+  pub faction : u.faction ≡ t.faction
+
+-- The conditions on a phase that carries its orders out one by one. Each order satisfies `StepsWell`.
+-- After an order, `spares` relates each unit that the order doesn't concern to what it was before.
+-- No remaining bound is above the bound of the phase.
+pub record IsOrderly (step : OrderMeaning) (holds : Condition) (reserve : RemainingBound) (moving : BookBound) (concerns : Affects) (spares : Unaffected) : Type 0 where
+  pub well : (w : WorldValue) (a : Aliases) (c : CampaignValue) (t : Task) (x : Unit) → holds w c → IsOrderOf w t.order_value → IsUnitOf c t x →
+      IfSome (step w a t) (λ deed. StepsWell holds reserve w c (deed c x).0)
+  pub sparing : IsUnaffectedRelation spares
+  pub spared : (w : WorldValue) (a : Aliases) (c : CampaignValue) (t : Task) (x : Unit) → holds w c → IsUnitOf c t x →
+      (n : ℕ) (u : Unit) → get c.units n ≡ Some u → (concerns t n u.faction → ⊥) → IfSome (step w a t) (λ deed. IsUnaffected spares (deed c x).0 n u)
+  pub bounded : (w : WorldValue) (c : CampaignValue) → holds w c → (e : Entry) (t : Thing) → reserve c e t ≤ moving e t
+
+-- ---- what is left of the bounds of single phases
+
+-- the remaining bound of a phase that books nothing: 0 for each amount
+abbrev pub books_nothing : RemainingBound
+books_nothing c = moves_nothing
+
+-- the bound on the books for a list of items with their amounts, each booked as lost
+abbrev pub moving_items : List (ℕ × ℕ) → BookBound
+moving_items [] e t = 0
+moving_items (x ∷ xs) e t = moves_only x.1 Lost (Item x.0) e t + moving_items xs e t

@@ -1,0 +1,85 @@
+-- What a phase of the month is: its effect, by how much it may change the books, and what it leaves unchanged.
+use Rattle.std.specs.Prelude.{◌≡◌, ℕ, ℤ, pos, ◌+ℤ◌, ◌≤ℤ◌, ◌+◌, ◌==◌, if◌then◌else◌}
+use Rattle.std.specs.FinMap.{len}
+use Rattle.atl_tables.specs.Worlds.{WorldValue}
+use Rattle.atl_records.specs.declared.books.Entry.{Entry}
+use Rattle.atl_records.specs.declared.books.Thing.{Thing}
+use Rattle.atl_records.specs.Books.{amount_in, amount_number}
+use Rattle.atl_records.specs.Every.{IsThere}
+use Rattle.atl_state.specs.Campaign.{CampaignValue}
+use Rattle.atl_state.specs.Totals.{Balances}
+use Rattle.atl_phase.specs.Month.{MonthValue}
+
+-- the effect of a phase: from the world, a campaign and a month to the campaign and the month after it
+abbrev pub Meaning : Type 0
+Meaning = WorldValue → CampaignValue → MonthValue → CampaignValue × MonthValue
+
+-- the effect of one phase, and then another
+abbrev pub then_also : Meaning → Meaning → Meaning
+then_also first second w c m = second w (first w c m).0 (first w c m).1
+
+-- ---- what a campaign keeps before a phase, and after it
+
+-- a statement of a campaign in its world
+abbrev pub Condition : Type 1
+Condition = WorldValue → CampaignValue → Type 0
+
+-- in every world each campaign with the first condition has the second:
+-- what one phase leaves is what the next one needs
+abbrev pub Follows : Condition → Condition → Type 0
+Follows leaves needs = (w : WorldValue) (c : CampaignValue) → leaves w c → needs w c
+
+-- what two phases in turn need: what the first one needs, and that the first leaves what the second needs
+abbrev pub both_need : Condition → Condition → Condition → Condition
+both_need needs between follows w c = needs w c × Follows between follows
+
+-- What a phase keeps: a statement of the campaign before it, the month that it got, and the campaign after it.
+-- It says what the phase leaves to the units whose own faction wrote no order of it.
+abbrev pub Frame : Type 1
+Frame = WorldValue → MonthValue → CampaignValue → CampaignValue → Type 0
+
+-- what two phases in turn keep: each keeps its own,
+-- with the campaign and the month between them as the first one makes them
+abbrev pub both_keep : Meaning → Frame → Frame → Frame
+both_keep first early late w m before after =
+    let between = first w before m in
+    early w m before between.0 × late w between.1 between.0 after
+
+-- ---- the books
+
+-- by how much each amount of the books may move at most, up or down; an amount with bound 0 stays
+abbrev pub BookBound : Type 0
+BookBound = Entry → Thing → ℕ
+
+-- the bound on the books of two phases in turn: the sum of their bounds
+abbrev pub both_move : BookBound → BookBound → BookBound
+both_move first second e t = first e t + second e t
+
+-- the bound on the books of a phase that moves one amount alone, by at most this much
+abbrev pub moves_only : ℕ → Entry → Thing → BookBound
+moves_only most e t f u = if amount_number f u == amount_number e t then most else 0
+
+-- by how much one phase moves an amount of the books at most: 10^14 - 1
+abbrev pub most_moved : ℕ
+most_moved = 99999999999999
+
+-- two amounts differ by `most` or less
+pub record IsNear (most : ℕ) (before after : ℤ) : Type 0 where
+  pub above : after ≤ℤ (before +ℤ pos most)
+  pub below : before ≤ℤ (after +ℤ pos most)
+
+-- The number of the month last closed, the reports and the set of factions (gone ones too) stay the same.
+pub record IsSameMonth (before after : CampaignValue) : Type 0 where
+  pub month : after.month ≡ before.month
+  pub reports : after.reports ≡ before.reports
+  pub count : len after.factions ≡ len before.factions
+  pub factions : (n : ℕ) → IsThere after.factions n → IsThere before.factions n
+
+-- After a phase `leaves` is true of the campaign, which is of the same month,
+-- and whose books balance if they did before.
+-- No amount of the books moves further than its bound.
+pub record LeavesWell (leaves : Condition) (moving : BookBound) (w : WorldValue) (before after : CampaignValue) : Type 0 where
+  pub leaves_it : leaves w after
+  pub same_month : IsSameMonth before after
+  pub balances : Balances before → Balances after
+  pub near : (e : Entry) (t : Thing) → IsNear (moving e t) (amount_in before.books e t) (amount_in after.books e t)

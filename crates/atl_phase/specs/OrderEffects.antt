@@ -1,0 +1,106 @@
+-- A phase that carries its orders out one by one: each on the campaign that the order before left.
+-- See docs/RULES.md, "Orders of a month".
+use Rattle.std.specs.Prelude.{ℕ, ◌≡◌, ◌==◌, ◌++◌, Bool, false, List, [], ◌∷◌, Option, Some, None, fold, if◌then◌else◌}
+use Rattle.std.specs.List.{All}
+use Rattle.std.specs.FinMap.{get}
+use Rattle.atl_tables.specs.Worlds.{WorldValue}
+use Rattle.atl_orders.specs.declared.verb.Verb.{Verb}
+use Rattle.atl_records.specs.declared.event.Event.{Event}
+use Rattle.atl_records.specs.declared.event.EventFault.TheVariants.{NotYours}
+use Rattle.atl_records.specs.declared.event.EventVerb.TheVariants.{Order}
+use Rattle.atl_records.specs.declared.event.Outcome.{Outcome}
+use Rattle.atl_records.specs.declared.event.Outcome.TheVariants.{Fault}
+use Rattle.atl_records.specs.declared.records.Unit.{Unit}
+use Rattle.atl_records.specs.Events.{event_fault_number}
+use Rattle.atl_state.specs.Campaign.{CampaignValue}
+use Rattle.atl_phase.specs.Month.{Aliases, MonthValue}
+use Rattle.atl_phase.specs.Meaning.{Frame, Meaning}
+use Rattle.atl_phase.specs.PhaseOrders.{Task, orders_by_unit}
+
+-- ---- the orders in turn
+
+-- the effect of an order: from a campaign and a unit that is there to the new campaign and the outcome
+abbrev pub OrderEffect : Type 0
+OrderEffect = CampaignValue → Unit → CampaignValue × Outcome
+
+-- the step of a phase: the effect of an order for a unit of the faction that wrote it;
+-- None for one that the phase passes over
+abbrev pub OrderMeaning : Type 0
+OrderMeaning = WorldValue → Aliases → Task → Option OrderEffect
+
+-- whether a unit is there, and of this faction
+abbrev pub is_of_faction : ℕ → Option Unit → Bool
+is_of_faction faction None = false
+is_of_faction faction (Some u) = u.faction == faction
+
+-- whether the unit of an order is there, and is of the faction that wrote the order
+abbrev pub is_own : CampaignValue → Task → Bool
+is_own c t = is_of_faction t.faction (get c.units t.unit)
+
+-- the unit, if it is there and of this faction; None otherwise
+abbrev pub of_faction : ℕ → Option Unit → Option Unit
+of_faction faction None = None
+of_faction faction (Some u) = if u.faction == faction then Some u else None
+
+-- the effect of an order on a unit, if it is there; otherwise nothing changes, and the outcome is NotYours
+abbrev pub effect_on : OrderEffect → CampaignValue → Option Unit → CampaignValue × Outcome
+effect_on deed c None = (c, Fault (event_fault_number NotYours))
+effect_on deed c (Some u) = deed c u
+
+-- the effect of a faction's order for unit n.
+-- Where the unit isn't there or isn't the faction's own, nothing changes, and the outcome is NotYours.
+abbrev pub faction_effect : OrderEffect → CampaignValue → (faction n : ℕ) → CampaignValue × Outcome
+faction_effect deed c faction n = effect_on deed c (of_faction faction (get c.units n))
+
+-- the campaign after an order, and its outcome; an order that is passed over changes nothing and has none
+abbrev pub order_result : Option OrderEffect → CampaignValue → (faction n : ℕ) → CampaignValue × Option Outcome
+order_result None c faction n = (c, None)
+order_result (Some deed) c faction n = let after = faction_effect deed c faction n in (after.0, Some after.1)
+
+-- the event of an order with this outcome
+abbrev pub event_for : Task → Outcome → Event
+event_for t outcome = record { faction = t.faction; unit = t.unit; line = t.line; verb = Order t.order_value.verb; outcome = outcome }
+
+-- the month with the event of an order; an order that the phase passes over has none
+abbrev pub with_event_of : MonthValue → Task → Option Outcome → MonthValue
+with_event_of m t None = m
+with_event_of m t (Some outcome) = record m { events = m.events ++ event_for t outcome ∷ [] }
+
+-- the campaign and the month after one order of a phase
+abbrev pub one_order : OrderMeaning → WorldValue → CampaignValue × MonthValue → Task → CampaignValue × MonthValue
+one_order step w (c, m) t = let after = order_result (step w m.aliases t) c t.faction t.unit in (after.0, with_event_of m t after.1)
+
+-- the effect of a phase that carries out its orders one by one, by unit, line and faction
+unfoldable pub meaning_by_orders : OrderMeaning → (Verb → Bool) → Meaning
+meaning_by_orders step is_of w c m = fold (one_order step w) (c, m) (orders_by_unit is_of m)
+
+-- ---- what stays
+
+-- a statement that an order concerns the unit of this number and this faction
+abbrev pub Affects : Type 1
+Affects = Task → ℕ → ℕ → Type 0
+
+-- order t is for unit n, and faction f wrote it, which is the unit's own
+pub record IsOwnOrder (t : Task) (n f : ℕ) : Type 0 where
+  pub unit : t.unit ≡ n
+  pub faction : t.faction ≡ f
+
+-- a relation of a unit before to the unit after: what stays of it
+abbrev pub Unaffected : Type 1
+Unaffected = Unit → Unit → Type 0
+
+-- the unit under this number is there after, and `spares` relates it to what it was before
+pub record IsUnaffected (spares : Unaffected) (after : CampaignValue) (number : ℕ) (u : Unit) : Type 0 where
+  pub unit : Unit
+  pub there : get after.units number ≡ Some unit
+  pub spared : spares u unit
+
+-- each unit that none of these orders concerns is there after, and `spares` relates it to what it was before
+abbrev pub AreUnaffected : Affects → Unaffected → List Task → CampaignValue → CampaignValue → Type 0
+AreUnaffected concerns spares ts before after =
+    (n : ℕ) (u : Unit) → get before.units n ≡ Some u → All (λ t. concerns t n u.faction → ⊥) ts → IsUnaffected spares after n u
+
+-- what a phase keeps: each unit that none of its orders concerns is there after,
+-- and `spares` relates it to what it was before
+abbrev pub spares_others : Affects → Unaffected → (Verb → Bool) → Frame
+spares_others concerns spares is_of w m before after = AreUnaffected concerns spares (orders_by_unit is_of m) before after

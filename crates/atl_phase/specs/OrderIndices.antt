@@ -1,0 +1,131 @@
+-- For proofs alone: where the orders that count are found in the mailings, and which of them a phase takes.
+use Rattle.std.specs.Prelude.{◌≡◌, ◌++◌, ℕ, ◌<◌, max, Bool, true, ◌==◌, List, [], ◌∷◌, filter, map, length, slice_index_or, Option, Some, None, IfSome, unwrap_or}
+use Rattle.std.specs.declared.vec.Vec.{Vec}
+use Rattle.std.specs.List.{All, flat_map}
+use Rattle.std.specs.Ordering.{nat_cmp}
+use Rattle.std.specs.List.Sorted.{IsStrictlySortedBy}
+use Rattle.std.specs.FinMap.{FinMap, get, insert, values}
+use Rattle.atl_tables.specs.Groups.{group_of}
+use Rattle.atl_orders.specs.declared.mailing.Entry.{Entry}
+use Rattle.atl_orders.specs.declared.mailing.Mailing.{Mailing}
+use Rattle.atl_orders.specs.declared.order.Operands.TheVariants.{Nothing}
+use Rattle.atl_orders.specs.declared.order.UnitRef.TheVariants.{Number}
+use Rattle.atl_orders.specs.declared.verb.Slot.{Slot}
+use Rattle.atl_orders.specs.declared.verb.Verb.{Verb}
+use Rattle.atl_orders.specs.declared.verb.Verb.TheVariants.{Work}
+use Rattle.atl_orders.specs.Mailing.{Reading, reading_of}
+use Rattle.atl_orders.specs.Orders.{order_value}
+use Rattle.atl_phase.specs.declared.order_indices.OrderIndex.{OrderIndex}
+use Rattle.atl_phase.specs.declared.phase_order.Arrangement.{Arrangement}
+use Rattle.atl_phase.specs.declared.phase_order.Arrangement.TheVariants.{ByUnit, ByFaction}
+use Rattle.atl_phase.specs.Month.{Aliases, by_faction}
+use Rattle.atl_phase.specs.PhaseOrders.{Task, orders_of, tasks_of, tasks_for, last_line, slot_number}
+
+-- the mailings are sorted by faction, and no two are of one faction
+abbrev pub AreByFaction : List Mailing → Type 0
+AreByFaction mailings = IsStrictlySortedBy nat_cmp (map (λ m. m.faction) mailings)
+
+-- the greatest line of a mailing's orders in each slot, by the number of the slot and then by unit
+abbrev pub Lines : Type 0
+Lines = FinMap nat_cmp (FinMap nat_cmp ℕ)
+
+-- the greatest line noted for a unit in a slot; 0 where none is noted
+abbrev pub line_in : Lines → (slot unit : ℕ) → ℕ
+line_in lines slot unit = unwrap_or (get (group_of lines slot) unit) 0
+
+-- the lines with one more noted in a slot for a unit: the greater of this and the one noted before
+abbrev pub with_line : Lines → (slot unit line : ℕ) → Lines
+with_line lines slot unit line = insert lines slot (insert (group_of lines slot) unit (max (line_in lines slot unit) line))
+
+-- the lines are those that `last_line` gives for these orders, in each slot and for each unit
+abbrev pub AreLastLines : List Task → Lines → Type 0
+AreLastLines ts lines = (slot : Slot) (unit : ℕ) → line_in lines (slot_number slot) unit ≡ last_line slot unit ts
+
+-- whether an order counts by these lines: its line is the greatest in its slot, or it has no slot
+abbrev pub stands_by : Lines → (unit line : ℕ) → Option Slot → Bool
+stands_by lines unit line None = true
+stands_by lines unit line (Some slot) = line == line_in lines (slot_number slot) unit
+
+-- the orders of all mailings that count and have the verbs of a phase
+abbrev pub all_tasks : (Verb → Bool) → Aliases → List Reading → List Task
+all_tasks is_of aliases readings = flat_map (λ r. tasks_for is_of (tasks_of aliases r.faction r)) readings
+
+-- ---- all verbs, and those of a phase
+
+-- a test that every verb passes, for a phase that takes all orders
+abbrev pub every_verb : Verb → Bool
+every_verb verb = true
+
+-- whether an order has a verb of the phase
+abbrev pub has_verb : (Verb → Bool) → Task → Bool
+has_verb is_of t = is_of t.order_value.verb
+
+-- ---- the indices of orders
+
+-- the numbers that the index of an order is sorted by: those of `key_of` for the order itself
+abbrev pub key_by : Arrangement → OrderIndex → List ℕ
+key_by ByUnit p = p.unit ∷ p.line ∷ p.faction ∷ p.place ∷ []
+key_by ByFaction p = p.faction ∷ p.line ∷ p.unit ∷ p.place ∷ []
+
+-- an empty mailing, for an index past the last mailing
+abbrev pub no_mailing : Mailing
+no_mailing = record { faction = 0; text = []; entries = []; faults = [] }
+
+-- an order WORK for unit 0 on line 0, for an index past the last order of a mailing
+abbrev pub no_entry : Entry
+no_entry = record { line = 0; target = Number 0; order = record { verb = Work; operands = Nothing } }
+
+-- the mailing at this index of the list, from 0 on
+abbrev pub mailing_at : List Mailing → ℕ → Mailing
+mailing_at mailings place = slice_index_or mailings place no_mailing
+
+-- all orders of the mailing at this index of the list
+abbrev pub tasks_at : Aliases → List Mailing → ℕ → List Task
+tasks_at aliases mailings place = tasks_of aliases (mailing_at mailings place).faction (reading_of (mailing_at mailings place))
+
+-- the order that an index names: by the index of its mailing, and its own index in the mailing
+abbrev pub task_at : List Mailing → OrderIndex → Task
+task_at mailings p = record {
+  faction = p.faction;
+  unit = p.unit;
+  line = p.line;
+  place = p.place;
+  order_value = order_value (mailing_at mailings p.mailing).text (slice_index_or (mailing_at mailings p.mailing).entries p.place no_entry).order;
+}
+
+-- the mailing and the order that an index names are there
+pub record IsThere (mailings : List Mailing) (p : OrderIndex) : Type 0 where
+  pub mailing : p.mailing < length mailings
+  pub entry : p.place < length (mailing_at mailings p.mailing).entries
+
+-- each index names an order that is there, and the orders that they name are ts, in this order
+pub record AreAt (mailings : List Mailing) (ts : List Task) (places : List OrderIndex) : Type 0 where
+  pub there : All (IsThere mailings) places
+  pub tasks : map (task_at mailings) places ≡ ts
+
+-- the new indices name the orders that the old ones name, and after them the orders ts
+pub record Adds (mailings : List Mailing) (ts : List Task) (old new : List OrderIndex) : Type 0 where
+  pub there : All (IsThere mailings) old → All (IsThere mailings) new
+  pub tasks : map (task_at mailings) new ≡ map (task_at mailings) old ++ ts
+
+-- the new indices are the old ones, followed by those of the orders of one mailing that count
+abbrev pub AddsMailing : Aliases → List Mailing → ℕ → List OrderIndex → List OrderIndex → Type 0
+AddsMailing aliases mailings place = Adds mailings (tasks_for every_verb (tasks_at aliases mailings place))
+
+-- the indices name all orders that count, mailing by mailing
+abbrev pub AreIndicesByMailing : Aliases → List Mailing → List OrderIndex → Type 0
+AreIndicesByMailing aliases mailings = AreAt mailings (all_tasks every_verb aliases (map reading_of mailings))
+
+-- the indices name all orders that count, sorted as the arrangement says
+abbrev pub AreOrderIndices : Arrangement → Aliases → List Mailing → List OrderIndex → Type 0
+AreOrderIndices arrangement aliases mailings = AreAt mailings (values (orders_of every_verb arrangement aliases (by_faction (map reading_of mailings))))
+
+-- the orders that these indices name and that have a verb of the phase
+abbrev pub tasks_picked : (Verb → Bool) → List Mailing → List OrderIndex → List Task
+tasks_picked is_of mailings places = filter (has_verb is_of) (map (task_at mailings) places)
+
+-- The invariant of a month: its mailings are sorted by faction, and its gathered indices by unit.
+-- The gathered indices, if there are any, name all orders that count.
+pub record IsSortedMonth {Z : Type 0} (aliases : Aliases) (mailings : List Mailing) (standing : Option (Vec OrderIndex Z)) : Type 0 where
+  pub sorted : AreByFaction mailings
+  pub gathered : IfSome standing (λ places. AreOrderIndices ByUnit aliases mailings places.items)

@@ -1,0 +1,122 @@
+-- The orders that a phase carries out, and their order. See docs/RULES.md, "Orders of a month".
+use Rattle.std.specs.Prelude.{◌≡◌, ℕ, ◌+◌, max, Bool, true, false, ◌&&◌, ◌==◌, if◌then◌else◌, List, [], ◌∷◌, map, filter, Option, Some, None, unwrap_or}
+use Rattle.std.specs.List.{All, flat_map, slice_get}
+use Rattle.std.specs.Ordering.{nat_cmp}
+use Rattle.std.specs.Cmp.Lexicographic.{slice_cmp}
+use Rattle.std.specs.FinMap.{FinMap, entries, from_entries, get, values}
+use Rattle.atl_orders.specs.declared.order.UnitRef.{UnitRef}
+use Rattle.atl_orders.specs.declared.order.UnitRef.TheVariants.{Number, Alias}
+use Rattle.atl_orders.specs.declared.verb.Slot.{Slot}
+use Rattle.atl_orders.specs.declared.verb.Slot.TheVariants.{MonthLong, Selling, Buying, Taxing, Recruiting}
+use Rattle.atl_orders.specs.declared.verb.Verb.{Verb}
+use Rattle.atl_orders.specs.Verbs.{row_of}
+use Rattle.atl_orders.specs.Mailing.{EntryValue, Reading}
+use Rattle.atl_orders.specs.Orders.{OrderValue, order_value}
+use Rattle.atl_phase.specs.Month.{Aliases, MonthValue, alias_unit}
+use Rattle.atl_phase.specs.declared.phase_order.PhaseOrder.{PhaseOrder}
+use Rattle.atl_phase.specs.declared.phase_order.Arrangement.{Arrangement}
+use Rattle.atl_phase.specs.declared.phase_order.Arrangement.TheVariants.{ByUnit, ByFaction}
+
+-- An order of a mailing: its faction, the unit that it is for, its line, its index, and what it says.
+-- The index is the one among the orders of the mailing, from 0 on.
+pub record Task : Type 0 where
+  pub faction : ℕ
+  pub unit : ℕ
+  pub line : ℕ
+  pub place : ℕ
+  pub order_value : OrderValue
+
+-- the order that a `PhaseOrder` of the code is, with the names from the text of its mailing
+abbrev pub task_of : PhaseOrder → Task
+task_of o = record { faction = o.faction; unit = o.unit; line = o.line; place = o.place; order_value = order_value o.mailing.now.text o.order.now }
+
+-- ---- the orders of a mailing
+
+-- the number of the unit that a faction's order names; 0 for an alias under which no unit was made
+abbrev pub unit_of : Aliases → ℕ → UnitRef → ℕ
+unit_of aliases faction (Number n) = n
+unit_of aliases faction (Alias alias) = unwrap_or (alias_unit aliases faction alias) 0
+
+-- the orders of some entries of a mailing, whose indices count up from this one
+abbrev pub tasks_from : Aliases → ℕ → ℕ → List EntryValue → List Task
+tasks_from aliases faction place [] = []
+tasks_from aliases faction place (e ∷ es) =
+    record { faction = faction; unit = unit_of aliases faction e.target; line = e.line; place = place; order_value = e.order_value }
+    ∷ tasks_from aliases faction (place + 1) es
+
+-- all orders of a faction's mailing
+abbrev pub tasks_of : Aliases → ℕ → Reading → List Task
+tasks_of aliases faction r = tasks_from aliases faction 0 r.entries
+
+-- ---- the orders that count
+
+-- the number of a slot; no two slots have one number
+abbrev pub slot_number : Slot → ℕ
+slot_number MonthLong = 0
+slot_number Selling = 1
+slot_number Buying = 2
+slot_number Taxing = 3
+slot_number Recruiting = 4
+
+-- whether the second slot is there (`Some`), and is the same as the first
+abbrev pub is_slot : Slot → Option Slot → Bool
+is_slot slot None = false
+is_slot slot (Some other) = slot_number slot == slot_number other
+
+-- whether a verb takes the whole month
+abbrev pub is_month_long : Verb → Bool
+is_month_long verb = is_slot MonthLong (row_of verb).slot
+
+-- the greatest line of the orders in a slot of a unit; 0 where there is none
+abbrev pub last_line : Slot → ℕ → List Task → ℕ
+last_line slot unit [] = 0
+last_line slot unit (t ∷ ts) =
+    max (if t.unit == unit && is_slot slot (row_of t.order_value.verb).slot then t.line else 0) (last_line slot unit ts)
+
+-- whether an order in this slot counts: it has the greatest line for its unit; an order without a slot always does
+abbrev pub stands_in : List Task → Task → Option Slot → Bool
+stands_in ts t None = true
+stands_in ts t (Some slot) = t.line == last_line slot t.unit ts
+
+-- whether an order counts among the orders ts of its mailing
+abbrev pub stands : List Task → Task → Bool
+stands ts t = stands_in ts t (row_of t.order_value.verb).slot
+
+-- ---- the orders of a phase
+
+-- the orders of a mailing that count and have the verbs of a phase
+abbrev pub tasks_for : (Verb → Bool) → List Task → List Task
+tasks_for is_of ts = filter (λ t. is_of t.order_value.verb && stands ts t) ts
+
+-- The numbers that an order is sorted by: unit, line and faction, or faction, line and unit.
+-- The last number is its index, which no mailing has twice.
+abbrev pub key_of : Arrangement → Task → List ℕ
+key_of ByUnit t = t.unit ∷ t.line ∷ t.faction ∷ t.place ∷ []
+key_of ByFaction t = t.faction ∷ t.line ∷ t.unit ∷ t.place ∷ []
+
+-- The orders of all mailings that count and have the verbs of a phase, under their keys.
+abbrev pub orders_of : (Verb → Bool) → Arrangement → Aliases → FinMap nat_cmp Reading → FinMap (slice_cmp nat_cmp) Task
+orders_of is_of arrangement aliases readings =
+    from_entries (map (λ t. (key_of arrangement t, t)) (flat_map (λ e. tasks_for is_of (tasks_of aliases e.0 e.1)) (entries readings)))
+
+-- the orders of a month that count and have the verbs of a phase, by unit, line and faction
+abbrev pub orders_by_unit : (Verb → Bool) → MonthValue → List Task
+orders_by_unit is_of m = values (orders_of is_of ByUnit m.aliases m.readings)
+
+-- ---- a law
+
+-- order t is an entry of its faction's mailing, at its index, with its unit, its line and what it says
+pub record IsInMailing (aliases : Aliases) (readings : FinMap nat_cmp Reading) (t : Task) : Type 0 where
+  pub reading : Reading
+  pub entry : EntryValue
+  pub of_faction : get readings t.faction ≡ Some reading
+  pub at_place : slice_get reading.entries t.place ≡ Some entry
+  pub for_unit : unit_of aliases t.faction entry.target ≡ t.unit
+  pub on_line : entry.line ≡ t.line
+  pub says : entry.order_value ≡ t.order_value
+
+-- A law: each order of a phase is an entry of the mailing of its faction.
+abbrev pub OrdersAreInMailings : Type 0
+OrdersAreInMailings =
+    (is_of : Verb → Bool) (arrangement : Arrangement) (aliases : Aliases) (readings : FinMap nat_cmp Reading) →
+    All (IsInMailing aliases readings) (values (orders_of is_of arrangement aliases readings))

@@ -1,0 +1,109 @@
+-- The specification of a phase: its effect, by how much it may change the books, and what it leaves unchanged. See
+-- docs/RULES.md, "Closing a month".
+use Rattle.std.specs.Prelude.{⊤, ℕ, ◌+◌, ◌≤◌, ◌==◌, ◌||◌, Bool, false, List, [], ◌∷◌, if◌then◌else◌}
+use Rattle.atl_orders.specs.declared.verb.Verb.{Verb}
+use Rattle.atl_records.specs.declared.books.Entry.{Entry}
+use Rattle.atl_records.specs.declared.books.Thing.{Thing}
+use Rattle.atl_records.specs.declared.books.Thing.TheVariants.{Item, Money, People}
+use Rattle.atl_records.specs.Books.{entry_index}
+use Rattle.atl_phase.specs.Meaning.{BookBound, Frame, Meaning, both_keep, both_move, most_moved, moves_only, then_also}
+use Rattle.atl_phase.specs.OrderEffects.{Affects, OrderMeaning, Unaffected, meaning_by_orders, spares_others}
+use Rattle.atl_phase.specs.Unbooked.{moves_nothing}
+
+-- ---- the books
+
+-- the entries of the books that a phase may move: those of money, of people and of items
+pub record MovedEntries : Type 0 where
+  pub money : List Entry
+  pub people : List Entry
+  pub items : List Entry
+
+-- no entries, for a phase that moves no amount of the books
+abbrev pub no_moved_entries : MovedEntries
+no_moved_entries = record { money = []; people = []; items = [] }
+
+-- the entries under which a phase may move this thing
+abbrev pub entries_of : MovedEntries → Thing → List Entry
+entries_of moved Money = moved.money
+entries_of moved People = moved.people
+entries_of moved (Item i) = moved.items
+
+-- whether an entry is in the list
+abbrev pub is_among : Entry → List Entry → Bool
+is_among e [] = false
+is_among e (k ∷ ks) = is_among e ks || (entry_index e == entry_index k)
+
+-- whether a phase may move the amount of this entry and this thing
+abbrev pub may_move : MovedEntries → Entry → Thing → Bool
+may_move moved e t = is_among e (entries_of moved t)
+
+-- ---- a phase
+
+-- the specification of a phase: its effect, its bound on the books, the entries that it may move, and what it keeps
+pub record PhaseSpec : Type 1 where
+  pub meaning : Meaning
+  pub moving : BookBound
+  pub moved : MovedEntries
+  pub keeps : Frame
+
+-- A phase moves the amounts of its own entries alone, and each by less than 10^14.
+abbrev pub MovesItsOwn : PhaseSpec → Type 0
+MovesItsOwn phase = (e : Entry) (t : Thing) → phase.moving e t ≤ (if may_move phase.moved e t then most_moved else 0)
+
+-- the specification of a phase that moves no amount of the books
+abbrev pub books_none : Meaning → Frame → PhaseSpec
+books_none meaning keeps = record { meaning = meaning; moving = moves_nothing; moved = no_moved_entries; keeps = keeps }
+
+-- the specification of a phase that moves no amount of the books and carries its orders out one by one.
+-- It spares the units that none of its orders concerns.
+abbrev pub goes_by_orders : OrderMeaning → (Verb → Bool) → Affects → Unaffected → PhaseSpec
+goes_by_orders step is_of concerns spares = books_none (meaning_by_orders step is_of) (spares_others concerns spares is_of)
+
+-- the specification of a phase that moves the money of one entry of the books, and no other amount
+abbrev pub books_money : Entry → Meaning → Frame → PhaseSpec
+books_money entry meaning keeps = record {
+  meaning = meaning;
+  moving = moves_only most_moved entry Money;
+  moved = record { money = entry ∷ []; people = []; items = [] };
+  keeps = keeps;
+}
+
+-- the specification of a phase that moves the money of one entry of the books and the people of another,
+-- and no other amount
+abbrev pub books_money_and_people : (money people : Entry) → Meaning → Frame → PhaseSpec
+books_money_and_people money people meaning keeps = record {
+  meaning = meaning;
+  moving = both_move (moves_only most_moved money Money) (moves_only most_moved people People);
+  moved = record { money = money ∷ []; people = people ∷ []; items = [] };
+  keeps = keeps;
+}
+
+-- ---- some phases, one after the other
+
+-- the effect of these phases, one after the other
+abbrev pub meaning_of : List PhaseSpec → Meaning
+meaning_of [] = λ w c m. (c, m)
+meaning_of (phase ∷ []) = phase.meaning
+meaning_of (phase ∷ next ∷ rest) = then_also phase.meaning (meaning_of (next ∷ rest))
+
+-- the bound on the books of these phases together: the sum of their bounds
+abbrev pub moving_of : List PhaseSpec → BookBound
+moving_of [] = λ e t. 0
+moving_of (phase ∷ []) = phase.moving
+moving_of (phase ∷ next ∷ rest) = both_move phase.moving (moving_of (next ∷ rest))
+
+-- what these phases leave unchanged, one after the other
+abbrev pub keeps_of : List PhaseSpec → Frame
+keeps_of [] = λ w m before after. ⊤
+keeps_of (phase ∷ []) = phase.keeps
+keeps_of (phase ∷ next ∷ rest) = both_keep phase.meaning phase.keeps (keeps_of (next ∷ rest))
+
+-- how many of these phases may move the amount of this entry and this thing
+abbrev pub moving_phases_of : List PhaseSpec → Entry → Thing → ℕ
+moving_phases_of [] e t = 0
+moving_phases_of (phase ∷ rest) e t = (if may_move phase.moved e t then 1 else 0) + moving_phases_of rest e t
+
+-- P holds of each of these phases
+abbrev pub EachPhase : (PhaseSpec → Type 0) → List PhaseSpec → Type 0
+EachPhase P [] = ⊤
+EachPhase P (phase ∷ rest) = P phase × EachPhase P rest

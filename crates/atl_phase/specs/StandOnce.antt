@@ -1,0 +1,30 @@
+-- A law: of the verbs that share a slot, at most one order counts for a unit in a faction's mailing.
+-- See docs/RULES.md, "Orders of a month".
+use Rattle.std.specs.Prelude.{Bool, false, ◌&&◌, ◌==◌, Option, Some, None}
+use Rattle.std.specs.List.{IsDistinct}
+use Rattle.std.specs.Ordering.{nat_cmp}
+use Rattle.std.specs.FinMap.{FinMap, values}
+use Rattle.atl_tables.specs.Worlds.{WorldValue}
+use Rattle.atl_orders.specs.declared.verb.Slot.{Slot}
+use Rattle.atl_orders.specs.declared.verb.Verb.{Verb}
+use Rattle.atl_orders.specs.Mailing.{Reading}
+use Rattle.atl_orders.specs.Verbs.{row_of}
+use Rattle.atl_phase.specs.declared.phase_order.Arrangement.{Arrangement}
+use Rattle.atl_phase.specs.Month.{Aliases}
+use Rattle.atl_phase.specs.Fit.{AreFit}
+use Rattle.atl_phase.specs.PhaseOrders.{Task, is_slot, orders_of}
+
+-- whether both slots are there (`Some`), and are the same
+abbrev pub are_of_slot : Option Slot → Option Slot → Bool
+are_of_slot None other = false
+are_of_slot (Some slot) other = is_slot slot other
+
+-- whether two orders are of one faction, for one unit and in one slot
+abbrev pub share_slot : Task → Task → Bool
+share_slot t o = t.unit == o.unit && (t.faction == o.faction && are_of_slot (row_of t.order_value.verb).slot (row_of o.order_value.verb).slot)
+
+-- no two orders that a phase carries out share a slot, where the mailings can be read with the world
+abbrev pub OneOrderStands : Type 0
+OneOrderStands =
+    (w : WorldValue) (is_of : Verb → Bool) (arrangement : Arrangement) (aliases : Aliases) (readings : FinMap nat_cmp Reading) → AreFit w readings →
+    IsDistinct share_slot (values (orders_of is_of arrangement aliases readings))

@@ -1,0 +1,32 @@
+-- What is left of the units of a faction that sent no mailing. See docs/RULES.md, "Closing a month".
+use Rattle.std.specs.Prelude.{◌≡◌, ◌≤◌, ◌<◌, ◌-◌, ◌==◌, ℕ, List, sum_by, if◌then◌else◌}
+use Rattle.atl_records.specs.declared.event.Event.{Event}
+use Rattle.atl_records.specs.declared.event.EventVerb.{EventVerb}
+use Rattle.atl_records.specs.declared.event.EventVerb.TheVariants as verbs
+use Rattle.atl_records.specs.declared.event.Outcome.{Outcome}
+use Rattle.atl_records.specs.declared.event.Outcome.TheVariants as outcomes
+use Rattle.atl_records.specs.declared.records.Unit.{Unit}
+use Rattle.atl_records.specs.Holdings.{amount_of}
+use Rattle.atl_state.specs.Campaign.{CampaignValue}
+use Rattle.atl_phase.specs.OrderEffects.{IsUnaffected}
+
+-- how many men starved by an event: the number of a Starved event of upkeep, and 0 for any other
+abbrev pub men_starved_by : EventVerb → Outcome → ℕ
+men_starved_by verbs.Upkeep (outcomes.Starved men) = men
+men_starved_by verb outcome = 0
+
+-- how many men of the unit of this number starved, by these events
+abbrev pub starved_in : List Event → (number : ℕ) → ℕ
+starved_in events number = sum_by (λ e. if e.unit == number then men_starved_by e.verb e.outcome else 0) events
+
+-- the unit has the same faction and name, exactly `fewer` men less, and no less of any item
+pub record IsLessBy (fewer : ℕ) (before after : Unit) : Type 0 where
+  pub faction : after.faction ≡ before.faction
+  pub name : after.holding.name ≡ before.holding.name
+  pub men : after.holding.men ≡ before.holding.men - fewer
+  pub items : (i : ℕ) → amount_of before.holding.items i ≤ amount_of after.holding.items i
+
+-- a unit of which fewer men starved than it had is still there, with its faction, name and items,
+-- and exactly those men less
+abbrev pub IsLeft : (starved : ℕ) → (after : CampaignValue) → (number : ℕ) → Unit → Type 0
+IsLeft starved after number u = starved < u.holding.men → IsUnaffected (IsLessBy starved) after number u

@@ -1,0 +1,40 @@
+//! Sets the number of men of a unit together with its days of study.
+ghost use Rattle.std.specs.Prelude.{◌≡◌, ◌≤◌, OnOk};
+ghost use Rattle.atl_records.specs.Limits.{men_limit};
+ghost use Rattle.atl_phase.specs.Holdings.{ChangesHolding, with_days};
+
+use atl_state::Campaign;
+use std::alloc::AllocError;
+
+/// Sets a unit's days of study of each listed skill; they are those of all its men together.
+fn set_each(campaign: &mut Campaign, unit: u32, list: &[(u32, u32)]) -> Result<(), AllocError>
+    ensures what { OnOk result
+        (ChangesHolding campaign.old campaign.new unit
+        (λ h. record h { days = with_days h.days list.now })) }
+    ensures items { OnOk result (campaign.new.marks.items ≡ campaign.old.marks.items) }
+{
+    for (skill, days) in list.iter() {
+        campaign.set_days(unit, *skill, *days)?;
+    }
+    Ok(())
+}
+
+/// Sets the number of men of a unit, at most MEN_LIMIT, and its days of the listed skills. The days
+/// are over all men, each skill by its number. It marks the unit's row and these skills, and none
+/// of its items. Where the unit isn't there nothing changes. AllocError without memory; the
+/// campaign may then be changed in part.
+pub fn set_people(
+    campaign: &mut Campaign,
+    unit: u32,
+    men: u32,
+    days: &[(u32, u32)],
+) -> Result<(), AllocError>
+    requires { men ≤ men_limit }
+    ensures what { OnOk result
+        (ChangesHolding campaign.old campaign.new unit
+        (λ h. record h { men = men; days = with_days h.days days.now })) }
+    ensures items { OnOk result (campaign.new.marks.items ≡ campaign.old.marks.items) }
+{
+    campaign.set_men(unit, men);
+    set_each(campaign, unit, days)
+}

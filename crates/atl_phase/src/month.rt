@@ -1,0 +1,237 @@
+//! A month: its mailings, aliases, dice words and events, which phases hand on.
+ghost use Rattle.std.specs.Prelude.{◌≡◌, ◌++◌, ◌∷◌, [], IfOk, OnOk, OnErr, map, option_copied, option_map};
+ghost use Rattle.std.specs.FinMap.{empty, get, values};
+ghost use Rattle.atl_orders.specs.Mailing.{reading_of};
+ghost use Rattle.atl_phase.specs.Month.{HaveOwnFactions, HaveNoOrder, alias_unit, by_faction, with_alias, with_events};
+ghost use Rattle.atl_phase.specs.PhaseOrders.{orders_of, task_of, unit_of};
+ghost use Rattle.atl_phase.specs.OrderIndices.{AreByFaction};
+
+use crate::order_indices::{OrderIndex, order_indices};
+use crate::orders::{PhaseVerbs, orders_of};
+use crate::phase_order::{Arrangement, PhaseOrder};
+use crate::standing::unit_of;
+use atl_orders::{Mailing, UnitRef};
+use atl_state::Event;
+use atl_tables::{Numbered, let_go};
+use std::alloc::{AllocError, Global};
+use std::marker::Model;
+
+/// What the phases of a month hand on: the mailings, the units that FORM made by their aliases, the
+/// words of the dice, and the events of the orders so far. Nothing shows in which order the
+/// mailings were given.
+pub struct Month {
+    // Sorted by faction, no two of one faction.
+    mailings: Vec<Mailing>,
+    // The unit that FORM made for each alias, by faction and then by alias.
+    aliases: Numbered<Numbered<u32>>,
+    words: Vec<u32>,
+    events: Vec<Event>,
+    // The indices of the orders that count, by unit, line and faction; None until gathered.
+    standing: Option<Vec<OrderIndex>>,
+}
+
+impl Drop for Month {
+    fn drop(self) {
+        let_go!(self: Month { mailings, aliases, words, events, standing });
+    }
+}
+
+impl Model for Month {
+    ghost use Rattle.std.specs.Prelude.{map};
+    ghost use Rattle.atl_orders.specs.Mailing.{reading_of};
+    ghost use Rattle.atl_phase.specs.Month.{MonthValue, month_code, by_faction};
+    ghost use Rattle.atl_phase.specs.OrderIndices.{IsSortedMonth};
+
+    ghost Value = { MonthValue };
+
+    ghost coded = { month_code };
+
+    ghost view = { λ a. record {
+      readings = by_faction (map reading_of a.mailings.items);
+      aliases = a.aliases;
+      words = a.words.items;
+      events = a.events.items;
+    } };
+
+    ghost invariant = { λ a. IsSortedMonth a.aliases a.mailings.items a.standing };
+}
+
+impl Month {
+    /// A month before its first phase, with these mailings, no two of one faction, and these words
+    /// of the dice. It takes no memory.
+    pub fn new(alloc: Global, mut mailings: Vec<Mailing>, words: Vec<u32>) -> Month
+        requires { HaveOwnFactions mailings.items }
+        ensures { result ≡ record {
+          readings = by_faction (map reading_of mailings.items);
+          aliases = empty;
+          words =
+              words.items;
+          events = [];
+        } }
+    {
+        sort(&mut mailings);
+        Month {
+            mailings,
+            aliases: Numbered::new(alloc),
+            words,
+            events: Vec::new(alloc),
+            standing: None,
+        }
+    }
+
+    /// The words of the dice.
+    pub fn words(&self) -> &[u32]
+        ensures { result.now ≡ self.now.words }
+    {
+        &self.words
+    }
+
+    /// The events of the orders carried out so far.
+    pub fn events(&self) -> &[Event]
+        ensures { result.now ≡ self.now.events }
+    {
+        &self.events
+    }
+
+    /// The events of the whole month; the rest of the month is dropped.
+    pub fn into_events(self) -> Vec<Event>
+        ensures { result.items ≡ self.events }
+    {
+        let Month {
+            mailings: _,
+            aliases: _,
+            words: _,
+            events,
+            standing: _,
+        } = self;
+        events
+    }
+
+    /// Adds the event of an order. Without memory the month stays as it is.
+    pub fn add_event(&mut self, event: Event) -> Result<(), AllocError>
+        ensures ok { OnOk result
+            (self.new ≡ record self.old { events = self.old.events ++ event ∷ [] }) }
+        ensures err { OnErr result (self.new ≡ self.old) }
+    {
+        self.events.push(event)?;
+        Ok(())
+    }
+
+    /// Notes the unit that a faction's FORM made under an alias. Without memory the month stays as
+    /// it is.
+    pub fn set_alias(
+        &mut self,
+        alloc: Global,
+        faction: u32,
+        alias: u32,
+        unit: u32,
+    ) -> Result<(), AllocError>
+        ensures ok { OnOk result
+            (self.new ≡ record self.old
+            { aliases = with_alias self.old.aliases faction alias unit }) }
+        ensures err { OnErr result (self.new ≡ self.old) }
+    {
+        self.standing = None;
+        self.aliases.insert_under(alloc, faction, alias, unit)
+    }
+
+    /// Gathers the indices of the orders that count, for all phases until an alias is set.
+    /// The month's value stays the same, also without memory.
+    pub fn gather(&mut self, alloc: Global) -> Result<(), AllocError>
+        ensures { self.new ≡ self.old }
+    {
+        let places = order_indices(alloc, Arrangement::ByUnit, &self.aliases, &self.mailings)?;
+        self.standing = Some(places);
+        Ok(())
+    }
+
+    /// The orders that a phase carries out, in the order of the arrangement. It takes memory for
+    /// each of them. If the month's orders aren't gathered, or not in this arrangement, it also
+    /// takes memory for each order of all mailings, and n log n steps for n of them. See
+    /// docs/RULES.md, "Orders of a month".
+    pub fn orders<P: PhaseVerbs>(
+        &self,
+        alloc: Global,
+        phase: &P,
+        arrangement: Arrangement,
+    ) -> Result<Vec<PhaseOrder<'_>>, AllocError>
+        ensures { IfOk result (λ list. map task_of list.items
+            ≡ values (orders_of P.is_of arrangement self.now.aliases self.now.readings)) }
+    {
+        orders_of(
+            alloc,
+            phase,
+            arrangement,
+            &self.aliases,
+            &self.mailings,
+            &self.standing,
+        )
+    }
+
+    /// The mailing of a faction; None where it sent none.
+    pub fn mailing(&self, faction: u32) -> Option<&Mailing>
+        ensures { option_map reading_of (option_copied result) ≡ get self.now.readings faction }
+    {
+        mailing_of(&self.mailings, faction)
+    }
+
+    /// The number of the unit that a faction's order names; 0 for an alias under which no unit was
+    /// made.
+    pub fn unit(&self, faction: u32, target: UnitRef) -> u32
+        ensures { result ≡ unit_of self.now.aliases faction target }
+    {
+        unit_of(&self.aliases, faction, target)
+    }
+
+    /// The number of the unit that a faction's FORM made under an alias; None where there is none.
+    pub fn alias(&self, faction: u32, alias: u32) -> Option<u32>
+        ensures { result ≡ alias_unit self.now.aliases faction alias }
+    {
+        unit_under(&self.aliases, faction, alias)
+    }
+}
+
+/// Adds the events of orders to a month. Without memory some of them may be added.
+pub fn add_events(month: &mut Month, events: &[Event]) -> Result<(), AllocError>
+    ensures { OnOk result (month.new ≡ with_events month.old events.now) }
+{
+    for event in events {
+        month.add_event(*event)?;
+    }
+    Ok(())
+}
+
+/// Sorts mailings by their factions.
+fn sort(mailings: &mut Vec<Mailing>)
+    requires { HaveOwnFactions mailings.old.items }
+    ensures sorted { AreByFaction mailings.new.items }
+    ensures same { by_faction (map reading_of mailings.new.items)
+        ≡ by_faction (map reading_of mailings.old.items) }
+{
+    mailings.sort_unstable_by_key(|mailing| mailing.faction);
+}
+
+/// The mailing of a faction, by binary search in mailings that are sorted by faction.
+fn mailing_of(mailings: &[Mailing], faction: u32) -> Option<&Mailing>
+    requires { AreByFaction mailings.now }
+    ensures { option_map reading_of (option_copied result)
+        ≡ get (by_faction (map reading_of mailings.now)) faction }
+{
+    match mailings.binary_search_by_key(&faction, |mailing| mailing.faction) {
+        Ok(place) => Some(&mailings[place]),
+        Err(_) => None,
+    }
+}
+
+/// The number of the unit that a faction's FORM made under an alias; None where there is none.
+pub(crate) fn unit_under(aliases: &Numbered<Numbered<u32>>, faction: u32, alias: u32) -> Option<u32>
+    ensures { result ≡ alias_unit aliases.now faction alias }
+{
+    aliases.get_under(faction, alias).copied()
+}
+
+/// Does nothing. Its clause is a law: mailings of different factions, listed in another order, give
+/// the same map of readings.
+pub fn mailings_have_no_order()
+    ensures { HaveNoOrder }
+{}

@@ -1,0 +1,134 @@
+//! Finds the orders of all mailings that count, and sorts their indices. See docs/RULES.md,
+//! "Orders of a month".
+ghost use Rattle.std.specs.Prelude.{◌≡◌, ◌<◌, length, IfOk, OnOk};
+ghost use Rattle.std.specs.List.Sorted.{IsPermutation, IsSortedByKey};
+ghost use Rattle.std.specs.Cmp.Lexicographic.{slice_cmp};
+ghost use Rattle.std.specs.Ordering.{nat_cmp};
+ghost use Rattle.atl_phase.specs.OrderIndices.{AddsMailing, AreByFaction, AreIndicesByMailing, AreLastLines, AreOrderIndices, key_by, tasks_at};
+
+use crate::phase_order::Arrangement;
+use crate::standing::{LastLines, last_lines, stands, unit_of};
+use atl_orders::Mailing;
+use atl_tables::Numbered;
+use std::alloc::{AllocError, Global};
+
+/// The index of an order that counts, with the numbers that orders are sorted by.
+#[derive(Drop, Clone, Copy)]
+pub(crate) struct OrderIndex {
+    /// The unit that the order is for; 0 for an alias under which no unit was made.
+    pub unit: u32,
+    /// The line of the order in its mailing.
+    pub line: u32,
+    /// The faction that sent the mailing.
+    pub faction: u32,
+    /// The index of the mailing among those of the month, from 0 on.
+    pub mailing: usize,
+    /// The index of the order among those of its mailing, from 0 on.
+    pub place: usize,
+}
+
+impl OrderIndex {
+    /// The numbers that orders are sorted by in this arrangement; the last is the order's index.
+    fn key(&self, arrangement: Arrangement) -> [usize; 4]
+        ensures { result ≡ key_by arrangement self.now }
+    {
+        let unit = self.unit as usize;
+        let line = self.line as usize;
+        let faction = self.faction as usize;
+        match arrangement {
+            Arrangement::ByUnit => [unit, line, faction, self.place],
+            Arrangement::ByFaction => [faction, line, unit, self.place],
+        }
+    }
+}
+
+/// Adds to the list the indices of a mailing's orders that count. `lines` has the greatest line of
+/// each slot and unit in that mailing.
+fn add_standing(
+    aliases: &Numbered<Numbered<u32>>,
+    mailings: &[Mailing],
+    at: usize,
+    lines: &LastLines,
+    list: &mut Vec<OrderIndex>,
+) -> Result<(), AllocError>
+    requires within { at < length mailings.now }
+    requires lines { AreLastLines (tasks_at aliases.now mailings.now at) lines.now }
+    ensures { OnOk result (AddsMailing aliases.now mailings.now at list.old.items list.new.items) }
+{
+    let mailing = &mailings[at];
+    let entries = mailing.entries.as_slice();
+    for place in 0..entries.len() {
+        let entry = &entries[place];
+        let unit = unit_of(aliases, mailing.faction, entry.target);
+        if stands(lines, unit, entry.line, entry.order.verb.row().slot) {
+            list.push(OrderIndex {
+                unit,
+                line: entry.line,
+                faction: mailing.faction,
+                mailing: at,
+                place,
+            })?;
+        }
+    }
+    Ok(())
+}
+
+/// Adds the indices of the orders of one mailing that count.
+fn add_mailing(
+    alloc: Global,
+    aliases: &Numbered<Numbered<u32>>,
+    mailings: &[Mailing],
+    at: usize,
+    list: &mut Vec<OrderIndex>,
+) -> Result<(), AllocError>
+    requires { at < length mailings.now }
+    ensures { OnOk result (AddsMailing aliases.now mailings.now at list.old.items list.new.items) }
+{
+    let lines = last_lines(alloc, aliases, &mailings[at])?;
+    add_standing(aliases, mailings, at, &lines, list)
+}
+
+/// The indices of all orders that count, mailing by mailing.
+fn indices_by_mailing(
+    alloc: Global,
+    aliases: &Numbered<Numbered<u32>>,
+    mailings: &[Mailing],
+) -> Result<Vec<OrderIndex>, AllocError>
+    ensures { IfOk result (λ list. AreIndicesByMailing aliases.now mailings.now list.items) }
+{
+    let mut list = Vec::new(alloc);
+    for at in 0..mailings.len() {
+        add_mailing(alloc, aliases, mailings, at, &mut list)?;
+    }
+    Ok(list)
+}
+
+/// The indices of all orders that count, sorted as the arrangement says.
+/// The mailings are sorted by faction, no two of one faction. It takes memory for each order, and
+/// n log n steps.
+pub(crate) fn order_indices(
+    alloc: Global,
+    arrangement: Arrangement,
+    aliases: &Numbered<Numbered<u32>>,
+    mailings: &[Mailing],
+) -> Result<Vec<OrderIndex>, AllocError>
+    requires { AreByFaction mailings.now }
+    ensures { IfOk result (λ list.
+        AreOrderIndices arrangement aliases.now mailings.now list.items) }
+{
+    let mut list = indices_by_mailing(alloc, aliases, mailings)?;
+    sort(&mut list, arrangement);
+    Ok(list)
+}
+
+/// Sorts indices of orders by their keys in this arrangement.
+fn sort(list: &mut Vec<OrderIndex>, arrangement: Arrangement)
+    ensures moved { IsPermutation list.old.items list.new.items }
+    ensures sorted { IsSortedByKey (key_by arrangement) (slice_cmp nat_cmp) list.new.items }
+{
+    list.sort_unstable_by_key(
+        move |placed|
+            ensures { result ≡ key_by arrangement placed.now }
+        { placed.key(arrangement) },
+    );
+}

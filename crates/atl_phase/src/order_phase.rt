@@ -1,0 +1,188 @@
+//! Phases that carry out their orders one by one, and the loop over the orders. See docs/RULES.md,
+//! "Orders of a month".
+ghost use Rattle.std.specs.Prelude.{◌≡◌, IfOk, IfSome, OnOk, Some};
+ghost use Rattle.std.specs.FinMap.{get};
+ghost use Rattle.std.specs.Option.{option_copied};
+ghost use Rattle.atl_state.specs.Covers.{MarksChanges};
+ghost use Rattle.atl_orders.specs.Bounds.{IsOrderOf};
+ghost use Rattle.atl_phase.specs.Fit.{AreFit};
+ghost use Rattle.atl_phase.specs.Meaning.{BookBound, Condition, LeavesWell};
+ghost use Rattle.atl_phase.specs.Bounds.{HaveRoom, IsOrderly, RemainingBound, books_nothing};
+ghost use Rattle.atl_phase.specs.NoWorse.{IsNoWorse};
+ghost use Rattle.atl_phase.specs.Unbooked.{moves_nothing};
+ghost use Rattle.atl_phase.specs.OrderEffects.{Affects, IsOwnOrder, OrderMeaning, Unaffected, is_of_faction, meaning_by_orders, of_faction, one_order, order_result, spares_others};
+ghost use Rattle.atl_phase.specs.Month.{with_events};
+ghost use Rattle.atl_phase.specs.PhaseOrders.{task_of};
+
+use crate::month::{Month, add_events};
+use crate::orders::PhaseVerbs;
+use crate::phase::{Phase, PhaseResult};
+use crate::phase_order::{Arrangement, PhaseOrder};
+use atl_state::{Campaign, Event, Outcome, Unit};
+use atl_tables::World;
+use std::alloc::{AllocError, Global};
+
+/// A phase that carries out its orders one by one, each on the campaign that the one before left.
+pub trait OrderPhase: PhaseVerbs {
+    // What an order does for a unit of its own faction, if the phase doesn't pass it over.
+    ghost step: { Self → OrderMeaning };
+
+    // What holds of the campaign before each order, and after it.
+    ghost holds: { Condition };
+
+    // By how much each amount of the books may still be moved. Most phases book nothing.
+    ghost reserve: { RemainingBound } = { books_nothing };
+
+    // By how much the whole phase may move each amount of the books.
+    ghost moving: { BookBound } = { moves_nothing };
+
+    // Which units an order concerns; `spares` says what stays of the others. With most phases it
+    // concerns the unit that it is for, of the faction that wrote it.
+    ghost concerns: { Affects } = { IsOwnOrder };
+
+    // What stays of the units that no order concerns. With most phases they are no worse off.
+    ghost spares: { Unaffected } = { IsNoWorse };
+
+    /// Carries out an order of the phase's verbs. Returns its outcome, or None where it is passed
+    /// over. An order for a unit that isn't the faction's own changes nothing. AllocError without
+    /// memory; the campaign may then be changed in part. See docs/RULES.md, "Orders of a month".
+    fn carry_out(
+        &self,
+        alloc: Global,
+        world: &World,
+        campaign: &mut Campaign,
+        month: &Month,
+        order: PhaseOrder<'_>,
+    ) -> Result<Option<Outcome>, AllocError>
+        requires holds { holds world.now campaign.old.value }
+        requires room { HaveRoom (reserve campaign.old.value) campaign.old.value }
+        requires fit { IsOrderOf world.now (task_of order).order_value }
+        ensures step { IfOk result
+            (λ outcome. (campaign.new.value, outcome)
+            ≡ order_result (step self.now world.now month.now.aliases (task_of order.entry))
+            campaign.old.value order.entry.faction order.entry.unit) }
+        ensures marks { OnOk result (MarksChanges campaign.old campaign.new) };
+
+    /// Does nothing. Its clause is the law that the phase's orders satisfy `IsOrderly`: what each
+    /// order keeps, and which units it spares.
+    fn is_orderly(&self)
+        ensures { IsOrderly (step self.now) holds reserve moving concerns spares };
+}
+
+/// Whether a unit is there, and of this faction.
+pub fn is_of_faction(campaign: &Campaign, unit: u32, faction: u32) -> bool
+    ensures { result ≡ is_of_faction faction (get campaign.now.value.units unit) }
+{
+    match campaign.unit(unit) {
+        Some(found) => found.faction == faction,
+        None => false,
+    }
+}
+
+/// The unit that an order is for; None where it isn't there, or is another faction's.
+pub fn own_unit<'c>(campaign: &'c Campaign, order: PhaseOrder<'_>) -> Option<&'c Unit>
+    ensures own { option_copied result
+        ≡ of_faction order.entry.faction (get campaign.now.value.units order.entry.unit) }
+    ensures there { IfSome result
+        (λ unit. get campaign.now.value.units order.entry.unit ≡ Some unit.now) }
+{
+    match campaign.unit(order.unit) {
+        Some(unit) if unit.faction == order.faction => Some(unit),
+        _ => None,
+    }
+}
+
+/// Carries out an order, and adds its event, if it has one, to those of earlier orders.
+fn carry_one<P: OrderPhase>(
+    alloc: Global,
+    phase: &P,
+    world: &World,
+    campaign: &mut Campaign,
+    month: &Month,
+    order: PhaseOrder<'_>,
+    events: &mut Vec<Event>,
+) -> Result<(), AllocError>
+    requires holds { P.holds world.now campaign.old.value }
+    requires room { HaveRoom (P.reserve campaign.old.value) campaign.old.value }
+    requires fit { IsOrderOf world.now (task_of order).order_value }
+    ensures step { OnOk result
+        ((campaign.new.value, with_events month.now events.new.items)
+        ≡ one_order (P.step phase.now) world.now
+        (campaign.old.value, with_events month.now events.old.items) (task_of order.entry)) }
+    ensures marks { OnOk result (MarksChanges campaign.old campaign.new) }
+{
+    if let Some(outcome) = phase.carry_out(alloc, world, campaign, month, order)? {
+        events.push(order.event(outcome))?;
+    }
+    Ok(())
+}
+
+/// Carries out the orders of a phase one by one, by unit, line and faction, and adds their events.
+/// AllocError without memory; campaign and month may then be changed in part. See docs/RULES.md,
+/// "Orders of a month".
+pub fn carry_out_orders<P: OrderPhase>(
+    alloc: Global,
+    phase: &P,
+    world: &World,
+    campaign: &mut Campaign,
+    month: &mut Month,
+) -> Result<(), AllocError>
+    requires holds { P.holds world.now campaign.old.value }
+    requires room { HaveRoom P.moving campaign.old.value }
+    requires read { AreFit world.now month.old.readings }
+    ensures meaning { OnOk result
+        ((campaign.new.value, month.new)
+        ≡ meaning_by_orders (P.step phase.now) P.is_of world.now campaign.old.value month.old) }
+    ensures leaves { OnOk result
+        (LeavesWell P.holds P.moving world.now campaign.old.value campaign.new.value) }
+    ensures readings { OnOk result (month.new.readings ≡ month.old.readings) }
+    ensures keeps { OnOk result
+        (spares_others P.concerns P.spares P.is_of world.now month.old campaign.old.value
+        campaign.new.value) }
+    ensures marks { OnOk result (MarksChanges campaign.old campaign.new) }
+{
+    phase.is_orderly();
+    let orders = month.orders(alloc, phase, Arrangement::ByUnit)?;
+    let mut events = Vec::new(alloc);
+    for order in &orders {
+        carry_one(alloc, phase, world, campaign, month, *order, &mut events)?;
+    }
+    drop(orders);
+    add_events(month, &events)?;
+    Ok(())
+}
+
+/// A phase whose step doesn't depend on the value of its type:
+/// it carries out orders, and does nothing else.
+pub trait PlainPhase: OrderPhase {
+    // What an order does for a unit of its own faction, if the phase doesn't pass it over.
+    ghost makes: { OrderMeaning };
+
+    /// Does nothing. Its clause says that the step of each value is `makes`.
+    fn is_plain(&self)
+        ensures { Self.step self.now ≡ makes };
+}
+
+impl<P: PlainPhase> Phase for P {
+    ghost meaning = { meaning_by_orders P.makes P.is_of };
+
+    ghost needs = { P.holds };
+
+    ghost leaves = { P.holds };
+
+    ghost moving = { P.moving };
+
+    ghost keeps = { spares_others P.concerns P.spares P.is_of };
+
+    fn run(
+        &self,
+        alloc: Global,
+        world: &World,
+        mut campaign: Campaign,
+        mut month: Month,
+    ) -> PhaseResult {
+        self.is_plain();
+        carry_out_orders(alloc, self, world, &mut campaign, &mut month)?;
+        Ok((campaign, month))
+    }
+}

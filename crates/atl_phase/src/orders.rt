@@ -1,0 +1,114 @@
+//! The orders that a phase carries out, in their order. See docs/RULES.md, "Orders of a month".
+ghost use Rattle.std.specs.Prelude.{◌≡◌, map, IfOk, Bool};
+ghost use Rattle.std.specs.List.{All};
+ghost use Rattle.std.specs.FinMap.{values};
+ghost use Rattle.atl_orders.specs.declared.verb.Verb.{Verb};
+ghost use Rattle.atl_orders.specs.Mailing.{reading_of};
+ghost use Rattle.atl_phase.specs.Month.{by_faction};
+ghost use Rattle.atl_phase.specs.PhaseOrders.{OrdersAreInMailings, is_month_long, task_of, orders_of};
+ghost use Rattle.atl_phase.specs.StandOnce.{OneOrderStands};
+ghost use Rattle.atl_phase.specs.OrderIndices.{IsSortedMonth, IsThere, task_at, tasks_picked};
+
+use crate::order_indices::{OrderIndex, order_indices};
+use crate::phase_order::{Arrangement, PhaseOrder};
+use crate::standing::is_slot;
+use atl_orders::{Mailing, Slot, Verb};
+use atl_tables::Numbered;
+use std::alloc::{AllocError, Global};
+
+/// The verbs of the orders that a phase carries out.
+pub trait PhaseVerbs {
+    // Whether a verb is one of the phase's.
+    ghost is_of: { Verb → Bool };
+
+    /// Whether a verb is one of the phase's.
+    fn has(&self, verb: Verb) -> bool
+        ensures { result ≡ is_of verb };
+}
+
+/// The verbs that take the whole month. With these, `Month::orders` gives at most one order for
+/// each unit from each mailing: the one that counts.
+pub struct MonthLongVerbs;
+
+impl PhaseVerbs for MonthLongVerbs {
+    ghost is_of = { is_month_long };
+
+    fn has(&self, verb: Verb) -> bool {
+        is_slot(Slot::MonthLong, verb.row().slot)
+    }
+}
+
+/// The order that an index names.
+fn order_at<'m>(mailings: &'m [Mailing], placed: &OrderIndex) -> PhaseOrder<'m>
+    requires { IsThere mailings.now placed.now }
+    ensures { task_of result ≡ task_at mailings.now placed.now }
+{
+    let mailing = &mailings[placed.mailing];
+    let entry = &mailing.entries.as_slice()[placed.place];
+    PhaseOrder {
+        unit: placed.unit,
+        line: placed.line,
+        faction: placed.faction,
+        place: placed.place,
+        mailing,
+        order: &entry.order,
+    }
+}
+
+/// The orders that these indices name and that have a verb of the phase.
+fn phase_orders_at<'m, P: PhaseVerbs>(
+    alloc: Global,
+    phase: &P,
+    mailings: &'m [Mailing],
+    places: &[OrderIndex],
+) -> Result<Vec<PhaseOrder<'m>>, AllocError>
+    requires { All (IsThere mailings.now) places.now }
+    ensures { IfOk result (λ list. map task_of list.items
+        ≡ tasks_picked P.is_of mailings.now places.now) }
+{
+    let mut list = Vec::new(alloc);
+    for placed in places {
+        let order = order_at(mailings, placed);
+        if phase.has(order.order.verb) {
+            list.push(order)?;
+        }
+    }
+    Ok(list)
+}
+
+/// The orders that a phase carries out, in the order of the arrangement. The mailings are sorted by
+/// faction, no two of one faction. By unit the orders are picked from the gathered indices, if
+/// there are any. Otherwise all orders are gathered for this call alone.
+pub(crate) fn orders_of<'m, P: PhaseVerbs>(
+    alloc: Global,
+    phase: &P,
+    arrangement: Arrangement,
+    aliases: &Numbered<Numbered<u32>>,
+    mailings: &'m [Mailing],
+    standing: &Option<Vec<OrderIndex>>,
+) -> Result<Vec<PhaseOrder<'m>>, AllocError>
+    requires { IsSortedMonth aliases.now mailings.now standing.now }
+    ensures { IfOk result (λ list. map task_of list.items
+        ≡ values (orders_of P.is_of arrangement aliases.now
+        (by_faction (map reading_of mailings.now)))) }
+{
+    match (arrangement, standing) {
+        (Arrangement::ByUnit, Some(places)) => phase_orders_at(alloc, phase, mailings, places),
+        _ => {
+            let places = order_indices(alloc, arrangement, aliases, mailings)?;
+            phase_orders_at(alloc, phase, mailings, &places)
+        }
+    }
+}
+
+/// Does nothing. Its clause is a law: each order of a phase is an entry of the mailing of its
+/// faction, at its index there.
+pub fn orders_are_in_mailings()
+    ensures { OrdersAreInMailings }
+{}
+
+/// Does nothing. Its clause is a law: of the verbs that share a slot, at most one order counts for
+/// a unit in a faction's mailing. See docs/RULES.md, "Orders of a month".
+pub fn one_order_stands()
+    ensures { OneOrderStands }
+{}
