@@ -4,9 +4,10 @@ use Rattle.std.specs.Prelude.{IsErrAnd}
 use Rattle.sqlite_trees.specs.declared.store.Store.{Ghosts}
 use Rattle.sqlite.specs.Held.{Held, state}
 use Rattle.sqlite.specs.State.{HasCleanDisk}
-use Rattle.atl_store.specs.OwnStatements.{Statements}
-use Rattle.atl_store.specs.Causes.{IsTold}
-use Rattle.atl_store.specs.Faults.{is_memory, create_fault, write_fault}
+use Rattle.atl_sql.specs.Statements.{Statements}
+use Rattle.atl_sql.specs.Causes.{IsTold}
+use Rattle.atl_sql.specs.Errors.{is_memory}
+use Rattle.atl_store.specs.Faults.{create_fault, write_fault}
 use Rattle.atl_store.specs.declared.fault.CreateFault.TheVariants as create
 use Rattle.atl_store.specs.declared.fault.WriteFault.{WriteFault}
 use Rattle.atl_store.specs.declared.fault.WriteFault.TheVariants as write

@@ -9,17 +9,16 @@ use Rattle.atl_tables.specs.Worlds.{WorldValue}
 use Rattle.atl_state.specs.Campaign.{CampaignValue}
 use Rattle.atl_state.specs.Founding.{founded_of}
 use Rattle.atl_state.specs.Good.{IsGood}
-use Rattle.atl_store.specs.Making.{has_campaign}
-use Rattle.atl_store.specs.Keeps.{Keeps, IsLater, IsReadyToCreate, MayFound, Creates, BreaksOffCreation, FailsToCreate, RefusesToCreate}
+use Rattle.atl_sql.specs.Making.{has_campaign}
+use Rattle.atl_store.specs.Keeps.{Keeps, IsLater, IsReadyToCreate, MayFound, Creates, BreaksOffCreation, FailsToCreate, RefusesToCreate, HoldsCampaign}
 use Rattle.atl_store.proofs.StayLaws.{spares_itself}
 use Rattle.atl_store.specs.declared.fault.CreateFault.{CreateFault}
 use Rattle.atl_store.specs.declared.fault.CreateFault.TheVariants.{NotEmpty, Store, Memory}
 use Rattle.atl_store.proofs.WorldTextLaws.{world_text_is}
-use Rattle.atl_store.specs.Keeps.{HoldsCampaign}
-use Rattle.atl_store.specs.Causes.{IsTold}
+use Rattle.atl_sql.specs.Causes.{IsTold}
 use Rattle.atl_store.specs.Faults.{create_fault}
 use Rattle.atl_store.specs.OwnStatements.{OfFounding}
-use Rattle.atl_store.proofs.CauseLaws.{gives_among}
+use Rattle.atl_sql.proofs.CauseLaws.{gives_among}
 use Rattle.atl_service.specs.Causes.{FoundsBy}
 use Rattle.atl_service.specs.Service.{IsConsistent}
 use Rattle.atl_service.specs.declared.command.Cause.{Cause}

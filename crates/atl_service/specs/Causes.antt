@@ -8,10 +8,11 @@ use Rattle.atl_tables.specs.Worlds.{WorldValue}
 use Rattle.atl_tables.specs.World.{world_of}
 use Rattle.atl_state.specs.Founding.{founded_of}
 use Rattle.atl_state.specs.Campaign.{CampaignValue}
-use Rattle.atl_store.specs.Causes.{Gives}
-use Rattle.atl_store.specs.Faults.{is_memory}
+use Rattle.atl_sql.specs.Causes.{Gives}
+use Rattle.atl_sql.specs.Errors.{is_memory}
 use Rattle.atl_store.specs.Keeps.{Keeps}
-use Rattle.atl_store.specs.OwnStatements.{Statements, OfChange, OfFounding, OfJoining, OfMail}
+use Rattle.atl_sql.specs.Statements.{Statements}
+use Rattle.atl_store.specs.OwnStatements.{OfChange, OfFounding, OfJoining, OfMail}
 use Rattle.atl_service.specs.declared.command.Command.{Command}
 use Rattle.atl_service.specs.declared.command.Command.TheVariants.{Join, Mail, Close, Report}
 use Rattle.atl_service.specs.declared.command.Fault.{Fault}

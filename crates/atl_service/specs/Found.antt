@@ -10,13 +10,13 @@ use Rattle.atl_tables.specs.declared.fault.WorldFault.{WorldFault}
 use Rattle.atl_tables.specs.declared.fault.WorldFault.TheVariants as world
 use Rattle.atl_state.specs.Campaign.{CampaignValue}
 use Rattle.atl_state.specs.Founding.{founded_of}
-use Rattle.atl_store.specs.Making.{has_campaign}
+use Rattle.atl_sql.specs.Making.{has_campaign}
 use Rattle.atl_store.specs.Keeps.{HoldsCampaign, IsLater, IsReadyToCreate, ChangesNothing, MayFound}
 use Rattle.atl_store.specs.declared.fault.CreateFault.{CreateFault}
 use Rattle.atl_store.specs.declared.fault.CreateFault.TheVariants as create
 use Rattle.atl_service.specs.declared.command.Cause.{Cause}
 use Rattle.atl_service.specs.declared.command.Cause.TheVariants.{World as BadWorld, BadPassText, NotEmpty, NotACampaign, OldFormat, NotOld, Damaged, Differs, Store, Memory}
-use Rattle.atl_store.specs.OwnStatements.{Statements}
+use Rattle.atl_sql.specs.Statements.{Statements}
 use Rattle.atl_service.specs.Causes.{FoundsBy, GivesOtherError, LacksMemory}
 use Rattle.atl_service.specs.Service.{ServiceValue, text_in}
 

@@ -22,13 +22,13 @@ use Rattle.atl_state.proofs.BackLaws.{agree}
 use Rattle.atl_records.proofs.AccountLaws.{same_account}
 use Rattle.atl_records.proofs.BookLaws.{same_books}
 use Rattle.atl_store.specs.OneCampaign.{HoldsOne}
-use Rattle.atl_store.specs.Rows.{RowsOf, HasRowsOf, BooksRowsOf, MarketRowsOf, Holds, campaign_line, faction_line, region_line, unit_line, structure_line, things_of}
-use Rattle.atl_store.specs.Sets.{Is}
-use Rattle.atl_store.specs.Tables.{Own, Factions, Regions, Units, Goods, Structures, Mail, Reports, Books, Markets}
-use Rattle.atl_store.specs.Shown.{flag, mail_row, report_row, has_row, books_row, market_row}
-use Rattle.atl_store.specs.Written.{sort_number}
-use Rattle.atl_store.specs.declared.rows.has.ThingKind.{ThingKind}
-use Rattle.atl_store.specs.declared.rows.has.ThingKind.TheVariants.{Item, Skill}
+use Rattle.atl_sql.specs.Rows.{RowsOf, HasRowsOf, BooksRowsOf, MarketRowsOf, Holds, campaign_line, faction_line, region_line, unit_line, structure_line, things_of}
+use Rattle.atl_sql.specs.Sets.{Is}
+use Rattle.atl_sql.specs.Tables.{Own, Factions, Regions, Units, Goods, Structures, Mail, Reports, Books, Markets}
+use Rattle.atl_sql.specs.Shown.{flag, mail_row, report_row, has_row, books_row, market_row}
+use Rattle.atl_sql.specs.Written.{sort_number}
+use Rattle.atl_sql.specs.declared.rows.has.ThingKind.{ThingKind}
+use Rattle.atl_sql.specs.declared.rows.has.ThingKind.TheVariants.{Item, Skill}
 use Rattle.atl_state.proofs.StateLaws.{same_state}
 use Rattle.atl_store.proofs.ThingLaws.{same_sort}
 

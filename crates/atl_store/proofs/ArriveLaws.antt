@@ -15,19 +15,19 @@ use Rattle.atl_records.specs.declared.books.Entry.{Entry}
 use Rattle.atl_records.specs.declared.books.Thing.{Thing}
 use Rattle.atl_records.specs.declared.records.Unit.{Unit}
 use Rattle.atl_records.proofs.AccountLaws.{same_account}
-use Rattle.atl_store.specs.declared.rows.has.ThingKind.{ThingKind}
-use Rattle.atl_store.specs.Sets.{Set, Is, put}
-use Rattle.atl_store.specs.Tables.{Books, books_table}
-use Rattle.atl_store.specs.Shown.{int, books_key, books_row}
-use Rattle.atl_store.specs.Rows.{RowsOf, HasRowsOf, BooksRowsOf, things_of}
+use Rattle.atl_sql.specs.declared.rows.has.ThingKind.{ThingKind}
+use Rattle.atl_sql.specs.Sets.{Set, Is, put}
+use Rattle.atl_sql.specs.Tables.{Books, books_table}
+use Rattle.atl_sql.specs.Shown.{int, books_key, books_row}
+use Rattle.atl_sql.specs.Rows.{RowsOf, HasRowsOf, BooksRowsOf, things_of}
 use Rattle.atl_store.specs.Lines.{amount_lines}
 use Rattle.atl_store.specs.Arriving.{settled, Settles}
-use Rattle.atl_store.specs.Statements.{deletion, upsert}
+use Rattle.atl_sql.specs.Statements.{deletion, upsert}
 use Rattle.atl_store.specs.OwnStatements.{OfAmount, puts_amount, drops_amount, OfChange, changes_row, puts_row, drops_row}
 use Rattle.atl_store.proofs.EntryLaws.{same_number}
 use Rattle.atl_store.proofs.GoodsLaws.{optional_has, has_optional}
 use Rattle.atl_store.proofs.LedgerLaws.{two_same, differs_zero, is_differing, amount_is}
-use Rattle.atl_store.specs.Inside.{Puts, Drops}
+use Rattle.atl_sql.specs.Inside.{Puts, Drops}
 
 -- ---- one entry more in a map
 

@@ -18,13 +18,13 @@ use Rattle.atl_state.specs.Campaign.{MarkedCampaign}
 use Rattle.atl_records.specs.declared.books.Entry.{Entry}
 use Rattle.atl_records.specs.declared.books.Thing.{Thing}
 use Rattle.atl_records.proofs.AccountLaws.{same_account}
-use Rattle.atl_store.specs.Tables.{books_table}
-use Rattle.atl_store.specs.Shown.{int, books_key, books_row}
-use Rattle.atl_store.specs.Rows.{BooksRowsOf}
+use Rattle.atl_sql.specs.Tables.{books_table}
+use Rattle.atl_sql.specs.Shown.{int, books_key, books_row}
+use Rattle.atl_sql.specs.Rows.{BooksRowsOf}
 use Rattle.atl_store.specs.Lines.{amount_lines}
 use Rattle.atl_store.specs.Arriving.{Settles}
-use Rattle.atl_store.specs.Inside.{Inside, HasTables}
-use Rattle.atl_store.specs.Changing.{accounts, amount_marked, is_marked_amount}
+use Rattle.atl_sql.specs.Inside.{Inside, HasTables}
+use Rattle.atl_sql.specs.Marked.{accounts, amount_marked, is_marked_amount}
 use Rattle.atl_store.specs.Rewriting.{RewritesAmounts, RewritesBooks, is_number, is_among, of_amounts}
 use Rattle.atl_store.proofs.GoodsLaws.{optional_has, has_optional}
 use Rattle.atl_store.proofs.LedgerLaws.{two_same, differs_zero, is_differing}

@@ -21,14 +21,15 @@ use Rattle.atl_records.proofs.EveryEntryLaws.{entry_small}
 use Rattle.atl_records.specs.declared.books.Thing.{Thing}
 use Rattle.atl_records.specs.declared.records.Region.{Region}
 use Rattle.atl_records.specs.declared.records.Unit.{Unit}
-use Rattle.atl_store.specs.declared.rows.has.ThingKind.{ThingKind}
-use Rattle.atl_store.specs.declared.rows.has.ThingKind.TheVariants.{Item, Skill}
-use Rattle.atl_store.specs.Sets.{Is, rows_in}
-use Rattle.atl_store.specs.Tables.{Part, Own, Factions, Regions, Units, Goods, Structures, Mail, Reports, Books, Markets, table_of}
-use Rattle.atl_store.specs.Shown.{CampaignRowValue, campaign_row, has_row, mail_row, report_row, books_row}
-use Rattle.atl_store.specs.Written.{sort_number}
-use Rattle.atl_store.specs.Rows.{RowsOf, HasRowsOf, BooksRowsOf, MarketRowsOf, rows_for, campaign_row_of, campaign_line, faction_line, region_line, unit_line, structure_line, things_under, amount_under, Holds}
-use Rattle.atl_store.specs.Changing.{begins_marked, has_thing, goods_marked, stocks_marked, amount_marked, is_marked, Chosen, rows_after_rewrite, campaign_row_after, HasUnmarked, WritesChanges, HoldsUnmarked}
+use Rattle.atl_sql.specs.declared.rows.has.ThingKind.{ThingKind}
+use Rattle.atl_sql.specs.declared.rows.has.ThingKind.TheVariants.{Item, Skill}
+use Rattle.atl_sql.specs.Sets.{Is, rows_in}
+use Rattle.atl_sql.specs.Tables.{Part, Own, Factions, Regions, Units, Goods, Structures, Mail, Reports, Books, Markets, table_of}
+use Rattle.atl_sql.specs.Shown.{CampaignRowValue, campaign_row, has_row, mail_row, report_row, books_row}
+use Rattle.atl_sql.specs.Written.{sort_number}
+use Rattle.atl_sql.specs.Rows.{RowsOf, HasRowsOf, BooksRowsOf, MarketRowsOf, rows_for, campaign_row_of, campaign_line, faction_line, region_line, unit_line, structure_line, things_under, amount_under, Holds}
+use Rattle.atl_sql.specs.Marked.{begins_marked, has_thing, goods_marked, stocks_marked, amount_marked, is_marked}
+use Rattle.atl_store.specs.Changing.{Chosen, rows_after_rewrite, campaign_row_after, HasUnmarked, WritesChanges, HoldsUnmarked}
 use Rattle.atl_store.specs.Rewriting.{marked_things}
 use Rattle.atl_store.proofs.GoodsLaws.{had_of, of_had}
 use Rattle.atl_store.proofs.MarketLaws.{stock_had, had_stock}

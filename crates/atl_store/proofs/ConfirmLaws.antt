@@ -1,27 +1,23 @@
 -- Laws on a query outside a transaction: it commits nothing and changes nothing.
-use Rattle.std.proofs.Common.{◌≡◌, ℕ, Bool, true, false, cond, List, [], Result, Ok, Err, IfErr, IsErrAnd, Option, Some, None, refl, sym, ◌∙◌, subst, inl, inr}
-use Rattle.sqlite_schema.specs.declared.command.Returning.{Returning}
+use Rattle.std.proofs.Common.{◌≡◌, ℕ, Bool, true, false, cond, List, [], Result, Ok, Err, IfErr, IsErrAnd, refl, sym, ◌∙◌, subst, inl, inr}
 use Rattle.sqlite.specs.declared.error.Error.{Error}
 use Rattle.sqlite_trees.specs.declared.store.Store.{Ghosts}
 use Rattle.sqlite.specs.Held.{Held, state}
 use Rattle.sqlite.specs.Listing.{understood}
 use Rattle.sqlite.specs.Order.{Row}
-use Rattle.sqlite.specs.State.{State, HasCleanDisk, Survives, CommitsShowing, Shown, ShowsRows, FailsToQuery, FailsToShow, IsNotRun, IsUnchanged, IsRolledBack}
+use Rattle.sqlite.specs.State.{State, HasCleanDisk, Survives, CommitsShowing, Shown, ShowsRows, FailsToQuery, IsNotRun, IsUnchanged, IsRolledBack}
 use Rattle.sqlite.proofs.Callers.{IsPlain, never_commits}
 use Rattle.sqlite.proofs.StateLemmas.{survives_weaker}
 use Rattle.atl_tables.specs.declared.format.Format.{Format}
 use Rattle.atl_store.specs.Gathering.{IsSettled, FailsToConfirm}
-use Rattle.atl_store.specs.Faults.{is_memory, load_fault}
+use Rattle.atl_sql.specs.Errors.{is_memory}
+use Rattle.atl_store.specs.Faults.{load_fault}
 use Rattle.atl_store.specs.Loading.{Stays}
-use Rattle.atl_store.specs.Reading.{Rests}
-use Rattle.atl_store.specs.Statements.{selection}
-use Rattle.atl_store.specs.Tables.{HasTablesOf, campaign_table}
+use Rattle.atl_sql.specs.Statements.{selection}
+use Rattle.atl_sql.specs.Tables.{HasTablesOf, campaign_table}
 use Rattle.atl_store.specs.declared.fault.LoadFault.{LoadFault}
 use Rattle.atl_store.specs.declared.fault.LoadFault.TheVariants as load
-
--- an unchanged connection is at rest: open only if it was, with its tables as they were (`Rests`)
-pub rests_unchanged : (old new : State) → IsUnchanged old new → Rests old new
-rests_unchanged old new h = record { was_open = λ _. h.0.was_open; same = λ _. (inr h.0.now_is, h.0.committed_is) }
+use Rattle.atl_sql.proofs.StreamLaws.{fails_stay}
 
 module _ (sql : List ℕ) (old new : State) (plain : IsPlain (understood old.now.schema sql)) where
   -- a query without RETURNING that doesn't read the time (`IsPlain`) commits nothing
@@ -45,24 +41,12 @@ module _ (sql : List ℕ) (old new : State) (plain : IsPlain (understood old.now
   pub shown_stays : (rows : List Row) → Shown sql [] old new rows → Stays old new
   shown_stays rows h = unchanged_stays (shown_unchanged rows h)
 
-  -- a query that fails while it shows rows changes nothing
-  fails_stay : (c : _) (row : Row) (e : Error) (what : Option Returning) → what ≡ None → FailsToShow old new sql c row e what → IsUnchanged old new
-  fails_stay c row e None is h = h.3
-  fails_stay c row e (Some what) is h = absurd (let k = is in cc)
-
   -- a query that is refused leaves the tables as they were, if the disk is clean and all was committed (`IsSettled`)
   pub refused_stays : IsSettled old → HasCleanDisk old → (e : Error) → FailsToQuery sql [] old new e → Stays old new
   unfolding FailsToQuery IsNotRun
   refused_stays settled clean e (inl (inl h)) = unchanged_stays h.1
   refused_stays settled clean e (inl (inr h)) = rolled_stays settled clean h.3
-  refused_stays settled clean e (inr h) = unchanged_stays (fails_stay h.0 _ e h.0.returning (subst IsPlain h.1.is plain).0 h.2)
-
-  -- a query that is refused leaves the connection at rest (`Rests`): unchanged, or with its transaction rolled back
-  pub refused_rests : (e : Error) → FailsToQuery sql [] old new e → Rests old new
-  unfolding FailsToQuery IsNotRun
-  refused_rests e (inl (inl h)) = rests_unchanged old new h.1
-  refused_rests e (inl (inr h)) = record { was_open = h.3.was_open; same = λ up. let back = h.3.undone up in (inl back.0, back.1) }
-  refused_rests e (inr h) = rests_unchanged old new (fails_stay h.0 _ e h.0.returning (subst IsPlain h.1.is plain).0 h.2)
+  refused_stays settled clean e (inr h) = unchanged_stays (fails_stay sql old new plain h.0 _ e h.0.returning (subst IsPlain h.1.is plain).0 h.2)
 
 -- the SELECT of the campaign row is refused when it is asked a second time
 module _ (f : Format) {S : Type 0} (g : Ghosts S) (old during : Held S) (begins : HasTablesOf f old.schema) (e : Error) (failed : FailsToQuery (selection campaign_table 1) [] (state g old) (state g during) e) where

@@ -11,11 +11,11 @@ use Rattle.atl_tables.proofs.TrackLaws.{is_true}
 use Rattle.sqlite.specs.Order.{Row}
 use Rattle.sqlite_rules.specs.Lists.{Has}
 use Rattle.sqlite_rules.proofs.ListLemmas.{has_either, has_left, has_right}
-use Rattle.atl_store.specs.Sets.{Set, Is, put, puts}
-use Rattle.atl_store.specs.Shown.{int}
-use Rattle.atl_store.specs.Rows.{RowsOf, lines_of}
+use Rattle.atl_sql.specs.Sets.{Set, Is, put, puts}
+use Rattle.atl_sql.specs.Shown.{int}
+use Rattle.atl_sql.specs.Rows.{RowsOf, lines_of}
 use Rattle.atl_store.specs.Lines.{DifferInKey}
-use Rattle.atl_store.proofs.ListLaws.{has_map, map_has}
+use Rattle.atl_sql.proofs.ListLaws.{has_map, map_has}
 
 -- ---- an entry is in the list exactly where the map has it
 

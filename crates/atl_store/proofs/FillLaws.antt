@@ -8,16 +8,17 @@ use Rattle.sqlite.specs.Effect.{Database}
 use Rattle.sqlite.specs.State.{State}
 use Rattle.sqlite_rules.specs.Lists.{Has}
 use Rattle.atl_state.specs.Campaign.{CampaignValue}
-use Rattle.atl_store.specs.Sets.{Is, put, puts, rows_in}
-use Rattle.atl_store.specs.Tables.{Part, Own, Books, table_of, all_parts, campaign_table, books_table}
-use Rattle.atl_store.specs.Shown.{int}
-use Rattle.atl_store.specs.Rows.{campaign_row_of, campaign_line, RowsOf, rows_for, lines_of}
+use Rattle.atl_sql.specs.Sets.{Is, put, puts, rows_in}
+use Rattle.atl_sql.specs.Tables.{Part, Own, Books, table_of, all_parts, campaign_table, books_table}
+use Rattle.atl_sql.specs.Shown.{int}
+use Rattle.atl_sql.specs.Rows.{campaign_row_of, campaign_line, RowsOf, rows_for, lines_of}
 use Rattle.atl_store.specs.Lines.{AreGroups, groups_of, things_lines}
-use Rattle.atl_store.specs.PutsCampaignRow.{PutsCampaignRow}
-use Rattle.atl_store.specs.Making.{AreEmpty}
-use Rattle.atl_store.specs.Inside.{Inside, HasTables, IsBlank, Both, PutsRows}
+use Rattle.atl_sql.specs.PutsCampaignRow.{PutsCampaignRow}
+use Rattle.atl_sql.specs.Making.{AreEmpty}
+use Rattle.atl_sql.specs.Inside.{Inside, HasTables, IsBlank, Both, PutsRows}
 use Rattle.atl_store.specs.Filling.{Fills, FillsParts, FillsWithOwn, WritesFounding}
-use Rattle.atl_store.proofs.PartLaws.{is_among, are_apart, all_among, listed, one_changed, both_changed}
+use Rattle.atl_sql.proofs.PartLaws.{is_among, are_apart, all_among, listed}
+use Rattle.atl_store.proofs.TurnLaws.{one_changed, both_changed}
 use Rattle.atl_store.proofs.EntryLaws.{rows_filled}
 use Rattle.atl_store.proofs.GroupRowLaws.{groups_filled}
 use Rattle.atl_records.specs.Books.{AreBooks}

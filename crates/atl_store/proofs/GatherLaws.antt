@@ -14,16 +14,16 @@ use Rattle.atl_tables.specs.declared.format.Format.{Format}
 use Rattle.atl_tables.specs.declared.format.Format.TheVariants.{First, Second}
 use Rattle.atl_store.specs.Gathering.{IsSettled, kept_of, ReadRows, AreRows, AreAllRows, AreOfFormat, AreNone, late_parts, selects_by, Found, AnswersOne, FailsToRead, ReadsSome}
 use Rattle.atl_store.specs.Loading.{Stays, AfterReads, Tells, AreTold, AreToldTyped, HasOtherType, RefusesOne, other_parts, other_selects}
-use Rattle.atl_store.specs.Reading.{ReadsRows, GivesTable, Rests, Selects, RefusesToSelect, listing_of}
-use Rattle.atl_store.specs.Stored.{Form, AreTyped}
-use Rattle.atl_store.specs.Tables.{Part, parts_in}
-use Rattle.atl_store.specs.declared.fault.ReadFault.{ReadFault}
-use Rattle.atl_store.specs.declared.fault.ReadFault.TheVariants as read
+use Rattle.atl_sql.specs.Reading.{ReadsRows, GivesTable, Rests, Selects, RefusesToSelect, listing_of}
+use Rattle.atl_sql.specs.Stored.{Form, AreTyped}
+use Rattle.atl_sql.specs.Tables.{Part, parts_in}
+use Rattle.atl_sql.specs.declared.fault.ReadFault.{ReadFault}
+use Rattle.atl_sql.specs.declared.fault.ReadFault.TheVariants as read
 use Rattle.atl_store.specs.declared.fault.LoadFault.{LoadFault}
 use Rattle.atl_store.specs.declared.fault.LoadFault.TheVariants.{Store, Damaged, NotACampaign, OtherFormat, Memory}
-use Rattle.atl_store.proofs.KeepLaws.{survives_more}
-use Rattle.atl_store.proofs.ListLaws.{has_map}
-use Rattle.atl_store.proofs.PartLaws.{is_among, not_among}
+use Rattle.atl_sql.proofs.KeepLaws.{survives_more}
+use Rattle.atl_sql.proofs.ListLaws.{has_map}
+use Rattle.atl_sql.proofs.PartLaws.{is_among, not_among}
 use Rattle.atl_store.proofs.PartsLaws.{every_part}
 
 -- a connection that shows rows of a query is open

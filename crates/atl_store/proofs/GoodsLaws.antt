@@ -9,11 +9,11 @@ use Rattle.sqlite_rules.specs.Lists.{Has}
 use Rattle.sqlite_rules.proofs.ListLemmas.{has_either, has_left, has_right}
 use Rattle.atl_records.specs.Holdings.{HoldingValue, amount_of}
 use Rattle.atl_records.specs.declared.records.Unit.{Unit}
-use Rattle.atl_store.specs.declared.rows.has.ThingKind.{ThingKind}
-use Rattle.atl_store.specs.declared.rows.has.ThingKind.TheVariants.{Item, Skill}
-use Rattle.atl_store.specs.Shown.{int, has_key, has_row}
-use Rattle.atl_store.specs.Written.{sort_number}
-use Rattle.atl_store.specs.Rows.{things_of, things_under, amount_under, HasRowsOf}
+use Rattle.atl_sql.specs.declared.rows.has.ThingKind.{ThingKind}
+use Rattle.atl_sql.specs.declared.rows.has.ThingKind.TheVariants.{Item, Skill}
+use Rattle.atl_sql.specs.Shown.{int, has_key, has_row}
+use Rattle.atl_sql.specs.Written.{sort_number}
+use Rattle.atl_sql.specs.Rows.{things_of, things_under, amount_under, HasRowsOf}
 use Rattle.atl_store.specs.Lines.{DifferInKey, AreGroups, amount_rows, kind_lines, goods_lines, unit_lines}
 use Rattle.atl_store.proofs.EntryLaws.{apart_append, below_has, less_apart, got_entry, entry_got, in_order, flat_has, has_flat}
 

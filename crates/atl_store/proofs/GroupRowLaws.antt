@@ -10,15 +10,15 @@ use Rattle.sqlite.specs.State.{State}
 use Rattle.sqlite.specs.Table.{Table}
 use Rattle.sqlite_rules.specs.Lists.{Has}
 use Rattle.atl_state.specs.Campaign.{CampaignValue}
-use Rattle.atl_store.specs.Sets.{Set, Is, puts, rows_in}
-use Rattle.atl_store.specs.Tables.{Part, key_of, table_of}
-use Rattle.atl_store.specs.Shown.{int}
+use Rattle.atl_sql.specs.Sets.{Set, Is, puts, rows_in}
+use Rattle.atl_sql.specs.Tables.{Part, key_of, table_of}
+use Rattle.atl_sql.specs.Shown.{int}
 use Rattle.atl_store.specs.Lines.{DifferInKey, AreGroups, groups_of}
-use Rattle.atl_store.specs.Rows.{rows_for}
-use Rattle.atl_store.specs.Statements.{upsert}
+use Rattle.atl_sql.specs.Rows.{rows_for}
+use Rattle.atl_sql.specs.Statements.{upsert}
 use Rattle.atl_store.specs.OwnStatements.{OfRow, puts_row}
-use Rattle.atl_store.specs.Inside.{Inside, HasTables, Both, Drops, PutsRows}
-use Rattle.atl_store.specs.Changing.{begins}
+use Rattle.atl_sql.specs.Inside.{Inside, HasTables, Both, Drops, PutsRows}
+use Rattle.atl_sql.specs.Marked.{begins}
 use Rattle.atl_store.specs.Rewriting.{RewritesGroup, is_number}
 use Rattle.atl_store.proofs.EntryLaws.{apart_append, filled, puts_has, below_has, less_apart, got_entry, entry_got, in_order, same_number, flat_has, has_flat}
 use Rattle.atl_store.proofs.RewriteLaws.{begins_key, key_begins, kept_only, rewrites_key}

@@ -20,17 +20,18 @@ use Rattle.atl_records.specs.declared.books.Thing.{Thing}
 use Rattle.atl_records.specs.declared.books.Thing.TheVariants.{Money, People}
 use Rattle.atl_records.specs.declared.records.Faction.{Faction}
 use Rattle.atl_records.specs.declared.records.Unit.{Unit}
-use Rattle.atl_store.specs.declared.rows.has.ThingKind.{ThingKind}
-use Rattle.atl_store.specs.declared.rows.has.ThingKind.TheVariants.{Item, Skill}
-use Rattle.atl_store.specs.Sets.{Is, Set, put, visible, rows_in}
-use Rattle.atl_store.specs.Tables.{Part, Own, Factions, Units, Goods, Mail, Reports, Books, table_of, campaign_table, faction_table, unit_table, has_table, mail_table, report_table, books_table, all_tables}
-use Rattle.atl_store.specs.Shown.{CampaignRowValue, campaign_row, mail_row, report_row}
-use Rattle.atl_store.specs.Rows.{campaign_row_of, campaign_line, faction_line, unit_line, RowsOf, HasRowsOf, rows_for, things_of, Holds}
-use Rattle.atl_store.specs.PutsCampaignRow.{PutsCampaignRow}
-use Rattle.atl_store.specs.Inside.{Inside, HasTables, Both, Puts}
+use Rattle.atl_sql.specs.declared.rows.has.ThingKind.{ThingKind}
+use Rattle.atl_sql.specs.declared.rows.has.ThingKind.TheVariants.{Item, Skill}
+use Rattle.atl_sql.specs.Sets.{Is, Set, put, visible, rows_in}
+use Rattle.atl_sql.specs.Tables.{Part, Own, Factions, Units, Goods, Mail, Reports, Books, table_of, campaign_table, faction_table, unit_table, has_table, mail_table, report_table, books_table, all_tables}
+use Rattle.atl_sql.specs.Shown.{CampaignRowValue, campaign_row, mail_row, report_row}
+use Rattle.atl_sql.specs.Rows.{campaign_row_of, campaign_line, faction_line, unit_line, RowsOf, HasRowsOf, rows_for, things_of, Holds}
+use Rattle.atl_sql.specs.PutsCampaignRow.{PutsCampaignRow}
+use Rattle.atl_sql.specs.Inside.{Inside, HasTables, Both, Puts}
 use Rattle.atl_store.specs.Keeps.{IsJoining}
 use Rattle.atl_store.specs.Arriving.{IsFound, Enters, settled, Settles, HasPut, WritesJoin, WritesMail}
-use Rattle.atl_store.proofs.PartLaws.{listed, same_part, is_among, not_among, stays_is}
+use Rattle.atl_sql.proofs.PartLaws.{listed, same_part, is_among, not_among}
+use Rattle.atl_store.proofs.TurnLaws.{stays_is}
 use Rattle.atl_store.proofs.ArriveLaws.{get_inserted, put_rows, no_goods, settled_rows}
 use Rattle.atl_store.proofs.WholeLaws.{inside_then, inside_weaker}
 

@@ -9,19 +9,20 @@ use Rattle.sqlite.specs.Order.{Row}
 use Rattle.sqlite_rules.specs.Lists.{Has}
 use Rattle.atl_state.specs.Campaign.{CampaignValue, MarkedCampaign}
 use Rattle.atl_state.specs.Marks.{Marks}
-use Rattle.atl_store.specs.Sets.{Set, Is, rows_in}
-use Rattle.atl_store.specs.Tables.{Part, Own, Goods, Books, Markets, IsNumberedPart, key_of, table_of}
-use Rattle.atl_store.specs.Shown.{int}
-use Rattle.atl_store.specs.Rows.{RowsOf, lines_of, rows_for}
-use Rattle.atl_store.specs.Statements.{deletion, upsert}
+use Rattle.atl_sql.specs.Sets.{Set, Is, rows_in}
+use Rattle.atl_sql.specs.Tables.{Part, Own, Goods, Books, Markets, IsNumberedPart, key_of, table_of}
+use Rattle.atl_sql.specs.Shown.{int}
+use Rattle.atl_sql.specs.Rows.{RowsOf, lines_of, rows_for}
+use Rattle.atl_sql.specs.Statements.{deletion, upsert}
 use Rattle.atl_store.specs.OwnStatements.{OfRow, OfChange, puts_row, drops_row}
-use Rattle.atl_store.specs.Inside.{PutsRows}
+use Rattle.atl_sql.specs.Inside.{PutsRows}
 use Rattle.atl_store.specs.Filling.{FillsPart}
-use Rattle.atl_store.specs.Changing.{Chosen, begins_marked, is_marked, rows_after_rewrite}
+use Rattle.atl_store.specs.Changing.{Chosen, rows_after_rewrite}
+use Rattle.atl_sql.specs.Marked.{begins_marked, is_marked}
 use Rattle.atl_store.specs.Rewriting.{Becomes, RewritesMarked, RewritesPart}
 use Rattle.atl_store.proofs.EntryLaws.{same_number}
 use Rattle.atl_store.proofs.FillLaws.{numbered_filled}
-use Rattle.atl_store.proofs.PartLaws.{one_changed}
+use Rattle.atl_store.proofs.TurnLaws.{one_changed}
 
 -- the key of a part whose rows have numbers of their own (`IsNumberedPart`) is one column, the first
 pub key_one : (part : Part) → IsNumberedPart part → key_of part ≡ 1

@@ -20,16 +20,16 @@ use Rattle.atl_state.specs.declared.parts.Parts.{Parts}
 use Rattle.atl_state.specs.declared.parts.StoredCampaignRow.{StoredCampaignRow}
 use Rattle.atl_store.specs.Gathering.{AreApart, AreAllApart, HaveKeys, IsMadeOf, Lacks, ReadRows, without_ids, width}
 use Rattle.atl_store.specs.Loading.{shows_rowids, has_values, books_values, market_values, other_parts, rows_read}
-use Rattle.atl_store.specs.Reading.{listing_of}
-use Rattle.atl_store.specs.Rows.{lines_of}
-use Rattle.atl_store.specs.Sets.{IsKeyed, visible, rows_in}
-use Rattle.atl_store.specs.Shown.{has_stored, books_stored, market_stored}
-use Rattle.atl_store.specs.Tables.{Part, Own, Goods, Books, Markets, table_of}
+use Rattle.atl_sql.specs.Reading.{listing_of}
+use Rattle.atl_sql.specs.Rows.{lines_of}
+use Rattle.atl_sql.specs.Sets.{IsKeyed, visible, rows_in}
+use Rattle.atl_sql.specs.Shown.{has_stored, books_stored, market_stored}
+use Rattle.atl_sql.specs.Tables.{Part, Own, Goods, Books, Markets, table_of}
 use Rattle.atl_store.specs.declared.fault.LoadFault.{LoadFault}
 use Rattle.atl_store.specs.declared.fault.LoadFault.TheVariants.{Store, Damaged, NotACampaign, OtherFormat, Memory}
-use Rattle.atl_store.specs.declared.rows.stored.RowWithId.{RowWithId}
+use Rattle.atl_sql.specs.declared.rows.stored.RowWithId.{RowWithId}
 use Rattle.atl_store.proofs.EntryLaws.{below_has, less_apart, in_order}
-use Rattle.atl_store.proofs.ListLaws.{map_has}
+use Rattle.atl_sql.proofs.ListLaws.{map_has}
 use Rattle.atl_store.proofs.LoadLaws.{keyed_by, keyed_shown}
 
 -- ---- rows by a number that each of them has in a column

@@ -11,7 +11,7 @@ use Rattle.sqlite_trees.specs.Tree.{rowid, IsAscending}
 use Rattle.sqlite_trees.specs.View.{is_int}
 use Rattle.sqlite_trees.proofs.ListLemmas.{all-permutation}
 use Rattle.atl_store.specs.Gathering.{HaveKeys}
-use Rattle.atl_store.specs.Sets.{IsKeyed}
+use Rattle.atl_sql.specs.Sets.{IsKeyed}
 
 -- what is true of each image of the rows is true of each row, if it carries over from image to row
 all_mapped : (f : Row → Row) (P Q : Row → Type 0) (rows : List Row) → ((r : Row) → P (f r) → Q r) → AllByRecursion P (map f rows) → AllByRecursion Q rows

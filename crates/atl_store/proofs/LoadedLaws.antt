@@ -29,20 +29,20 @@ use Rattle.atl_store.specs.Faults.{fault_of_check}
 use Rattle.atl_store.specs.Gathering.{IsSettled, Lacks, Found, FailsToRead, FailsToConfirm, ReadRows, AreOfFormat, AreAllApart, HaveKeys, without_ids, width, OwnRead, IsMadeOf, ReadsSome, Gathered, IsConfirmed, IsLoaded}
 use Rattle.atl_store.specs.Keeps.{Keeps, Stores}
 use Rattle.atl_store.specs.Loading.{HaveRows, rows_read, own_stored, KeepsOneRow, BreaksRule, MayReturnDamaged, RefusesToLoadIn, StandsIn, LoadsIn, Loads, LeavesAlone, AfterReads, AreMade, AreToldTyped, MayReturnMemory, FailedMeanwhile, RefusesAgain, shows_rowids, tables_with_rowids, other_parts, other_selects}
-use Rattle.atl_store.specs.Rows.{HoldsIn}
-use Rattle.atl_store.specs.Statements.{selection}
-use Rattle.atl_store.specs.Reading.{listing_of}
-use Rattle.atl_store.specs.Sets.{IsKeyed, rows_in}
-use Rattle.atl_store.specs.Tables.{Part, Own, IsSoundDatabase, HasTablesOf, campaign_table, table_of, parts_in}
+use Rattle.atl_sql.specs.Rows.{HoldsIn}
+use Rattle.atl_sql.specs.Statements.{selection}
+use Rattle.atl_sql.specs.Reading.{listing_of}
+use Rattle.atl_sql.specs.Sets.{IsKeyed, rows_in}
+use Rattle.atl_sql.specs.Tables.{Part, Own, IsSoundDatabase, HasTablesOf, campaign_table, table_of, parts_in}
 use Rattle.atl_store.specs.WorldText.{world_text}
 use Rattle.atl_store.specs.declared.fault.LoadFault.{LoadFault}
 use Rattle.atl_store.specs.declared.fault.LoadFault.TheVariants.{Store, Damaged, NotACampaign, OtherFormat, Memory}
-use Rattle.atl_store.specs.declared.rows.campaign.StoredCampaign.{StoredCampaign}
+use Rattle.atl_sql.specs.declared.rows.campaign.StoredCampaign.{StoredCampaign}
 use Rattle.atl_store.proofs.KeyedLaws.{cut_nothing, cut_places, places_keyed, keyed_places, unplaced_all}
 use Rattle.atl_store.proofs.GatherLaws.{shown_open, fails_then, format_behind}
-use Rattle.atl_store.proofs.ListLaws.{has_map, map_has}
+use Rattle.atl_sql.proofs.ListLaws.{has_map, map_has}
 use Rattle.atl_store.proofs.PartsLaws.{every_part, keeps_one_row, rows_hold, rows_keyed, holds_all}
-use Rattle.atl_store.proofs.SelectLaws.{has_first}
+use Rattle.atl_sql.proofs.SelectLaws.{has_first}
 use Rattle.atl_store.proofs.WorldTextLaws.{standing_text_is}
 
 module _ (f : Format) {S : Type 0} (g : Ghosts S) where

@@ -11,14 +11,14 @@ use Rattle.atl_state.specs.Stocks.{stock_in}
 use Rattle.sqlite.specs.State.{State}
 use Rattle.sqlite_value.specs.declared.value.Value.TheVariants.{Int}
 use Rattle.atl_state.specs.Campaign.{CampaignValue}
-use Rattle.atl_store.specs.Shown.{int, market_key, market_row}
-use Rattle.atl_store.specs.Tables.{market_table}
-use Rattle.atl_store.specs.Inside.{Inside, HasTables, Puts, Drops}
-use Rattle.atl_store.specs.Changing.{of_stock}
+use Rattle.atl_sql.specs.Shown.{int, market_key, market_row}
+use Rattle.atl_sql.specs.Tables.{market_table}
+use Rattle.atl_sql.specs.Inside.{Inside, HasTables, Puts, Drops}
+use Rattle.atl_sql.specs.Marked.{of_stock}
 use Rattle.atl_store.specs.Rewriting.{FindsByNumbers, RewritesStock, is_thing}
 use Rattle.atl_store.proofs.RewriteLaws.{tied, is_itself, rewrites_key, kept_only}
 use Rattle.atl_store.proofs.WholeLaws.{inside_weaker}
-use Rattle.atl_store.specs.Rows.{MarketRowsOf}
+use Rattle.atl_sql.specs.Rows.{MarketRowsOf}
 use Rattle.atl_store.specs.Lines.{AreGroups, region_lines}
 use Rattle.atl_store.proofs.EntryLaws.{got_entry, entry_got, in_order}
 use Rattle.atl_store.proofs.GoodsLaws.{amounts_have, have_amount, amounts_apart}

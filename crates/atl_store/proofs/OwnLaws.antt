@@ -12,21 +12,21 @@ use Rattle.atl_state.specs.declared.checking.Rule.TheVariants.{OneRow, Ranges, N
 use Rattle.atl_state.specs.declared.parts.StoredCampaignRow.{StoredCampaignRow}
 use Rattle.atl_store.specs.Gathering.{own_fault, IsOwn, Judges, JudgesOwn, JudgesRows, JudgesFormat, OwnRead}
 use Rattle.atl_store.specs.Loading.{own_stored, AreOwnRow, RefusesToLoadIn}
-use Rattle.atl_store.specs.Reading.{Selects, RefusesToSelect}
-use Rattle.atl_store.specs.Statements.{selection}
-use Rattle.atl_store.specs.Sets.{rows_in}
-use Rattle.atl_store.specs.Stored.{first_columns, AreTyped, IsTyped}
-use Rattle.atl_store.specs.Shown.{campaign_stored, campaign_forms}
-use Rattle.atl_store.specs.declared.fault.ReadFault.{ReadFault}
-use Rattle.atl_store.specs.declared.fault.ReadFault.TheVariants as read
+use Rattle.atl_sql.specs.Reading.{Selects, RefusesToSelect}
+use Rattle.atl_sql.specs.Statements.{selection}
+use Rattle.atl_sql.specs.Sets.{rows_in}
+use Rattle.atl_sql.specs.Stored.{first_columns, AreTyped, IsTyped}
+use Rattle.atl_sql.specs.Shown.{campaign_stored, campaign_forms}
+use Rattle.atl_sql.specs.declared.fault.ReadFault.{ReadFault}
+use Rattle.atl_sql.specs.declared.fault.ReadFault.TheVariants as read
 use Rattle.atl_store.specs.declared.fault.LoadFault.{LoadFault}
 use Rattle.atl_store.specs.declared.fault.LoadFault.TheVariants.{Store, Damaged, NotACampaign, OtherFormat, Memory}
-use Rattle.atl_store.specs.Tables.{Own, campaign_table}
-use Rattle.atl_store.specs.declared.rows.campaign.StoredCampaign.{StoredCampaign}
+use Rattle.atl_sql.specs.Tables.{Own, campaign_table}
+use Rattle.atl_sql.specs.declared.rows.campaign.StoredCampaign.{StoredCampaign}
 use Rattle.atl_tables.specs.declared.format.Format.TheVariants.{First}
-use Rattle.atl_store.proofs.RowsLaws.{asked_rows}
-use Rattle.atl_store.proofs.SelectLaws.{reads_part}
-use Rattle.atl_store.proofs.SelectingLaws.{never_other}
+use Rattle.atl_sql.proofs.RowsLaws.{asked_rows}
+use Rattle.atl_sql.proofs.SelectLaws.{reads_part}
+use Rattle.atl_sql.proofs.SelectingLaws.{never_other}
 
 -- a list whose image is one element has one element
 pub one_mapped : {A B : Type 0} (f : A → B) (xs : List A) (y : B) → map f xs ≡ y ∷ [] → (x : A) × (xs ≡ x ∷ []) × (f x ≡ y)

@@ -34,21 +34,21 @@ use Rattle.atl_records.specs.declared.records.Region.{Region}
 use Rattle.atl_records.specs.declared.records.Unit.{Unit}
 use Rattle.atl_records.proofs.BookLaws.{get-listed, zero_not}
 use Rattle.atl_records.proofs.ListedLaws.{each_amount, amount_of_each}
-use Rattle.atl_store.specs.declared.rows.has.ThingKind.{ThingKind}
-use Rattle.atl_store.specs.declared.rows.has.ThingKind.TheVariants.{Item, Skill}
+use Rattle.atl_sql.specs.declared.rows.has.ThingKind.{ThingKind}
+use Rattle.atl_sql.specs.declared.rows.has.ThingKind.TheVariants.{Item, Skill}
 use Rattle.atl_store.specs.Gathering.{HaveKeys}
 use Rattle.atl_store.specs.Loading.{HaveRows, rows_read, own_stored, has_values, books_values, market_values, shows_rowids, tables_with_rowids}
-use Rattle.atl_store.specs.Rows.{RowsOf, lines_of, HasRowsOf, BooksRowsOf, MarketRowsOf, rows_for, Holds, HoldsIn, campaign_row_of, faction_line, region_line, unit_line, structure_line, things_of}
-use Rattle.atl_store.specs.Sets.{Is, IsKeyed, rows_in}
-use Rattle.atl_store.specs.Shown.{flag, campaign_row_in, mail_row, report_row, faction_stored, region_stored, unit_stored, structure_stored, mail_stored, report_stored}
-use Rattle.atl_store.specs.Tables.{Part, Own, Factions, Regions, Units, Goods, Structures, Mail, Reports, Books, Markets, table_of, all_parts, parts_in}
-use Rattle.atl_store.specs.Written.{sort_number}
-use Rattle.atl_store.proofs.EditLaws.{has_permuted}
+use Rattle.atl_sql.specs.Rows.{RowsOf, lines_of, HasRowsOf, BooksRowsOf, MarketRowsOf, rows_for, Holds, HoldsIn, campaign_row_of, faction_line, region_line, unit_line, structure_line, things_of}
+use Rattle.atl_sql.specs.Sets.{Is, IsKeyed, rows_in}
+use Rattle.atl_sql.specs.Shown.{flag, campaign_row_in, mail_row, report_row, faction_stored, region_stored, unit_stored, structure_stored, mail_stored, report_stored}
+use Rattle.atl_sql.specs.Tables.{Part, Own, Factions, Regions, Units, Goods, Structures, Mail, Reports, Books, Markets, table_of, all_parts, parts_in}
+use Rattle.atl_sql.specs.Written.{sort_number}
+use Rattle.atl_sql.proofs.EditLaws.{has_permuted}
 use Rattle.atl_store.proofs.EntryLaws.{got_entry, entry_got, flat_has, has_flat}
 use Rattle.atl_store.proofs.GoodsLaws.{is_not_zero}
 use Rattle.atl_store.proofs.KeyedLaws.{mapped_twice, lines_keys, one_keys, numbers_keyed}
-use Rattle.atl_store.proofs.ListLaws.{has_map, map_has}
-use Rattle.atl_store.proofs.PartLaws.{all_among, is_among, not_among}
+use Rattle.atl_sql.proofs.ListLaws.{has_map, map_has}
+use Rattle.atl_sql.proofs.PartLaws.{all_among, is_among, not_among}
 
 -- ---- rows of a table, rows that were read of it, and rows that are made of a campaign
 

@@ -6,16 +6,18 @@ use Rattle.sqlite.specs.Order.{Row}
 use Rattle.sqlite.specs.State.{State}
 use Rattle.sqlite_rules.specs.Lists.{Has}
 use Rattle.atl_state.specs.Campaign.{MarkedCampaign}
-use Rattle.atl_store.specs.Sets.{rows_in}
-use Rattle.atl_store.specs.Tables.{Part, Own, table_of, all_parts, campaign_table}
-use Rattle.atl_store.specs.Shown.{campaign_row}
-use Rattle.atl_store.specs.Rows.{campaign_row_of, rows_for}
-use Rattle.atl_store.specs.PutsCampaignRow.{PutsCampaignRow}
-use Rattle.atl_store.specs.Inside.{Inside, HasTables, Alters}
-use Rattle.atl_store.specs.Changing.{is_marked, campaign_row_after, own_after, WritesChanges}
+use Rattle.atl_sql.specs.Sets.{rows_in}
+use Rattle.atl_sql.specs.Tables.{Part, Own, table_of, all_parts, campaign_table}
+use Rattle.atl_sql.specs.Shown.{campaign_row}
+use Rattle.atl_sql.specs.Rows.{campaign_row_of, rows_for}
+use Rattle.atl_sql.specs.PutsCampaignRow.{PutsCampaignRow}
+use Rattle.atl_sql.specs.Inside.{Inside, HasTables, Alters}
+use Rattle.atl_sql.specs.Marked.{is_marked}
+use Rattle.atl_store.specs.Changing.{campaign_row_after, own_after, WritesChanges}
 use Rattle.atl_store.specs.Rewriting.{Becomes, Rewrites, RewritesCampaignRow, RewritesParts, RewritesWithOwn}
-use Rattle.atl_store.proofs.CarryLaws.{carries_none}
-use Rattle.atl_store.proofs.PartLaws.{is_among, are_apart, all_among, one_changed, both_changed}
+use Rattle.atl_sql.proofs.CarryLaws.{carries_none}
+use Rattle.atl_sql.proofs.PartLaws.{is_among, are_apart, all_among}
+use Rattle.atl_store.proofs.TurnLaws.{one_changed, both_changed}
 use Rattle.atl_store.proofs.WholeLaws.{inside_weaker}
 
 -- ---- the campaign's own row

@@ -13,14 +13,15 @@ use Rattle.sqlite.specs.State.{State}
 use Rattle.sqlite.specs.Table.{Table}
 use Rattle.sqlite_rules.specs.Lists.{Has}
 use Rattle.sqlite_value.specs.declared.value.Value.TheVariants.{Int}
-use Rattle.atl_store.specs.Sets.{Set, rows_in}
-use Rattle.atl_store.specs.Tables.{all_tables}
-use Rattle.atl_store.specs.Shown.{int}
-use Rattle.atl_store.specs.Rows.{RowsOf}
-use Rattle.atl_store.specs.Inside.{Inside, HasTables, Puts, Drops}
-use Rattle.atl_store.specs.Changing.{begins, begins_marked, Chosen}
+use Rattle.atl_sql.specs.Sets.{Set, rows_in}
+use Rattle.atl_sql.specs.Tables.{all_tables}
+use Rattle.atl_sql.specs.Shown.{int}
+use Rattle.atl_sql.specs.Rows.{RowsOf}
+use Rattle.atl_sql.specs.Inside.{Inside, HasTables, Puts, Drops}
+use Rattle.atl_sql.specs.Marked.{begins, begins_marked}
+use Rattle.atl_store.specs.Changing.{Chosen}
 use Rattle.atl_store.specs.Rewriting.{Rewrites, RewritesNumber, is_number, is_among}
-use Rattle.atl_store.proofs.CarryLaws.{carries_then, carries_none}
+use Rattle.atl_sql.proofs.CarryLaws.{carries_then, carries_none}
 use Rattle.atl_store.proofs.EntryLaws.{same_number}
 use Rattle.atl_store.proofs.WholeLaws.{inside_weaker}
 

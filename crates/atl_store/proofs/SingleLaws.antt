@@ -11,9 +11,9 @@ use Rattle.sqlite.specs.Order.{Row}
 use Rattle.sqlite.specs.State.{State}
 use Rattle.sqlite.specs.Table.{Table}
 use Rattle.atl_state.specs.Marks.{Things}
-use Rattle.atl_store.specs.Sets.{Set}
-use Rattle.atl_store.specs.Inside.{Inside, HasTables}
-use Rattle.atl_store.specs.Changing.{has_thing}
+use Rattle.atl_sql.specs.Sets.{Set}
+use Rattle.atl_sql.specs.Inside.{Inside, HasTables}
+use Rattle.atl_sql.specs.Marked.{has_thing}
 use Rattle.atl_store.specs.Rewriting.{FindsByNumbers, Rewrites, is_number, is_among, is_thing, is_of}
 use Rattle.atl_store.proofs.EntryLaws.{in_order}
 use Rattle.atl_store.proofs.RewriteLaws.{Nearing, one_nearer, all_rewritten, tied}

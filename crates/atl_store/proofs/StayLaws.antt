@@ -5,19 +5,21 @@ use Rattle.sqlite_trees.specs.declared.store.Store.{Ghosts}
 use Rattle.sqlite.specs.declared.error.Error.{Error}
 use Rattle.sqlite.specs.Held.{Held, state}
 use Rattle.sqlite.specs.Schema.{Schema}
-use Rattle.atl_store.specs.Making.{has_campaign}
+use Rattle.atl_sql.specs.Making.{has_campaign}
 use Rattle.sqlite.specs.Effect.{Database}
 use Rattle.sqlite.specs.State.{State, HasCleanDisk, Survives}
 use Rattle.atl_state.specs.Campaign.{CampaignValue}
-use Rattle.atl_store.specs.Rows.{Holds}
-use Rattle.atl_store.specs.Inside.{HasTables, Carries, Commits, LeavesOff, MayLeave}
+use Rattle.atl_sql.specs.Rows.{Holds}
+use Rattle.atl_sql.specs.Inside.{HasTables, Carries, Commits, LeavesOff, MayLeave}
 use Rattle.atl_store.specs.Keeps.{Stores, Keeps, IsLater, IsReadyToCreate, FailsToCreate, BreaksOffCreation, RefusesToCreate, LeavesAfterFault, ChangesNothing, LeavesOthersAlone, MayFound}
-use Rattle.atl_store.specs.OwnStatements.{Statements, OfFounding}
-use Rattle.atl_store.specs.Causes.{Gives, IsTold}
-use Rattle.atl_store.specs.Faults.{is_memory, create_fault}
+use Rattle.atl_sql.specs.Statements.{Statements}
+use Rattle.atl_store.specs.OwnStatements.{OfFounding}
+use Rattle.atl_sql.specs.Causes.{Gives, IsTold}
+use Rattle.atl_sql.specs.Errors.{is_memory}
+use Rattle.atl_store.specs.Faults.{create_fault}
 use Rattle.atl_store.specs.declared.fault.CreateFault.{CreateFault}
 use Rattle.atl_store.specs.declared.fault.CreateFault.TheVariants as create
-use Rattle.atl_store.proofs.CarryLaws.{carries_none}
+use Rattle.atl_sql.proofs.CarryLaws.{carries_none}
 
 -- the trees of a database whose tables hold the campaign store it (`Stores`)
 stored : (db : Database) (text : List ℕ) (c : CampaignValue) → HasTables db → Holds db.trees text c → Stores db.trees text c

@@ -7,14 +7,14 @@ use Rattle.sqlite.specs.Order.{Row}
 use Rattle.sqlite.specs.State.{State}
 use Rattle.sqlite_value.specs.declared.value.Value.TheVariants.{Int}
 use Rattle.atl_state.specs.Campaign.{CampaignValue}
-use Rattle.atl_store.specs.declared.rows.has.ThingKind.{ThingKind}
-use Rattle.atl_store.specs.declared.rows.has.ThingKind.TheVariants.{Item, Skill}
-use Rattle.atl_store.specs.Written.{sort_number}
-use Rattle.atl_store.specs.Tables.{has_table}
-use Rattle.atl_store.specs.Shown.{int, has_key, has_row}
-use Rattle.atl_store.specs.Rows.{HasRowsOf, amount_under}
-use Rattle.atl_store.specs.Inside.{Inside, HasTables, Puts, Drops}
-use Rattle.atl_store.specs.Changing.{of_kind}
+use Rattle.atl_sql.specs.declared.rows.has.ThingKind.{ThingKind}
+use Rattle.atl_sql.specs.declared.rows.has.ThingKind.TheVariants.{Item, Skill}
+use Rattle.atl_sql.specs.Written.{sort_number}
+use Rattle.atl_sql.specs.Tables.{has_table}
+use Rattle.atl_sql.specs.Shown.{int, has_key, has_row}
+use Rattle.atl_sql.specs.Rows.{HasRowsOf, amount_under}
+use Rattle.atl_sql.specs.Inside.{Inside, HasTables, Puts, Drops}
+use Rattle.atl_sql.specs.Marked.{of_kind}
 use Rattle.atl_store.specs.Rewriting.{FindsByNumbers, RewritesThings, is_thing}
 use Rattle.atl_store.proofs.GoodsLaws.{three_same, had_of, of_had}
 use Rattle.atl_store.proofs.RewriteLaws.{tied, is_itself, rewrites_key, kept_only}

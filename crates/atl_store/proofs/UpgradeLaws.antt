@@ -12,17 +12,18 @@ use Rattle.sqlite_rules.proofs.ListLemmas.{has_either, has_left}
 use Rattle.atl_tables.specs.declared.format.Format.TheVariants.{First}
 use Rattle.atl_state.specs.Campaign.{CampaignValue}
 use Rattle.atl_state.specs.Good.{HasNoStocks}
-use Rattle.atl_store.specs.Inside.{Inside, HasTables, Carries, Both, Puts}
-use Rattle.atl_store.specs.Rows.{campaign_row_of, rows_for, campaign_line, Holds, HoldsIn, MarketRowsOf}
-use Rattle.atl_store.specs.Sets.{Is, IsKeyed, rows_in, put, visible}
-use Rattle.atl_store.specs.Shown.{campaign_row, campaign_row_in}
-use Rattle.atl_store.specs.Tables.{Part, Own, Markets, campaign_table, market_table, all_tables, all_indexes, creation_of, first_tables, parts_in, table_of}
-use Rattle.atl_store.specs.UpgradeSteps.{AddsMarkets, IsFirstFormat, UpgradesCampaignRow, WritesUpgrade}
-use Rattle.atl_store.specs.Writes.{RunsStatement}
-use Rattle.atl_store.proofs.CreateTexts.{is_made, makes_table}
-use Rattle.atl_store.proofs.ListLaws.{has_map}
-use Rattle.atl_store.proofs.Made.{Creates}
-use Rattle.atl_store.proofs.PartLaws.{all_among, listed, same_part}
+use Rattle.atl_sql.specs.Inside.{Inside, HasTables, Carries, Both, Puts}
+use Rattle.atl_sql.specs.Rows.{campaign_row_of, rows_for, campaign_line, Holds, HoldsIn, MarketRowsOf}
+use Rattle.atl_sql.specs.Sets.{Is, IsKeyed, rows_in, put, visible}
+use Rattle.atl_sql.specs.Shown.{campaign_row, campaign_row_in}
+use Rattle.atl_sql.specs.Tables.{Part, Own, Markets, campaign_table, market_table, all_tables, all_indexes, creation_of, first_tables, parts_in, table_of}
+use Rattle.atl_store.specs.UpgradeSteps.{AddsMarkets, IsFirstFormat, WritesUpgrade}
+use Rattle.atl_sql.specs.PutsCampaignRow.{UpgradesCampaignRow}
+use Rattle.atl_sql.specs.Writes.{RunsStatement}
+use Rattle.atl_sql.proofs.CreateTexts.{is_made, makes_table}
+use Rattle.atl_sql.proofs.ListLaws.{has_map}
+use Rattle.atl_sql.proofs.Made.{Creates}
+use Rattle.atl_sql.proofs.PartLaws.{all_among, listed, same_part}
 use Rattle.atl_store.proofs.WholeLaws.{inside_then, inside_weaker}
 
 -- the schema of the nine tables of the first format

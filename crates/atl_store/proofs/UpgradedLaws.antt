@@ -14,18 +14,19 @@ use Rattle.atl_tables.specs.declared.fault.WorldFault.TheVariants as world
 use Rattle.atl_tables.specs.declared.format.Format.TheVariants.{First}
 use Rattle.atl_tables.proofs.OldWorldLaws.{old_has_no_markets}
 use Rattle.atl_state.specs.Campaign.{MarkedCampaign}
-use Rattle.atl_store.specs.Causes.{Gives}
-use Rattle.atl_store.specs.Faults.{is_memory, first_fault, new_world_fault, upgrade_fault}
-use Rattle.atl_store.specs.Inside.{Commits, LeavesOff, MayLeave}
+use Rattle.atl_sql.specs.Causes.{Gives}
+use Rattle.atl_sql.specs.Errors.{is_memory}
+use Rattle.atl_store.specs.Faults.{first_fault, new_world_fault, upgrade_fault}
+use Rattle.atl_sql.specs.Inside.{Commits, LeavesOff, MayLeave}
 use Rattle.atl_store.specs.Keeps.{ChangesNothing, IsLater}
 use Rattle.atl_store.specs.Loading.{LeavesAlone, LoadsIn, RefusesToLoadIn}
 use Rattle.atl_store.specs.OwnStatements.{OfUpgrade}
-use Rattle.atl_store.specs.Rows.{Holds, HoldsIn}
-use Rattle.atl_store.specs.Tables.{HasTablesOf}
-use Rattle.atl_store.specs.UpgradeSteps.{IsFirstFormat, IsJustOld, WritesUpgrade}
+use Rattle.atl_sql.specs.Rows.{Holds, HoldsIn}
+use Rattle.atl_sql.specs.Tables.{HasTablesOf, IsJustOld}
+use Rattle.atl_store.specs.UpgradeSteps.{IsFirstFormat, WritesUpgrade}
 use Rattle.atl_store.specs.Upgrading.{BreaksOffUpgrade, FailsCheck, FailsInTransaction, HasMore, HasOld, HasOtherWorld, HoldsOld, IsReadyToUpgrade, Matches, MayUpgrade, RefusesToUpgrade, Upgrades}
 use Rattle.atl_store.specs.WorldText.{world_text}
-use Rattle.atl_store.specs.Writes.{Transacts}
+use Rattle.atl_sql.specs.Writes.{Transacts}
 use Rattle.atl_store.specs.declared.fault.LoadFault.{LoadFault}
 use Rattle.atl_store.specs.declared.fault.LoadFault.TheVariants as load
 use Rattle.atl_store.specs.declared.fault.UpgradeFault.{UpgradeFault}

@@ -9,13 +9,13 @@ use Rattle.sqlite.specs.Held.{Held, state}
 use Rattle.sqlite.specs.State.{State, HasCleanDisk, Survives, Shows, KeepsCounts, KeepsCommit, IsRolledBack}
 use Rattle.sqlite.proofs.StateLemmas.{survives_then}
 use Rattle.sqlite.proofs.Callers.{survives_begin}
-use Rattle.atl_store.specs.Inside.{HasTables, Done, Inside, Both, Commits, LeavesOff, MayLeave}
-use Rattle.atl_store.specs.OwnStatements.{Statements}
-use Rattle.atl_store.specs.Writes.{Writes, Transacts}
-use Rattle.atl_store.proofs.KeepLaws.{on_ok, if_err}
-use Rattle.atl_store.proofs.CauseLaws.{gives, gives_after, gives_until, gives_begun, errs_as}
-use Rattle.atl_store.proofs.CarryLaws.{carries_then}
-use Rattle.atl_store.proofs.WriteLaws.{not_ok, HandsOn, weaker, two_steps}
+use Rattle.atl_sql.specs.Inside.{HasTables, Done, Inside, Both, Commits, LeavesOff, MayLeave}
+use Rattle.atl_sql.specs.Statements.{Statements}
+use Rattle.atl_sql.specs.Writes.{Writes, Transacts}
+use Rattle.atl_sql.proofs.KeepLaws.{on_ok, if_err}
+use Rattle.atl_sql.proofs.CauseLaws.{gives, gives_after, gives_until, gives_begun, errs_as}
+use Rattle.atl_sql.proofs.CarryLaws.{carries_then}
+use Rattle.atl_sql.proofs.WriteLaws.{not_ok, HandsOn, weaker, two_steps}
 
 -- a step inside a transaction and then another do both, one after the other
 pub inside_then : (Before : Database → Type 0) (First Second : Database → Database → Type 0) (a b c : State) → Inside Before First a b → Inside HasTables Second b c → Inside Before (Both First Second) a c

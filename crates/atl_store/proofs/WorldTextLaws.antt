@@ -3,13 +3,13 @@ use Rattle.std.proofs.Common.{◌≡◌, ℕ, List, [], ◌∷◌, refl, ap, inl
 use Rattle.sqlite.specs.Order.{Row}
 use Rattle.sqlite.specs.State.{State}
 use Rattle.atl_state.specs.Campaign.{CampaignValue}
-use Rattle.atl_store.specs.Sets.{Is, rows_in}
+use Rattle.atl_sql.specs.Sets.{Is, rows_in}
 use Rattle.atl_tables.specs.declared.format.Format.{Format}
 use Rattle.atl_tables.specs.declared.format.Format.TheVariants.{First, Second}
 use Rattle.sqlite_rules.specs.Lists.{Has}
-use Rattle.atl_store.specs.Tables.{Own, campaign_table, parts_in}
-use Rattle.atl_store.specs.Shown.{campaign_row_in}
-use Rattle.atl_store.specs.Rows.{campaign_row_of}
+use Rattle.atl_sql.specs.Tables.{Own, campaign_table, parts_in}
+use Rattle.atl_sql.specs.Shown.{campaign_row_in}
+use Rattle.atl_sql.specs.Rows.{campaign_row_of}
 use Rattle.atl_store.specs.Keeps.{Keeps}
 use Rattle.atl_store.specs.Loading.{StandsIn}
 use Rattle.atl_store.specs.WorldText.{world_in, world_text}

@@ -13,12 +13,12 @@ use Rattle.atl_records.specs.declared.books.Thing.{Thing}
 use Rattle.atl_records.specs.declared.books.Thing.TheVariants.{Money, People}
 use Rattle.atl_records.specs.declared.records.Faction.{Faction}
 use Rattle.atl_records.specs.declared.records.Unit.{Unit}
-use Rattle.atl_store.specs.Sets.{Set, Is, put, rows_in}
-use Rattle.atl_store.specs.Inside.{Alters, Puts}
-use Rattle.atl_store.specs.Tables.{Part, Own, Factions, Units, Reports, Books, table_of, campaign_table, faction_table, unit_table, mail_table, report_table, books_table}
-use Rattle.atl_store.specs.Shown.{CampaignRowValue, campaign_row, mail_row, report_row, books_key}
+use Rattle.atl_sql.specs.Sets.{Set, Is, put, rows_in}
+use Rattle.atl_sql.specs.Inside.{Alters, Puts}
+use Rattle.atl_sql.specs.Tables.{Part, Own, Factions, Units, Reports, Books, table_of, campaign_table, faction_table, unit_table, mail_table, report_table, books_table}
+use Rattle.atl_sql.specs.Shown.{CampaignRowValue, campaign_row, mail_row, report_row, books_key}
 use Rattle.atl_store.specs.Lines.{amount_lines}
-use Rattle.atl_store.specs.Rows.{campaign_line, faction_line, unit_line}
+use Rattle.atl_sql.specs.Rows.{campaign_line, faction_line, unit_line}
 
 -- The campaign has the faction, its report, and the unit of the last number, `next_unit - 1`.
 -- The books have money and people among their things.

@@ -1,71 +1,16 @@
 -- What writing a campaign's changes does: rows with a marked key become the campaign's, and every other row stays.
-use Rattle.std.specs.Prelude.{◌≡◌, ◌==◌, ◌+◌, ◌*◌, ◌&&◌, ◌||◌, ◌↔◌, ℕ, Bool, true, false, pos, suc, is_some, nat_le, List, ◌∷◌}
-use Rattle.std.specs.Ordering.{nat_cmp}
-use Rattle.std.specs.FinMap.{get}
-use Rattle.std.specs.FinSet.{FinSet, contains}
-use Rattle.sqlite.specs.declared.types.Value.TheVariants.{Int}
+use Rattle.std.specs.Prelude.{◌≡◌, ◌↔◌, ℕ, Bool, true, false, List}
 use Rattle.sqlite.specs.Effect.{Database}
 use Rattle.sqlite.specs.Order.{Row}
 use Rattle.sqlite_trees.specs.Tree.{Trees}
 use Rattle.sqlite.specs.Table.{Table}
 use Rattle.sqlite_rules.specs.Lists.{Has}
-use Rattle.atl_tables.specs.Groups.{group_of}
-use Rattle.atl_records.specs.Limits.{entry_count}
 use Rattle.atl_state.specs.Campaign.{CampaignValue, MarkedCampaign}
-use Rattle.atl_state.specs.Marks.{Marks, Things}
-use Rattle.atl_store.specs.declared.rows.has.ThingKind.{ThingKind}
-use Rattle.atl_store.specs.declared.rows.has.ThingKind.TheVariants.{Item, Skill}
-use Rattle.atl_store.specs.Sets.{Set, Is, rows_in}
-use Rattle.atl_store.specs.Tables.{Part, Own, Factions, Regions, Units, Goods, Structures, Mail, Reports, Books, Markets, campaign_table, table_of}
-use Rattle.atl_store.specs.Shown.{CampaignRowValue, campaign_row}
-use Rattle.atl_store.specs.Written.{sort_number}
-use Rattle.atl_store.specs.Rows.{campaign_row_of, campaign_line, rows_for}
-
--- whether the first column of a row is a number, 0 or more, for which `is_so` holds
-abbrev pub begins : (ℕ → Bool) → Row → Bool
-begins is_so (Int (pos n) ∷ row) = is_so n
-begins is_so row = false
-
--- Whether `is_so` holds of the entry and the thing of a row of `books`.
--- The entry is given by its index, the first column less 1; the thing by its number, the second column.
-abbrev pub accounts : (ℕ → ℕ → Bool) → Row → Bool
-accounts is_so (Int (pos (suc entry)) ∷ Int (pos thing) ∷ row) = is_so entry thing
-accounts is_so row = false
-
--- whether a row of `has` is of this kind (item or skill) and `is_so` holds of its unit and its thing
-abbrev pub of_kind : ThingKind → (ℕ → ℕ → Bool) → Row → Bool
-of_kind sort is_so (Int (pos unit) ∷ Int (pos number) ∷ Int (pos thing) ∷ row) = number == sort_number sort && is_so unit thing
-of_kind sort is_so row = false
-
--- whether `is_so` holds of the region and the item of a row of `market`
-abbrev pub of_stock : (ℕ → ℕ → Bool) → Row → Bool
-of_stock is_so (Int (pos region) ∷ Int (pos item) ∷ row) = is_so region item
-of_stock is_so row = false
-
--- whether the first column of a row is a marked number
-abbrev pub begins_marked : FinSet nat_cmp → Row → Bool
-begins_marked marks r = begins (contains marks) r
-
--- whether this thing of this unit, or this item of this region, is among `things`
-abbrev pub has_thing : Things → ℕ → ℕ → Bool
-has_thing things unit thing = is_some (get (group_of things unit) thing)
-
--- whether a row of `has` is marked: with all goods of its unit, or as a single item or skill
-abbrev pub goods_marked : Marks → Row → Bool
-goods_marked marks r = begins_marked marks.goods r || of_kind Item (has_thing marks.items) r || of_kind Skill (has_thing marks.skills) r
-
--- whether a row of `market` is marked: with all stocks of its region, or as a single stock
-abbrev pub stocks_marked : Marks → Row → Bool
-stocks_marked marks r = begins_marked marks.stocks r || of_stock (has_thing marks.stock_items) r
-
--- Whether the amount of an entry and a thing is marked.
--- The entry is given by its index, which has to be below `entry_count`.
-abbrev pub is_marked_amount : FinSet nat_cmp → ℕ → ℕ → Bool
-is_marked_amount marks entry thing = nat_le (suc entry) entry_count && contains marks (entry_count * thing + entry)
-
--- whether a row of `books` is of a marked amount
-abbrev pub amount_marked : FinSet nat_cmp → Row → Bool
-amount_marked marks r = accounts (is_marked_amount marks) r
+use Rattle.atl_sql.specs.Sets.{Set, Is, rows_in}
+use Rattle.atl_sql.specs.Tables.{Part, campaign_table, table_of}
+use Rattle.atl_sql.specs.Shown.{CampaignRowValue, campaign_row}
+use Rattle.atl_sql.specs.Marked.{is_marked}
+use Rattle.atl_sql.specs.Rows.{campaign_row_of, campaign_line, rows_for}
 
 -- one of two propositions by a flag, such as whether a row is dirty: `Wanted` if it is true, else `Were`
 abbrev pub Chosen : Bool → Type 0 → Type 0 → Type 0
@@ -88,20 +33,6 @@ campaign_row_after false c before = before
 -- the campaign row after a write over one that said `before`, with this world text
 abbrev pub own_after : MarkedCampaign → CampaignRowValue → List ℕ → Row
 own_after c before text = campaign_row (campaign_row_after c.marks.row c.value before) text
-
--- whether a row of a part's table has a marked key
--- The campaign row always counts as marked, since `own_after` looks at its mark.
-abbrev pub is_marked : Marks → Part → Row → Bool
-is_marked marks Own = λ r. true
-is_marked marks Factions = begins_marked marks.factions
-is_marked marks Regions = begins_marked marks.regions
-is_marked marks Units = begins_marked marks.rows
-is_marked marks Goods = goods_marked marks
-is_marked marks Structures = begins_marked marks.structures
-is_marked marks Mail = begins_marked marks.mail
-is_marked marks Reports = begins_marked marks.reports
-is_marked marks Books = amount_marked marks.books
-is_marked marks Markets = stocks_marked marks
 
 -- In each table the rows with a marked key become the campaign's, and all others stay.
 -- The campaign row said `before`; it keeps this world text.

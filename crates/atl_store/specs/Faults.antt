@@ -1,14 +1,13 @@
 -- Which fault is returned for an error of the database, of the rows' check or of a world text; and the faults' numbers.
-use Rattle.std.specs.Prelude.{ℕ, Option, Some, None, Bool, true, false, if◌then◌else◌}
+use Rattle.std.specs.Prelude.{ℕ, Option, Some, None, if◌then◌else◌}
 use Rattle.sqlite.specs.declared.error.Error.{Error}
-use Rattle.sqlite.specs.declared.error.Error.TheVariants.{SqliteFailure}
-use Rattle.sqlite.specs.declared.error.ErrorCode.TheVariants as code
 use Rattle.sqlite_trees.specs.declared.error.StoreError.{StoreError}
 use Rattle.sqlite_trees.specs.declared.error.StoreError.TheVariants as error
 use Rattle.atl_tables.specs.declared.fault.WorldFault.{WorldFault}
 use Rattle.atl_tables.specs.declared.fault.WorldFault.TheVariants as world
 use Rattle.atl_state.specs.declared.checking.CheckFault.{CheckFault}
 use Rattle.atl_state.specs.declared.checking.CheckFault.TheVariants as check
+use Rattle.atl_sql.specs.Errors.{is_memory}
 use Rattle.atl_store.specs.declared.fault.StoreFault.{StoreFault}
 use Rattle.atl_store.specs.declared.fault.StoreFault.TheVariants as store
 use Rattle.atl_store.specs.declared.fault.LoadFault.{LoadFault}
@@ -19,24 +18,6 @@ use Rattle.atl_store.specs.declared.fault.WriteFault.{WriteFault}
 use Rattle.atl_store.specs.declared.fault.WriteFault.TheVariants as write
 use Rattle.atl_store.specs.declared.fault.CreateFault.{CreateFault}
 use Rattle.atl_store.specs.declared.fault.CreateFault.TheVariants as create
-use Rattle.atl_store.specs.declared.fault.ReadFault.{ReadFault}
-use Rattle.atl_store.specs.declared.fault.ReadFault.TheVariants as read
-
--- whether the database ran out of memory
-abbrev pub is_memory : Error → Bool
-is_memory (SqliteFailure code.OutOfMemory) = true
-is_memory _ = false
-
--- Whether the database could not run the statement to its end.
--- The disk failed, is full or is damaged, the connection is shut, something is too big, or it takes too many steps.
-abbrev pub is_failure : Error → Bool
-is_failure (SqliteFailure code.SystemIoFailure) = true
-is_failure (SqliteFailure code.DatabaseCorrupt) = true
-is_failure (SqliteFailure code.DiskFull) = true
-is_failure (SqliteFailure code.Closed) = true
-is_failure (SqliteFailure code.TooBig) = true
-is_failure (SqliteFailure code.OperationInterrupted) = true
-is_failure _ = false
 
 -- the fault of a write: Memory if the database ran out of memory, else Store
 abbrev pub write_fault : Error → WriteFault
@@ -105,16 +86,8 @@ upgrade_number (upgrade.World fault) = Some 5
 upgrade_number upgrade.Differs = Some 6
 upgrade_number upgrade.Memory = None
 
--- ---- the faults of creating tables and of reading rows
+-- ---- the faults of creating tables
 
 -- the fault of `create` for an error of the database
 abbrev pub create_fault : Error → CreateFault
 create_fault e = if is_memory e then create.Memory else create.Store
-
--- the fault of a SELECT: Memory, Store if the database could not go on (`is_failure`), else Refused
-abbrev pub read_fault : Error → ReadFault
-read_fault e = if is_memory e then read.Memory else (if is_failure e then read.Store else read.Refused)
-
--- the fault of a value in a row that was shown: Memory, else OtherType
-abbrev pub value_fault : Error → ReadFault
-value_fault e = if is_memory e then read.Memory else read.OtherType

@@ -3,10 +3,10 @@ use Rattle.std.specs.Prelude.{◌≡◌, [], ◌∷◌, List, ℕ}
 use Rattle.sqlite.specs.Effect.{Database}
 use Rattle.sqlite.specs.Order.{Row}
 use Rattle.atl_state.specs.Campaign.{CampaignValue}
-use Rattle.atl_store.specs.Sets.{Is, rows_in}
-use Rattle.atl_store.specs.Tables.{Part, campaign_table}
-use Rattle.atl_store.specs.Inside.{Changes}
-use Rattle.atl_store.specs.Rows.{campaign_line, rows_for, Holds}
+use Rattle.atl_sql.specs.Sets.{Is, rows_in}
+use Rattle.atl_sql.specs.Tables.{Part, campaign_table}
+use Rattle.atl_sql.specs.Inside.{Changes}
+use Rattle.atl_sql.specs.Rows.{campaign_line, rows_for, Holds}
 
 -- if the part's table had no row, it has exactly the campaign's rows afterwards; `own` is the campaign row
 abbrev pub Fills : CampaignValue → Row → Part → List Row → List Row → Type 0

@@ -23,20 +23,20 @@ use Rattle.atl_state.specs.Campaign.{MarkedCampaign}
 use Rattle.atl_state.specs.declared.checking.Rule.TheVariants.{OneRow}
 use Rattle.atl_state.specs.declared.parts.Parts.{Parts}
 use Rattle.atl_state.specs.declared.parts.StoredCampaignRow.{StoredCampaignRow}
-use Rattle.atl_store.specs.Faults.{is_memory}
+use Rattle.atl_sql.specs.Errors.{is_memory}
 use Rattle.atl_store.specs.Loading.{HaveRows, AreOwnRow, IsOther, HasOtherType, KeepsOneRow, other_parts, other_selects, shows_rowids, tables_with_rowids, rows_read, AfterReads, AreToldTyped, RefusesOne}
-use Rattle.atl_store.specs.Reading.{Selects, listing_of}
-use Rattle.atl_store.specs.Statements.{selection}
-use Rattle.atl_store.specs.Sets.{IsKeyed, rows_in}
-use Rattle.atl_store.specs.Shown.{campaign_stored}
-use Rattle.atl_store.specs.Stored.{Form}
-use Rattle.atl_store.specs.Tables.{Part, all_parts, campaign_table, table_of, parts_in, HasTablesOf}
-use Rattle.atl_store.specs.declared.fault.ReadFault.{ReadFault}
-use Rattle.atl_store.specs.declared.fault.ReadFault.TheVariants as read
+use Rattle.atl_sql.specs.Reading.{Selects, listing_of}
+use Rattle.atl_sql.specs.Statements.{selection}
+use Rattle.atl_sql.specs.Sets.{IsKeyed, rows_in}
+use Rattle.atl_sql.specs.Shown.{campaign_stored}
+use Rattle.atl_sql.specs.Stored.{Form}
+use Rattle.atl_sql.specs.Tables.{Part, all_parts, campaign_table, table_of, parts_in, HasTablesOf}
+use Rattle.atl_sql.specs.declared.fault.ReadFault.{ReadFault}
+use Rattle.atl_sql.specs.declared.fault.ReadFault.TheVariants as read
 use Rattle.atl_store.specs.declared.fault.LoadFault.{LoadFault}
 use Rattle.atl_store.specs.declared.fault.LoadFault.TheVariants.{Store, Damaged, NotACampaign, OtherFormat, Memory}
-use Rattle.atl_store.specs.declared.rows.campaign.StoredCampaign.{StoredCampaign}
-use Rattle.atl_store.specs.declared.rows.stored.RowWithId.{RowWithId}
+use Rattle.atl_sql.specs.declared.rows.campaign.StoredCampaign.{StoredCampaign}
+use Rattle.atl_sql.specs.declared.rows.stored.RowWithId.{RowWithId}
 
 -- ---- what a step leaves
 

@@ -10,12 +10,12 @@ use Rattle.atl_tables.specs.Worlds.{WorldValue}
 use Rattle.atl_state.specs.Campaign.{CampaignValue, with_report}
 use Rattle.atl_state.specs.Joining.{joined}
 use Rattle.atl_state.specs.Good.{IsGood}
-use Rattle.atl_store.specs.Tables.{HasAll, IsSoundDatabase}
-use Rattle.atl_store.specs.Inside.{HasTables, Carries, IsBlank}
-use Rattle.atl_store.specs.Making.{has_campaign}
-use Rattle.atl_store.specs.Rows.{Holds}
+use Rattle.atl_sql.specs.Tables.{HasAll, IsSoundDatabase}
+use Rattle.atl_sql.specs.Inside.{HasTables, Carries, IsBlank}
+use Rattle.atl_sql.specs.Making.{has_campaign}
+use Rattle.atl_sql.specs.Rows.{Holds}
 use Rattle.atl_store.specs.Faults.{create_fault}
-use Rattle.atl_store.specs.Causes.{IsTold}
+use Rattle.atl_sql.specs.Causes.{IsTold}
 use Rattle.atl_store.specs.OwnStatements.{OfFounding}
 use Rattle.atl_store.specs.declared.fault.CreateFault.{CreateFault}
 use Rattle.atl_store.specs.declared.fault.CreateFault.TheVariants.{NotEmpty, Store, Memory}

@@ -27,18 +27,18 @@ use Rattle.atl_state.specs.declared.parts.StoredBooks.{StoredBooks}
 use Rattle.atl_state.specs.declared.parts.StoredHas.{StoredHas}
 use Rattle.atl_state.specs.declared.parts.StoredCampaignRow.{StoredCampaignRow}
 use Rattle.atl_state.specs.declared.parts.StoredMarket.{StoredMarket}
-use Rattle.atl_store.specs.Faults.{is_memory}
+use Rattle.atl_sql.specs.Errors.{is_memory}
 use Rattle.atl_store.specs.Keeps.{ChangesNothing, HoldsCampaign}
-use Rattle.atl_store.specs.Reading.{Selects, RefusesToSelect, listing_of}
-use Rattle.atl_store.specs.Rows.{HoldsIn}
-use Rattle.atl_store.specs.Shown.{int, campaign_row_stored, faction_stored, region_stored, unit_stored, structure_stored, mail_stored, report_stored, campaign_forms, faction_forms, region_forms, unit_forms, has_forms, structure_forms, mail_forms, report_forms, books_forms, market_forms}
-use Rattle.atl_store.specs.Statements.{selection}
-use Rattle.atl_store.specs.Sets.{rows_in, IsKeyed}
-use Rattle.atl_store.specs.Stored.{Form, first_columns, AreTyped}
-use Rattle.atl_store.specs.Tables.{Part, Own, Factions, Regions, Units, Goods, Structures, Mail, Reports, Books, Markets, campaign_table, table_of, parts_in, HasTablesOf}
+use Rattle.atl_sql.specs.Reading.{Selects, RefusesToSelect, listing_of}
+use Rattle.atl_sql.specs.Rows.{HoldsIn}
+use Rattle.atl_sql.specs.Shown.{int, campaign_row_stored, faction_stored, region_stored, unit_stored, structure_stored, mail_stored, report_stored, campaign_forms, faction_forms, region_forms, unit_forms, has_forms, structure_forms, mail_forms, report_forms, books_forms, market_forms}
+use Rattle.atl_sql.specs.Statements.{selection}
+use Rattle.atl_sql.specs.Sets.{rows_in, IsKeyed}
+use Rattle.atl_sql.specs.Stored.{Form, first_columns, AreTyped}
+use Rattle.atl_sql.specs.Tables.{Part, Own, Factions, Regions, Units, Goods, Structures, Mail, Reports, Books, Markets, campaign_table, table_of, parts_in, HasTablesOf}
 use Rattle.atl_store.specs.WorldText.{world_text}
-use Rattle.atl_store.specs.declared.fault.ReadFault.{ReadFault}
-use Rattle.atl_store.specs.declared.fault.ReadFault.TheVariants as read
+use Rattle.atl_sql.specs.declared.fault.ReadFault.{ReadFault}
+use Rattle.atl_sql.specs.declared.fault.ReadFault.TheVariants as read
 use Rattle.atl_store.specs.declared.fault.LoadFault.{LoadFault}
 use Rattle.atl_store.specs.declared.fault.LoadFault.TheVariants.{Store, Damaged, NotACampaign, OtherFormat, Memory}
 use Rattle.atl_store.specs.declared.fault.StoreFault.{StoreFault}

@@ -4,7 +4,7 @@ use Rattle.sqlite_trees.specs.Tree.{Trees}
 use Rattle.atl_tables.specs.Worlds.{WorldValue}
 use Rattle.atl_state.specs.Good.{IsGood}
 use Rattle.atl_state.specs.Campaign.{CampaignValue}
-use Rattle.atl_store.specs.Rows.{Holds}
+use Rattle.atl_sql.specs.Rows.{Holds}
 
 -- If the tables hold two world texts with two good campaigns of one world, the texts and the campaigns are equal.
 abbrev pub HoldsOne : Type 0

@@ -4,7 +4,7 @@ use Rattle.sqlite_trees.specs.Tree.{Trees}
 use Rattle.atl_tables.specs.Worlds.{WorldValue}
 use Rattle.atl_tables.specs.World.{world_of}
 use Rattle.atl_state.specs.Campaign.{CampaignValue}
-use Rattle.atl_store.specs.Rows.{Holds}
+use Rattle.atl_sql.specs.Rows.{Holds}
 
 -- If the tables hold two texts with two campaigns, and each text reads as a world, the worlds are equal.
 abbrev pub HoldsOneWorld : Type 0

@@ -11,27 +11,11 @@ use Rattle.atl_records.specs.declared.books.Thing.{Thing}
 use Rattle.atl_records.specs.declared.books.Thing.TheVariants.{Money, People}
 use Rattle.atl_records.specs.declared.records.Faction.{Faction}
 use Rattle.atl_records.specs.declared.records.Unit.{Unit}
-use Rattle.atl_store.specs.Sets.{Set}
-use Rattle.atl_store.specs.Shown.{int, campaign_row_values, mail_row, report_row, books_key, books_row}
-use Rattle.atl_store.specs.Rows.{campaign_row_of, faction_line, unit_line, rows_for}
-use Rattle.atl_store.specs.Statements.{campaign_upsert, upgrading_upsert, deletion, upsert}
-use Rattle.atl_store.specs.Tables.{Part, Markets, all_parts, books_table, creation_of, faction_table, IsGroupedPart, key_of, mail_table, report_table, table_of, unit_table}
-
--- a set of statements: of texts with the values of their parameters
-abbrev pub Statements : Type 1
-Statements = List ℕ → Row → Type 0
-
--- the statements of this text, each with one of these rows as its parameters
-abbrev pub Each : List ℕ → Set → Statements
-Each text rows sql params = (sql ≡ text) × rows params
-
--- the one statement of this text with these parameters
-abbrev pub Only : List ℕ → Row → Statements
-Only text values = Each text (λ row. row ≡ values)
-
--- the statements that make the ten tables; they have no parameters
-abbrev pub Creations : Statements
-Creations sql params = Has (map creation_of all_parts) sql × (params ≡ [])
+use Rattle.atl_sql.specs.Sets.{Set}
+use Rattle.atl_sql.specs.Shown.{int, campaign_row_values, mail_row, report_row, books_key, books_row}
+use Rattle.atl_sql.specs.Rows.{campaign_row_of, faction_line, unit_line, rows_for}
+use Rattle.atl_sql.specs.Statements.{Statements, Only, Creations, campaign_upsert, upgrading_upsert, deletion, upsert}
+use Rattle.atl_sql.specs.Tables.{Part, Markets, all_parts, books_table, creation_of, faction_table, IsGroupedPart, key_of, mail_table, report_table, table_of, unit_table}
 
 -- the statement that writes an amount of the books: puts the amount's row, or deletes the row if the amount is 0
 pub data OfAmount (c : CampaignValue) (entry : Entry) (thing : Thing) : List ℕ → Row → Type 0 where

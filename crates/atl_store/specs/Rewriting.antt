@@ -11,14 +11,15 @@ use Rattle.sqlite_rules.specs.Lists.{Has}
 use Rattle.atl_records.specs.Limits.{entry_count}
 use Rattle.atl_state.specs.Campaign.{CampaignValue, MarkedCampaign}
 use Rattle.atl_state.specs.Marks.{Marks, Things}
-use Rattle.atl_store.specs.declared.rows.has.ThingKind.{ThingKind}
-use Rattle.atl_store.specs.declared.rows.has.ThingKind.TheVariants.{Item, Skill}
-use Rattle.atl_store.specs.Sets.{Set, Is, rows_in}
-use Rattle.atl_store.specs.Inside.{Alters, Changes}
-use Rattle.atl_store.specs.Tables.{Part, campaign_table, has_table, books_table, market_table}
-use Rattle.atl_store.specs.Shown.{CampaignRowValue, campaign_row}
-use Rattle.atl_store.specs.Rows.{RowsOf, HasRowsOf, BooksRowsOf, MarketRowsOf, rows_for}
-use Rattle.atl_store.specs.Changing.{begins, accounts, of_kind, of_stock, begins_marked, goods_marked, stocks_marked, amount_marked, is_marked, rows_after_rewrite, own_after}
+use Rattle.atl_sql.specs.declared.rows.has.ThingKind.{ThingKind}
+use Rattle.atl_sql.specs.declared.rows.has.ThingKind.TheVariants.{Item, Skill}
+use Rattle.atl_sql.specs.Sets.{Set, Is, rows_in}
+use Rattle.atl_sql.specs.Inside.{Alters, Changes}
+use Rattle.atl_sql.specs.Tables.{Part, campaign_table, has_table, books_table, market_table}
+use Rattle.atl_sql.specs.Shown.{CampaignRowValue, campaign_row}
+use Rattle.atl_sql.specs.Rows.{RowsOf, HasRowsOf, BooksRowsOf, MarketRowsOf, rows_for}
+use Rattle.atl_sql.specs.Marked.{begins, accounts, of_kind, of_stock, begins_marked, goods_marked, stocks_marked, amount_marked, is_marked}
+use Rattle.atl_store.specs.Changing.{rows_after_rewrite, own_after}
 
 -- the table's rows with a chosen key become those that are wanted; its other rows and all other tables are as they were
 abbrev pub Rewrites : Table → (Row → Bool) → Set → Database → Database → Type 0

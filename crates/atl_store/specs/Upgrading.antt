@@ -15,14 +15,13 @@ use Rattle.atl_state.specs.Marks.{no_marks}
 use Rattle.atl_store.specs.declared.fault.LoadFault.TheVariants as load
 use Rattle.atl_store.specs.declared.fault.UpgradeFault.{UpgradeFault}
 use Rattle.atl_store.specs.declared.fault.UpgradeFault.TheVariants.{Store, Damaged, NotACampaign, NotOld, World, Differs, Memory}
-use Rattle.atl_store.specs.Causes.{Gives}
-use Rattle.atl_store.specs.Faults.{is_memory}
+use Rattle.atl_sql.specs.Causes.{Gives}
+use Rattle.atl_sql.specs.Errors.{is_memory}
 use Rattle.atl_store.specs.Keeps.{HoldsCampaign, Stores, ChangesNothing}
 use Rattle.atl_store.specs.Loading.{LeavesAlone, LoadsIn, RefusesToLoadIn}
 use Rattle.atl_store.specs.OwnStatements.{OfUpgrade}
-use Rattle.atl_store.specs.Rows.{HoldsIn}
-use Rattle.atl_store.specs.Tables.{HasTablesOf}
-use Rattle.atl_store.specs.UpgradeSteps.{IsJustOld}
+use Rattle.atl_sql.specs.Rows.{HoldsIn}
+use Rattle.atl_sql.specs.Tables.{HasTablesOf, IsJustOld}
 
 -- the tables hold this campaign, which is good, in the first format, with a text of this world
 pub record HoldsOld (s : State) (w : WorldValue) (c : CampaignValue) : Type 0 where

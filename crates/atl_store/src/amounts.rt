@@ -3,7 +3,7 @@ ghost use Rattle.std.specs.Prelude.{ℕ};
 ghost use Rattle.sqlite.specs.Order.{Row as SqlRow};
 ghost use Rattle.sqlite.specs.Table.{Table};
 ghost use Rattle.atl_store.specs.Lines.{thing_rows, amount_rows};
-ghost use Rattle.atl_store.specs.Writes.{WritesRow, WritesRows};
+ghost use Rattle.atl_sql.specs.Writes.{WritesRow, WritesRows};
 
 use atl_tables::Entries;
 use sqlite::{Alter, Error, Transaction};

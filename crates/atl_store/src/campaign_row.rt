@@ -1,17 +1,16 @@
 //! Writes the campaign row: in a founding, a join, a change, and an upgrade.
 ghost use Rattle.std.specs.Prelude.{◌≡◌};
-ghost use Rattle.atl_store.specs.Rows.{campaign_row_of};
-ghost use Rattle.atl_store.specs.PutsCampaignRow.{PutsCampaignRow};
+ghost use Rattle.atl_sql.specs.Rows.{campaign_row_of};
+ghost use Rattle.atl_sql.specs.PutsCampaignRow.{PutsCampaignRow, UpgradesCampaignRow};
 ghost use Rattle.atl_store.specs.Rewriting.{RewritesCampaignRow};
-ghost use Rattle.atl_store.specs.Shown.{campaign_row_values};
-ghost use Rattle.atl_store.specs.UpgradeSteps.{UpgradesCampaignRow};
-ghost use Rattle.atl_store.specs.Written.{head_shown};
-ghost use Rattle.atl_store.specs.Statements.{campaign_upsert, upgrading_upsert};
-ghost use Rattle.atl_store.specs.OwnStatements.{Only, OfChange};
-ghost use Rattle.atl_store.specs.Writes.{Writes};
-ghost use Rattle.atl_store.specs.Inside.{Inside, HasTables};
+ghost use Rattle.atl_sql.specs.Shown.{campaign_row_values};
+ghost use Rattle.atl_sql.specs.Written.{head_shown};
+ghost use Rattle.atl_sql.specs.Statements.{campaign_upsert, upgrading_upsert, Only};
+ghost use Rattle.atl_store.specs.OwnStatements.{OfChange};
+ghost use Rattle.atl_sql.specs.Writes.{Writes};
+ghost use Rattle.atl_sql.specs.Inside.{Inside, HasTables};
 
-use crate::rows::campaign::{CampaignRow, put_campaign, put_upgraded};
+use atl_sql::rows::campaign::{CampaignRow, put_campaign, put_upgraded};
 use atl_state::Campaign;
 use sqlite::{Alter, Error, Transaction};
 

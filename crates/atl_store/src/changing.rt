@@ -6,12 +6,12 @@ ghost use Rattle.atl_state.specs.Covers.{Covers};
 ghost use Rattle.atl_records.specs.Limits.{most_things};
 ghost use Rattle.atl_state.specs.Marks.{no_marks};
 ghost use Rattle.atl_state.specs.Campaign.{CampaignValue};
-ghost use Rattle.atl_store.specs.Causes.{IsTold};
+ghost use Rattle.atl_sql.specs.Causes.{IsTold};
 ghost use Rattle.atl_store.specs.Changing.{WritesChanges, HoldsUnmarked};
 ghost use Rattle.atl_store.specs.Faults.{write_fault};
 ghost use Rattle.atl_store.specs.OwnStatements.{OfChange};
-ghost use Rattle.atl_store.specs.Writes.{Writes, Transacts};
-ghost use Rattle.atl_store.specs.Inside.{Inside, HasTables, LeavesOff};
+ghost use Rattle.atl_sql.specs.Writes.{Writes, Transacts};
+ghost use Rattle.atl_sql.specs.Inside.{Inside, HasTables, LeavesOff};
 ghost use Rattle.atl_store.specs.Keeps.{Keeps, LeavesAfterFault, IsLater, MayFound, LeavesOthersAlone};
 
 use crate::campaign_row::rewrite_campaign_row;

@@ -1,12 +1,14 @@
 //! The faults of the store, and which of them an error becomes. See docs/FORMATS.md, "Tables".
-ghost use Rattle.std.specs.Prelude.{◌≡◌, if◌then◌else◌};
-ghost use Rattle.atl_store.specs.Faults.{is_memory, read_fault, value_fault, write_fault, create_fault, store_fault, reopening_fault, load_fault, fault_of_check, second_fault, upgrade_fault, first_fault, new_world_fault, fault_number, upgrade_number};
+ghost use Rattle.std.specs.Prelude.{◌≡◌};
+ghost use Rattle.atl_store.specs.Faults.{write_fault, create_fault, store_fault, reopening_fault, load_fault, fault_of_check, second_fault, upgrade_fault, first_fault, new_world_fault, fault_number, upgrade_number};
 
+pub use atl_sql::fault::ReadFault;
+use atl_sql::fault::by_cause;
 use atl_state::{CheckFault, Rule};
 use atl_tables::WorldFault;
-use sqlite::{Error, ErrorCode};
+use sqlite::Error;
 use sqlite_trees::error::StoreError;
-use std::alloc::{AllocError, AllocFailed};
+use std::alloc::AllocError;
 use std::fmt;
 
 /// Why nothing was written. While the connection is open the tables are as they were; a crash
@@ -30,21 +32,6 @@ pub enum CreateFault {
     Store,
     /// Memory ran out.
     Memory,
-}
-
-/// Why the rows of a table are not read. Nothing is changed.
-#[derive(Drop, Clone, Copy, Debug, PartialEq, Eq)]
-pub enum ReadFault {
-    /// The disk fails, is full or is damaged, the connection is shut, something is too big, or the
-    /// SELECT takes too many steps.
-    Store,
-    /// The database refuses for another cause: there is no such table, or it lacks a column.
-    Refused,
-    /// Memory ran out.
-    Memory,
-    /// A value is of another type than its column, or is a text that is not UTF-8 where it has
-    /// to be.
-    OtherType,
 }
 
 /// Why no campaign is loaded, or no database is opened again. Nothing is changed.
@@ -118,15 +105,6 @@ impl fmt::Display for CreateFault {
 
 impl std::error::Error for CreateFault {}
 
-/// Shows the name of the fault.
-impl fmt::Display for ReadFault {
-    fn fmt<W: fmt::Write>(&self, f: &mut fmt::Formatter<W>) -> fmt::Result {
-        write!(f, "{self:?}")
-    }
-}
-
-impl std::error::Error for ReadFault {}
-
 /// Shows the name of the fault; of `Damaged` the rule's number, too, as `Damaged 11`.
 impl fmt::Display for StoreFault {
     fn fmt<W: fmt::Write>(&self, f: &mut fmt::Formatter<W>) -> fmt::Result {
@@ -152,16 +130,6 @@ impl fmt::Display for UpgradeFault {
 
 impl std::error::Error for UpgradeFault {}
 
-/// The fault `memory` for an error that is lack of memory, else the fault `other`.
-fn by_cause<F: Drop>(error: Error, memory: F, other: F) -> F
-    ensures { result ≡ (if is_memory error then memory else other) }
-{
-    match error {
-        Error::SqliteFailure(ErrorCode::OutOfMemory) => memory,
-        _ => other,
-    }
-}
-
 impl From<Error> for WriteFault {
     ghost from_gives = { λ error fault. fault ≡ write_fault error };
 
@@ -175,25 +143,6 @@ impl From<Error> for CreateFault {
 
     fn from(error: Error) -> CreateFault {
         by_cause(error, CreateFault::Memory, CreateFault::Store)
-    }
-}
-
-impl From<Error> for ReadFault {
-    ghost from_gives = { λ error fault. fault ≡ read_fault error };
-
-    fn from(error: Error) -> ReadFault {
-        match error {
-            Error::SqliteFailure(ErrorCode::OutOfMemory) => ReadFault::Memory,
-            Error::SqliteFailure(
-                ErrorCode::SystemIoFailure
-                | ErrorCode::DatabaseCorrupt
-                | ErrorCode::DiskFull
-                | ErrorCode::Closed
-                | ErrorCode::TooBig
-                | ErrorCode::OperationInterrupted,
-            ) => ReadFault::Store,
-            _ => ReadFault::Refused,
-        }
     }
 }
 
@@ -228,26 +177,6 @@ impl From<AllocError> for WriteFault {
 
     fn from(_e: AllocError) -> WriteFault {
         WriteFault::Memory
-    }
-}
-
-impl<T: Drop> From<AllocFailed<T>> for ReadFault {
-    ghost use Rattle.atl_store.specs.declared.fault.ReadFault.TheVariants.{Memory};
-
-    ghost from_gives = { λ _ fault. fault ≡ Memory };
-
-    fn from(_e: AllocFailed<T>) -> ReadFault {
-        ReadFault::Memory
-    }
-}
-
-impl From<AllocError> for ReadFault {
-    ghost use Rattle.atl_store.specs.declared.fault.ReadFault.TheVariants.{Memory};
-
-    ghost from_gives = { λ _ fault. fault ≡ Memory };
-
-    fn from(_e: AllocError) -> ReadFault {
-        ReadFault::Memory
     }
 }
 
@@ -362,11 +291,4 @@ impl UpgradeFault {
             UpgradeFault::Memory => None,
         }
     }
-}
-
-/// The fault for a value of a row that can't be read: Memory if memory ran out, else OtherType.
-pub(crate) fn unread(error: Error) -> ReadFault
-    ensures { result ≡ value_fault error }
-{
-    by_cause(error, ReadFault::Memory, ReadFault::OtherType)
 }

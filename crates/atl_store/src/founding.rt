@@ -1,20 +1,20 @@
 //! Creates the tables and writes a whole campaign into them. See docs/FORMATS.md, "Tables".
 ghost use Rattle.std.specs.Prelude.{◌≡◌, ◌≤◌, false, IsTrue, OnOk, OnErr, IfErr, ◌↔◌};
 ghost use Rattle.sqlite.specs.Held.{state};
-ghost use Rattle.atl_store.specs.Tables.{no_tables};
+ghost use Rattle.atl_sql.specs.Tables.{no_tables};
 ghost use Rattle.atl_records.specs.Limits.{most_things};
 ghost use Rattle.atl_state.specs.Marks.{no_marks};
 ghost use Rattle.atl_store.specs.OwnStatements.{OfFounding};
-ghost use Rattle.atl_store.specs.Writes.{Writes, Transacts};
-ghost use Rattle.atl_store.specs.Inside.{Inside, IsBlank};
-ghost use Rattle.atl_store.specs.Making.{has_campaign};
+ghost use Rattle.atl_sql.specs.Writes.{Writes, Transacts};
+ghost use Rattle.atl_sql.specs.Inside.{Inside, IsBlank};
+ghost use Rattle.atl_sql.specs.Making.{has_campaign};
 ghost use Rattle.atl_store.specs.Filling.{WritesFounding};
 ghost use Rattle.atl_store.specs.Keeps.{Creates, IsReadyToCreate, RefusesToCreate, IsLater};
 
 use crate::campaign_row::put_campaign_row;
 use crate::fault::CreateFault;
-use crate::tables::create_tables;
 use crate::write_parts::{OtherParts, WrittenPart};
+use atl_sql::tables::create_tables;
 use atl_state::Campaign;
 use sqlite::{Alter, Connection, Error, Transaction};
 use sqlite_schema::schema::Schema;

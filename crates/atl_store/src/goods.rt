@@ -1,19 +1,19 @@
 //! Writes what units have, one row for each item and each skill of a unit.
 ghost use Rattle.std.specs.Prelude.{refl};
-ghost use Rattle.atl_store.specs.Tables.{Goods, has_table};
-ghost use Rattle.atl_store.specs.Shown.{has_row};
-ghost use Rattle.atl_store.specs.Written.{sort_number};
-ghost use Rattle.atl_store.specs.Rows.{HasRowsOf};
+ghost use Rattle.atl_sql.specs.Tables.{Goods, has_table};
+ghost use Rattle.atl_sql.specs.Shown.{has_row};
+ghost use Rattle.atl_sql.specs.Written.{sort_number};
+ghost use Rattle.atl_sql.specs.Rows.{HasRowsOf};
 ghost use Rattle.atl_store.specs.Lines.{goods_lines, unit_lines, all_goods_lines};
 ghost use Rattle.atl_store.specs.OwnStatements.{OfChange};
-ghost use Rattle.atl_store.specs.Writes.{Writes, WritesRows};
-ghost use Rattle.atl_store.specs.Inside.{Inside, HasTables};
+ghost use Rattle.atl_sql.specs.Writes.{Writes, WritesRows};
+ghost use Rattle.atl_sql.specs.Inside.{Inside, HasTables};
 ghost use Rattle.atl_store.specs.Rewriting.{RewritesGoods};
 
 use crate::amounts::{AmountWriter, put_amounts};
 use crate::grouped::{Grouped, rewrite_marked_groups};
-use crate::rows::has::{HasRow, ThingKind, drop_goods, put_has};
 use crate::singles::rewrite_singles;
+use atl_sql::rows::has::{HasRow, ThingKind, drop_goods, put_has};
 use atl_state::{Campaign, Holding, SlotEntries, Unit};
 use atl_tables::MarkedNumbers;
 use sqlite::{Alter, Error, Transaction};

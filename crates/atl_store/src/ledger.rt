@@ -3,15 +3,15 @@ ghost use Rattle.std.specs.Prelude.{◌<◌, ◌≤◌, map};
 ghost use Rattle.std.specs.List.{range_with_len};
 ghost use Rattle.atl_records.specs.Limits.{most_things};
 ghost use Rattle.atl_records.specs.Books.{AreBooks, entry_index, thing_index};
-ghost use Rattle.atl_store.specs.Tables.{books_table};
+ghost use Rattle.atl_sql.specs.Tables.{books_table};
 ghost use Rattle.atl_store.specs.Lines.{amount_lines, entries_lines, things_lines};
 ghost use Rattle.atl_store.specs.OwnStatements.{OfAmount, OfChange};
-ghost use Rattle.atl_store.specs.Writes.{Writes, WritesRows};
-ghost use Rattle.atl_store.specs.Inside.{Inside, HasTables};
+ghost use Rattle.atl_sql.specs.Writes.{Writes, WritesRows};
+ghost use Rattle.atl_sql.specs.Inside.{Inside, HasTables};
 ghost use Rattle.atl_store.specs.Arriving.{Settles};
 ghost use Rattle.atl_store.specs.Rewriting.{RewritesAmounts, RewritesBooks, is_number, is_among};
 
-use crate::rows::books::{BooksRow, drop_books, put_books};
+use atl_sql::rows::books::{BooksRow, drop_books, put_books};
 use atl_state::{Campaign, Entry, Thing};
 use sqlite::{Alter, Error, Transaction};
 

@@ -3,16 +3,16 @@ ghost use Rattle.std.specs.Prelude.{◌≡◌, false, List, ℕ, IfErr, OnOk, On
 ghost use Rattle.sqlite.specs.Held.{state};
 ghost use Rattle.sqlite.specs.State.{HasCleanDisk};
 ghost use Rattle.atl_state.specs.Campaign.{CampaignValue, with_mail};
-ghost use Rattle.atl_store.specs.Causes.{IsTold};
+ghost use Rattle.atl_sql.specs.Causes.{IsTold};
 ghost use Rattle.atl_store.specs.Faults.{write_fault};
 ghost use Rattle.atl_store.specs.OwnStatements.{OfMail};
-ghost use Rattle.atl_store.specs.Writes.{Transacts};
-ghost use Rattle.atl_store.specs.Inside.{HasTables, LeavesOff};
+ghost use Rattle.atl_sql.specs.Writes.{Transacts};
+ghost use Rattle.atl_sql.specs.Inside.{HasTables, LeavesOff};
 ghost use Rattle.atl_store.specs.Arriving.{WritesMail};
 ghost use Rattle.atl_store.specs.Keeps.{Keeps, LeavesAfterFault, IsLater, LeavesOthersAlone};
 
 use crate::fault::WriteFault;
-use crate::rows::mail::put_mail;
+use atl_sql::rows::mail::put_mail;
 use sqlite::{Alter, Connection, Error};
 
 /// Puts the row of a faction's mail in one transaction.

@@ -1,19 +1,19 @@
 //! Writes the stocks of markets, one row for each region and item whose stock is not 0.
 ghost use Rattle.std.specs.Prelude.{refl};
-ghost use Rattle.atl_store.specs.Tables.{Markets, market_table};
-ghost use Rattle.atl_store.specs.Shown.{market_row};
-ghost use Rattle.atl_store.specs.Changing.{of_stock};
-ghost use Rattle.atl_store.specs.Rows.{MarketRowsOf};
+ghost use Rattle.atl_sql.specs.Tables.{Markets, market_table};
+ghost use Rattle.atl_sql.specs.Shown.{market_row};
+ghost use Rattle.atl_sql.specs.Marked.{of_stock};
+ghost use Rattle.atl_sql.specs.Rows.{MarketRowsOf};
 ghost use Rattle.atl_store.specs.Lines.{region_lines, all_stocks_lines};
 ghost use Rattle.atl_store.specs.OwnStatements.{OfChange};
-ghost use Rattle.atl_store.specs.Writes.{Writes, WritesRows};
-ghost use Rattle.atl_store.specs.Inside.{Inside, HasTables};
+ghost use Rattle.atl_sql.specs.Writes.{Writes, WritesRows};
+ghost use Rattle.atl_sql.specs.Inside.{Inside, HasTables};
 ghost use Rattle.atl_store.specs.Rewriting.{RewritesStocks};
 
 use crate::amounts::{AmountWriter, put_amounts};
 use crate::grouped::{Grouped, rewrite_marked_groups};
-use crate::rows::market::{drop_stock, drop_stocks, put_stock};
 use crate::singles::{SingleAmounts, rewrite_singles};
+use atl_sql::rows::market::{drop_stock, drop_stocks, put_stock};
 use atl_state::{Campaign, Region};
 use atl_tables::{Entries, MarkedNumbers, Numbered};
 use sqlite::{Alter, Error, Transaction};

@@ -6,9 +6,9 @@ ghost use Rattle.sqlite.specs.Table.{Table};
 ghost use Rattle.atl_state.specs.Campaign.{CampaignValue};
 ghost use Rattle.atl_state.specs.Marks.{Marks, Things};
 ghost use Rattle.atl_store.specs.OwnStatements.{OfChange};
-ghost use Rattle.atl_store.specs.Writes.{Writes};
-ghost use Rattle.atl_store.specs.Inside.{Inside, HasTables};
-ghost use Rattle.atl_store.specs.Changing.{has_thing};
+ghost use Rattle.atl_sql.specs.Writes.{Writes};
+ghost use Rattle.atl_sql.specs.Inside.{Inside, HasTables};
+ghost use Rattle.atl_sql.specs.Marked.{has_thing};
 ghost use Rattle.atl_store.specs.Rewriting.{FindsByNumbers, Rewrites, is_thing, is_of};
 
 use atl_state::Campaign;

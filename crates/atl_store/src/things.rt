@@ -1,15 +1,15 @@
 //! The single items and skills of units, whose rows are written one by one.
 ghost use Rattle.std.specs.Prelude.{◌≡◌};
-ghost use Rattle.atl_store.specs.Rows.{HasRowsOf, amount_under};
+ghost use Rattle.atl_sql.specs.Rows.{HasRowsOf, amount_under};
 ghost use Rattle.atl_store.specs.OwnStatements.{OfChange};
-ghost use Rattle.atl_store.specs.Tables.{has_table};
-ghost use Rattle.atl_store.specs.Writes.{Writes};
-ghost use Rattle.atl_store.specs.Inside.{Inside, HasTables};
-ghost use Rattle.atl_store.specs.Changing.{of_kind};
+ghost use Rattle.atl_sql.specs.Tables.{has_table};
+ghost use Rattle.atl_sql.specs.Writes.{Writes};
+ghost use Rattle.atl_sql.specs.Inside.{Inside, HasTables};
+ghost use Rattle.atl_sql.specs.Marked.{of_kind};
 ghost use Rattle.atl_store.specs.Rewriting.{RewritesThings, is_thing, marked_things};
 
-use crate::rows::has::{HasRow, ThingKind, drop_has, put_has};
 use crate::singles::SingleAmounts;
+use atl_sql::rows::has::{HasRow, ThingKind, drop_has, put_has};
 use atl_state::Campaign;
 use atl_tables::{Entries, Numbered};
 use sqlite::{Alter, Error, Transaction};

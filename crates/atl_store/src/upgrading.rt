@@ -2,19 +2,19 @@
 ghost use Rattle.std.specs.Prelude.{◌≡◌, false, IfOk, IfErr, OnOk};
 ghost use Rattle.sqlite.specs.Held.{state};
 ghost use Rattle.sqlite.specs.State.{HasCleanDisk};
-ghost use Rattle.atl_store.specs.Inside.{Inside};
+ghost use Rattle.atl_sql.specs.Inside.{Inside};
 ghost use Rattle.atl_store.specs.Keeps.{IsLater};
 ghost use Rattle.atl_store.specs.Loading.{LeavesAlone};
 ghost use Rattle.atl_store.specs.OwnStatements.{OfUpgrade};
 ghost use Rattle.atl_store.specs.UpgradeSteps.{IsFirstFormat, WritesUpgrade};
 ghost use Rattle.atl_store.specs.Upgrading.{FailsCheck, IsReadyToUpgrade, RefusesToUpgrade, Upgrades};
-ghost use Rattle.atl_store.specs.Writes.{Writes, Transacts};
+ghost use Rattle.atl_sql.specs.Writes.{Writes, Transacts};
 
 use crate::campaign_row::upgrade_campaign_row;
 use crate::fault::UpgradeFault;
 use crate::loading::load_as;
-use crate::schema::is_just_old;
-use crate::tables::create_market;
+use atl_sql::schema::is_just_old;
+use atl_sql::tables::create_market;
 use atl_state::Campaign;
 use atl_tables::{Format, World, read_world};
 use sqlite::{Alter, Connection, Error, Transaction};

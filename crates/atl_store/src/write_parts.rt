@@ -1,18 +1,19 @@
 //! Writes the parts of a campaign but the campaign row, each into its table, one after another.
 ghost use Rattle.std.specs.Prelude.{◌≤◌, ◌++◌, List, [], ◌∷◌};
 ghost use Rattle.atl_records.specs.Limits.{most_things};
-ghost use Rattle.atl_store.specs.Tables.{Part, Units, Goods, Books, Markets};
+ghost use Rattle.atl_sql.specs.Tables.{Part, Units, Goods, Books, Markets};
 ghost use Rattle.atl_store.specs.OwnStatements.{OfRow, OfChange};
-ghost use Rattle.atl_store.specs.Writes.{Writes};
-ghost use Rattle.atl_store.specs.Inside.{Inside, HasTables, InTurn};
+ghost use Rattle.atl_sql.specs.Writes.{Writes};
+ghost use Rattle.atl_sql.specs.Inside.{Inside, HasTables, InTurn};
 ghost use Rattle.atl_store.specs.Filling.{FillsPart};
 ghost use Rattle.atl_store.specs.Rewriting.{RewritesPart};
 
 use crate::goods::{put_all_goods, rewrite_goods};
 use crate::ledger::{put_all_books, rewrite_books};
 use crate::markets::{put_all_stocks, rewrite_stocks};
-use crate::numbered_rows::{Mapped, put_each, rewrite_marked};
-use crate::rows::unit::put_units;
+use crate::rewriting::rewrite_marked;
+use atl_sql::numbered_rows::{Mapped, put_each};
+use atl_sql::rows::unit::put_units;
 use atl_state::{Campaign, Faction, Region, Structure, Unit};
 use atl_tables::{Numbered, Sequence, Text};
 use sqlite::{Alter, Error, Transaction};

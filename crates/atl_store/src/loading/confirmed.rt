@@ -6,7 +6,7 @@ ghost use Rattle.atl_store.specs.Gathering.{IsSettled, FailsToConfirm, IsConfirm
 ghost use Rattle.atl_store.specs.Loading.{AfterReads};
 
 use crate::fault::LoadFault;
-use crate::schema::has_tables_of;
+use atl_sql::schema::has_tables_of;
 use atl_tables::Format;
 use sqlite::{Alter, Connection};
 

@@ -8,12 +8,12 @@ ghost use Rattle.atl_store.specs.declared.fault.LoadFault.TheVariants.{Store};
 ghost use Rattle.atl_tables.specs.declared.format.Format.TheVariants.{First};
 ghost use Rattle.atl_store.specs.Gathering.{IsSettled, ReadRows, AreAllRows, AreNone, AreOfFormat, ReadsSome, Lacks, AreApart, kept_of, late_parts, selects_by};
 ghost use Rattle.atl_store.specs.Loading.{other_parts};
-ghost use Rattle.atl_store.specs.Reading.{listing_of};
-ghost use Rattle.atl_store.specs.Stored.{Form};
-ghost use Rattle.atl_store.specs.Tables.{Part};
+ghost use Rattle.atl_sql.specs.Reading.{listing_of};
+ghost use Rattle.atl_sql.specs.Stored.{Form};
+ghost use Rattle.atl_sql.specs.Tables.{Part};
 
 use crate::fault::{LoadFault, ReadFault};
-use crate::rows::{HasSelect, RowWithId};
+use atl_sql::rows::{HasSelect, RowWithId};
 use atl_state::are_distinct;
 use atl_tables::{Format, Sequence};
 use sqlite::{Alter, Connection};

@@ -6,7 +6,7 @@ ghost use Rattle.atl_store.specs.Loading.{other_selects};
 
 use crate::fault::LoadFault;
 use crate::loading::gathered::{AllRows, read_by, rows_apart};
-use crate::rows::RowWithId;
+use atl_sql::rows::RowWithId;
 use atl_state::parts::{
     Parts, StoredBooks, StoredCampaignRow, StoredFaction, StoredHas, StoredMail, StoredMarket,
     StoredRegion, StoredReport, StoredStructure, StoredUnit,

@@ -8,11 +8,11 @@ ghost use Rattle.atl_tables.specs.Formats.{format_number};
 ghost use Rattle.atl_tables.specs.World.{world_by};
 ghost use Rattle.atl_store.specs.Gathering.{IsSettled, own_fault, only_of, ReadsWorld, JudgesOwn, JudgesRows, JudgesFormat, OwnRead};
 ghost use Rattle.atl_store.specs.Loading.{AfterReads, RefusesToLoadIn, IsOther, other_format};
-ghost use Rattle.atl_store.specs.Shown.{int};
+ghost use Rattle.atl_sql.specs.Shown.{int};
 
 use crate::fault::{LoadFault, ReadFault};
-use crate::rows::campaign::{StoredCampaign, select_campaign};
-use crate::rows::stored::parse_rows;
+use atl_sql::rows::campaign::{StoredCampaign, select_campaign};
+use atl_sql::rows::parse_rows;
 use atl_state::Rule;
 use atl_state::parts::StoredCampaignRow;
 use atl_tables::{Format, World, WorldFault, read_old_world, read_world};

@@ -1,7 +1,7 @@
 use Rattle.std.proofs.Common.{◌≡◌, sym, ap, ◌∙◌, subst}
 use Rattle.sqlite.specs.Held.{state}
 use Rattle.atl_state.specs.Campaign.{CampaignValue, MarkedCampaign, with_mail}
-use Rattle.atl_store.specs.Causes.{IsTold}
+use Rattle.atl_sql.specs.Causes.{IsTold}
 use Rattle.atl_store.specs.Faults.{write_fault}
 use Rattle.atl_store.specs.Keeps.{LeavesAfterFault}
 use Rattle.atl_store.specs.OwnStatements.{OfMail}

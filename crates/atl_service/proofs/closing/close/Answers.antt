@@ -2,7 +2,7 @@ use Rattle.std.proofs.Common.{◌≡◌, ap, sym, ◌∙◌, subst}
 use Rattle.sqlite.specs.Held.{state}
 use Rattle.atl_state.specs.Campaign.{CampaignValue, MarkedCampaign}
 use Rattle.atl_state.proofs.CoverLaws.{marks-trans}
-use Rattle.atl_store.specs.Causes.{IsTold}
+use Rattle.atl_sql.specs.Causes.{IsTold}
 use Rattle.atl_store.specs.Faults.{write_fault}
 use Rattle.atl_store.specs.Keeps.{LeavesAfterFault}
 use Rattle.atl_store.specs.OwnStatements.{OfChange}

@@ -1,5 +1,5 @@
 use Rattle.atl_store.specs.Lines.{amount_rows}
-use Rattle.atl_store.proofs.PuttingLaws.{Putting}
+use Rattle.atl_sql.proofs.PuttingLaws.{Putting}
 use Rattle.atl_store.proofs.amounts.put_amounts.Given as goal
 
 abbrev pub invariant-loop-thing : goal.invariant-loop-thing

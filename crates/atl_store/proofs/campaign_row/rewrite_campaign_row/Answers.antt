@@ -1,7 +1,7 @@
 use Rattle.std.proofs.Common.{sym, ◌∙◌}
 use Rattle.atl_store.specs.OwnStatements.{changes_head}
 use Rattle.atl_store.proofs.RewriteAllLaws.{head_done, head_left}
-use Rattle.atl_store.proofs.WriteLaws.{begins, weaker, among_only}
+use Rattle.atl_sql.proofs.WriteLaws.{begins, weaker, among_only}
 use Rattle.atl_store.proofs.campaign_row.rewrite_campaign_row.Goals as goal
 
 pub returns-then-is_row_marked : goal.returns-then-is_row_marked

@@ -1,10 +1,10 @@
 use Rattle.std.proofs.Common.{[], ◌∷◌, refl}
-use Rattle.atl_store.specs.Tables.{Own, written_parts}
+use Rattle.atl_sql.specs.Tables.{Own, written_parts}
 use Rattle.atl_store.specs.Rewriting.{Becomes}
-use Rattle.atl_store.proofs.PartLaws.{in_turn_changed}
+use Rattle.atl_store.proofs.TurnLaws.{in_turn_changed}
 use Rattle.atl_store.proofs.RewriteAllLaws.{own_rewritten, own_then_rewritten, all_rewritten}
 use Rattle.atl_store.proofs.WholeLaws.{done_as, then_done}
-use Rattle.atl_store.proofs.WriteLaws.{stops}
+use Rattle.atl_sql.proofs.WriteLaws.{stops}
 use Rattle.atl_store.proofs.changing.rewrite_all.Goals as goal
 
 pub returns : goal.returns

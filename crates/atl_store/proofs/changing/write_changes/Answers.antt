@@ -2,7 +2,7 @@ use Rattle.sqlite.specs.Held.{state}
 use Rattle.atl_store.specs.Changing.{WritesChanges}
 use Rattle.atl_store.specs.Faults.{write_fault}
 use Rattle.atl_store.specs.OwnStatements.{OfChange}
-use Rattle.atl_store.specs.Inside.{HasTables}
+use Rattle.atl_sql.specs.Inside.{HasTables}
 use Rattle.atl_store.proofs.ChangeLaws.{changes_held, unmarked_held}
 use Rattle.atl_store.proofs.StayLaws.{commits_keeps, leaves_stops, may_found, commits_spares, leaves_others, later, on_err, told_by}
 use Rattle.atl_store.proofs.changing.write_changes.Goals as goal

@@ -1,6 +1,6 @@
 use Rattle.std.proofs.Common.{inl, refl, sym, ◌∙◌, true≢false}
 use Rattle.sqlite.specs.Held.{state}
-use Rattle.atl_store.specs.Inside.{IsBlank}
+use Rattle.atl_sql.specs.Inside.{IsBlank}
 use Rattle.atl_store.specs.Filling.{WritesFounding}
 use Rattle.atl_store.proofs.StayLaws.{commits_keeps, may_found, leaves_spares, refused_with, not_there, spares_itself, later}
 use Rattle.atl_store.specs.Keeps.{FailsToCreate}

@@ -1,5 +1,5 @@
 use Rattle.std.proofs.Common.{rules}
-use Rattle.atl_store.specs.Inside.{IsBlank}
+use Rattle.atl_sql.specs.Inside.{IsBlank}
 use Rattle.atl_store.specs.Filling.{WritesFounding}
 use Rattle.atl_store.proofs.WholeLaws.{committed, left_off}
 use Rattle.atl_store.proofs.founding.write_founding.Goals as goal

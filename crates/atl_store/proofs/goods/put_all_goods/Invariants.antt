@@ -1,6 +1,6 @@
-use Rattle.atl_store.specs.Tables.{has_table}
+use Rattle.atl_sql.specs.Tables.{has_table}
 use Rattle.atl_store.specs.Lines.{all_goods_lines}
-use Rattle.atl_store.proofs.PuttingLaws.{Putting}
+use Rattle.atl_sql.proofs.PuttingLaws.{Putting}
 use Rattle.atl_store.proofs.goods.put_all_goods.Given as goal
 
 abbrev pub invariant-loop-number : goal.invariant-loop-number

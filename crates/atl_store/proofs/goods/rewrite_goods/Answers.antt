@@ -1,12 +1,12 @@
-use Rattle.atl_store.specs.declared.rows.has.ThingKind.TheVariants.{Item, Skill}
-use Rattle.atl_store.specs.Tables.{has_table}
-use Rattle.atl_store.specs.Rows.{HasRowsOf}
-use Rattle.atl_store.specs.Changing.{begins_marked, has_thing, of_kind}
+use Rattle.atl_sql.specs.declared.rows.has.ThingKind.TheVariants.{Item, Skill}
+use Rattle.atl_sql.specs.Tables.{has_table}
+use Rattle.atl_sql.specs.Rows.{HasRowsOf}
+use Rattle.atl_sql.specs.Marked.{begins_marked, has_thing, of_kind}
 use Rattle.atl_store.proofs.GoodsLaws.{goods_grouped}
 use Rattle.atl_store.proofs.RewriteLaws.{both_rewritten}
 use Rattle.atl_store.proofs.ThingLaws.{finds_things}
 use Rattle.atl_store.proofs.WholeLaws.{then_done}
-use Rattle.atl_store.proofs.WriteLaws.{stops, stops_second}
+use Rattle.atl_sql.proofs.WriteLaws.{stops, stops_second}
 use Rattle.atl_store.proofs.goods.rewrite_goods.Goals as goal
 
 pub rewrite_marked_groups-requires : goal.rewrite_marked_groups-requires

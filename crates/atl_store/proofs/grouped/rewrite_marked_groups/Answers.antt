@@ -1,8 +1,8 @@
 use Rattle.std.proofs.Common.{refl, ap, ◌∙◌}
 use Rattle.std.specs.FinSet.{from_list}
-use Rattle.atl_store.specs.Tables.{table_of}
+use Rattle.atl_sql.specs.Tables.{table_of}
 use Rattle.atl_store.proofs.RewriteLaws.{none_nearer, number_nearer, numbers_rewritten}
-use Rattle.atl_store.proofs.WriteLaws.{begins, goes_on, stops_second, weaker}
+use Rattle.atl_sql.proofs.WriteLaws.{begins, goes_on, stops_second, weaker}
 use Rattle.atl_store.proofs.grouped.rewrite_marked_groups.Goals as goal
 
 pub loop-number-init : goal.loop-number-init

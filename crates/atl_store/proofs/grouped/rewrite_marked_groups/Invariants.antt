@@ -1,8 +1,8 @@
-use Rattle.atl_store.specs.Tables.{table_of}
+use Rattle.atl_sql.specs.Tables.{table_of}
 use Rattle.atl_store.specs.OwnStatements.{OfChange}
-use Rattle.atl_store.specs.Inside.{Inside, HasTables}
+use Rattle.atl_sql.specs.Inside.{Inside, HasTables}
 use Rattle.atl_store.proofs.RewriteLaws.{NearingNumbers}
-use Rattle.atl_store.proofs.WriteLaws.{SoFar}
+use Rattle.atl_sql.proofs.WriteLaws.{SoFar}
 use Rattle.atl_store.proofs.grouped.rewrite_marked_groups.Given as goal
 
 abbrev pub invariant-loop-number : goal.invariant-loop-number

@@ -1,6 +1,6 @@
 use Rattle.std.proofs.Common.{[]}
 use Rattle.atl_store.proofs.JoinLaws.{joining_done}
-use Rattle.atl_store.proofs.WriteLaws.{two_steps, stops}
+use Rattle.atl_sql.proofs.WriteLaws.{two_steps, stops}
 use Rattle.atl_store.proofs.joining.put_joining.Goals as goal
 
 pub returns : goal.returns

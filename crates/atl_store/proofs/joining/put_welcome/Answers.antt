@@ -1,6 +1,6 @@
 use Rattle.atl_store.specs.OwnStatements.{joins_report, joins_money, joins_people}
 use Rattle.atl_store.proofs.JoinLaws.{reporting_done}
-use Rattle.atl_store.proofs.WriteLaws.{among, among_only, three_steps, stops, stops_second}
+use Rattle.atl_sql.proofs.WriteLaws.{among, among_only, three_steps, stops, stops_second}
 use Rattle.atl_store.proofs.joining.put_welcome.Goals as goal
 
 pub returns : goal.returns

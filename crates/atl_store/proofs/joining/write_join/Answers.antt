@@ -1,9 +1,9 @@
 use Rattle.std.proofs.Common.{IfErr, subst, sym}
 use Rattle.sqlite.specs.Held.{state}
-use Rattle.atl_store.specs.Inside.{HasTables}
+use Rattle.atl_sql.specs.Inside.{HasTables}
 use Rattle.atl_store.specs.Arriving.{WritesJoin}
 use Rattle.atl_store.specs.Faults.{write_fault}
-use Rattle.atl_store.specs.Causes.{IsTold}
+use Rattle.atl_sql.specs.Causes.{IsTold}
 use Rattle.atl_store.specs.OwnStatements.{OfJoining}
 use Rattle.atl_store.specs.Keeps.{IsJoining}
 use Rattle.atl_store.proofs.JoinLaws.{join_held}

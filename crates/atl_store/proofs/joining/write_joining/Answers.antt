@@ -1,5 +1,5 @@
 use Rattle.std.proofs.Common.{rules}
-use Rattle.atl_store.specs.Inside.{HasTables}
+use Rattle.atl_sql.specs.Inside.{HasTables}
 use Rattle.atl_store.specs.Arriving.{WritesJoin}
 use Rattle.atl_store.proofs.WholeLaws.{committed, left_off}
 use Rattle.atl_store.proofs.joining.write_joining.Goals as goal

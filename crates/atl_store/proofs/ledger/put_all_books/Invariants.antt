@@ -1,8 +1,8 @@
 use Rattle.std.proofs.Common.{◌-◌}
 use Rattle.std.specs.List.{range_with_len}
-use Rattle.atl_store.specs.Tables.{books_table}
+use Rattle.atl_sql.specs.Tables.{books_table}
 use Rattle.atl_store.specs.Lines.{things_lines}
-use Rattle.atl_store.proofs.PuttingLaws.{Putting}
+use Rattle.atl_sql.proofs.PuttingLaws.{Putting}
 use Rattle.atl_store.proofs.ledger.put_all_books.Given as goal
 
 abbrev pub invariant-loop-number : goal.invariant-loop-number

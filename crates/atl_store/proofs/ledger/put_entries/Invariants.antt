@@ -1,7 +1,7 @@
 use Rattle.std.proofs.Common.{drop}
-use Rattle.atl_store.specs.Tables.{books_table}
+use Rattle.atl_sql.specs.Tables.{books_table}
 use Rattle.atl_store.specs.Lines.{entries_lines}
-use Rattle.atl_store.proofs.PuttingLaws.{Putting}
+use Rattle.atl_sql.proofs.PuttingLaws.{Putting}
 use Rattle.atl_store.proofs.ledger.put_entries.Given as goal
 
 abbrev pub invariant-loop-entry : goal.invariant-loop-entry

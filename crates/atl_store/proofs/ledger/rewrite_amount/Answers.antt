@@ -1,12 +1,12 @@
 use Rattle.std.proofs.Common.{sym, ◌∙◌}
 use Rattle.atl_records.specs.Books.{entry_index, thing_index}
-use Rattle.atl_store.specs.Tables.{books_table}
-use Rattle.atl_store.specs.Rows.{BooksRowsOf}
+use Rattle.atl_sql.specs.Tables.{books_table}
+use Rattle.atl_sql.specs.Rows.{BooksRowsOf}
 use Rattle.atl_store.specs.Rewriting.{is_number, of_amounts}
 use Rattle.atl_store.proofs.ArriveLaws.{amount_changes}
 use Rattle.atl_store.proofs.BooksRewriteLaws.{settle_done, unmarked_none}
 use Rattle.atl_store.proofs.RewriteLaws.{none_chosen}
-use Rattle.atl_store.proofs.WriteLaws.{begins, weaker, among}
+use Rattle.atl_sql.proofs.WriteLaws.{begins, weaker, among}
 use Rattle.atl_store.proofs.ledger.rewrite_amount.Goals as goal
 
 pub returns-then-is_amount_marked : goal.returns-then-is_amount_marked

@@ -3,12 +3,12 @@ use Rattle.std.specs.List.{range_with_len}
 use Rattle.atl_records.specs.Books.{all_entries, entry_index, thing_index}
 use Rattle.atl_state.specs.Marks.{AreOfThings}
 use Rattle.atl_records.proofs.AccountLaws.{place_at}
-use Rattle.atl_store.specs.Tables.{books_table}
-use Rattle.atl_store.specs.Inside.{Inside, HasTables}
+use Rattle.atl_sql.specs.Tables.{books_table}
+use Rattle.atl_sql.specs.Inside.{Inside, HasTables}
 use Rattle.atl_store.specs.Rewriting.{RewritesAmounts, is_number, is_among, of_amounts}
 use Rattle.atl_store.proofs.BooksRewriteLaws.{thing_nearer, things_rewritten}
 use Rattle.atl_store.proofs.RewriteLaws.{none_nearer}
-use Rattle.atl_store.proofs.WriteLaws.{begins, goes_on, stops_second, weaker}
+use Rattle.atl_sql.proofs.WriteLaws.{begins, goes_on, stops_second, weaker}
 use Rattle.atl_store.proofs.ledger.rewrite_books.Goals as goal
 
 pub loop-number-init : goal.loop-number-init

@@ -1,9 +1,9 @@
 use Rattle.std.proofs.Common.{◌-◌}
 use Rattle.std.specs.List.{range_with_len}
 use Rattle.atl_store.specs.OwnStatements.{OfChange}
-use Rattle.atl_store.specs.Inside.{Inside, HasTables}
+use Rattle.atl_sql.specs.Inside.{Inside, HasTables}
 use Rattle.atl_store.proofs.BooksRewriteLaws.{NearingThings}
-use Rattle.atl_store.proofs.WriteLaws.{SoFar}
+use Rattle.atl_sql.proofs.WriteLaws.{SoFar}
 use Rattle.atl_store.proofs.ledger.rewrite_books.Given as goal
 
 abbrev pub invariant-loop-number : goal.invariant-loop-number

@@ -1,11 +1,11 @@
 use Rattle.std.proofs.Common.{◌+◌, drop, refl, arith}
 use Rattle.std.proofs.lemmas.List.{drop_more, at_drop_all}
 use Rattle.atl_records.specs.Books.{thing_index}
-use Rattle.atl_store.specs.Tables.{books_table}
+use Rattle.atl_sql.specs.Tables.{books_table}
 use Rattle.atl_store.specs.Rewriting.{is_number}
 use Rattle.atl_store.proofs.BooksRewriteLaws.{entry_nearer, entries_rewritten}
 use Rattle.atl_store.proofs.RewriteLaws.{none_nearer}
-use Rattle.atl_store.proofs.WriteLaws.{begins, goes_on, stops_second, weaker}
+use Rattle.atl_sql.proofs.WriteLaws.{begins, goes_on, stops_second, weaker}
 use Rattle.atl_store.proofs.ledger.rewrite_entries.Goals as goal
 
 pub loop-entry-init : goal.loop-entry-init

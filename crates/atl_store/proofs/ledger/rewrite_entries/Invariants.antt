@@ -1,10 +1,10 @@
 use Rattle.std.proofs.Common.{drop}
 use Rattle.atl_records.specs.Books.{thing_index}
 use Rattle.atl_store.specs.OwnStatements.{OfChange}
-use Rattle.atl_store.specs.Inside.{Inside, HasTables}
+use Rattle.atl_sql.specs.Inside.{Inside, HasTables}
 use Rattle.atl_store.specs.Rewriting.{is_number}
 use Rattle.atl_store.proofs.BooksRewriteLaws.{NearingEntries}
-use Rattle.atl_store.proofs.WriteLaws.{SoFar}
+use Rattle.atl_sql.proofs.WriteLaws.{SoFar}
 use Rattle.atl_store.proofs.ledger.rewrite_entries.Given as goal
 
 abbrev pub invariant-loop-entry : goal.invariant-loop-entry

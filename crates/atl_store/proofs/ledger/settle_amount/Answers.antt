@@ -1,13 +1,13 @@
 use Rattle.std.proofs.Common.{◌≡◌, pos, refl, sym, ◌∙◌, rules}
 use mir.Syntax.{w64}
 use Rattle.std.proofs.lemmas.Int.{to_z-of_z}
-use Rattle.atl_store.specs.Tables.{books_table}
-use Rattle.atl_store.specs.Shown.{books_key, books_row}
-use Rattle.atl_store.specs.Inside.{HasTables, Puts, Drops}
+use Rattle.atl_sql.specs.Tables.{books_table}
+use Rattle.atl_sql.specs.Shown.{books_key, books_row}
+use Rattle.atl_sql.specs.Inside.{HasTables, Puts, Drops}
 use Rattle.atl_store.specs.Arriving.{Settles}
 use Rattle.atl_store.proofs.ArriveLaws.{amount_put, amount_taken, settles_by_put, settles_by_drop}
 use Rattle.atl_store.proofs.WholeLaws.{inside_weaker}
-use Rattle.atl_store.proofs.WriteLaws.{weaker, among_only}
+use Rattle.atl_sql.proofs.WriteLaws.{weaker, among_only}
 use Rattle.atl_store.proofs.ledger.settle_amount.Goals as goal
 
 pub returns-then-amount-eq0 : goal.returns-then-amount-eq0

@@ -1,4 +1,4 @@
-use Rattle.atl_store.proofs.KeepLaws.{if_ok}
+use Rattle.atl_sql.proofs.KeepLaws.{if_ok}
 use Rattle.atl_store.proofs.LoadedLaws.{is_idle, leaves_alone, loads_in}
 use Rattle.atl_store.proofs.loading.load_as.Goals as goal
 

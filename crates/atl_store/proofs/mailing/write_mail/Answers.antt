@@ -1,6 +1,6 @@
 use Rattle.sqlite.specs.Held.{state}
 use Rattle.atl_state.specs.Campaign.{with_mail}
-use Rattle.atl_store.specs.Inside.{HasTables}
+use Rattle.atl_sql.specs.Inside.{HasTables}
 use Rattle.atl_store.specs.Arriving.{WritesMail}
 use Rattle.atl_store.specs.Faults.{write_fault}
 use Rattle.atl_store.specs.OwnStatements.{OfMail}

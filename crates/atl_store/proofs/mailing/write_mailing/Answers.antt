@@ -1,5 +1,5 @@
 use Rattle.std.proofs.Common.{rules}
-use Rattle.atl_store.specs.Inside.{HasTables}
+use Rattle.atl_sql.specs.Inside.{HasTables}
 use Rattle.atl_store.specs.Arriving.{WritesMail}
 use Rattle.atl_store.proofs.WholeLaws.{committed, left_off}
 use Rattle.atl_store.proofs.mailing.write_mailing.Goals as goal

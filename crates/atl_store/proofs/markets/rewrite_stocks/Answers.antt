@@ -1,10 +1,10 @@
-use Rattle.atl_store.specs.Tables.{market_table}
-use Rattle.atl_store.specs.Rows.{MarketRowsOf}
-use Rattle.atl_store.specs.Changing.{begins_marked, has_thing, of_stock}
+use Rattle.atl_sql.specs.Tables.{market_table}
+use Rattle.atl_sql.specs.Rows.{MarketRowsOf}
+use Rattle.atl_sql.specs.Marked.{begins_marked, has_thing, of_stock}
 use Rattle.atl_store.proofs.MarketLaws.{finds_stocks, stocks_grouped}
 use Rattle.atl_store.proofs.RewriteLaws.{both_rewritten}
 use Rattle.atl_store.proofs.WholeLaws.{then_done}
-use Rattle.atl_store.proofs.WriteLaws.{stops}
+use Rattle.atl_sql.proofs.WriteLaws.{stops}
 use Rattle.atl_store.proofs.markets.rewrite_stocks.Goals as goal
 
 pub rewrite_marked_groups-requires : goal.rewrite_marked_groups-requires

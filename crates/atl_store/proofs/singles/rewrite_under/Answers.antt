@@ -1,7 +1,7 @@
 use Rattle.std.proofs.Common.{refl, ◌∙◌}
 use Rattle.atl_store.proofs.RewriteLaws.{none_nearer}
 use Rattle.atl_store.proofs.SingleLaws.{single_nearer, singles_rewritten}
-use Rattle.atl_store.proofs.WriteLaws.{begins, goes_on, stops_second, weaker}
+use Rattle.atl_sql.proofs.WriteLaws.{begins, goes_on, stops_second, weaker}
 use Rattle.atl_store.proofs.singles.rewrite_under.Goals as goal
 
 pub loop-number-init : goal.loop-number-init

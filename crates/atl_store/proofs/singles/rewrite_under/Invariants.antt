@@ -1,7 +1,7 @@
 use Rattle.atl_store.specs.OwnStatements.{OfChange}
-use Rattle.atl_store.specs.Inside.{Inside, HasTables}
+use Rattle.atl_sql.specs.Inside.{Inside, HasTables}
 use Rattle.atl_store.proofs.SingleLaws.{NearingSingles, is_key}
-use Rattle.atl_store.proofs.WriteLaws.{SoFar}
+use Rattle.atl_sql.proofs.WriteLaws.{SoFar}
 use Rattle.atl_store.proofs.singles.rewrite_under.Given as goal
 
 abbrev pub invariant-loop-number : goal.invariant-loop-number

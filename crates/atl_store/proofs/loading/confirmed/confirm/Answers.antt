@@ -1,9 +1,9 @@
 use Rattle.std.proofs.Common.{subst, arith}
 use Rattle.sqlite.specs.Held.{state}
-use Rattle.atl_store.specs.Statements.{selection}
-use Rattle.atl_store.specs.Tables.{Own, HasTablesOf, campaign_table}
+use Rattle.atl_sql.specs.Statements.{selection}
+use Rattle.atl_sql.specs.Tables.{Own, HasTablesOf, campaign_table}
 use Rattle.atl_store.proofs.ConfirmLaws.{unconfirmed, commits_none, shown_unchanged, shown_stays, refused_stays}
-use Rattle.atl_store.proofs.SelectLaws.{part_plain, has_first}
+use Rattle.atl_sql.proofs.SelectLaws.{part_plain, has_first}
 use Rattle.atl_store.proofs.loading.confirmed.confirm.Goals as goal
 
 pub returns-in_err-query_all-clause-leaves : goal.returns-in_err-query_all-clause-leaves

@@ -1,8 +1,8 @@
 use Rattle.std.proofs.Common.{refl}
-use Rattle.atl_store.specs.Tables.{Markets}
+use Rattle.atl_sql.specs.Tables.{Markets}
 use Rattle.atl_store.specs.OwnStatements.{changes_row, puts_row, drops_row}
 use Rattle.atl_store.proofs.MarketLaws.{had_stock, no_stock, stock_put, stock_dropped}
-use Rattle.atl_store.proofs.WriteLaws.{weaker, among_only}
+use Rattle.atl_sql.proofs.WriteLaws.{weaker, among_only}
 use Rattle.atl_store.proofs.markets.SingleStocksSingleAmounts.rewrite_single.Goals as goal
 
 pub returns : goal.returns

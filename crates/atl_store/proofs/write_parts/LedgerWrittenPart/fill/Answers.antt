@@ -1,11 +1,11 @@
-use Rattle.atl_store.specs.Tables.{Books}
+use Rattle.atl_sql.specs.Tables.{Books}
 use Rattle.atl_store.specs.Filling.{FillsPart}
 use Rattle.atl_store.specs.OwnStatements.{puts_row}
 use Rattle.atl_store.proofs.FillLaws.{books_fill}
 use Rattle.atl_store.proofs.LedgerLaws.{things_rows}
-use Rattle.atl_store.proofs.PartLaws.{in_turn_one}
+use Rattle.atl_store.proofs.TurnLaws.{in_turn_one}
 use Rattle.atl_store.proofs.WholeLaws.{done_as}
-use Rattle.atl_store.proofs.WriteLaws.{among_each}
+use Rattle.atl_sql.proofs.WriteLaws.{among_each}
 use Rattle.atl_store.proofs.write_parts.LedgerWrittenPart.fill.Goals as goal
 
 pub returns : goal.returns

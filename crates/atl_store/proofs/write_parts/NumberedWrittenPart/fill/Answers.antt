@@ -1,9 +1,9 @@
 use Rattle.atl_store.specs.Filling.{FillsPart}
 use Rattle.atl_store.proofs.EntryLaws.{lines_rows}
 use Rattle.atl_store.proofs.KeptLaws.{key_one, puts_line, kept_filled}
-use Rattle.atl_store.proofs.PartLaws.{in_turn_one}
+use Rattle.atl_store.proofs.TurnLaws.{in_turn_one}
 use Rattle.atl_store.proofs.WholeLaws.{done_as}
-use Rattle.atl_store.proofs.WriteLaws.{among_each}
+use Rattle.atl_sql.proofs.WriteLaws.{among_each}
 use Rattle.atl_store.proofs.write_parts.NumberedWrittenPart.fill.Goals as goal
 
 pub returns : goal.returns

@@ -1,6 +1,6 @@
 use Rattle.atl_store.specs.Rewriting.{RewritesPart}
 use Rattle.atl_store.proofs.KeptLaws.{kept_rewritten}
-use Rattle.atl_store.proofs.PartLaws.{in_turn_one}
+use Rattle.atl_store.proofs.TurnLaws.{in_turn_one}
 use Rattle.atl_store.proofs.WholeLaws.{done_as}
 use Rattle.atl_store.proofs.write_parts.NumberedWrittenPart.rewrite.Goals as goal
 

@@ -1,14 +1,14 @@
-use Rattle.atl_store.specs.Tables.{Markets}
-use Rattle.atl_store.specs.Rows.{MarketRowsOf}
+use Rattle.atl_sql.specs.Tables.{Markets}
+use Rattle.atl_sql.specs.Rows.{MarketRowsOf}
 use Rattle.atl_store.specs.Lines.{region_lines}
 use Rattle.atl_store.specs.Filling.{FillsPart}
 use Rattle.atl_store.specs.OwnStatements.{puts_row}
 use Rattle.atl_store.proofs.FillLaws.{groups_fill}
 use Rattle.atl_store.proofs.GroupRowLaws.{groups_rows}
 use Rattle.atl_store.proofs.MarketLaws.{stocks_grouped}
-use Rattle.atl_store.proofs.PartLaws.{in_turn_one}
+use Rattle.atl_store.proofs.TurnLaws.{in_turn_one}
 use Rattle.atl_store.proofs.WholeLaws.{done_as}
-use Rattle.atl_store.proofs.WriteLaws.{among_each}
+use Rattle.atl_sql.proofs.WriteLaws.{among_each}
 use Rattle.atl_store.proofs.write_parts.StocksWrittenPart.fill.Goals as goal
 
 pub returns : goal.returns

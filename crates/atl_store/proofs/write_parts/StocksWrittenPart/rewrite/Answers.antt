@@ -1,7 +1,7 @@
-use Rattle.atl_store.specs.Tables.{Markets}
+use Rattle.atl_sql.specs.Tables.{Markets}
 use Rattle.atl_store.specs.Rewriting.{RewritesPart}
 use Rattle.atl_store.proofs.RewriteAllLaws.{part_rewritten}
-use Rattle.atl_store.proofs.PartLaws.{in_turn_one}
+use Rattle.atl_store.proofs.TurnLaws.{in_turn_one}
 use Rattle.atl_store.proofs.WholeLaws.{done_as}
 use Rattle.atl_store.proofs.write_parts.StocksWrittenPart.rewrite.Goals as goal
 

@@ -1,7 +1,7 @@
 use Rattle.atl_store.specs.Filling.{FillsPart}
-use Rattle.atl_store.proofs.PartLaws.{in_turn_then}
+use Rattle.atl_store.proofs.TurnLaws.{in_turn_then}
 use Rattle.atl_store.proofs.WholeLaws.{then_done}
-use Rattle.atl_store.proofs.WriteLaws.{stops}
+use Rattle.atl_sql.proofs.WriteLaws.{stops}
 use Rattle.atl_store.proofs.write_parts.Tuple2WrittenPart.fill.Goals as goal
 
 pub returns : goal.returns

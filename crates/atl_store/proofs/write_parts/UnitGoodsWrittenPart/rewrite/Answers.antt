@@ -1,7 +1,7 @@
-use Rattle.atl_store.specs.Tables.{Goods}
+use Rattle.atl_sql.specs.Tables.{Goods}
 use Rattle.atl_store.specs.Rewriting.{RewritesPart}
 use Rattle.atl_store.proofs.RewriteAllLaws.{part_rewritten}
-use Rattle.atl_store.proofs.PartLaws.{in_turn_one}
+use Rattle.atl_store.proofs.TurnLaws.{in_turn_one}
 use Rattle.atl_store.proofs.WholeLaws.{done_as}
 use Rattle.atl_store.proofs.write_parts.UnitGoodsWrittenPart.rewrite.Goals as goal
 

@@ -1,0 +1,46 @@
+-- Laws on the upsert of the table `campaign`: it inserts the row, or changes all columns but id, format and world text.
+use Rattle.std.proofs.Common.{◌≡◌, ℕ, pos, List, [], ◌∷◌, refl, sym, ap, ◌∙◌}
+use Rattle.sqlite_tied.specs.Compute.{everything}
+use Rattle.sqlite.specs.declared.types.Value.TheVariants.{Null, Text}
+use Rattle.sqlite.specs.Term.{Term, lit, col}
+use Rattle.sqlite.specs.Listing.{understood}
+use Rattle.sqlite.specs.Order.{Row, column}
+use Rattle.sqlite_trees.specs.Tree.{rowid}
+use Rattle.atl_sql.specs.Sets.{visible}
+use Rattle.atl_sql.specs.Tables.{campaign_table}
+use Rattle.atl_sql.specs.Shown.{CampaignRowValue, int, campaign_row, campaign_row_values}
+use Rattle.atl_sql.specs.PutsCampaignRow.{PutsCampaignRow}
+use Rattle.atl_sql.specs.Statements.{campaign_upsert}
+use Rattle.atl_sql.proofs.OwnRowLaws.{MeansOwn, changed_to, puts_own}
+use Rattle.atl_sql.proofs.StatementLaws.{DoneBy, done_by}
+use Rattle.atl_sql.proofs.Terms.{cast_int}
+
+-- the terms of the UPDATE: all columns are set but id, format and world text
+abbrev project : List Term
+project = col 1 0 ∷ lit Null ∷ col 1 2 ∷ col 0 0 ∷ col 0 1 ∷ col 0 2 ∷ col 0 3 ∷ col 0 4 ∷ col 1 8 ∷ []
+
+-- the text of the upsert means an INSERT of the campaign row with this UPDATE
+means : MeansOwn campaign_upsert project
+unfolding understood everything
+means = record { is = λ more indexes. refl; plain = λ more indexes. (refl, refl) }
+
+-- the UPDATE makes of a campaign row the new campaign row with the old world text
+changed : (head before : CampaignRowValue) (world text : List ℕ) (r : Row) → visible campaign_table r ≡ campaign_row before text → changed_to project head world r ≡ campaign_row head text
+changed head before world text r shows =
+    let id : rowid r ≡ int 1 = ap (λ row. column row 0) shows in
+    let format : column r 2 ≡ int 2 = ap (λ row. column row 1) shows in
+    let kept : column r 8 ≡ Text text = ap (λ row. column row 7) shows in
+    rw (kept, format, id, cast_int (pos 1), cast_int (pos 2), cast_int (pos head.month), cast_int (pos head.next_faction), cast_int (pos head.next_unit), cast_int (pos head.next_structure)) refl
+
+-- the upsert that ran put the campaign row (`PutsCampaignRow`)
+pub puts_campaign : (head : CampaignRowValue) (world : List ℕ) → DoneBy campaign_upsert (campaign_row_values head world) (PutsCampaignRow head world)
+puts_campaign head world = done_by campaign_upsert (campaign_row_values head world) (PutsCampaignRow head world) (λ old new count inside ran. (
+  ran.1.mode ∙ sym inside,
+  λ has.
+      let put = puts_own campaign_upsert project means old new head world count has ran in
+      record {
+        does = record { first = put.first; again = λ before text is. put.again (campaign_row before text) (campaign_row head text) refl refl is (λ r shows. changed head before world text r shows) };
+        tables = put.tables;
+        carries = put.carries;
+      },
+))

@@ -1,0 +1,96 @@
+-- Laws on a write of one of a campaign's tables: the other tables, the indexes and the schema stay (`Carries`).
+use Rattle.std.proofs.Common.{◌≡◌, ◌≢◌, ℕ, false, List, [], ◌∷◌, ◌++◌, Option, refl, sym, ◌∙◌, subst, inl, inr}
+use Rattle.std.specs.List.{AllByRecursion, flat_map, filter_map, list_any}
+use Rattle.sqlite_value.specs.Order.{Row}
+use Rattle.sqlite_schema.specs.declared.schema.Table.{Table}
+use Rattle.sqlite_schema.specs.declared.schema.Index.{Index}
+use Rattle.sqlite_schema.specs.declared.schema.Schema.{Schema}
+use Rattle.sqlite_schema.specs.declared.schema.Reference.{Reference}
+use Rattle.sqlite_schema.specs.declared.schema.Keys.TheVariants.{Enforced}
+use Rattle.sqlite_rules.specs.Lists.{Has}
+use Rattle.sqlite_rules.proofs.ListLemmas.{has_left}
+use Rattle.sqlite_rules.specs.Keys.{shares}
+use Rattle.sqlite_schema.specs.Rules.{guards}
+use Rattle.sqlite_rules.specs.Action.{works, Work, work_for}
+use Rattle.sqlite.specs.Effect.{Database}
+use Rattle.atl_sql.specs.Sets.{Set}
+use Rattle.atl_sql.proofs.Made.{Makes}
+use Rattle.atl_sql.specs.Tables.{all_tables, all_and, all_trees, IsSoundDatabase}
+use Rattle.atl_sql.specs.Inside.{HasTables, Carries, Alters, Done}
+use Rattle.atl_sql.proofs.ListLaws.{has_map}
+
+-- ---- tables without a foreign key refer to nothing
+
+-- if no table has a foreign key, no reference is to be checked
+none_refer : (tables : List Table) (f : Table → Reference → Option Work) → AllByRecursion (λ t. t.references ≡ []) tables → flat_map (λ child. filter_map (f child) child.references) tables ≡ []
+none_refer [] f free = refl
+none_refer (t ∷ tables) f free = rw (free.0) (none_refer tables f free.1)
+
+-- a write of a table checks no reference, if no table of the schema has a foreign key
+pub unlinked : (tables : List Table) (indexes : List Index) (tree : ℕ) → AllByRecursion (λ t. t.references ≡ []) tables → (olds news : List Row) → works (all_and tables indexes) Enforced 0 tree olds news ≡ []
+unlinked tables indexes tree free olds news = none_refer tables (work_for (all_and tables indexes) Enforced 0 tree olds news) free
+
+-- ---- indexes that make nothing unique find nothing
+
+-- no two rows share values of an index that is unique in the table, if no index makes anything unique there
+pub none_share : (t : Table) (target : Option (List ℕ)) (new r : Row) (indexes : List Index) → ((i : Index) → Has indexes i → guards i t ≡ false) → list_any (shares target t new r) indexes ≡ false
+none_share t target new r [] plain = refl
+none_share t target new r (i ∷ indexes) plain = rw (plain i (inl refl)) (none_share t target new r indexes (λ j there. plain j (inr there)))
+
+-- ---- one of the tables is one of all that are there
+
+-- one of the campaign's tables is one of all tables of the schema
+pub among_all : (tables : List Table) (t : Table) → Has all_tables t → Has (all_tables ++ tables) t
+among_all tables t there = has_left all_tables tables t there
+
+-- the trees are sound under the schema of the campaign's tables and others after them
+pub sound_under : (db : Database) (has : HasTables db) → IsSoundDatabase (all_and has.begins.tables has.begins.indexes) db.trees
+sound_under db has = subst (λ s. IsSoundDatabase s db.trees) has.begins.is has.sound
+
+module _ (t : Table) (old new : Database) (has : HasTables old) (ours : Has all_tables t) where
+  -- the schema of `old`: the ten tables with their indexes, and then the others
+  abbrev schema : Schema
+  schema = all_and has.begins.tables has.begins.indexes
+
+  -- Every other table of the schema has the same rows.
+  abbrev OthersStay : Type 0
+  OthersStay = (u : Table) → Has schema.tables u → u.tree ≢ t.tree → new.trees u.tree ≡ old.trees u.tree
+
+  -- if schema and soundness stay, the campaign's tables are still there
+  pub stays_there : new.schema ≡ schema → IsSoundDatabase schema new.trees → HasTables new
+  stays_there is sound = record {
+    begins = record { tables = has.begins.tables; indexes = has.begins.indexes; is = is; free = has.begins.free; plain = has.begins.plain };
+    sound = subst (λ s. IsSoundDatabase s new.trees) (sym is) sound;
+  }
+
+  -- if the other tables stay, all that isn't the campaign's is carried along (`Carries`)
+  pub carried : new.schema ≡ schema → OthersStay → Carries old new
+  carried is others =
+      let same : new.schema ≡ old.schema = is ∙ sym has.begins.is in
+      record {
+        tables = λ u there. subst (λ (s : Schema). Has s.tables u) (sym same) there;
+        indexes = λ i there. subst (λ (s : Schema). Has s.indexes i) (sym same) there;
+        others = λ u there free. others u (subst (λ (s : Schema). Has s.tables u) has.begins.is there) (λ same. free (subst (Has all_trees) (sym same) (has_map (λ (x : Table). x.tree) all_tables t ours)));
+      }
+
+  -- a write of one table alters that table alone (`Alters`)
+  pub altered : (S : Set) → Makes schema t old new S → Alters t S old new
+  altered S makes = record { rows = makes.rows; others = λ u listed apart. makes.others u (among_all has.begins.tables u listed) apart }
+
+  -- a write of one table does `Does`, if `Does` follows from the table's new rows
+  pub done_with : (Does : Database → Database → Type 0) (S : Set) → (Alters t S old new → Does old new) → Makes schema t old new S → Done Does old new
+  done_with Does S is makes = record { does = is (altered S makes); tables = stays_there makes.schema_is makes.sound; carries = carried makes.schema_is makes.others }
+
+-- ---- tables carried along by no write, and by two
+
+-- `Carries` is reflexive
+pub carries_none : (a : Database) → Carries a a
+carries_none a = record { tables = λ t there. there; indexes = λ i there. there; others = λ t there free. refl }
+
+-- `Carries` is transitive
+pub carries_then : (a b c : Database) → Carries a b → Carries b c → Carries a c
+carries_then a b c one two = record {
+  tables = λ t there. two.tables t (one.tables t there);
+  indexes = λ i there. two.indexes i (one.indexes i there);
+  others = λ t there free. two.others t (one.tables t there) free ∙ one.others t there free;
+}

@@ -1,0 +1,36 @@
+-- Law on CREATE TABLE inside a transaction: it adds one table without rows.
+use Rattle.std.proofs.Common.{◌≡◌, ℕ, false, List, [], None, Ok, sym, ap, ◌∙◌, subst}
+use Rattle.sqlite.specs.Table.{Table}
+use Rattle.sqlite.specs.Schema.{Schema}
+use Rattle.sqlite.specs.Command.TheVariants.{CreateTable}
+use Rattle.sqlite.specs.Compile.{table_defined_by}
+use Rattle.sqlite.specs.Change.{created, next_tree, KeepsRows}
+use Rattle.sqlite.specs.Listing.{understood}
+use Rattle.sqlite.specs.Does.{Tally, lacks_sequence}
+use Rattle.sqlite.specs.Effect.{Database}
+use Rattle.sqlite.specs.State.{State, Writes, Executes}
+use Rattle.sqlite_rules.proofs.ListLemmas.{all_has}
+use Rattle.sqlite.proofs.Callers.{IsPlain, command_of, statement_of, runs_as}
+use Rattle.atl_sql.proofs.Made.{Creates}
+use Rattle.atl_sql.proofs.EditLaws.{went, same_value}
+
+-- a CREATE TABLE that ran inside a transaction has added its table, without rows (`Creates`)
+pub creates : (before : Schema) (table : Table) (text : List ℕ) (old new : State) (count : ℕ) → command_of (understood before text) ≡ CreateTable → statement_of text (understood before text) ≡ text
+    → table_defined_by text ≡ Ok table → IsPlain (understood before text) → lacks_sequence (created before table) ≡ false → old.now.schema ≡ before → Executes text [] old new (Ok count)
+    → Creates before (created before table) (next_tree before) old.now new.now
+creates before table text old new count is whole defines bare uncounted has h =
+    let w = subst (λ t. Writes old new None CreateTable t [] count) whole (runs_as text [] old new before has CreateTable is bare count h) in
+    let all = went w.changed in
+    let first = went all.1 in
+    let made = first.1 in
+    let both : Ok made.table ≡ Ok table = sym made.defined ∙ defines in
+    let same : made.table ≡ table = cc in
+    let schema : first.0.schema ≡ created before table = made.is ∙ ap (λ s. created s made.table) has ∙ ap (created before) same in
+    let plain : lacks_sequence first.0.schema ≡ false = ap lacks_sequence schema ∙ uncounted in
+    let now : new.now ≡ first.0 = ap (λ (p : Tally × Database). p.1) (same_value all.2) ∙ same_value (rw plain at first.2) in
+    record {
+      schema_is = ap (λ (d : Database). d.schema) now ∙ schema;
+      empty = ap (λ (d : Database). d.trees (next_tree before)) now ∙ subst (λ s. first.0.trees (next_tree s) ≡ []) has made.empty;
+      others = λ t listed. ap (λ (d : Database). d.trees t.tree) now ∙ all_has _ before.tables t (subst (λ (s : Schema). KeepsRows s.tables old.now.trees first.0.trees) has made.others) listed;
+      sound = w.sound;
+    }

@@ -1,0 +1,113 @@
+-- Laws on the CREATE texts of the ten tables: which table each text makes, and that all of them make the schema.
+use Rattle.std.proofs.Common.{◌≡◌, ◌++◌, ◌∷◌, ◌+◌, ◌<◌, ℕ, false, cond, nat_eq, List, [], Result, Ok, get_or, length, map, refl, sym, ap, ◌∙◌, subst, zero-add}
+use Rattle.std.proofs.lemmas.List.{get_or-map, length-map}
+use Rattle.std.proofs.lemmas.List.FromFn.{get_or-range_with_len}
+use Rattle.std.specs.Borrow.{MutBor}
+use Rattle.sqlite_rules.specs.Lists.{Has}
+use Rattle.sqlite_trees.specs.declared.store.Store.{Ghosts}
+use Rattle.sqlite.specs.declared.error.Error.{Error}
+use Rattle.sqlite.specs.Held.{Held}
+use Rattle.sqlite_tied.specs.Compute.{everything}
+use Rattle.sqlite.specs.Change.{created, next_tree}
+use Rattle.sqlite.specs.Compile.{table_defined_by}
+use Rattle.sqlite.specs.Does.{lacks_sequence}
+use Rattle.sqlite.specs.Listing.{understood}
+use Rattle.sqlite.specs.Schema.{Schema}
+use Rattle.sqlite.specs.Table.{Table}
+use Rattle.sqlite.specs.Command.TheVariants.{CreateTable}
+use Rattle.sqlite.specs.State.{State, Executes}
+use Rattle.sqlite.proofs.Callers.{IsPlain, command_of, statement_of}
+use Rattle.atl_sql.specs.Tables.{Part, Own, all_parts, creation_of, table_count, table_of}
+use Rattle.atl_sql.specs.Writes.{Writes, RunsStatement}
+use Rattle.atl_sql.specs.Statements.{Only, Creations}
+use Rattle.atl_sql.proofs.Made.{Creates, Extends}
+use Rattle.atl_sql.proofs.CreateLaws.{creates}
+use Rattle.atl_sql.proofs.ListLaws.{has_map}
+use Rattle.atl_sql.proofs.MakingLaws.{extends, so_many}
+use Rattle.atl_sql.proofs.PartLaws.{all_among, tree_of}
+use Rattle.atl_sql.proofs.WriteLaws.{weaker, among_only}
+
+-- The text is a CREATE TABLE that turns the schema `before` into `after`, with this table as the last one.
+pub record IsCreate (before after : Schema) (table : Table) (text : List ℕ) : Type 0 where
+  pub command : command_of (understood before text) ≡ CreateTable
+  pub whole : statement_of text (understood before text) ≡ text
+  pub defines : table_defined_by text ≡ Ok (record table { tree = 0 })
+  pub plain : IsPlain (understood before text)
+  pub after_is : created before (record table { tree = 0 }) ≡ after
+  pub tree_is : next_tree before ≡ table.tree
+  pub last : after.tables ≡ before.tables ++ table ∷ []
+  pub uncounted : lacks_sequence after ≡ false
+
+-- running a CREATE TABLE text (`IsCreate`) on a database of the schema `before` adds the table
+pub makes_table : (before after : Schema) (table : Table) (text : List ℕ) → IsCreate before after table text → (old new : State) (count : ℕ) → old.now.schema ≡ before → Executes text [] old new (Ok count)
+    → Creates before after table.tree old.now new.now
+makes_table before after table text is old new count has ran =
+    let uncounted = subst (λ s. lacks_sequence s ≡ false) (sym is.after_is) is.uncounted in
+    subst (λ s. Creates before s table.tree old.now new.now) is.after_is (subst (λ tree. Creates before (created before (record table { tree = 0 })) tree old.now new.now) is.tree_is
+    (creates before (record table { tree = 0 }) text old new count is.command is.whole is.defines is.plain uncounted has ran))
+
+-- ---- of each part
+
+-- the index of a part in a list
+abbrev place_among : Part → List Part → ℕ
+place_among part [] = 0
+place_among part (p ∷ parts) = cond (nat_eq (tree_of part) (tree_of p)) 0 (place_among part parts + 1)
+
+-- the index of a part in the list of all parts
+abbrev place : Part → ℕ
+place part = place_among part all_parts
+
+-- the text of a part makes its table after those of the parts before it
+pub is_made : (part : Part) → IsCreate (so_many (place part)) (so_many (place part + 1)) (table_of part) (creation_of part)
+unfolding understood everything
+is_made Own = record { command = refl; whole = refl; defines = refl; plain = (refl, refl); after_is = refl; tree_is = refl; last = refl; uncounted = refl }
+is_made part = record { command = refl; whole = refl; defines = refl; plain = (refl, refl); after_is = refl; tree_is = refl; last = refl; uncounted = refl }
+
+-- the part at index `i` of the list of all parts has the index `i`
+placed : (i : ℕ) (d : Part) → i < length all_parts → place (get_or all_parts i d) ≡ i
+placed i d small = sym (get_or-map place all_parts i d 0 small) ∙ get_or-range_with_len 0 (length all_parts) i 0 small ∙ zero-add i
+
+-- the text of the part at index `i` makes its table after the first `i` tables
+made_at : (i : ℕ) (d : Part) → i < length all_parts → IsCreate (so_many i) (so_many (i + 1)) (table_of (get_or all_parts i d)) (creation_of (get_or all_parts i d))
+made_at i d small =
+    let part = get_or all_parts i d in
+    subst (λ n. IsCreate (so_many n) (so_many (n + 1)) (table_of part) (creation_of part)) (placed i d small) (is_made part)
+
+-- ---- of all, one after another
+
+-- The text is that of some part, and makes the schema one table longer.
+abbrev pub Makes : Schema → Schema → List ℕ → Type 1
+Makes before after text = Has (map creation_of all_parts) text × ((old new : State) → RunsStatement text [] old new → Extends before after old new)
+
+-- a text of one of the ten tables that makes a table (`IsCreate`) makes the schema one table longer (`Makes`)
+makes : (before after : Schema) (table : Table) (text : List ℕ) → Has (map creation_of all_parts) text → IsCreate before after table text → Makes before after text
+makes before after table text listed is = (listed, run)
+  where
+    run : (old new : State) → RunsStatement text [] old new → Extends before after old new
+    run old new (inside, count, h) = extends before after table old new inside h.1.mode is.last (λ has. makes_table before after table text is old new count has h.0)
+
+-- a list whose elements have the texts of the ten tables, in order
+module _ {X : Type 0} (text : X → List ℕ) (xs : List X) (all : map text xs ≡ map creation_of all_parts) where
+  -- a list whose elements have the ten texts has ten elements
+  pub as_many : length xs ≡ table_count
+  as_many = sym (length-map xs text) ∙ ap length all
+
+  -- the text of index `i` makes the table of index `i`
+  pub makes_next : (i : ℕ) (d : X) → i < length xs → Makes (so_many i) (so_many (i + 1)) (text (get_or xs i d))
+  makes_next i d small =
+      let part = get_or all_parts i Own in
+      let few : i < length all_parts = subst (λ n. i < n) as_many small in
+      let is : text (get_or xs i d) ≡ creation_of part = sym (get_or-map text xs i d [] small) ∙ ap (λ (l : List (List ℕ)). get_or l i []) all ∙ get_or-map creation_of all_parts i Own [] few in
+      let listed : Has (map creation_of all_parts) (creation_of part) = has_map creation_of all_parts part (all_among all_parts refl part) in
+      subst (Makes (so_many i) (so_many (i + 1))) (sym is) (makes (so_many i) (so_many (i + 1)) (table_of part) (creation_of part) listed (made_at i Own few))
+
+-- ---- in a transaction
+
+module _ {S A : Type 0} (g : Ghosts S) {r : Result A Error} {a b : MutBor (Held S)} where
+  -- a write by the text of a part's table is one by the CREATE statements (`Creations`)
+  pub creating : {Does : State → State → Type 0} {before after : Schema} (text : List ℕ) → Makes before after text → Writes g (Only text []) Does r a b → Writes g Creations Does r a b
+  creating text makes one = among_only g text [] (makes.0, refl) one
+
+  -- running the text of a part's table is a write by the CREATE statements that makes one more table
+  pub made_by : {before after : Schema} (text : List ℕ) → Makes before after text → Writes g (Only text []) (RunsStatement text []) r a b → Writes g Creations (Extends before after) r a b
+  made_by text makes one = weaker g makes.1 (creating text makes one)

@@ -1,0 +1,143 @@
+-- Laws on rows whose values are of their columns' types: SQL stores them unchanged, inserted or updated.
+use Rattle.std.proofs.Common.{◌≡◌, ◌++◌, ◌+◌, ◌/◌, ℕ, pos, zero, suc, List, [], ◌∷◌, length, map, take, Some, refl, ap, ◌∙◌, subst, arith, nat_eq, false}
+use Rattle.std.specs.List.{range_with_len}
+use Rattle.std.proofs.Math.Nat.{div_self}
+use Rattle.std.proofs.lemmas.Bool.Decides.{nat_tests}
+use Rattle.std.proofs.lemmas.List.{append-nil, take_all}
+use Rattle.std.proofs.lemmas.List.FromFn.{length-map-range_with_len}
+use Rattle.sqlite.specs.declared.types.Value.{Value}
+use Rattle.sqlite.specs.declared.types.Value.TheVariants.{Null}
+use Rattle.sqlite.specs.Effect.{value_rows}
+use Rattle.sqlite.specs.Term.{Term, lit, col, eval_all}
+use Rattle.sqlite_sql.specs.Term.{eval}
+use Rattle.sqlite.specs.Order.{Row, column}
+use Rattle.sqlite.specs.Table.{Table}
+use Rattle.sqlite_schema.specs.declared.schema.Column.{Column}
+use Rattle.sqlite_schema.specs.Names.{place_of}
+use Rattle.sqlite_rules.specs.Cast.{cast, cast_all, cast_row}
+use Rattle.sqlite_trees.proofs.ListLemmas.{map-map}
+use Rattle.atl_sql.specs.Sets.{table, visible}
+use Rattle.atl_sql.specs.Tables.{number}
+use Rattle.atl_sql.specs.Shown.{int}
+use Rattle.atl_sql.proofs.Terms.{cast_null, cast_int}
+
+-- Each value is of its column's type, so that SQL stores it unchanged.
+abbrev pub Fits : List Column → Row → Type 0
+Fits [] [] = Unit {0}
+Fits [] (v ∷ vs) = ⊥
+Fits (c ∷ cs) [] = ⊥
+Fits (c ∷ cs) (v ∷ vs) = (cast c.kind v ≡ v) × Fits cs vs
+
+-- values that are of their columns' types are as many as the columns
+pub fits_length : (cs : List Column) (vs : Row) → Fits cs vs → length vs ≡ length cs
+fits_length [] [] fits = refl
+fits_length [] (v ∷ vs) fits = absurd fits
+fits_length (c ∷ cs) [] fits = absurd fits
+fits_length (c ∷ cs) (v ∷ vs) fits = ap suc (fits_length cs vs fits.1)
+
+-- SQL's casts leave values that are of their columns' types
+fits_cast : (cs : List Column) (vs : Row) → Fits cs vs → cast_all cs vs ≡ vs
+fits_cast [] [] fits = refl
+fits_cast [] (v ∷ vs) fits = absurd fits
+fits_cast (c ∷ cs) [] fits = absurd fits
+fits_cast (c ∷ cs) (v ∷ vs) fits = let here = fits.0 in let later = fits_cast cs vs fits.1 in cc
+
+-- ---- the columns of a row, one by one
+
+-- mapping a range that begins one higher is mapping the range by the shifted function
+shifted : {X : Type 0} (f g : ℕ → X) → ((k : ℕ) → f (k + 1) ≡ g k) → (a n : ℕ) → map f (range_with_len (a + 1) n) ≡ map g (range_with_len a n)
+shifted f g same a zero = refl
+shifted f g same a (suc n) = let here = same a in let later = shifted f g same (a + 1) n in cc
+
+-- column `k + 1` of a row is column `k` of the row without its first value
+next_column : (v : Value) (vs : Row) (k : ℕ) → column (v ∷ vs) (k + 1) ≡ column vs k
+next_column v vs k = let next : k + 1 ≡ suc k = omega arith in ap (column (v ∷ vs)) next
+
+-- all columns of a row, one by one, are the row
+each_column : (vs more : Row) → map (column (vs ++ more)) (range_with_len 0 (length vs)) ≡ vs
+each_column [] more = refl
+each_column (v ∷ vs) more = ap (λ (l : Row). v ∷ l) (shifted (column (v ∷ (vs ++ more))) (column (vs ++ more)) (next_column v (vs ++ more)) 0 (length vs) ∙ each_column vs more)
+
+-- all columns after the first, one by one, are the row without its first value
+each_behind : (v : Value) (vs more : Row) → map (column (v ∷ (vs ++ more))) (range_with_len 1 (length vs)) ≡ vs
+each_behind v vs more = shifted (column (v ∷ (vs ++ more))) (column (vs ++ more)) (next_column v (vs ++ more)) 0 (length vs) ∙ each_column vs more
+
+-- the column after the values is the next value
+column_behind : (vs : Row) (x : Value) (more : Row) → column (vs ++ x ∷ more) (length vs) ≡ x
+column_behind [] x more = refl
+column_behind (v ∷ vs) x more = column_behind vs x more
+
+-- ---- what the terms make of the parameters, which are a number and so many values
+
+-- the terms of the INSERT: the number and the values, from the parameters
+abbrev pub given_row : ℕ → List Term
+given_row width = col 0 0 ∷ lit Null ∷ map (col 0) (range_with_len 1 width)
+
+-- the terms of the UPDATE: the number of the row that is there, and the values from the parameters
+abbrev pub changed_row : ℕ → List Term
+changed_row width = col 1 0 ∷ lit Null ∷ map (col 0) (range_with_len 1 width)
+
+-- The terms of the INSERT and of the UPDATE make the row of this number and these values.
+pub record MakesRow (t : Table) (width number : ℕ) (values : Row) : Type 0 where
+  pub source : value_rows ((int number ∷ values) ++ []) (width + 2) (length (given_row width) / (width + 2)) (given_row width) ≡ (int number ∷ Null ∷ values) ∷ []
+  pub changed : (more r : Row) → eval_all (changed_row width) (((int number ∷ values) ++ more) ∷ r ∷ []) ≡ column r 0 ∷ Null ∷ values
+  pub casted : cast_row t (int number ∷ Null ∷ values) ≡ int number ∷ Null ∷ values
+  pub shown : visible t (int number ∷ Null ∷ values) ≡ int number ∷ values
+  pub aimed : (x : Value) (more : Row) → column ((int number ∷ values) ++ x ∷ more) (width + 1) ≡ x
+
+module _ (tree : ℕ) (name key_name : List ℕ) (columns : List Column) (uniques : List (List ℕ)) where
+  -- the table: the row's number as its key, and then these columns
+  abbrev t : Table
+  t = table tree name (number key_name ∷ columns) (Some 0) (0 ∷ []) uniques []
+
+  module _ (n : ℕ) (values : Row) (fits : Fits columns values) where
+    -- the number of values after the row's number
+    abbrev width : ℕ
+    width = length values
+
+    -- the row of the number and the values as it is stored
+    abbrev its_row : Row
+    its_row = int n ∷ Null ∷ values
+
+    -- the terms of the parameters after the first give the values
+    of_parameters : (more : Row) (rows : List Row) → eval_all (map (col 0) (range_with_len 1 width)) ((int n ∷ (values ++ more)) ∷ rows) ≡ values
+    of_parameters more rows = map-map (λ (t : Term). eval t ((int n ∷ (values ++ more)) ∷ rows)) (col 0) (range_with_len 1 width) ∙ each_behind (int n) values more
+
+    -- the terms of the INSERT make the row
+    source_is : value_rows ((int n ∷ values) ++ []) (width + 2) (length (given_row width) / (width + 2)) (given_row width) ≡ its_row ∷ []
+    source_is =
+        let counted : length (given_row width) ≡ width + 2 = omega (arith, length-map-range_with_len (col 0) 1 width) in
+        let once : length (given_row width) / (width + 2) ≡ 1 = ap (λ (n : ℕ). n / (width + 2)) counted ∙ div_self {n = width + 2} (omega arith) in
+        let all : take (width + 2) (given_row width) ≡ given_row width = take_all (width + 2) (given_row width) (omega (arith, counted)) in
+        ap (λ (count : ℕ). value_rows ((int n ∷ values) ++ []) (width + 2) count (given_row width)) once ∙ ap (λ (l : List Term). eval_all l (((int n ∷ values) ++ []) ∷ []) ∷ []) all ∙ ap (λ (l : Row). (int n ∷ Null ∷ l) ∷ []) (of_parameters [] [])
+
+    -- SQL shows the row as its number and its values
+    shown_is : visible t its_row ≡ int n ∷ values
+    shown_is =
+        let alone : map (column values) (range_with_len 0 width) ≡ values = subst (λ l. map (column l) (range_with_len 0 width) ≡ values) (append-nil values) (each_column values []) in
+        let behind : map (λ k. column its_row (place_of t k)) (range_with_len 1 width) ≡ values = shifted (λ k. column its_row (place_of t k)) (column values) second 0 width ∙ alone in
+        ap (λ l. int n ∷ l) (subst (λ w. map (λ k. column its_row (place_of t k)) (range_with_len 1 w) ≡ values) (fits_length columns values fits) behind)
+      where
+        second : (k : ℕ) → column its_row (place_of t (k + 1)) ≡ column values k
+        second k =
+            let apart : nat_eq 0 (k + 1) ≡ false = grind (arith, nat_tests) in
+            let place : place_of t (k + 1) ≡ suc (suc k) = rw apart (omega arith) in
+            ap (column its_row) place
+
+    -- SQL's casts leave the row unchanged
+    casted_is : cast_row t its_row ≡ its_row
+    casted_is = rw (cast_int (pos n), cast_null, fits_cast columns values fits) refl
+
+    -- the terms of INSERT and UPDATE make the row of the number and the values (`MakesRow`)
+    made : MakesRow t width n values
+    made = record {
+      source = source_is;
+      changed = λ more r. ap (λ l. column r 0 ∷ Null ∷ l) (of_parameters more (r ∷ []));
+      casted = casted_is;
+      shown = shown_is;
+      aimed = λ x more. next_column (int n) (values ++ x ∷ more) width ∙ column_behind values x more;
+    }
+
+    -- values that are of their columns' types make the row of the number and these values
+    pub makes_row : MakesRow t (length columns) n values
+    makes_row = subst (λ w. MakesRow t w n values) (fits_length columns values fits) made

@@ -1,0 +1,33 @@
+-- For proofs alone: what one statement makes of a database, a write of rows or a CREATE TABLE.
+use Rattle.std.specs.Prelude.{◌≡◌, ◌≢◌, ℕ, []}
+use Rattle.sqlite.specs.Effect.{Database, IsDatabase}
+use Rattle.sqlite.specs.State.{State}
+use Rattle.sqlite_rules.specs.Lists.{Has}
+use Rattle.sqlite_schema.specs.declared.schema.Schema.{Schema}
+use Rattle.sqlite_schema.specs.declared.schema.Table.{Table}
+use Rattle.atl_sql.specs.Sets.{Set, Is, rows_in}
+use Rattle.atl_sql.specs.Tables.{IsSoundDatabase}
+
+-- A statement wrote one table: its rows are the set `S`, and every other table is unchanged.
+-- The database is sound under its schema.
+pub record Makes (schema : Schema) (table : Table) (old new : Database) (S : Set) : Type 0 where
+  pub schema_is : new.schema ≡ schema
+  pub rows : Is (rows_in table new.trees) S
+  pub others : (t : Table) → Has schema.tables t → t.tree ≢ table.tree → new.trees t.tree ≡ old.trees t.tree
+  pub sound : IsSoundDatabase schema new.trees
+
+-- A CREATE TABLE inside a transaction added one table without rows.
+pub record Creates (before after : Schema) (tree : ℕ) (old new : Database) : Type 0 where
+  pub schema_is : new.schema ≡ after
+  pub empty : new.trees tree ≡ []
+  pub others : (t : Table) → Has before.tables t → new.trees t.tree ≡ old.trees t.tree
+  pub sound : IsDatabase new
+
+-- The database has this schema, and each of its tables is empty.
+pub record AreBare (schema : Schema) (db : Database) : Type 0 where
+  pub schema_is : db.schema ≡ schema
+  pub empty : (t : Table) → Has schema.tables t → db.trees t.tree ≡ []
+
+-- A step inside a transaction, which remains open: empty tables of the first schema become empty tables of the second.
+abbrev pub Extends : Schema → Schema → State → State → Type 0
+Extends before after old new = (new.in_transaction ≡ old.in_transaction) × (AreBare before old.now → AreBare after new.now × IsDatabase new.now)

@@ -1,0 +1,158 @@
+-- Laws on the rows that SQL shows of a table after a DELETE, an INSERT OR REPLACE and an upsert of the tree's rows.
+use Rattle.std.proofs.Common.{arith, ◌≡◌, ◌≢◌, ℕ, Bool, true, List, [], ◌∷◌, map, take, eqb, Option, None, Ok, sym, ap, ◌∙◌, subst, inl, inr, true≢false}
+use Rattle.std.specs.Ordering.{is_eq}
+use Rattle.std.proofs.lemmas.Bool.{cases_Bool}
+use Rattle.std.proofs.lemmas.Bool.Decides.{nat_tests}
+use Rattle.sqlite_value.specs.Order.{Row, value_cmp}
+use Rattle.sqlite_trees.specs.Tree.{Trees, rowid}
+use Rattle.sqlite_schema.specs.declared.schema.Table.{Table}
+use Rattle.sqlite_schema.specs.declared.schema.Schema.{Schema}
+use Rattle.sqlite_catalog.specs.Listing.{IsSound}
+use Rattle.sqlite_schema.specs.declared.command.Command.{Command}
+use Rattle.sqlite_rules.specs.Lists.{Has}
+use Rattle.sqlite_rules.specs.Cast.{cast_row}
+use Rattle.sqlite_rules.specs.Action.{works}
+use Rattle.sqlite_schema.specs.declared.schema.Keys.TheVariants.{Enforced}
+use Rattle.sqlite_sql.specs.Term.{Term, eval_all}
+use Rattle.sqlite_sql.specs.Program.{overlay}
+use Rattle.sqlite.specs.Effect.{Database, IsDatabase}
+use Rattle.sqlite.specs.State.{State, Writes}
+use Rattle.sqlite.specs.Does.{Does}
+use Rattle.atl_sql.specs.Sets.{visible, rows_in, Is, put, drop_key, IsKeyed}
+use Rattle.atl_sql.specs.Tables.{all_tables, IsSoundDatabase}
+use Rattle.atl_sql.proofs.Made.{Makes}
+use Rattle.atl_sql.proofs.ListLaws.{has_map, map_has, one_rowid}
+use Rattle.atl_sql.proofs.EditLaws.{Swaps, Loses}
+use Rattle.atl_sql.proofs.UpsertLaws.{hits, given, Upserted}
+use Rattle.atl_sql.proofs.StatementLaws.{mode}
+
+-- a statement that ran has done what its command means
+pub did : (schema : Schema) (old new : State) (command : Command) (text : List ℕ) (params : Row) (count : ℕ) → old.now.schema ≡ schema → (w : Writes old new None command text params count)
+    → Does old.step_limit mode params (record { schema = schema; trees = old.now.trees }) text None command (Ok (w.tally, new.now))
+did schema old new command text params count has w =
+    subst (λ s. Does old.step_limit mode params (record old.now { schema = s }) text None command (Ok (w.tally, new.now))) has w.changed
+
+module _ (schema : Schema) (among : (u : Table) → Has all_tables u → Has schema.tables u) (t : Table) (key : ℕ) where
+  -- a row that SQL shows of a list of stored rows is that of one of them
+  shown_again : (rows : List Row) (r : Row) → Has (map (visible t) rows) r → (x : Row) × Has rows x × (r ≡ visible t x)
+  shown_again rows r h = map_has (visible t) rows r h
+
+  -- The test finds exactly those rows of a list that have this key.
+  abbrev pub Tests : (Row → Bool) → Row → List Row → Type 0
+  Tests p k rows = (x : Row) → Has rows x → (p x ≡ true → take key (visible t x) ≡ k) × (take key (visible t x) ≡ k → p x ≡ true)
+
+  -- if the rows of a key are exchanged for a new row, the table's set of rows is the old one with the new row put
+  pub swaps_set : (p : Row → Bool) (n v : Row) (db next : Trees) → Swaps schema t p n db next → visible t n ≡ v → Tests p (take key v) (db t.tree)
+      → Is (rows_in t next) (put key v (Has (rows_in t db)))
+  swaps_set p n v db next swap is tests r = (
+    λ there.
+        let x = shown_again (next t.tree) r there in
+        elim (swap.from x.0 x.1) [
+          | inl same ↦ inl (x.2 ∙ ap (visible t) same ∙ is)
+          | inr was ↦ inr (
+            subst (Has (rows_in t db)) (sym x.2) (has_map (visible t) (db t.tree) x.0 was.0),
+            λ e. true≢false (sym ((tests x.0 was.0).1 (ap (take key) (sym x.2) ∙ e)) ∙ was.1),
+          )
+        ],
+    λ is_put. elim is_put [
+      | inl same ↦ subst (Has (rows_in t next)) (is ∙ sym same) (has_map (visible t) (next t.tree) n swap.there)
+      | inr was ↦
+          let x = shown_again (db t.tree) r was.0 in
+          subst (Has (rows_in t next)) (sym x.2) (has_map (visible t) (next t.tree) x.0 (swap.kept x.0 x.1 (elim (cases_Bool (p x.0)) [
+            | inl hit ↦ absurd (was.1 (ap (take key) x.2 ∙ (tests x.0 x.1).0 hit))
+            | inr miss ↦ miss
+          ])))
+    ],
+  )
+
+  -- if the rows of a key are gone, the table's set of rows is the old one without them
+  pub loses_set : (p : Row → Bool) (k : Row) (db next : Trees) → Loses schema t p db next → Tests p k (db t.tree) → Is (rows_in t next) (drop_key key k (Has (rows_in t db)))
+  loses_set p k db next lose tests r = (
+    λ there.
+        let x = shown_again (next t.tree) r there in
+        let was = lose.from x.0 x.1 in
+        (subst (Has (rows_in t db)) (sym x.2) (has_map (visible t) (db t.tree) x.0 was.0), λ e. true≢false (sym ((tests x.0 was.0).1 (ap (take key) (sym x.2) ∙ e)) ∙ was.1)),
+    λ was.
+        let x = shown_again (db t.tree) r was.0 in
+        subst (Has (rows_in t next)) (sym x.2) (has_map (visible t) (next t.tree) x.0 (lose.kept x.0 x.1 (elim (cases_Bool (p x.0)) [
+          | inl hit ↦ absurd (was.1 (ap (take key) x.2 ∙ (tests x.0 x.1).0 hit))
+          | inr miss ↦ miss
+        ]))),
+  )
+
+  -- the trees stay sound if the schema is unchanged and the written table's rowids are still different integers
+  pub stays_sound : (old new : Database) → IsSoundDatabase schema old.trees → IsDatabase new → new.schema ≡ schema → IsKeyed (new.trees t.tree)
+      → ((u : Table) → Has schema.tables u → u.tree ≢ t.tree → new.trees u.tree ≡ old.trees u.tree) → IsSoundDatabase schema new.trees
+  stays_sound old new sound base is keyed others = record {
+    keyed = λ u listed. elim (cases_Bool (eqb u.tree t.tree)) [
+      | inl same ↦ let e : u.tree ≡ t.tree = grind (arith, nat_tests) in subst (λ n. IsKeyed (new.trees n)) (sym e) keyed
+      | inr apart ↦ let other : u.tree ≢ t.tree = λ e. grind (arith, nat_tests) in subst IsKeyed (sym (others u (among u listed) other)) (sound.keyed u listed)
+    ];
+    listed = subst (λ s. IsSound s new.trees) is base;
+  }
+
+  -- swapping the rows of a key for a new row is a write of the table that puts the row
+  pub swaps_make : (p : Row → Bool) (n v : Row) (old new : Database) → Swaps schema t p n old.trees new.trees → visible t n ≡ v → Tests p (take key v) (old.trees t.tree)
+      → IsSoundDatabase schema old.trees → IsDatabase new → new.schema ≡ schema → Makes schema t old new (put key v (Has (rows_in t old.trees)))
+  swaps_make p n v old new swap shows tests sound base is = record {
+    schema_is = is;
+    rows = swaps_set p n v old.trees new.trees swap shows tests;
+    others = swap.others;
+    sound = stays_sound old new sound base is swap.keyed swap.others;
+  }
+
+  -- losing the rows of a key is a write of the table that drops the key
+  pub loses_make : (p : Row → Bool) (k : Row) (old new : Database) → Loses schema t p old.trees new.trees → Tests p k (old.trees t.tree)
+      → IsSoundDatabase schema old.trees → IsDatabase new → new.schema ≡ schema → Makes schema t old new (drop_key key k (Has (rows_in t old.trees)))
+  loses_make p k old new lose tests sound base is = record {
+    schema_is = is;
+    rows = loses_set p k old.trees new.trees lose tests;
+    others = lose.others;
+    sound = stays_sound old new sound base is lose.keyed lose.others;
+  }
+
+  module _ (unlinked : (olds news : List Row) → works schema Enforced 0 t.tree olds news ≡ []) (limit : Option ℕ) (params : Row) (target : List ℕ) (place : ℕ) (project : List Term)
+      (plain : (db : Trees) → overlay db [] t.tree ≡ db t.tree) (new v : Row) (old next : Database) where
+    -- What the row with the key is changed to shows the new values.
+    abbrev pub Changes : Type 0
+    Changes = (r : Row) → Has (old.trees t.tree) r → take key (visible t r) ≡ take key v → visible t (cast_row t (eval_all project (given schema t unlinked limit params target place project plain new r ∷ r ∷ []))) ≡ v
+
+    -- Two rows of the table with one key have one rowid.
+    abbrev pub OneRow : Type 0
+    OneRow = (x r : Row) → Has (old.trees t.tree) x → Has (old.trees t.tree) r → take key (visible t x) ≡ take key (visible t r) → is_eq (value_cmp (rowid x) (rowid r)) ≡ true
+
+    -- changing the row that has the key to the new values is a write of the table that puts the new row
+    over_make : (r : Row) → Has (old.trees t.tree) r → hits schema t unlinked limit params target place project plain new r ≡ true
+        → Swaps schema t (λ x. is_eq (value_cmp (rowid x) (rowid r))) (cast_row t (eval_all project (given schema t unlinked limit params target place project plain new r ∷ r ∷ []))) old.trees next.trees
+        → Changes → Tests (hits schema t unlinked limit params target place project plain new) (take key v) (old.trees t.tree) → OneRow
+        → Has all_tables t → IsSoundDatabase schema old.trees → IsDatabase next → next.schema ≡ schema → Makes schema t old next (put key v (Has (rows_in t old.trees)))
+    over_make r there hit over changed tests alone listed sound base is =
+        let same : take key (visible t r) ≡ take key v = (tests r there).0 hit in
+        swaps_make _ _ v old next over (changed r there same) (λ x k. (
+          λ e. ap (λ (y : Row). take key (visible t y)) (one_rowid (old.trees t.tree) (sound.keyed t listed).apart x r k there e) ∙ same,
+          λ e. alone x r k there (e ∙ sym same),
+        )) sound base is
+
+    -- an upsert puts the row, whether it inserted a row or updated one
+    pub upserts_make : Upserted schema t unlinked limit params target place project plain new old.trees next.trees → visible t (cast_row t new) ≡ v → Changes
+        → Tests (hits schema t unlinked limit params target place project plain new) (take key v) (old.trees t.tree) → OneRow
+        → Has all_tables t → IsSoundDatabase schema old.trees → IsDatabase next → next.schema ≡ schema → Makes schema t old next (put key v (Has (rows_in t old.trees)))
+    upserts_make (inl put_in) shows changed tests alone listed sound base is = swaps_make _ _ v old next put_in.1 shows tests sound base is
+    upserts_make (inr over) shows changed tests alone listed sound base is = over_make over.0 over.1 over.2 over.3 changed tests alone listed sound base is
+
+    -- if a row with the key is there, an upsert puts the row that its UPDATE makes, whatever its INSERT would have made
+    pub updates_make : Upserted schema t unlinked limit params target place project plain new old.trees next.trees → (r : Row) → Has (old.trees t.tree) r → take key (visible t r) ≡ take key v → Changes
+        → Tests (hits schema t unlinked limit params target place project plain new) (take key v) (old.trees t.tree) → OneRow
+        → Has all_tables t → IsSoundDatabase schema old.trees → IsDatabase next → next.schema ≡ schema → Makes schema t old next (put key v (Has (rows_in t old.trees)))
+    updates_make (inl put_in) r there same changed tests alone listed sound base is = absurd (true≢false (sym ((tests r there).1 same) ∙ put_in.0 r there))
+    updates_make (inr over) r there same changed tests alone listed sound base is = over_make over.0 over.1 over.2 over.3 changed tests alone listed sound base is
+
+    -- the trees are sound after an upsert
+    pub upserts_sound : Upserted schema t unlinked limit params target place project plain new old.trees next.trees → IsSoundDatabase schema old.trees → IsDatabase next → next.schema ≡ schema → IsSoundDatabase schema next.trees
+    upserts_sound (inl put_in) sound base is = stays_sound old next sound base is put_in.1.keyed put_in.1.others
+    upserts_sound (inr over) sound base is = stays_sound old next sound base is over.3.keyed over.3.others
+
+    -- an upsert leaves each other table
+    pub upserts_others : Upserted schema t unlinked limit params target place project plain new old.trees next.trees → (u : Table) → Has schema.tables u → u.tree ≢ t.tree → next.trees u.tree ≡ old.trees u.tree
+    upserts_others (inl put_in) = put_in.1.others
+    upserts_others (inr over) = over.3.others

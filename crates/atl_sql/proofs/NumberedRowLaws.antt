@@ -1,0 +1,53 @@
+-- Laws on the statements of each table whose key is the row's number: what they mean and do.
+use Rattle.std.proofs.Common.{ℕ, [], ◌∷◌, length, drop, nat_eq, unwrap_or, position, refl}
+use Rattle.sqlite_tied.specs.Compute.{everything}
+use Rattle.sqlite.specs.Listing.{understood}
+use Rattle.sqlite.specs.Order.{Row}
+use Rattle.atl_sql.specs.Tables.{Part, Own, Goods, Books, Markets, IsNumberedPart, table_of, all_parts}
+use Rattle.atl_sql.specs.Shown.{int}
+use Rattle.atl_sql.proofs.FitLaws.{Fits}
+use Rattle.atl_sql.proofs.NumberedLaws.{IsNumbered, puts_numbered, drops_numbered}
+use Rattle.atl_sql.proofs.PartLaws.{listed, tree_of}
+use Rattle.atl_sql.proofs.StatementLaws.{PutsRow, DropsKey}
+
+-- the index of a part's table among all tables
+abbrev pub place_in : Part → ℕ
+place_in part = unwrap_or (position (λ p. nat_eq (tree_of p) (tree_of part)) all_parts) 0
+
+-- how many values a row of a part's table has after its number
+abbrev width_of : Part → ℕ
+width_of part = length (drop 1 (table_of part).columns)
+
+-- the upsert and the DELETE of a table whose key is the row's number mean an upsert and a DELETE by the number
+numbered : (part : Part) → IsNumberedPart part → IsNumbered (table_of part) (place_in part) (width_of part)
+unfolding understood everything
+numbered Own is = absurd is
+numbered Goods is = absurd is
+numbered Books is = absurd is
+numbered Markets is = absurd is
+numbered part is = record {
+  ours = listed part;
+  place = λ more. refl;
+  plain = λ db. refl;
+  puts = λ more indexes. refl;
+  puts_plain = λ more indexes. (refl, refl);
+  drops = λ more indexes. refl;
+  drops_plain = λ more indexes. (refl, refl);
+  spared = λ new x. refl;
+}
+
+-- the upsert of a part whose key is the row's number puts the row
+pub puts_part : (part : Part) → IsNumberedPart part → (n : ℕ) (values : Row) → Fits (drop 1 (table_of part).columns) values → PutsRow (table_of part) 1 (int n ∷ values)
+puts_part Own is = absurd is
+puts_part Goods is = absurd is
+puts_part Books is = absurd is
+puts_part Markets is = absurd is
+puts_part part is = puts_numbered (table_of part).tree _ _ _ _ (place_in part) (numbered part is)
+
+-- the DELETE of a part whose key is the row's number removes the row of that number
+pub drops_part : (part : Part) → IsNumberedPart part → (n : ℕ) → DropsKey (table_of part) 1 (int n ∷ [])
+drops_part Own is = absurd is
+drops_part Goods is = absurd is
+drops_part Books is = absurd is
+drops_part Markets is = absurd is
+drops_part part is = drops_numbered (table_of part).tree _ _ _ _ (place_in part) (numbered part is)

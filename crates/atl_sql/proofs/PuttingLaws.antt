@@ -1,0 +1,76 @@
+-- Laws on writing the rows of a list step by step: all steps together, or up to an error, write the whole list.
+use Rattle.std.proofs.Common.{◌≡◌, ◌++◌, ℕ, List, [], ◌∷◌, Result, Ok, Err, refl, sym, subst, inl}
+use Rattle.std.specs.Borrow.{MutBor}
+use Rattle.sqlite_trees.specs.declared.store.Store.{Ghosts}
+use Rattle.sqlite.specs.declared.error.Error.{Error}
+use Rattle.sqlite.specs.Held.{Held}
+use Rattle.sqlite.specs.Order.{Row}
+use Rattle.sqlite.specs.State.{State}
+use Rattle.sqlite.specs.Table.{Table}
+use Rattle.sqlite_rules.specs.Lists.{Has}
+use Rattle.sqlite_rules.proofs.ListLemmas.{has_left, has_right}
+use Rattle.atl_sql.specs.Inside.{Inside, HasTables}
+use Rattle.atl_sql.specs.Statements.{upsert, Each}
+use Rattle.atl_sql.specs.Writes.{Writes, WritesRow, WritesRows}
+use Rattle.atl_sql.proofs.PutsLaws.{Towards, inside_rows, inside_both, none_yet, none_put, one_put, all_put}
+use Rattle.atl_sql.proofs.WriteLaws.{HandsOn, SoFar, begins, goes_on, stops, stops_second, two_steps, weaker, among, among_each}
+
+-- Some of the rows are put without an error, and `rest` is still to put.
+pub record Putting {S : Type 0} (g : Ghosts S) (table : Table) (key : ℕ) (rest all : List Row) (old now : MutBor (Held S)) : Type 0 where
+  pub so_far : SoFar g (Each (upsert table key) (Has all)) (Inside HasTables (Towards table key rest all)) old now
+  pub left : (row : Row) → Has rest row → Has all row
+
+module _ {S : Type 0} (g : Ghosts S) (table : Table) (key : ℕ) where
+  -- ---- lists of rows and their parts
+
+  -- writing a list of rows is writing an equal list
+  pub same_written : (xs ys : List Row) {A : Type 0} {r : Result A Error} {a b : MutBor (Held S)} → xs ≡ ys → WritesRows g table key xs r a b → WritesRows g table key ys r a b
+  same_written xs ys {r = r} {a = a} {b = b} same done = subst (λ (rows : List Row). WritesRows g table key rows r a b) same done
+
+  -- writing no row does nothing
+  pub none_written : (rows : List Row) {A : Type 0} {x : A} {a : MutBor (Held S)} → rows ≡ [] → WritesRows g table key rows (Ok x) a a
+  none_written rows none = begins g (none_put table key rows none)
+
+  -- writing one row writes a list of one
+  pub one_written : (row : Row) (rows : List Row) {A : Type 0} {r : Result A Error} {a b : MutBor (Held S)} → rows ≡ row ∷ [] → WritesRow g table key row r a b → WritesRows g table key rows r a b
+  one_written row rows is done =
+      among g (λ sql params only. (only.0, subst (λ (l : List Row). Has l params) (sym is) (inl only.1))) (weaker g (one_put table key row rows is) done)
+
+  module _ (xs ys : List Row) where
+    -- a write of rows of the first list is one of rows of both lists joined
+    first_part : {Does : State → State → Type 0} {A : Type 0} {r : Result A Error} {a b : MutBor (Held S)} → Writes g (Each (upsert table key) (Has xs)) Does r a b → Writes g (Each (upsert table key) (Has (xs ++ ys))) Does r a b
+    first_part done = among_each g (upsert table key) (Has xs) (λ row there. (refl, has_left xs ys row there)) done
+
+    -- writing two lists writes both joined
+    pub both_written : {A X : Type 0} {x : X} {r : Result A Error} {a b c : MutBor (Held S)} → WritesRows g table key xs (Ok x) a b → WritesRows g table key ys r b c → WritesRows g table key (xs ++ ys) r a c
+    both_written one two = two_steps g (inside_both table key xs ys) (first_part one) (among_each g (upsert table key) (Has ys) (λ row there. (refl, has_right xs ys row there)) two)
+
+    -- a failure to write the first list is one to write both
+    pub first_failed : {A X : Type 0} {e : Error} {r : Result A Error} {a b : MutBor (Held S)} → WritesRows {A = X} g table key xs (Err e) a b → HandsOn e r → WritesRows g table key (xs ++ ys) r a b
+    first_failed one failed = stops g (first_part one) failed
+
+  -- ---- in a loop
+
+  -- before the first row is put, the whole list is still to put
+  pub putting_begins : (rest all : List Row) {a : MutBor (Held S)} → rest ≡ all → Putting g table key rest all a a
+  putting_begins rest all same = record { so_far = begins g (none_yet table key rest all same); left = λ row there. subst (λ (l : List Row). Has l row) same there }
+
+  module _ (xs rest was all : List Row) (is : was ≡ xs ++ rest) where
+    -- a write of the next rows is one of rows of the whole list
+    next_part : {old now : MutBor (Held S)} {Does : State → State → Type 0} {A : Type 0} {r : Result A Error} {a b : MutBor (Held S)} → Putting g table key was all old now → Writes g (Each (upsert table key) (Has xs)) Does r a b → Writes g (Each (upsert table key) (Has all)) Does r a b
+    next_part so_far more = among_each g (upsert table key) (Has xs) (λ row there. (refl, so_far.left row (subst (λ (l : List Row). Has l row) (sym is) (has_left xs rest row there)))) more
+
+    -- putting the next rows without an error leaves the rest to put
+    pub putting_more : {u : Unit {0}} {a b c : MutBor (Held S)} → Putting g table key was all a b → WritesRows g table key xs (Ok u) b c → Putting g table key rest all a c
+    putting_more so_far more = record {
+      so_far = goes_on g (λ old mid new did next. inside_rows table key xs rest all old mid new (subst (λ (l : List Row). Inside HasTables (Towards table key l all) old mid) is did) next) so_far.so_far (next_part so_far more);
+      left = λ row there. so_far.left row (subst (λ (l : List Row). Has l row) (sym is) (has_right xs rest row there));
+    }
+
+    -- if the next rows can't be put, the write of the whole list ends with this error
+    pub putting_failed : {Does : State → State → Type 0} {A X : Type 0} {e : Error} {r : Result A Error} {a b c : MutBor (Held S)} → Putting g table key was all a b → WritesRows {A = X} g table key xs (Err e) b c → HandsOn e r → Writes g (Each (upsert table key) (Has all)) Does r a c
+    putting_failed so_far more failed = stops_second g so_far.so_far (next_part so_far more) failed
+
+  -- when no row is left to put, the whole list is written
+  pub putting_ends : (rest all : List Row) {a b : MutBor (Held S)} → rest ≡ [] → Putting g table key rest all a b → WritesRows {A = Unit {0}} g table key all (Ok (tt {0})) a b
+  putting_ends rest all none so_far = weaker g (all_put table key rest all none) so_far.so_far

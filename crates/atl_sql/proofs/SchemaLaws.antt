@@ -1,0 +1,108 @@
+-- Laws on the tests of a schema: if they pass, the schema begins with the tables of a campaign.
+use Rattle.std.proofs.Common.{◌≡◌, ◌==◌, ◌||◌, inl, inr, ℕ, ◌≤◌, ◌<◌, ◌++◌, Bool, true, false, codes, List, [], ◌∷◌, length, get_or, take, map, append_assoc, refl, sym, ap, ◌∙◌, subst, arith}
+use Rattle.std.proofs.lemmas.Bool.{and_right, or_parts}
+use Rattle.std.proofs.lemmas.List.{take-map}
+use Rattle.std.specs.Bool.{Decides}
+use Rattle.std.specs.List.{AllByRecursion, list_any}
+use Rattle.std.specs.Fmt.{decimal}
+use Rattle.std.proofs.lemmas.Fmt.{decimal_digit}
+use Rattle.sqlite_value.specs.Keys.{plain}
+use Rattle.sqlite_schema.specs.declared.schema.Schema.{Schema}
+use Rattle.sqlite_schema.specs.declared.schema.Table.{Table}
+use Rattle.sqlite_schema.specs.declared.schema.Index.{Index}
+use Rattle.sqlite_schema.specs.Rules.{guards}
+use Rattle.sqlite_rules.specs.Lists.{Has}
+use Rattle.sqlite_rules.proofs.ListLemmas.{all_has, all_from, has_left, has_either}
+use Rattle.sqlite_trees.proofs.ListLemmas.{all-append}
+use Rattle.atl_sql.specs.Tables.{all_tables, all_indexes, all_trees, IsHarmless, AreTables, AreIndexes, Begins}
+
+-- a list with one element, which is `x` by its index, is the list of `x` alone
+pub only_one : {A : Type 0} (xs : List A) (x d : A) → 1 ≤ length xs → length xs < 2 → d ≡ get_or xs 0 d → d ≡ x → xs ≡ x ∷ []
+only_one [] x d least most is same = absurd (omega (arith, least))
+only_one (y ∷ []) x d least most is same = ap (λ z. z ∷ []) (sym is ∙ same)
+only_one (y ∷ z ∷ xs) x d least most is same = absurd (omega (arith, most))
+
+-- a test for the index name that ends in the byte 49 is one for the name that the database makes, with the number 1
+pub named : (name : List ℕ) (tree table : ℕ) (key : List ℕ) (found : Index) (r : Bool)
+    → Decides r (found ≡ record { name = codes "sqlite_autoindex_" ++ (name ++ (codes "_" ++ 49 ∷ [])); tree = tree; table = table; columns = key; order = plain; is_unique = true })
+    → Decides r (found ≡ record { name = codes "sqlite_autoindex_" ++ (name ++ (codes "_" ++ decimal 1)); tree = tree; table = table; columns = key; order = plain; is_unique = true })
+named name tree table key found r decides =
+    subst (λ (d : List ℕ). Decides r (found ≡ record { name = codes "sqlite_autoindex_" ++ (name ++ (codes "_" ++ d)); tree = tree; table = table; columns = key; order = plain; is_unique = true })) (sym (decimal_digit 1 (omega arith))) decides
+
+-- a unique index that makes nothing unique in these tables is an index of none of them
+pub spares : (i : Index) (tables : List Table) → i.is_unique ≡ true → ((t : Table) → Has tables t → guards i t ≡ false)
+    → list_any (λ t. i.table == t.tree) tables ≡ false
+spares i [] unique spared = refl
+spares i (t ∷ tables) unique spared =
+    let first : (i.table == t.tree) ≡ false = rw unique at (spared t (inl refl)) in
+    let rest = spares i tables unique (λ u there. spared u (inr there)) in
+    rw (first, rest) refl
+
+-- an index of another table makes nothing unique in these tables
+pub guards_not : (i : Index) (tables : List Table) → list_any (λ t. i.table == t.tree) tables ≡ false → (t : Table) → Has tables t
+    → guards i t ≡ false
+guards_not i [] none t there = absurd there
+guards_not i (x ∷ tables) none t (inl same) = ap (λ (u : Table). guards i u) same ∙ and_right i.is_unique _ (or_parts _ _ none).0
+guards_not i (x ∷ tables) none t (inr later) = guards_not i tables (or_parts _ _ none).1 t later
+
+-- ---- the trees of the first tables
+
+-- some element of a mapped list passes a test exactly if some element's image does
+any_mapped : {A B : Type 0} (f : A → B) (p : B → Bool) (xs : List A) → list_any p (map f xs) ≡ list_any (λ x. p (f x)) xs
+any_mapped f p [] = refl
+any_mapped f p (x ∷ xs) = ap (λ b. p (f x) || b) (any_mapped f p xs)
+
+-- if the elements have the trees of all tables, the first `count` have those of the first `count` tables
+pub our_trees : {X : Type 0} (tree_of : X → ℕ) (xs : List X) → map tree_of xs ≡ all_trees → (tree count : ℕ)
+    → list_any (λ x. tree == tree_of x) (take count xs) ≡ list_any (λ t. tree == t.tree) (take count all_tables)
+our_trees tree_of xs same tree count =
+    sym (any_mapped tree_of (λ n. tree == n) (take count xs))
+    ∙ ap (list_any (λ n. tree == n)) (sym (take-map tree_of count xs) ∙ ap (take count) same ∙ take-map (λ (t : Table). t.tree) count all_tables)
+    ∙ any_mapped (λ (t : Table). t.tree) (λ n. tree == n) (take count all_tables)
+
+-- ---- the whole schema
+
+module _ (count keys : ℕ) (schema : Schema) where
+  -- a schema whose tables, indexes and views pass the tests begins with the first tables and indexes
+  pub begins_made : AreTables count schema.tables → AreIndexes count keys schema.indexes → schema.views ≡ [] → Begins count keys schema
+  begins_made tables indexes none = record {
+    tables = tables.others;
+    indexes = indexes.others;
+    is =
+        ap (λ (v : List _). record { tables = schema.tables; indexes = schema.indexes; views = v }) none
+        ∙ ap (λ (i : List Index). record { tables = schema.tables; indexes = i; views = [] }) indexes.is
+        ∙ ap (λ (t : List Table). record { tables = t; indexes = take keys all_indexes ++ indexes.others; views = [] }) tables.is;
+    free = tables.free;
+    plain = λ i there. all_has (IsHarmless count) indexes.others i indexes.plain there;
+  }
+
+  -- a schema that begins with the first tables and indexes has the first tables, and then others without a foreign key
+  pub its_tables : Begins count keys schema → AreTables count schema.tables
+  its_tables begins = record { others = begins.tables; is = ap (λ (s : Schema). s.tables) begins.is; free = begins.free }
+
+  -- a schema that begins with the first tables and indexes has the first indexes, and then harmless ones
+  pub its_indexes : Begins count keys schema → AreIndexes count keys schema.indexes
+  its_indexes begins = record { others = begins.indexes; is = ap (λ (s : Schema). s.indexes) begins.is; plain = all_from (IsHarmless count) begins.indexes begins.plain }
+
+  -- a schema that begins with the first tables and indexes has no views
+  pub no_views : Begins count keys schema → schema.views ≡ []
+  no_views begins = ap (λ (s : Schema). s.views) begins.is
+
+  -- A schema that begins with some tables and indexes begins with fewer of them too.
+  -- Premises: the tables between have no foreign key, and the indexes between make nothing unique in the fewer tables.
+  pub begins_with_fewer : (fewer fewer_keys : ℕ) (tables : List Table) (indexes : List Index)
+      → take count all_tables ≡ take fewer all_tables ++ tables → take keys all_indexes ≡ take fewer_keys all_indexes ++ indexes
+      → AllByRecursion (λ t. t.references ≡ []) tables → AllByRecursion (IsHarmless fewer) indexes → Begins count keys schema → Begins fewer fewer_keys schema
+  begins_with_fewer fewer fewer_keys tables indexes first first_keys free plain begins = record {
+    tables = tables ++ begins.tables;
+    indexes = indexes ++ begins.indexes;
+    is =
+        begins.is
+        ∙ ap (λ (t : List Table). record { tables = t; indexes = take keys all_indexes ++ begins.indexes; views = [] }) (ap (λ l. l ++ begins.tables) first ∙ append_assoc (take fewer all_tables) tables begins.tables)
+        ∙ ap (λ (i : List Index). record { tables = take fewer all_tables ++ (tables ++ begins.tables); indexes = i; views = [] }) (ap (λ l. l ++ begins.indexes) first_keys ∙ append_assoc (take fewer_keys all_indexes) indexes begins.indexes);
+    free = all-append _ tables begins.tables free begins.free;
+    plain = λ i there. elim (has_either indexes begins.indexes i there) [
+      | inl between ↦ all_has (IsHarmless fewer) indexes i plain between
+      | inr behind ↦ λ t ours. begins.plain i behind t (subst (λ l. Has l t) (sym first) (has_left (take fewer all_tables) tables t ours))
+    ];
+  }

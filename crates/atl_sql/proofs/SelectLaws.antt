@@ -1,0 +1,102 @@
+-- Laws on the SELECTs of the ten tables: each shows each row of its table once, if the schema begins with the tables.
+use Rattle.std.proofs.Common.{◌≡◌, ◌++◌, ℕ, false, List, [], ◌∷◌, IsPermutation, length, map, take, refl, sym, subst}
+use Rattle.std.specs.List.{range_with_len}
+use Rattle.sqlite_tied.specs.Compute.{everything}
+use Rattle.sqlite.specs.Command.TheVariants.{Select}
+use Rattle.sqlite.specs.declared.types.Value.TheVariants.{Null}
+use Rattle.sqlite.specs.Term.{Term, col}
+use Rattle.sqlite.specs.Collation.TheVariants.{Binary}
+use Rattle.sqlite.specs.Listing.{understood, reads_listing}
+use Rattle.sqlite.specs.Order.{Row}
+use Rattle.sqlite.specs.Program.{overlay}
+use Rattle.sqlite.specs.Schema.{Schema}
+use Rattle.sqlite.specs.Table.{Table}
+use Rattle.sqlite_catalog.specs.Listing.{automatic}
+use Rattle.sqlite_rules.proofs.ListLemmas.{all_has}
+use Rattle.sqlite_schema.specs.Rules.{guards}
+use Rattle.sqlite_schema.specs.declared.schema.Index.{Index}
+use Rattle.sqlite.proofs.Callers.{IsPlain, command_of, reads_as}
+use Rattle.sqlite_value.specs.Keys.{ascending}
+use Rattle.sqlite_schema.specs.Names.{place_of}
+use Rattle.sqlite_sql.specs.Term.{eval_all}
+use Rattle.sqlite_trees.specs.Tree.{Trees}
+use Rattle.atl_tables.specs.declared.format.Format.{Format}
+use Rattle.atl_tables.specs.declared.format.Format.TheVariants.{First, Second}
+use Rattle.atl_sql.specs.Tables.{Part, Own, Goods, Books, Markets, has_table, books_table, table_of, market_table, market_unique, all_tables, first_and, table_count_in, index_count_in, IsHarmless, HasTablesOf}
+use Rattle.atl_sql.specs.Reading.{listing_of}
+use Rattle.atl_sql.specs.Stored.{first_columns}
+use Rattle.atl_sql.proofs.ReadLaws.{all_query, all_shown}
+use Rattle.atl_sql.proofs.RowsLaws.{Reads}
+use Rattle.atl_sql.proofs.SchemaLaws.{begins_with_fewer}
+use Rattle.atl_sql.proofs.ShownLaws.{whole_shown}
+
+-- ---- the formats
+
+-- the automatic index of `market` is harmless to the nine tables of the first format
+market_harmless : IsHarmless 9 (automatic market_table 0 market_unique 13)
+market_harmless t there = all_has (λ t. guards (automatic market_table 0 market_unique 13) t ≡ false) (take 9 all_tables) t (refl, (refl, (refl, (refl, (refl, (refl, (refl, (refl, (refl, tt))))))))) there
+
+-- a schema with the tables of a format has those of the first format
+pub has_first : (f : Format) (schema : Schema) → HasTablesOf f schema → HasTablesOf First schema
+has_first First schema has = has
+has_first Second schema has = begins_with_fewer 10 4 schema 9 3 (market_table ∷ []) (automatic market_table 0 market_unique 13 ∷ []) refl refl (refl, tt) (market_harmless, tt) has
+
+-- ---- columns
+
+-- the first `count` columns of a stored row, by their index in it, without the rowid
+abbrev first : Table → ℕ → List Term
+first t count = map (λ at. col 1 (place_of t at)) (range_with_len 0 count)
+
+-- the rowid of a stored row
+abbrev kept_at : Term
+kept_at = col 1 0
+
+-- all columns of a table, and after them the rowid, if the key isn't the row's number
+abbrev columns_of : Part → List Term
+columns_of Goods = first has_table 4 ++ kept_at ∷ []
+columns_of Books = first books_table 3 ++ kept_at ∷ []
+columns_of Markets = first market_table 3 ++ kept_at ∷ []
+columns_of part = first (table_of part) (length (table_of part).columns)
+
+-- the number of columns of the key of a part's table
+abbrev key_of : Part → ℕ
+key_of Goods = 3
+key_of Books = 2
+key_of Markets = 2
+key_of part = 1
+
+-- ---- a SELECT of all rows
+
+-- The SELECT of a part means, whatever other tables follow: these columns of all rows, in the order of the key.
+-- The rows of its listing are just these.
+record IsMeant (part : Part) : Type 0 where
+  command : (more : List Table) (indexes : List Index)
+      → command_of (understood (first_and (table_count_in (listing_of part).since) (index_count_in (listing_of part).since) more indexes) (listing_of part).select)
+      ≡ Select (record { lets = []; body = all_query (table_of part).tree (columns_of part) (map (λ column. (column, ascending Binary)) (first (table_of part) (key_of part))) }) (listing_of part).names
+  plain : (more : List Table) (indexes : List Index) → IsPlain (understood (first_and (table_count_in (listing_of part).since) (index_count_in (listing_of part).since) more indexes) (listing_of part).select)
+  unlisted : (more : List Table) (indexes : List Index) → reads_listing (first_and (table_count_in (listing_of part).since) (index_count_in (listing_of part).since) more indexes) (listing_of part).select ≡ false
+  same : (db : Trees) → overlay db [] (table_of part).tree ≡ db (table_of part).tree
+  rows : (db : Trees) → map (λ r. eval_all (columns_of part) ([] ∷ r ∷ [])) (db (table_of part).tree) ≡ (listing_of part).in_table db
+  whole : (r : Row) → first_columns (length (listing_of part).names) (eval_all (columns_of part) ([] ∷ r ∷ [])) ≡ eval_all (columns_of part) ([] ∷ r ∷ [])
+
+-- the SELECT of each part means the columns of all rows, in the order of the key (`IsMeant`)
+meant : (part : Part) → IsMeant part
+unfolding understood everything
+meant Own = record { command = λ more indexes. refl; plain = λ more indexes. (refl, refl); unlisted = λ more indexes. refl; same = λ db. refl; rows = λ db. refl; whole = λ r. refl }
+meant part = record { command = λ more indexes. refl; plain = λ more indexes. (refl, refl); unlisted = λ more indexes. refl; same = λ db. refl; rows = λ db. refl; whole = λ r. refl }
+
+-- the SELECT of each part shows all rows of its table
+pub reads_part : (part : Part) (count : ℕ) → count ≡ length (listing_of part).names → Reads (listing_of part).since (listing_of part).select (listing_of part).in_table count
+reads_part part count same old new rows h has =
+    let listing = listing_of part in
+    let is = meant part in
+    let shown : Row → Row = λ r. eval_all (columns_of part) ([] ∷ r ∷ []) in
+    let cut = first_columns (length listing.names) in
+    let got = reads_as listing.select [] old new (first_and (table_count_in listing.since) (index_count_in listing.since) has.tables has.indexes) has.is _ (is.command has.tables has.indexes) (is.plain has.tables has.indexes) (is.unlisted has.tables has.indexes) rows h in
+    let all = all_shown (table_of part).tree (columns_of part) _ old.now.trees (overlay old.now.trees []) [] rows (is.same old.now.trees) (got.answer Null) in
+    let told : IsPermutation (listing.in_table old.now.trees) (map cut rows) = subst (λ was. IsPermutation was (map cut rows)) (is.rows old.now.trees) (whole_shown shown cut is.whole (old.now.trees (table_of part).tree) rows all) in
+    subst (λ n. IsPermutation (listing.in_table old.now.trees) (map (first_columns n) rows)) (sym same) told
+
+-- the SELECT of each part is a query that can commit nothing (`IsPlain`)
+pub part_plain : (part : Part) (schema : Schema) → HasTablesOf (listing_of part).since schema → IsPlain (understood schema (listing_of part).select)
+part_plain part schema has = subst (λ s. IsPlain (understood s (listing_of part).select)) (sym has.is) ((meant part).plain has.tables has.indexes)

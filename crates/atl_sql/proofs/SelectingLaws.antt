@@ -1,0 +1,153 @@
+-- Laws on a SELECT inside a transaction: what it leaves, and what is left once the transaction is rolled back.
+use Rattle.std.proofs.Common.{◌≡◌, ◌≢◌, ◌≤◌, ◌⊎◌, ℕ, Bool, List, [], true, false, cond, IsTrue, Option, Some, None, Result, Ok, Err, IsErrAnd, IfOk, IfErr, map, length, refl, sym, ap, ◌∙◌, subst, inl, inr, arith}
+use Rattle.std.specs.declared.vec.Vec.{Vec}
+use Rattle.sqlite_trees.specs.declared.store.Store.{Ghosts}
+use Rattle.sqlite_schema.specs.declared.command.Returning.{Returning}
+use Rattle.sqlite.specs.declared.error.Error.{Error}
+use Rattle.sqlite.specs.Held.{Held, state}
+use Rattle.sqlite.specs.Order.{Row}
+use Rattle.sqlite.specs.State.{State, HasCleanDisk, Survives, KeepsCommit, IsRolledBack, Writes, Shown, ShowsRows, FailsToQuery, FailsToShow, IsNotRun, IsTooLate}
+use Rattle.sqlite.proofs.InsideLemmas.{unchanged_keeps}
+use Rattle.sqlite.proofs.Callers.{survives_begin}
+use Rattle.atl_sql.specs.Errors.{is_memory, is_failure, read_fault}
+use Rattle.atl_sql.specs.Reading.{Rests, IsAsked, Asks, ReadsRows, RefusesToSelect}
+use Rattle.atl_sql.specs.Stored.{Form, first_columns, AreTyped}
+use Rattle.atl_sql.specs.declared.fault.ReadFault.{ReadFault}
+use Rattle.atl_sql.specs.declared.fault.ReadFault.TheVariants.{Store, Refused, Memory, OtherType}
+use Rattle.atl_sql.proofs.KeepLaws.{survives_more, if_ok, if_err}
+
+module _ (old new : State) (inside : IsTrue old.in_transaction) (sql : List ℕ) (params : Row) where
+  -- a statement that wrote inside a transaction commits nothing
+  writes_keep : (what : Option Returning) (command : _) (text : List ℕ) (row : Row) (count : ℕ) → Writes old new what command text row count → KeepsCommit old new
+  writes_keep what command text row count w = record { was_open = λ _. w.shown.was_open; committed = λ _. w.shown.committed_is ∙ ap (λ b. cond b old.committed new.now) inside }
+
+  -- a SELECT that shows rows one by one commits nothing
+  shows_keep : (c : _) (row : Row) (rows : List Row) (what : Option Returning) → ShowsRows old new sql c row rows what → KeepsCommit old new
+  shows_keep c row rows None h = unchanged_keeps old new (inl h.3)
+  shows_keep c row rows (Some what) h = writes_keep (Some what) _ _ row h.0 h.1
+
+  -- a SELECT that shows rows commits nothing
+  pub shown_keeps : (rows : List Row) → Shown sql params old new rows → KeepsCommit old new
+  unfolding Shown
+  shown_keeps rows h = shows_keep h.0 _ rows h.0.returning h.2
+
+  -- a SELECT that fails while it shows rows commits nothing
+  fails_keep : (c : _) (row : Row) (e : Error) (what : Option Returning) → FailsToShow old new sql c row e what → KeepsCommit old new
+  fails_keep c row e None h = unchanged_keeps old new (inl h.3)
+  fails_keep c row e (Some what) (inl h) = unchanged_keeps old new (inl h.1)
+  fails_keep c row e (Some what) (inr h) = unchanged_keeps old new (inr h.3)
+
+  -- a SELECT that is refused commits nothing
+  pub refused_keeps : (e : Error) → FailsToQuery sql params old new e ⊎ IsTooLate sql params old new e → KeepsCommit old new
+  unfolding FailsToQuery IsNotRun
+  refused_keeps e (inl (inl (inl h))) = unchanged_keeps old new (inl h.1)
+  refused_keeps e (inl (inl (inr h))) = unchanged_keeps old new (inr h.3)
+  refused_keeps e (inl (inr h)) = fails_keep h.0 _ e h.0.returning h.2
+  refused_keeps e (inr h) = unchanged_keeps old new (inl h.5)
+
+-- ---- once the transaction is rolled back
+
+-- a count of failures is at least itself
+pub no_fewer : (faults : ℕ) → faults ≤ faults
+no_fewer faults = omega arith
+
+module _ {S : Type 0} (g : Ghosts S) (sql : List ℕ) (old begun mid end : Held S) (begins : begun ≡ record old { in_transaction = true }) (ended : end.in_transaction ≡ false)
+    (one : Survives (state g begun) (state g mid) (λ _. ⊥)) (back : HasCleanDisk (state g end) → IsRolledBack (state g mid) (state g end)) (two : Survives (state g mid) (state g end) (λ _. ⊥)) where
+  -- after BEGIN the connection is in a transaction
+  begun_inside : IsTrue (state g begun).in_transaction
+  begun_inside = ap (λ (h : Held S). h.in_transaction) begins
+
+  -- BEGIN, the SELECT and the rollback together commit nothing
+  survived : Survives (state g old) (state g end) (λ _. ⊥)
+  survived = survives_begin g old (state g end) _ (subst (λ h. Survives (state g h) (state g end) (λ _. ⊥)) begins (survives_more (state g begun) (state g mid) (state g end) one two))
+
+  -- after the rollback the connection is at rest (`Rests`): its tables are those of the last commit
+  rests : (HasCleanDisk (state g mid) → KeepsCommit (state g begun) (state g mid)) → HasCleanDisk (state g end) → Rests (state g old) (state g end)
+  rests keeps clean =
+      let kept = subst (λ h. KeepsCommit (state g h) (state g mid)) begins (keeps (omega (arith, two.clean))) in
+      let rolled = back clean in
+      record {
+        was_open = λ up. kept.was_open (rolled.was_open up);
+        same = λ up. let was = rolled.undone up in let same = kept.committed (rolled.was_open up) in (inl (was.0 ∙ same), was.1 ∙ same);
+      }
+
+  -- the SELECT is asked of the tables as they were before BEGIN
+  select_of : IsAsked (state g old) (state g begun)
+  select_of = subst (λ h. IsAsked (state g old) (state g h)) (sym begins) (record { was_open = λ up. up; is_open = λ up. up; same = refl; limit = refl; faults = no_fewer (state g old).faults })
+
+  -- if the SELECT showed rows before the rollback, these are the result of asking it (`Asks`)
+  pub showed : {Z : Type 0} (rows : Vec Row Z) → (HasCleanDisk (state g mid) → Shown sql [] (state g begun) (state g mid) rows.items) → Asks g sql old {Z = Z} (Ok rows) end
+  showed rows ok = record {
+    rows = λ clean. (begun, mid, select_of, ok (omega (arith, two.clean)));
+    refused = λ _. tt;
+    rests = rests (λ before. shown_keeps _ _ begun_inside sql [] rows.items (ok before));
+    survives = survived;
+    idle = ended;
+  }
+
+  -- inside a transaction a SELECT is never too late (`IsTooLate`): one that is refused failed as a query
+  not_late : (e : Error) → FailsToQuery sql [] (state g begun) (state g mid) e ⊎ IsTooLate sql [] (state g begun) (state g mid) e → FailsToQuery sql [] (state g begun) (state g mid) e
+  not_late e (inl failed) = failed
+  not_late e (inr late) = absurd (let no = sym begun_inside ∙ late.3 in cc)
+
+  -- if the SELECT was refused, its error's fault is the result of asking it (`Asks`)
+  was_refused : {Z : Type 0} (e : Error) (fault : ReadFault) → fault ≡ read_fault e → (HasCleanDisk (state g mid) → FailsToQuery sql [] (state g begun) (state g mid) e ⊎ IsTooLate sql [] (state g begun) (state g mid) e) → Asks g sql old {Z = Z} (Err fault) end
+  was_refused e fault is err = record {
+    rows = λ _. tt;
+    refused = λ clean. (begun, mid, e, select_of, not_late e (err (omega (arith, two.clean))), is);
+    rests = rests (λ before. refused_keeps _ _ begun_inside sql [] e (err before));
+    survives = survived;
+    idle = ended;
+  }
+
+  -- a result with the fault of the refused SELECT's error is a result of asking it (`Asks`)
+  pub told : {Z : Type 0} (e : Error) (r : Result (Vec Row Z) ReadFault) → IsErrAnd r (λ fault. fault ≡ read_fault e) → (HasCleanDisk (state g mid) → FailsToQuery sql [] (state g begun) (state g mid) e ⊎ IsTooLate sql [] (state g begun) (state g mid) e) → Asks g sql old {Z = Z} r end
+  told e (Ok rows) is err = absurd is
+  told e (Err fault) is err = was_refused e fault is err
+
+-- ---- each row read
+
+-- the fault of a SELECT's error is never OtherType
+not_other : (e : Error) → read_fault e ≡ OtherType → ⊥
+not_other e same = by_memory (is_memory e) (is_failure e) same
+  where
+    by_memory : (a b : Bool) → cond a Memory (cond b Store Refused) ≡ OtherType → ⊥
+    by_memory true b is = cc
+    by_memory false true is = cc
+    by_memory false false is = cc
+
+-- the fault of a SELECT that is refused is never OtherType
+pub never_other : {S : Type 0} (g : Ghosts S) (sql : List ℕ) (old : Held S) (fault : ReadFault) → RefusesToSelect g sql old fault → fault ≡ OtherType → ⊥
+never_other g sql old fault told same = not_other told.2 (sym told.5 ∙ same)
+
+-- if Ok has each of two properties, it has both
+if_both : {A E : Type 0} (P Q : A → Type 0) (r : Result A E) → IfOk r P → IfOk r Q → IfOk r (λ a. P a × Q a)
+if_both P Q (Ok a) p q = (p, q)
+if_both P Q (Err e) p q = tt
+
+module _ {S A Z : Type 0} (g : Ghosts S) (sql : List ℕ) (old new : Held S) (forms : List Form) (shown : A → Row) where
+  -- if the SELECT was refused, the read returns its fault
+  pub unasked : {Y : Type 0} (fault : ReadFault) (r : Result (Vec A Z) ReadFault) → Asks g sql old {Z = Y} (Err fault) new → IsErrAnd r (λ told. told ≡ fault) → ReadsRows g sql old forms shown r new
+  unasked fault (Ok all) asks is = absurd is
+  unasked fault (Err told) asks is = record {
+    rows = λ _. tt;
+    other = λ clean same. absurd (never_other g sql old told (subst (RefusesToSelect g sql old) (sym is) (asks.refused clean)) same);
+    refused = λ clean _ _. subst (RefusesToSelect g sql old) (sym is) (asks.refused clean);
+    memory = λ clean same. inl (subst (RefusesToSelect g sql old) (sym is ∙ same) (asks.refused clean));
+    rests = asks.rests;
+    survives = asks.survives;
+    idle = asks.idle;
+  }
+
+  -- if the SELECT was answered, the read returns its rows or the fault of one of them
+  pub parsed : {Y : Type 0} (rows : Vec Row Y) (lent : List Row) (r : Result (Vec A Z) ReadFault) → Asks g sql old (Ok rows) new → lent ≡ rows.items
+      → IfOk r (λ all. map shown all.items ≡ map (first_columns (length forms)) lent) → IfOk r (λ _. AreTyped forms lent) → IfErr r (λ fault. fault ≡ OtherType → ¬ AreTyped forms lent) → IfErr r (λ fault. fault ≢ OtherType → fault ≡ Memory) → ReadsRows g sql old forms shown r new
+  parsed rows lent r asks same ok typed other which = record {
+    rows = λ clean. if_ok r (λ all told. (rows.items, asks.rows clean, told.0 ∙ ap (map (first_columns (length forms))) same, subst (λ l. AreTyped forms l) same told.1)) (if_both _ _ r ok typed);
+    other = λ clean. if_err r (λ fault told is. (rows.items, asks.rows clean, subst (λ l. ¬ AreTyped forms l) same (told is))) other;
+    refused = λ clean. if_err r (λ fault told no never. absurd (never (told no))) which;
+    memory = λ clean. if_err r (λ fault told is. inr (rows.items, asks.rows clean)) which;
+    rests = asks.rests;
+    survives = asks.survives;
+    idle = asks.idle;
+  }

@@ -1,0 +1,61 @@
+-- Laws from the rows that a SELECT answers to the values that are read of them.
+use Rattle.std.proofs.Common.{◌≡◌, ◌<◌, ℕ, ℤ, IsUtf8, true, false, not, IsTrue, if◌then◌else◌, List, [], ◌∷◌, ◌++◌, ◌+◌, map, length, get_or, take, ap, ◌∙◌, refl, sym, subst, inl, inr}
+use Rattle.std.specs.List.Sorted.{IsPermutation}
+use Rattle.std.proofs.lemmas.List.Sorted.{IsPermutation-map}
+use Rattle.sqlite.specs.Order.{Row, column}
+use Rattle.sqlite.specs.declared.types.Value.TheVariants.{Int, Text}
+use Rattle.atl_sql.specs.Shown.{campaign_row_forms, campaign_forms, report_forms}
+use Rattle.std.proofs.lemmas.List.{take_more, map-append}
+use Rattle.sqlite.specs.declared.error.Error.{Error}
+use Rattle.sqlite_rules.specs.Lists.{Has}
+use Rattle.sqlite_rules.proofs.ListLemmas.{has_at, has_either}
+use Rattle.atl_sql.specs.Errors.{is_memory, value_fault}
+use Rattle.atl_sql.specs.Stored.{Form, IsTyped, AreTyped}
+use Rattle.atl_sql.specs.declared.fault.ReadFault.TheVariants.{Memory, OtherType}
+
+-- if the SELECT's rows have just the first columns, cutting them to these changes nothing
+pub whole_shown : (shown first : Row → Row) → ((r : Row) → first (shown r) ≡ shown r) → (tree rows : List Row) → IsPermutation (map shown tree) rows → IsPermutation (map shown tree) (map first rows)
+whole_shown shown first whole tree rows same = subst (λ l. IsPermutation l (map first rows)) (kept tree) (IsPermutation-map first _ rows same)
+  where
+    kept : (tree : List Row) → map first (map shown tree) ≡ map shown tree
+    kept [] = refl
+    kept (r ∷ tree) = ap (λ x. x ∷ map first (map shown tree)) (whole r) ∙ ap (λ l. shown r ∷ l) (kept tree)
+
+-- an error whose fault is OtherType is not lack of memory
+other_only : (e : Error) → value_fault e ≡ OtherType → IsTrue (not (is_memory e))
+other_only e is = elim (is_memory e) as (λ b. (if b then Memory else OtherType) ≡ OtherType → not b ≡ true) [
+  | true ↦ λ same. absurd (let k = same in cc)
+  | false ↦ λ _. refl
+] is
+
+-- if the fault of reading one row of an answer is OtherType, not all rows of the answer are typed
+pub refuses_row : (forms : List Form) (rows : List Row) (at : ℕ) (row : Row) (e : Error) → at < length rows → row ≡ get_or rows at row → (IsTrue (not (is_memory e)) → ¬ IsTyped forms row) → value_fault e ≡ OtherType → ¬ AreTyped forms rows
+refuses_row forms rows at row e within is refused told typed = refused (other_only e told) (typed row (has_at rows at row within is))
+
+-- if rows and one row after them are typed, all of them are
+typed_more : (forms : List Form) (rows more : List Row) (row : Row) → more ≡ rows ++ row ∷ [] → AreTyped forms rows → IsTyped forms row → AreTyped forms more
+typed_more forms rows more row is before typed r there = elim (has_either rows (row ∷ []) r (subst (λ l. Has l r) is there)) [
+  | inl one ↦ before r one
+  | inr last ↦ elim last [ inl same ↦ subst (IsTyped forms) (sym same) typed | inr none ↦ absurd none ]
+]
+
+-- the first `at + 1` rows of an answer are typed, if the first `at` are and the next row is
+pub typed_next : (forms : List Form) (rows : List Row) (at : ℕ) (row : Row) → at < length rows → row ≡ get_or rows at row → AreTyped forms (take at rows) → IsTyped forms row → AreTyped forms (take (at + 1) rows)
+typed_next forms rows at row within is = typed_more forms (take at rows) (take (at + 1) rows) row (take_more rows at row within ∙ ap (λ r. take at rows ++ r ∷ []) (sym is))
+
+-- if the values read are those of the first `at` rows, one value more makes them those of the first `at + 1`
+pub mapped_next : {A : Type 0} (shown : A → Row) (cut : Row → Row) (all more : List A) (a : A) (rows : List Row) (at : ℕ) (row : Row) → at < length rows → row ≡ get_or rows at row → more ≡ all ++ a ∷ [] → map shown all ≡ map cut (take at rows) → shown a ≡ cut row
+    → map shown more ≡ map cut (take (at + 1) rows)
+mapped_next shown cut all more a rows at row within is more_is same one =
+    ap (map shown) more_is ∙ map-append shown all (a ∷ []) ∙ ap (λ l. l ++ shown a ∷ []) same ∙ ap (λ r. map cut (take at rows) ++ r ∷ []) (one ∙ ap cut is)
+    ∙ sym (map-append cut (take at rows) (get_or rows at row ∷ [])) ∙ ap (map cut) (sym (take_more rows at row within))
+
+-- ---- rows with a text of UTF-8
+
+-- a row of an integer and a text in UTF-8 is typed as a row of `report`
+pub report_typed : (row : Row) (n : ℤ) (text : List ℕ) → column row 0 ≡ Int n → column row 1 ≡ Text text → IsUtf8 text → IsTyped report_forms row
+report_typed row n text first second utf8 = ((n, first), ((text, second, utf8), tt))
+
+-- a campaign row is typed, if its world text is UTF-8 and its other columns are typed
+pub campaign_typed : (row : Row) (text : List ℕ) → IsTyped campaign_row_forms row → column row 7 ≡ Text text → IsUtf8 text → IsTyped campaign_forms row
+campaign_typed row text head last utf8 = (head.0, (head.1.0, (head.1.1.0, (head.1.1.1.0, (head.1.1.1.1.0, (head.1.1.1.1.1.0, (head.1.1.1.1.1.1.0, ((text, last, utf8), tt))))))))

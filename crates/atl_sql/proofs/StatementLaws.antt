@@ -1,0 +1,164 @@
+-- Laws on the statements of one table: which rows it has after an upsert or a DELETE, and what a text of SQL does.
+use Rattle.std.proofs.Common.{IsTrue, ◌≡◌, ◌/◌, ℕ, ℤ, Bool, false, List, [], ◌∷◌, ◌++◌, length, slice_get, Option, Some, None, Result, Ok, sym, ap, ◌∙◌, subst}
+use Rattle.sqlite_value.specs.Order.{Row, column}
+use Rattle.sqlite_trees.specs.Tree.{Trees, rowid}
+use Rattle.sqlite_sql.specs.Term.{Term}
+use Rattle.sqlite_schema.specs.declared.schema.Column.{Column}
+use Rattle.sqlite_schema.specs.declared.schema.Table.{Table}
+use Rattle.sqlite_schema.specs.declared.schema.Schema.{Schema}
+use Rattle.sqlite_schema.specs.declared.schema.Keys.TheVariants.{Enforced}
+use Rattle.sqlite_schema.specs.declared.command.Command.TheVariants.{InsertOr, Delete}
+use Rattle.sqlite_schema.specs.declared.command.Conflict.TheVariants.{Replace}
+use Rattle.sqlite_schema.specs.declared.command.Source.TheVariants.{Values}
+use Rattle.sqlite_schema.specs.declared.program.Program.{Program}
+use Rattle.sqlite_rules.specs.Lists.{Has}
+use Rattle.sqlite_rules.specs.Cast.{cast_row}
+use Rattle.sqlite_rules.specs.Edit.{with_rowid}
+use Rattle.sqlite_rules.specs.Action.{works}
+use Rattle.sqlite_rules.specs.declared.error.Rowids.TheVariants.{Chosen}
+use Rattle.sqlite.specs.declared.run.Mode.{Mode}
+use Rattle.sqlite.specs.Listing.{understood}
+use Rattle.sqlite.specs.State.{State, ExecutesInside}
+use Rattle.sqlite.proofs.Callers.{IsPlain}
+use Rattle.sqlite_schema.specs.declared.schema.Index.{Index}
+use Rattle.atl_sql.specs.Inside.{Inside, HasTables, Puts, Drops}
+use Rattle.atl_sql.specs.Statements.{deletion, upsert, Only}
+use Rattle.atl_sql.specs.Tables.{all_and}
+use Rattle.sqlite.specs.Effect.{Database, Answers, value_rows}
+use Rattle.sqlite.specs.Rows.{Written, Task, Then, Gives, TriesEach, Counts, InsertsOr, count_of, nothing, mended, shown}
+use Rattle.sqlite.specs.Does.{Tally, Does, AtPlace, OnRows, Concludes}
+use Rattle.atl_sql.specs.Sets.{table, IsKeyed}
+use Rattle.sqlite_trees.specs.declared.store.Store.{Ghosts}
+use Rattle.sqlite.specs.declared.error.Error.{Error}
+use Rattle.sqlite.specs.Held.{Held}
+use Rattle.std.specs.Borrow.{MutBor}
+use Rattle.atl_sql.specs.Writes.{Writes, RunsStatement}
+use Rattle.atl_sql.proofs.WriteLaws.{weaker, among}
+use Rattle.atl_sql.proofs.EditLaws.{Loses, deletes, went, same_value}
+use Rattle.atl_sql.proofs.ListLaws.{AreFound}
+use Rattle.atl_sql.proofs.UpsertLaws.{update_query, clause_on, Upserted, upserts}
+use Rattle.sqlite_sql.specs.Program.{overlay}
+use Rattle.sqlite_schema.specs.declared.command.Conflict.TheVariants.{Abort}
+
+-- the mode in which statements run: foreign keys are checked at once, so no check is put off or in doubt
+abbrev pub mode : Mode
+mode = record { keys = Enforced; in_doubt = false; may_wait = false }
+
+module _ (schema : Schema) (tree : ℕ) (name : List ℕ) (columns : List Column) (key : Option ℕ) (primary : List ℕ) (uniques : List (List ℕ)) (checks : List Term)
+    (at : ℕ) (place : slice_get schema.tables at ≡ Some (table tree name columns key primary uniques checks))
+    (unlinked : (olds news : List Row) → works schema Enforced 0 tree olds news ≡ []) where
+  -- the table at index `at` of the schema
+  abbrev t : Table
+  t = table tree name columns key primary uniques checks
+
+  -- the row that INSERT OR REPLACE makes of the values that are given
+  abbrev pub made : Trees → Row → Row
+  made db src = with_rowid Chosen (db tree) (cast_row t (mended Replace t src))
+
+  -- what a statement on the table `u` is run with: the limit, the schema, the table and the parameters
+  abbrev task : Option ℕ → Row → Table → Task
+  task limit params u = record { limit = limit; keys = Enforced; schema = schema; table = u; params = params }
+
+  -- counting the highest rowid after an INSERT leaves the trees, since the table has no AUTOINCREMENT
+  counted : (limit : Option ℕ) (params : Row) (db : Trees) (done : Written × ℤ) (counter : Option Row) (w : Written)
+      → Then (Counts (task limit params t) done.0.trees counter done.1) (λ next. Gives (record done.0 { trees = next })) (Ok w) → w.trees ≡ done.0.trees
+  counted limit params db done counter w h = let counts = went h in ap (λ (x : Written). x.trees) (same_value counts.2) ∙ same_value counts.1
+
+  -- the end of a statement leaves the trees that it wrote, and the schema
+  concluded : (limit : Option ℕ) (params : Row) (w : Written) (out : Tally × Database) → Concludes (task limit params t) mode None w (Ok out)
+      → (out.1.trees ≡ w.trees) × (out.1.schema ≡ schema)
+  concluded limit params w out h =
+      let tested = went h in
+      let shown = went tested.2 in
+      (ap (λ (x : Tally × Database). x.1.trees) (same_value shown.2), ap (λ (x : Tally × Database). x.1.schema) (same_value shown.2))
+
+  -- a DELETE that ran removed the rows that pass its filter
+  pub removes : (limit : Option ℕ) (params : Row) (text : List ℕ) (q : Program) (p : Row → Bool) (db : Trees) (out : Tally × Database)
+      → IsKeyed (db tree)
+      → ((rows : List Row) → Answers (record { schema = schema; trees = db }) q params rows → AreFound p (db tree) rows)
+      → Does limit mode params (record { schema = schema; trees = db }) text None (Delete at q) (Ok out)
+      → Loses schema t p db out.1.trees × (out.1.schema ≡ schema)
+  removes limit params text q p db out keyed found h =
+      let did = subst (λ o. AtPlace (λ (u : Table). OnRows (task limit params u) mode None (Delete at q) db) o (Ok out)) place h in
+      let wrote = went did in
+      let end = concluded limit params wrote.0 out wrote.2 in
+      (subst (Loses schema t p db) (sym end.0) (deletes schema t unlinked limit params q p db wrote.0 keyed found wrote.1), end.1)
+
+  -- ---- INSERT .. ON CONFLICT DO UPDATE
+
+  -- the row that the upsert makes of the values that are given
+  abbrev pub made_up : Trees → Row → Row
+  made_up db src = with_rowid Chosen (db tree) (cast_row t src)
+
+  module _ (limit : Option ℕ) (params : Row) (target : List ℕ) (hole : ℕ) (project : List Term) (plain : (db : Trees) → overlay db [] tree ≡ db tree) where
+    -- the program of the UPDATE
+    abbrev q : Program
+    q = record { lets = []; body = update_query tree hole project }
+
+    -- The upsert put this row or changed the one with its key.
+    abbrev Changed : Row → Trees → Trees → Type 0
+    Changed new db next = Upserted schema t unlinked limit params target hole project plain new db next
+
+    -- trying the one row of an upsert puts it, or changes the row with its key (`Changed`)
+    each_upserts : (src : Row) (top : ℤ) (db : Trees) (done : Written × ℤ) → IsKeyed (db tree)
+        → ((r : Row) → Has (db tree) r → column (params ++ rowid r ∷ shown t (made_up db src)) hole ≡ rowid r)
+        → TriesEach (task limit params t) Abort (clause_on target q ∷ []) (src ∷ []) top (nothing db) (Ok done)
+        → Changed (made_up db src) db done.0.trees
+    each_upserts src top db done keyed aimed h =
+        let one = went h in
+        let is : done.0.trees ≡ one.0.trees = ap (λ (x : Written × ℤ). x.0.trees) (same_value one.2) in
+        subst (Changed (made_up db src) db) (sym is) (upserts schema t unlinked limit params target hole project plain (made_up db src) db one.0 keyed aimed one.1)
+
+    -- an upsert whose terms make one row puts it, or changes the row with its key (`Changed`)
+    rows_upsert : (terms : List Term) (width : ℕ) (src : Row) (db : Trees) (w : Written) → IsKeyed (db tree)
+        → ((r : Row) → Has (db tree) r → column (params ++ rowid r ∷ shown t (made_up db src)) hole ≡ rowid r)
+        → value_rows (params ++ []) width (length terms / width) terms ≡ src ∷ []
+        → InsertsOr (task limit params t) Abort (clause_on target q ∷ []) (Values terms width) db (Ok w) → Changed (made_up db src) db w.trees
+    rows_upsert terms width src db w keyed aimed source h =
+        let rows = went h in
+        let counter = went rows.2 in
+        let each = went counter.2 in
+        let given : rows.0 ≡ src ∷ [] = rows.1.1 ∙ source in
+        subst (Changed (made_up db src) db) (sym (counted limit params db each.0 counter.0 w each.2))
+        (each_upserts src (count_of counter.0) db each.0 keyed aimed (subst (λ l. TriesEach (task limit params t) Abort (clause_on target q ∷ []) l (count_of counter.0) (nothing db) (Ok each.0)) given each.1))
+
+    -- an upsert that ran put its row or changed the one with its key
+    pub upserting : (text : List ℕ) (terms : List Term) (width : ℕ) (src : Row) (db : Trees) (out : Tally × Database) → IsKeyed (db tree)
+        → ((r : Row) → Has (db tree) r → column (params ++ rowid r ∷ shown t (made_up db src)) hole ≡ rowid r)
+        → value_rows (params ++ []) width (length terms / width) terms ≡ src ∷ []
+        → Does limit mode params (record { schema = schema; trees = db }) text None (InsertOr at Abort (Values terms width) (clause_on target q ∷ [])) (Ok out)
+        → Changed (made_up db src) db out.1.trees × (out.1.schema ≡ schema)
+    upserting text terms width src db out keyed aimed source h =
+        let did = subst (λ o. AtPlace (λ (u : Table). OnRows (task limit params u) mode None (InsertOr at Abort (Values terms width) (clause_on target q ∷ [])) db) o (Ok out)) place h in
+        let wrote = went did in
+        let end = concluded limit params wrote.0 out wrote.2 in
+        (subst (Changed (made_up db src) db) (sym end.0) (rows_upsert terms width src db wrote.0 keyed aimed source wrote.1), end.1)
+
+-- ---- statements by their text
+
+-- The statement of this text commits nothing by itself, whatever other tables follow.
+abbrev pub AlwaysPlain : List ℕ → Type 0
+AlwaysPlain sql = (more : List Table) (indexes : List Index) → IsPlain (understood (all_and more indexes) sql)
+
+-- Inside a transaction the statement of this text with these parameters does this.
+abbrev pub DoneBy : List ℕ → Row → (Database → Database → Type 0) → Type 1
+DoneBy sql values What = (old new : State) (count : ℕ) (params : Row) → IsTrue old.in_transaction → ExecutesInside 0 sql params old new (Ok count) → params ≡ values → Inside HasTables What old new
+
+-- The upsert of a table with a key of this many columns puts this row.
+abbrev pub PutsRow : Table → ℕ → Row → Type 1
+PutsRow t key row = DoneBy (upsert t key) row (Puts t key row)
+
+-- The deletion of a table removes the rows whose first columns are these.
+abbrev pub DropsKey : Table → ℕ → Row → Type 1
+DropsKey t key k = DoneBy (deletion t key) k (Drops t key k)
+
+-- a text does this if each run of it inside a transaction, with these values as parameters, does it
+pub done_by : (sql : List ℕ) (values : Row) (What : Database → Database → Type 0)
+    → ((old new : State) (count : ℕ) → IsTrue old.in_transaction → ExecutesInside 0 sql values old new (Ok count) → Inside HasTables What old new)
+    → DoneBy sql values What
+done_by sql values What does old new count params inside h same = does old new count inside (subst (λ p. ExecutesInside 0 sql p old new (Ok count)) same h)
+
+-- a statement that ran with these values as parameters did what its text does with them
+pub runs_with : {S A : Type 0} (g : Ghosts S) {r : Result A Error} {a b : MutBor (Held S)} (sql : List ℕ) (values params : Row) (What : Database → Database → Type 0)
+    → DoneBy sql values What → params ≡ values → Writes g (Only sql params) (RunsStatement sql params) r a b → Writes g (Only sql values) (Inside HasTables What) r a b
+runs_with g sql values params What done same ran = among g (λ s p only. (only.0, only.1 ∙ same)) (weaker g (λ old new did. done old new did.1 params did.0 did.2 same) ran)

@@ -1,0 +1,258 @@
+-- Laws on INSERT .. ON CONFLICT (key) DO UPDATE of one row: which rows the table has afterwards.
+use Rattle.std.proofs.Common.{◌≡◌, ◌⊎◌, ◌&&◌, ℕ, ℤ, Bool, true, false, List, [], ◌∷◌, ◌++◌, map, flat_map, Option, Some, None, Ok, Ordering, Less, Equal, Greater, refl, sym, ap, ◌∙◌, subst, inl, inr, true≢false, arith}
+use Rattle.std.specs.Prelude.{cond}
+use Rattle.std.specs.List.{list_all}
+use Rattle.std.specs.Ordering.{is_eq, is_ne}
+use Rattle.std.proofs.lemmas.Bool.{cases_Bool, and_parts, not-true}
+use Rattle.std.proofs.lemmas.Int.{ints}
+use Rattle.std.proofs.lemmas.Bool.Decides.{nat_tests}
+use Rattle.std.proofs.lemmas.Cmp.{tied_itself}
+use Rattle.sqlite_value.specs.declared.value.Value.{Value}
+use Rattle.sqlite_value.specs.declared.value.Value.TheVariants.{Null, Int, Real, Text, Blob}
+use Rattle.sqlite_value.specs.declared.keys.Collation.TheVariants.{Binary}
+use Rattle.sqlite_value.specs.Order.{Row, column, value_cmp}
+use Rattle.sqlite_value.proofs.OrderLemmas.{value_cmp_total, value_cmp-Int}
+use Rattle.sqlite_trees.specs.Tree.{Trees, rowid, put_row, IsAscending}
+use Rattle.sqlite_trees.specs.View.{is_int}
+use Rattle.sqlite_sql.specs.Ops.{binary, is_true, from_truth}
+use Rattle.sqlite_sql.specs.declared.ops.BinaryOp.TheVariants.{Compare}
+use Rattle.sqlite_sql.specs.declared.ops.CompareOp.TheVariants.{Eq}
+use Rattle.sqlite_sql.specs.Term.{Term, col, op2, holds, Env, eval_all}
+use Rattle.sqlite_sql.specs.Query.{Query, IsAnswer, output, Output}
+use Rattle.sqlite_schema.specs.Rules.{equal, differ}
+use Rattle.sqlite_schema.specs.declared.schema.Table.{Table}
+use Rattle.sqlite_schema.specs.declared.schema.Schema.{Schema}
+use Rattle.sqlite_rules.specs.Lists.{Has}
+use Rattle.sqlite_rules.proofs.ListLemmas.{all_has}
+use Rattle.sqlite.proofs.Callers.{one_permutation, one_step}
+use Rattle.std.specs.List.Sorted.{IsPermutation}
+use Rattle.sqlite_sql.specs.Program.{overlay}
+use Rattle.sqlite_schema.specs.declared.schema.Keys.TheVariants.{Enforced}
+use Rattle.sqlite_schema.specs.declared.command.Upsert.{Upsert}
+use Rattle.sqlite_schema.specs.declared.program.Program.{Program}
+use Rattle.sqlite_rules.specs.Keys.{AreConflicts, conflicts}
+use Rattle.sqlite_rules.specs.Cast.{cast_row}
+use Rattle.sqlite_rules.specs.Edit.{Edit, edit_of, taken_by, id_in, without_all}
+use Rattle.sqlite_rules.specs.Calls.{ids_of}
+use Rattle.sqlite_rules.specs.declared.error.Refusal.{Refusal}
+use Rattle.sqlite_rules.proofs.TableLemmas.{has_put, put_has, put_all_keeps}
+use Rattle.sqlite_schema.specs.declared.command.Conflict.TheVariants.{Abort}
+use Rattle.sqlite_rules.specs.Action.{works}
+use Rattle.sqlite_rules.specs.declared.error.Rowids.TheVariants.{Given}
+use Rattle.sqlite.specs.Rows.{Written, Task, Updates, Tries, Judged, Upserts, Meets, Clears, Puts, Edited, shown}
+use Rattle.atl_sql.specs.Sets.{IsKeyed}
+use Rattle.atl_sql.proofs.ListLaws.{eq_sym, AreFound, stays, was_there, keyed_put, keyed_without}
+use Rattle.atl_sql.proofs.EditLaws.{delete_query, Swaps, puts, went, same_value}
+
+-- ---- SQL's = on integers
+
+-- a boolean read back from its SQL truth value is itself
+truth_again : (b : Bool) → is_true (from_truth (Some b)) ≡ b
+truth_again true = refl
+truth_again false = refl
+
+-- SQL's = on integers is equality by the order of values
+pub equal_ints : (a b : Value) → is_int a ≡ true → is_int b ≡ true → equal Binary a b ≡ is_eq (value_cmp a b)
+unfolding binary
+equal_ints (Int m) (Int n) p q = truth_again _
+equal_ints (Int m) Null p q = absurd (true≢false (sym q))
+equal_ints (Int m) (Real x) p q = absurd (true≢false (sym q))
+equal_ints (Int m) (Text t) p q = absurd (true≢false (sym q))
+equal_ints (Int m) (Blob t) p q = absurd (true≢false (sym q))
+equal_ints Null b p q = absurd (true≢false (sym p))
+equal_ints (Real x) b p q = absurd (true≢false (sym p))
+equal_ints (Text x) b p q = absurd (true≢false (sym p))
+equal_ints (Blob x) b p q = absurd (true≢false (sym p))
+
+-- two integers that are equal by the order of values are equal
+same_int : (m n : ℤ) → is_eq (value_cmp (Int m) (Int n)) ≡ true → m ≡ n
+same_int m n h = let k = rw (value_cmp-Int m n) at h in grind (arith, ints, nat_tests)
+
+-- integers that are equal by the order of values are equal
+pub same_ints : (a b : Value) → is_int a ≡ true → is_int b ≡ true → is_eq (value_cmp a b) ≡ true → a ≡ b
+same_ints (Int m) (Int n) p q h = ap Int (same_int m n h)
+same_ints (Int m) Null p q h = absurd (true≢false (sym q))
+same_ints (Int m) (Real x) p q h = absurd (true≢false (sym q))
+same_ints (Int m) (Text t) p q h = absurd (true≢false (sym q))
+same_ints (Int m) (Blob t) p q h = absurd (true≢false (sym q))
+same_ints Null b p q h = absurd (true≢false (sym p))
+same_ints (Real x) b p q h = absurd (true≢false (sym p))
+same_ints (Text x) b p q h = absurd (true≢false (sym p))
+same_ints (Blob x) b p q h = absurd (true≢false (sym p))
+
+-- integers equal by SQL's = are equal
+pub equal_is : (a b : Value) → is_int a ≡ true → is_int b ≡ true → equal Binary a b ≡ true → a ≡ b
+equal_is a b p q h = same_ints a b p q (sym (equal_ints a b p q) ∙ h)
+
+-- an integer is equal to itself by SQL's =
+pub is_equal : (a : Value) → is_int a ≡ true → equal Binary a a ≡ true
+is_equal a p = equal_ints a a p p ∙ ap is_eq (tied_itself value_cmp_total a)
+
+-- an ordering that is not "different" is "equal"
+ne_or_eq : (o : Ordering) → is_ne o ≡ false → is_eq o ≡ true
+ne_or_eq Less h = absurd (true≢false h)
+ne_or_eq Equal h = refl
+ne_or_eq Greater h = absurd (true≢false h)
+
+-- integers that don't differ by SQL are equal by the order of values
+pub differ_not : (a b : Value) → is_int a ≡ true → is_int b ≡ true → differ a b ≡ false → is_eq (value_cmp a b) ≡ true
+unfolding binary
+differ_not (Int m) (Int n) p q h = ne_or_eq _ (sym (truth_again _) ∙ h)
+differ_not (Int m) Null p q h = absurd (true≢false (sym q))
+differ_not (Int m) (Real x) p q h = absurd (true≢false (sym q))
+differ_not (Int m) (Text t) p q h = absurd (true≢false (sym q))
+differ_not (Int m) (Blob t) p q h = absurd (true≢false (sym q))
+differ_not Null b p q h = absurd (true≢false (sym p))
+differ_not (Real x) b p q h = absurd (true≢false (sym p))
+differ_not (Text x) b p q h = absurd (true≢false (sym p))
+differ_not (Blob x) b p q h = absurd (true≢false (sym p))
+
+-- ---- the query of the update: the one row that has the rowid
+
+-- the query of the UPDATE: the one row with the rowid of this parameter, and the values to set
+abbrev pub update_query : ℕ → ℕ → List Term → Query
+update_query tree place project = record (delete_query tree (op2 (Compare Eq Binary) (col 1 0) (col 0 place) ∷ [])) { project = col 1 0 ∷ project }
+
+module _ (p : Row → Bool) (f : Row → Env) where
+  -- what a query by the test `p` chooses: the image by `f` of each row that passes
+  abbrev chosen : List Row → List Env
+  chosen rows = flat_map (λ r. cond (p r) (f r ∷ []) []) rows
+
+  -- a query whose test no row passes chooses no row
+  none_chosen : (rows : List Row) → ((r : Row) → Has rows r → p r ≡ false) → chosen rows ≡ []
+  none_chosen [] none = refl
+  none_chosen (r ∷ rows) none = rw (none r (inl refl), none_chosen rows (λ x h. none x (inr h)))
+
+  -- a query for one rowid chooses the row with this rowid alone
+  one_chosen : (rows : List Row) → IsAscending (λ a b. is_eq (value_cmp (rowid a) (rowid b)) ≡ false) rows → (r : Row) → Has rows r
+      → ((x : Row) → Has rows x → p x ≡ is_eq (value_cmp (rowid x) (rowid r))) → chosen rows ≡ f r ∷ []
+  one_chosen [] apart r h is = absurd h
+  one_chosen (x ∷ rows) apart r (inl e) is =
+      let hit : p x ≡ true = is x (inl refl) ∙ ap (λ y. is_eq (value_cmp (rowid x) (rowid y))) e ∙ ap is_eq (tied_itself value_cmp_total (rowid x)) in
+      let rest : chosen rows ≡ [] = none_chosen rows (λ y h. is y (inr h) ∙ miss y h) in
+      rw (hit, rest, e) refl
+    where
+      miss : (y : Row) → Has rows y → is_eq (value_cmp (rowid y) (rowid r)) ≡ false
+      miss y h = elim (cases_Bool (is_eq (value_cmp (rowid y) (rowid r)))) [
+        | inl same ↦ absurd (true≢false (sym (eq_sym _ _ same) ∙ ap (λ z. is_eq (value_cmp (rowid z) (rowid y))) e ∙ all_has _ rows y apart.0 h))
+        | inr other ↦ other
+      ]
+  one_chosen (x ∷ rows) apart r (inr h) is =
+      rw (is x (inl refl) ∙ all_has _ rows r apart.0 h, one_chosen rows apart.1 r h (λ y k. is y (inr k)))
+
+-- the query of the UPDATE answers the row with the rowid alone
+pub row_by : (tree place : ℕ) (project : List Term) (db db' : Trees) (given : Row) (rows : List Row) (r : Row) → IsKeyed (db tree) → Has (db tree) r → column given place ≡ rowid r → db' tree ≡ db tree
+    → IsAnswer (update_query tree place project) db' given rows → rows ≡ (rowid r ∷ eval_all project (given ∷ r ∷ [])) ∷ []
+row_by tree place project db db' given rows r keyed there aimed same a =
+    let q = update_query tree place project in
+    let p = λ (x : Row). list_all (holds (given ∷ x ∷ [])) q.filter in
+    let f = λ (x : Row). given ∷ x ∷ [] in
+    let tests : (x : Row) → Has (db tree) x → p x ≡ is_eq (value_cmp (rowid x) (rowid r)) = λ x h.
+    both_true (equal Binary (rowid x) (column given place)) ∙ ap (equal Binary (rowid x)) aimed ∙ equal_ints (rowid x) (rowid r) (all_has _ (db tree) x keyed.ints h) (all_has _ (db tree) r keyed.ints there) in
+    let staged : a.staged ≡ f r ∷ [] = a.grouped ∙ ap (chosen p f) same ∙ one_chosen p f (db tree) keyed.apart r there tests in
+    let kept : a.kept ≡ output q (f r) ∷ [] = a.distinct ∙ ap (map (output q)) staged in
+    let ordered = one_permutation (output q (f r)) a.ordered (subst (λ k. IsPermutation k a.ordered) kept a.same) in
+    a.shown ∙ ap (map (λ (o : Output). o.1)) ordered
+  where
+    both_true : (b : Bool) → (b && true) ≡ b
+    both_true true = refl
+    both_true false = refl
+
+-- ---- the statement
+
+-- the ON CONFLICT clause of a key in these columns
+abbrev pub clause_on : List ℕ → Program → Upsert
+clause_on target q = record { target = Some target; update = Some q }
+
+module _ (schema : Schema) (t : Table) (unlinked : (olds news : List Row) → works schema Enforced 0 t.tree olds news ≡ []) (limit : Option ℕ) (params : Row)
+    (target : List ℕ) (place : ℕ) (project : List Term) (plain : (db : Trees) → overlay db [] t.tree ≡ db t.tree) where
+  -- what the upsert is run with: the limit, the schema, the table and the parameters
+  abbrev upsert_task : Task
+  upsert_task = record { limit = limit; keys = Enforced; schema = schema; table = t; params = params }
+
+  -- the program of the UPDATE
+  abbrev q : Program
+  q = record { lets = []; body = update_query t.tree place project }
+
+  -- whether a row has the key of the new row
+  abbrev pub hits : Row → Row → Bool
+  hits new r = conflicts (Some target) schema.indexes t new r
+
+  -- what the update reads: the parameters, the rowid of the row that is there, and the new row
+  abbrev pub given : Row → Row → Row
+  given new r = params ++ rowid r ∷ shown t new
+
+  -- The row was put, or the row with its key was changed.
+  abbrev pub Upserted : Row → Trees → Trees → Type 0
+  Upserted new db next =
+      (((r : Row) → Has (db t.tree) r → hits new r ≡ false) × Swaps schema t (hits new) (cast_row t new) db next)
+      ⊎ ((r : Row) × Has (db t.tree) r × (hits new r ≡ true) × Swaps schema t (λ x. is_eq (value_cmp (rowid x) (rowid r))) (cast_row t (eval_all project (given new r ∷ r ∷ []))) db next)
+
+  -- an edit that takes out a row that is there, and puts another in, exchanges the row with that rowid for the other
+  replaced_at : (r n : Row) (db next : Trees) → IsKeyed (db t.tree) → Has (db t.tree) r → Edited schema Enforced db (record { table = t; gone = id_in (rowid r) ∷ []; news = n ∷ [] }) (Ok next)
+      → Swaps schema t (λ x. is_eq (value_cmp (rowid x) (rowid r))) n db next
+  replaced_at r n db next keyed there h =
+      let p = λ (x : Row). is_eq (value_cmp (rowid x) (rowid r)) in
+      let rows = db t.tree in
+      let found = (rowid r ∷ []) ∷ [] in
+      let int : (x : Row) → Has rows x → is_int (rowid x) ≡ true = λ x k. all_has _ rows x keyed.ints k in
+      let are : AreFound p rows found = record {
+        sound = λ x k. elim k [ inl same ↦ (r, there, ap is_eq (tied_itself value_cmp_total (rowid r)), same) | inr none ↦ absurd none ];
+        complete = λ x k same. inl (ap (λ v. v ∷ []) (same_ints (rowid x) (rowid r) (int x k) (int r there) same));
+      } in
+      let edit : Edit = record { table = t; gone = id_in (rowid r) ∷ []; news = n ∷ [] } in
+      let done = one_step schema Enforced db next edit (unlinked (taken_by db edit) (n ∷ [])) h in
+      let left = without_all rows (id_in (rowid r) ∷ []) in
+      let is : next t.tree ≡ put_row n left = done.rows in
+      record {
+        there = subst (λ l. Has l n) (sym is) (has_put n left);
+        from = λ x k. elim (put_has n left x (subst (λ l. Has l x) is k)) [ inl same ↦ inl same | inr was ↦ inr (was_there p rows found keyed are x was) ];
+        kept = λ x k misses. subst (λ l. Has l x) (sym is) (put_all_keeps (n ∷ []) left x done.fresh (stays p rows found keyed are x k misses));
+        keyed = subst IsKeyed (sym is) (keyed_put n left (keyed_without (ids_of found) rows keyed) (not-true _ (and_parts _ _ done.fresh).0) (and_parts _ _ done.keyed).0);
+        others = λ u listed other. all_has _ schema.tables u done.tables listed other;
+      }
+
+  -- the UPDATE of an upsert exchanges the row that it hits for the one that it computes
+  updates : (new : Row) (db : Trees) (r x : Row) (w : Written) → IsKeyed (db t.tree) → Has (db t.tree) r → x ≡ rowid r ∷ [] → column (given new r) place ≡ rowid r
+      → Updates upsert_task q (params ++ rowid x ∷ shown t new) db (Ok w) → Swaps schema t (λ x. is_eq (value_cmp (rowid x) (rowid r))) (cast_row t (eval_all project (given new r ∷ r ∷ []))) db w.trees
+  updates new db r x w keyed there is aimed h =
+      let select_of = went (subst (λ (y : Row). Updates upsert_task q (params ++ rowid y ∷ shown t new) db (Ok w)) is h) in
+      let wrote = went select_of.2 in
+      let trees : w.trees ≡ wrote.0 = ap (λ (x : Written). x.trees) (same_value wrote.2) in
+      let rows = row_by t.tree place project db (overlay db []) (given new r) select_of.0 r keyed there aimed (plain db) (select_of.1.answer Null) in
+      let edit = subst (λ l. Edited schema Enforced db (edit_of db t (ids_of l) Given 1 l) (Ok wrote.0)) rows wrote.1 in
+      subst (Swaps schema t (λ x. is_eq (value_cmp (rowid x) (rowid r))) (cast_row t (eval_all project (given new r ∷ r ∷ []))) db) (sym trees) (replaced_at r _ db wrote.0 keyed there edit)
+
+  -- an upsert puts its row where no row has the key, and else changes the row that has it
+  met : (new : Row) (db : Trees) (w : Written) (found : List Row) → IsKeyed (db t.tree) → ((r : Row) → Has (db t.tree) r → column (given new r) place ≡ rowid r)
+      → AreConflicts (Some target) schema.indexes t (db t.tree) new found → Meets upsert_task (Upserts upsert_task Abort new db []) new db (clause_on target q) found (Ok w) → Upserted new db w.trees
+  met new db w [] keyed aimed are h =
+      let put = puts schema t unlinked limit params new db w keyed (either h.0 h.2) in
+      let clear : (r : Row) → Has (db t.tree) r → hits new r ≡ false = λ r was. elim (cases_Bool (hits new r)) [ inl hit ↦ absurd (are.complete r was hit) | inr miss ↦ miss ] in
+      inl (
+        clear,
+        record {
+          there = put.0;
+          from = λ r there. elim (put.1 r there) [ inl same ↦ inl same | inr was ↦ inr (was, clear r was) ];
+          kept = λ r there fails. put.2 r there;
+          keyed = put.4;
+          others = put.3;
+        },
+      )
+    where
+      either : (again : List Row) → Clears upsert_task Abort new db again (Ok w) → Puts upsert_task new db (Ok w)
+      either [] k = k
+      either (y ∷ more) k = k
+  met new db w (x ∷ more) keyed aimed are h =
+      let hit = are.sound x (inl refl) in
+      inr (hit.0, hit.1, hit.2, updates new db hit.0 x w keyed hit.1 hit.3 (aimed hit.0 hit.1) h)
+
+  -- an upsert that ran put the new row, or changed the row with its key (`Upserted`)
+  pub upserts : (new : Row) (db : Trees) (w : Written) → IsKeyed (db t.tree) → ((r : Row) → Has (db t.tree) r → column (given new r) place ≡ rowid r)
+      → Tries upsert_task Abort (clause_on target q ∷ []) new db (Ok w) → Upserted new db w.trees
+  upserts new db w keyed aimed (inl refused) = absurd (let e = refused.1 in cc)
+  upserts new db w keyed aimed (inr check_own_rows) = go check_own_rows.0 check_own_rows.2
+    where
+      go : (verdict : Option Refusal) → Judged upsert_task Abort (clause_on target q ∷ []) new db verdict (Ok w) → Upserted new db w.trees
+      go None h = met new db w h.0 keyed aimed h.1 h.2
+      go (Some why) h = absurd (let e = h in cc)

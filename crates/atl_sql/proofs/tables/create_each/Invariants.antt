@@ -1,0 +1,7 @@
+use Rattle.atl_sql.specs.Statements.{Creations}
+use Rattle.atl_sql.proofs.MakingLaws.{MakesSome}
+use Rattle.atl_sql.proofs.WriteLaws.{SoFar}
+use Rattle.atl_sql.proofs.tables.create_each.Given as goal
+
+abbrev pub invariant-loop-table : goal.invariant-loop-table
+invariant-loop-table g l = SoFar g.S.Store Creations (MakesSome l.table-index) l.fn.tx.conn l.tx.conn

@@ -1,0 +1,55 @@
+-- Which call inside a transaction gave an error of the database, and why.
+use Rattle.std.specs.Prelude.{◌≡◌, ◌⊎◌, ℕ, zero, suc, List, true, false, IsTrue, Ok, Err}
+use Rattle.sqlite_disk.specs.Disk.{MoreFaults}
+use Rattle.sqlite_trees.specs.declared.store.Store.{Ghosts}
+use Rattle.sqlite.specs.declared.error.Error.{Error}
+use Rattle.sqlite.specs.declared.error.Error.TheVariants.{SqliteFailure}
+use Rattle.sqlite.specs.declared.error.ErrorCode.TheVariants.{TooBig}
+use Rattle.sqlite.specs.Held.{Held, state}
+use Rattle.sqlite.specs.Order.{Row}
+use Rattle.sqlite.specs.State.{State, KeepsCommit, IsUnchanged, ExecutesInside}
+use Rattle.sqlite.specs.Steps.{FailsToCommit}
+use Rattle.atl_sql.specs.Errors.{is_memory}
+use Rattle.atl_sql.specs.Statements.{Statements}
+
+-- one statement of `own` ran inside a transaction, without an error
+abbrev pub RunsOne : Statements → State → State → Type 0
+RunsOne own before after = (sql : List ℕ) × (params : Row) × own sql params × (count : ℕ) × ExecutesInside 0 sql params before after (Ok count)
+
+-- `count` statements of `own`, one after another, lead from the connection `old` to `new`
+abbrev pub Leads : {S : Type 0} → Ghosts S → Statements → ℕ → Held S → Held S → Type 0
+Leads g own zero old new = old ≡ new
+Leads {S} g own (suc count) old new = (mid : Held S) × RunsOne own (state g old) (state g mid) × Leads g own count mid new
+
+-- some number of statements of `own`, perhaps none, leads from the connection `old` to `new`
+abbrev pub IsReached : {S : Type 0} → Ghosts S → Statements → Held S → Held S → Type 0
+IsReached g own old new = (count : ℕ) × Leads g own count old new
+
+-- a statement of `own`, or the commit of the transaction, ended with this error
+abbrev pub IsGiven : Statements → Error → State → State → Type 0
+IsGiven own e before after = ((sql : List ℕ) × (params : Row) × own sql params × ExecutesInside 0 sql params before after (Err e)) ⊎ (IsTrue before.in_transaction × FailsToCommit before after e)
+
+-- the disk failed between the two states, or the connection was shut already in the first
+abbrev pub IsBroken : State → State → Type 0
+IsBroken old new = MoreFaults old.faults new.faults ⊎ (old.is_open ≡ false)
+
+-- the call was refused: its error is that something is too big, or it changed nothing
+abbrev pub IsRefused : Error → State → State → Type 0
+IsRefused e before after = (e ≡ SqliteFailure TooBig) ⊎ IsUnchanged before after
+
+-- In a transaction on this connection a statement of `own`, or the commit, ended with the error `e`.
+-- An error other than lack of memory has a cause; the database gives none for lack of memory.
+pub record Gives {S : Type 0} (g : Ghosts S) (own : Statements) (e : Error) (old new : Held S) : Type 0 where
+  -- the connection as that call found it, and as it left it
+  pub before : Held S
+  pub after : Held S
+  -- from the beginning of the transaction to that call, only statements of `own` ran
+  pub reached : IsReached g own (record old { in_transaction = true }) before
+  -- nothing was committed before that call
+  pub kept : KeepsCommit (state g old) (state g before)
+  pub given : IsGiven own e (state g before) (state g after)
+  pub cause : is_memory e ≡ false → IsBroken (state g old) (state g new) ⊎ IsRefused e (state g before) (state g after)
+
+-- The fault is the one that `fault_of` makes of an error that a transaction of statements of `own` gave (`Gives`).
+abbrev pub IsTold : {S F : Type 0} → Ghosts S → Statements → (Error → F) → Held S → Held S → F → Type 0
+IsTold g own fault_of old new fault = (e : Error) × (fault ≡ fault_of e) × Gives g own e old new

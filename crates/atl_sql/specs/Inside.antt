@@ -1,0 +1,88 @@
+-- What is done to the tables inside a transaction, and what a whole transaction leaves.
+use Rattle.std.specs.Prelude.{◌≡◌, ◌≢◌, ℕ, List, [], ◌∷◌, false, IsTrue}
+use Rattle.sqlite_value.specs.Order.{Row}
+use Rattle.sqlite_schema.specs.declared.schema.Table.{Table}
+use Rattle.sqlite_schema.specs.declared.schema.Index.{Index}
+use Rattle.sqlite_rules.specs.Lists.{Has}
+use Rattle.sqlite.specs.Effect.{Database}
+use Rattle.sqlite.specs.State.{State}
+use Rattle.sqlite_trees.specs.Tree.{Trees}
+use Rattle.atl_sql.specs.Sets.{Set, Is, rows_in, put, puts, drop_key}
+use Rattle.atl_sql.specs.Tables.{Part, table_of, no_tables, all_tables, all_trees, HasAll, IsSoundDatabase}
+
+-- the schema begins with the tables of a campaign, and the trees list and obey it (`IsSoundDatabase`)
+pub record HasTables (db : Database) : Type 0 where
+  pub begins : HasAll db.schema
+  pub sound : IsSoundDatabase db.schema db.trees
+
+-- the database has no table, no index and no view
+abbrev pub IsBlank : Database → Type 0
+IsBlank db = db.schema ≡ no_tables
+
+-- no table and no index is gone, and tables that aren't a campaign's hold what they held
+pub record Carries (old new : Database) : Type 0 where
+  pub tables : (t : Table) → Has old.schema.tables t → Has new.schema.tables t
+  pub indexes : (i : Index) → Has old.schema.indexes i → Has new.schema.indexes i
+  pub others : (t : Table) → Has old.schema.tables t → ¬ Has all_trees t.tree → new.trees t.tree ≡ old.trees t.tree
+
+-- `Does` is done, the tables of a campaign are there afterwards, and all others are carried along (`Carries`)
+pub record Done (Does : Database → Database → Type 0) (old new : Database) : Type 0 where
+  pub does : Does old new
+  pub tables : HasTables new
+  pub carries : Carries old new
+
+-- `Does` is done to the tables, if they were as `Before` says.
+-- The connection is in a transaction exactly if it was in one.
+abbrev pub Inside : (Database → Type 0) → (Database → Database → Type 0) → State → State → Type 0
+Inside Before Does old new = (new.in_transaction ≡ old.in_transaction) × (Before old.now → Done Does old.now new.now)
+
+-- `First` is done, and then `Second`
+abbrev pub Both : (Database → Database → Type 0) → (Database → Database → Type 0) → Database → Database → Type 0
+Both First Second old new = (mid : Database) × First old mid × Second mid new
+
+-- the rows of this table are exactly this set, and each other table of a campaign is as it was
+pub record Alters (table : Table) (S : Set) (old new : Database) : Type 0 where
+  pub rows : Is (rows_in table new.trees) S
+  pub others : (t : Table) → Has all_tables t → t.tree ≢ table.tree → new.trees t.tree ≡ old.trees t.tree
+
+-- The rows of each of these parts become what `Becomes` says, and the tables of all other parts are as they were.
+pub record Changes (Becomes : Part → List Row → List Row → Type 0) (parts : List Part) (old new : Database) : Type 0 where
+  pub done : (part : Part) → Has parts part → Becomes part (rows_in (table_of part) old.trees) (rows_in (table_of part) new.trees)
+  pub others : (part : Part) → ¬ Has parts part → new.trees (table_of part).tree ≡ old.trees (table_of part).tree
+
+-- `Does` is done for each of these parts, one after another
+abbrev pub InTurn : (Part → Database → Database → Type 0) → List Part → Database → Database → Type 0
+InTurn Does [] old new = new ≡ old
+InTurn Does (part ∷ parts) old new = (mid : Database) × Does part old mid × InTurn Does parts mid new
+
+-- the row replaces the one with the same first `key` columns, or is added; all other rows and tables are as they were
+abbrev pub Puts : Table → ℕ → Row → Database → Database → Type 0
+Puts table key row old new = Alters table (put key row (Has (rows_in table old.trees))) old new
+
+-- the row whose first `key` columns are `k` is deleted; all other rows and tables are as they were
+abbrev pub Drops : Table → ℕ → Row → Database → Database → Type 0
+Drops table key k old new = Alters table (drop_key key k (Has (rows_in table old.trees))) old new
+
+-- all these rows are put (`Puts`), one after another
+abbrev pub PutsRows : Table → ℕ → List Row → Database → Database → Type 0
+PutsRows table key news old new = Alters table (puts key news (Has (rows_in table old.trees))) old new
+
+-- A transaction that succeeded: `Does` is done, if the tables were as `Before` says, and all is committed.
+-- The connection is open and in no transaction.
+pub record Commits (Before : Database → Type 0) (Does : Database → Database → Type 0) (old new : State) : Type 0 where
+  pub does : Before old.now → Done Does old.now new.now
+  pub committed : new.committed ≡ new.now
+  pub idle : new.in_transaction ≡ false
+  pub is_open : IsTrue new.is_open
+
+-- A transaction that failed: while the connection is open, its tables are those of the last commit before.
+-- The connection is in no transaction.
+pub record LeavesOff (old new : State) : Type 0 where
+  pub was_open : IsTrue new.is_open → IsTrue old.is_open
+  pub undone : IsTrue new.is_open → (new.now ≡ old.committed) × (new.committed ≡ old.committed)
+  pub idle : new.in_transaction ≡ false
+
+-- what a crash may leave besides what it could have left before: the trees of a database to which `Does` was done,
+-- if the tables were as `Before` says
+abbrev pub MayLeave : (Database → Type 0) → (Database → Database → Type 0) → State → Trees → Type 0
+MayLeave Before Does old trees = (db : Database) × (Before old.now → Done Does old.now db) × (trees ≡ db.trees)

@@ -1,0 +1,17 @@
+-- What putting the campaign row does to its table.
+use Rattle.std.specs.Prelude.{◌≡◌, List, ℕ, []}
+use Rattle.sqlite.specs.Effect.{Database}
+use Rattle.atl_tables.specs.declared.format.Format.TheVariants.{First}
+use Rattle.atl_sql.specs.Sets.{rows_in, Is}
+use Rattle.atl_sql.specs.Tables.{campaign_table}
+use Rattle.atl_sql.specs.Shown.{CampaignRowValue, campaign_row, campaign_row_in}
+use Rattle.atl_sql.specs.Inside.{Puts}
+
+-- The campaign row is inserted with this world text, if there is none; one that is there is changed and keeps its own.
+pub record PutsCampaignRow (head : CampaignRowValue) (world : List ℕ) (old new : Database) : Type 0 where
+  pub first : rows_in campaign_table old.trees ≡ [] → Puts campaign_table 1 (campaign_row head world) old new
+  pub again : (before : CampaignRowValue) (text : List ℕ) → Is (rows_in campaign_table old.trees) (λ r. r ≡ campaign_row before text) → Puts campaign_table 1 (campaign_row head text) old new
+
+-- If the campaign row was that of the first format, with any world text, it becomes that of the second with this text.
+abbrev pub UpgradesCampaignRow : CampaignRowValue → List ℕ → Database → Database → Type 0
+UpgradesCampaignRow head text old new = (before : List ℕ) → Is (rows_in campaign_table old.trees) (λ r. r ≡ campaign_row_in First head before) → Puts campaign_table 1 (campaign_row head text) old new

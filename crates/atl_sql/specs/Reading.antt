@@ -1,0 +1,114 @@
+-- What reading all rows of a table gives, and with which SELECT each table is read.
+use Rattle.std.specs.Prelude.{◌≡◌, ◌≢◌, ◌≤◌, ◌⊎◌, ◌++◌, ℕ, List, [], ◌∷◌, codes, length, map, IsTrue, IsPermutation, false, Option, Result, IfOk, IfErr, IfSome, OnOk}
+use Rattle.std.specs.declared.vec.Vec.{Vec}
+use Rattle.sqlite_trees.specs.declared.store.Store.{Ghosts}
+use Rattle.sqlite_trees.specs.Tree.{Trees, rowid}
+use Rattle.sqlite.specs.declared.error.Error.{Error}
+use Rattle.sqlite.specs.Held.{Held, state}
+use Rattle.sqlite.specs.Order.{Row}
+use Rattle.sqlite.specs.State.{State, HasCleanDisk, Survives, Shown, FailsToQuery}
+use Rattle.sqlite.specs.Table.{Table}
+use Rattle.atl_sql.specs.Sets.{rows_in, visible}
+use Rattle.atl_sql.specs.Statements.{column_names, selection, selection_with_ids}
+use Rattle.atl_tables.specs.declared.format.Format.{Format}
+use Rattle.atl_tables.specs.declared.format.Format.TheVariants.{First, Second}
+use Rattle.atl_sql.specs.Tables.{Part, Goods, Books, Markets, has_table, books_table, market_table, table_of, HasTablesOf}
+use Rattle.atl_sql.specs.Errors.{read_fault}
+use Rattle.atl_sql.specs.Stored.{Form, first_columns, AreTyped, IsTyped}
+use Rattle.atl_sql.specs.declared.fault.ReadFault.{ReadFault}
+use Rattle.atl_sql.specs.declared.fault.ReadFault.TheVariants.{OtherType, Memory}
+
+-- Nothing is changed: an open connection was open before, and its tables are as they were or as last committed.
+pub record Rests (old new : State) : Type 0 where
+  pub was_open : IsTrue new.is_open → IsTrue old.is_open
+  pub same : IsTrue new.is_open → ((new.now ≡ old.committed) ⊎ (new.now ≡ old.now)) × (new.committed ≡ old.committed)
+
+-- `before` is the connection as the SELECT finds it: with the tables and the step limit of `old`
+-- It is open where `old` is, and its disk has failed no less often.
+pub record IsAsked (old before : State) : Type 0 where
+  pub was_open : IsTrue before.is_open → IsTrue old.is_open
+  pub is_open : IsTrue old.is_open → IsTrue before.is_open
+  pub same : before.now ≡ old.now
+  pub limit : before.step_limit ≡ old.step_limit
+  pub faults : old.faults ≤ before.faults
+
+module _ {S : Type 0} (g : Ghosts S) (sql : List ℕ) (old : Held S) where
+  -- the SELECT, asked on a connection with the tables of `old` (`IsAsked`), shows these rows
+  abbrev pub Selects : List Row → Type 0
+  Selects rows = (before during : Held S) × IsAsked (state g old) (state g before) × Shown sql [] (state g before) (state g during) rows
+
+  -- the SELECT, asked on a connection with the tables of `old` (`IsAsked`), is refused, and this is its error's fault
+  abbrev pub RefusesToSelect : ReadFault → Type 0
+  RefusesToSelect fault = (before during : Held S) × (e : Error) × IsAsked (state g old) (state g before) × FailsToQuery sql [] (state g before) (state g during) e × (fault ≡ read_fault e)
+
+  -- The SELECT is asked, whatever the schema is: Ok has the rows that it shows, Err the fault of its refusal.
+  -- This is so if the disk is clean. Nothing is changed.
+  pub record Asks {Z : Type 0} (result : Result (Vec Row Z) ReadFault) (new : Held S) : Type 0 where
+    pub rows : HasCleanDisk (state g new) → IfOk result (λ rows. Selects rows.items)
+    pub refused : HasCleanDisk (state g new) → IfErr result RefusesToSelect
+    pub rests : HasCleanDisk (state g new) → Rests (state g old) (state g new)
+    -- A crash leaves only what it could have left before, and the connection is in no transaction.
+    pub survives : Survives (state g old) (state g new) (λ _. ⊥)
+    pub idle : new.in_transaction ≡ false
+
+  -- All rows that the SELECT shows are read, each value in the form of its column, if the disk is clean.
+  -- Nothing is changed.
+  pub record ReadsRows {A Z : Type 0} (forms : List Form) (shown : A → Row) (result : Result (Vec A Z) ReadFault) (new : Held S) : Type 0 where
+    -- With Ok it has all rows that the SELECT shows, in their order, and each value is of its column's form.
+    pub rows : HasCleanDisk (state g new) → IfOk result (λ all. (rows : List Row) × Selects rows × (map shown all.items ≡ map (first_columns (length forms)) rows) × AreTyped forms rows)
+    -- OtherType is returned only if a value is of another form than its column.
+    -- Another fault but Memory is that of the SELECT's refusal.
+    pub other : HasCleanDisk (state g new) → IfErr result (λ fault. fault ≡ OtherType → (rows : List Row) × Selects rows × ¬ AreTyped forms rows)
+    pub refused : HasCleanDisk (state g new) → IfErr result (λ fault. fault ≢ OtherType → fault ≢ Memory → RefusesToSelect fault)
+    -- Memory is returned only if the SELECT is refused for lack of memory, or is answered and its rows may lack memory.
+    pub memory : HasCleanDisk (state g new) → IfErr result (λ fault. fault ≡ Memory → RefusesToSelect Memory ⊎ ((rows : List Row) × Selects rows))
+    pub rests : HasCleanDisk (state g new) → Rests (state g old) (state g new)
+    pub survives : Survives (state g old) (state g new) (λ _. ⊥)
+    pub idle : new.in_transaction ≡ false
+
+  -- The rows of a query are read one by one: Ok has all of them, or None; Err has the fault of the refusal.
+  -- When it is None isn't said. Nothing is changed.
+  pub record Streams {A Z : Type 0} (forms : List Form) (shown : A → Row) (result : Result (Option (Vec A Z)) ReadFault) (new : Held S) : Type 0 where
+    pub rows : HasCleanDisk (state g new) → IfOk result (λ read. IfSome read (λ all. (rows : List Row) × Selects rows × (map shown all.items ≡ map (first_columns (length forms)) rows) × AreTyped forms rows))
+    pub refused : HasCleanDisk (state g new) → IfErr result RefusesToSelect
+    pub same : HasCleanDisk (state g new) → OnOk result (IsAsked (state g old) (state g new))
+    pub rests : HasCleanDisk (state g new) → Rests (state g old) (state g new)
+    pub survives : Survives (state g old) (state g new) (λ _. ⊥)
+    pub idle : new.in_transaction ≡ false
+
+-- the list `new` is `old` and then one element more, read from this row, whose values are of these forms
+abbrev pub AddsRow : {A : Type 0} → List Form → (A → Row) → List A → Row → List A → Type 0
+AddsRow forms shown old row new = (one : _) × (new ≡ old ++ one ∷ []) × (shown one ≡ first_columns (length forms) row) × IsTyped forms row
+
+-- Ok has all rows of a table, each as often as it is there.
+-- The premises: the disk is clean, and the schema begins with the tables of the format `since`.
+abbrev pub GivesTable : {S A Z : Type 0} → Ghosts S → Format → (Trees → List Row) → (A → Row) → Result (Vec A Z) ReadFault → Held S → Held S → Type 0
+GivesTable g since in_table shown result old new = HasCleanDisk (state g new) → HasTablesOf since old.schema → IfOk result (λ all. IsPermutation (in_table (state g old).now.trees) (map shown all.items))
+
+-- the rows of a table without an INTEGER PRIMARY KEY, each with its rowid as a last column
+abbrev pub rows_with_ids_in : Table → Trees → List Row
+rows_with_ids_in table db = map (λ r. visible table r ++ rowid r ∷ []) (db table.tree)
+
+-- ---- the SELECT of each part
+
+-- how a part is read: the first format that has it, the names of the columns, the SELECT, and the rows that it shows
+pub record PartSelect : Type 0 where
+  pub since : Format
+  pub names : List (List ℕ)
+  pub select : List ℕ
+  pub in_table : Trees → List Row
+
+-- how to read all columns of a table whose key is its first `key` columns
+abbrev pub whole : Format → Table → ℕ → PartSelect
+whole since t key = record { since = since; names = column_names t; select = selection t key; in_table = rows_in t }
+
+-- how to read all columns of a table whose key is its first `key` columns, and each row's rowid as a last column
+abbrev pub whole_with_ids : Format → Table → ℕ → PartSelect
+whole_with_ids since t key = record { since = since; names = column_names t ++ codes "rowid" ∷ []; select = selection_with_ids t key; in_table = rows_with_ids_in t }
+
+-- how each part is read: goods, books and stocks with their rowids, all others without
+abbrev pub listing_of : Part → PartSelect
+listing_of Goods = whole_with_ids First has_table 3
+listing_of Books = whole_with_ids First books_table 2
+listing_of Markets = whole_with_ids Second market_table 2
+listing_of part = whole First (table_of part) 1

@@ -1,0 +1,187 @@
+-- The rows of each table as SQL shows them, and the forms of the columns. See docs/FORMATS.md, "Tables".
+use Rattle.std.specs.Prelude.{ℕ, ℤ, pos, Bool, if◌then◌else◌, List, [], ◌∷◌, ◌++◌, string_bytes}
+use Rattle.sqlite.specs.declared.types.Value.{Value}
+use Rattle.sqlite.specs.declared.types.Value.TheVariants.{Int, Text, Blob}
+use Rattle.sqlite.specs.Order.{Row}
+use Rattle.atl_tables.specs.Formats.{format_number}
+use Rattle.atl_tables.specs.declared.format.Format.{Format}
+use Rattle.atl_tables.specs.declared.format.Format.TheVariants.{Second}
+use Rattle.atl_state.specs.declared.parts.StoredCampaignRow.{StoredCampaignRow}
+use Rattle.atl_state.specs.declared.parts.StoredFaction.{StoredFaction}
+use Rattle.atl_state.specs.declared.parts.StoredRegion.{StoredRegion}
+use Rattle.atl_state.specs.declared.parts.StoredUnit.{StoredUnit}
+use Rattle.atl_state.specs.declared.parts.StoredStructure.{StoredStructure}
+use Rattle.atl_state.specs.declared.parts.StoredMail.{StoredMail}
+use Rattle.atl_state.specs.declared.parts.StoredReport.{StoredReport}
+use Rattle.atl_state.specs.declared.parts.StoredHas.{StoredHas}
+use Rattle.atl_state.specs.declared.parts.StoredBooks.{StoredBooks}
+use Rattle.atl_state.specs.declared.parts.StoredMarket.{StoredMarket}
+use Rattle.atl_sql.specs.declared.rows.campaign.StoredCampaign.{StoredCampaign}
+use Rattle.atl_sql.specs.declared.rows.stored.RowWithId.{RowWithId}
+use Rattle.atl_sql.specs.Stored.{Form, Number, Utf8Text, TextBytes, Bytes}
+
+-- the SQL integer of a natural number
+abbrev pub int : ℕ → Value
+int n = Int (pos n)
+
+-- the SQL integer of a flag: 1 for true, 0 for false
+abbrev pub flag : Bool → Value
+flag b = Int (if b then pos 1 else pos 0)
+
+-- what the campaign row says besides its id, its format and its world text
+pub record CampaignRowValue : Type 0 where
+  pub month : ℕ
+  pub next_faction : ℕ
+  pub next_unit : ℕ
+  pub next_structure : ℕ
+  pub pass : List ℕ
+
+-- the campaign row in this format: its id is 1
+abbrev pub campaign_row_in : Format → CampaignRowValue → List ℕ → Row
+campaign_row_in f head world = int 1 ∷ int (format_number f) ∷ int head.month ∷ int head.next_faction ∷ int head.next_unit ∷ int head.next_structure ∷ Text head.pass ∷ Text world ∷ []
+
+-- the campaign row in the second format, in which it is written
+abbrev pub campaign_row : CampaignRowValue → List ℕ → Row
+campaign_row = campaign_row_in Second
+
+-- the parameters of the statement that puts the campaign row, in their order
+abbrev pub campaign_row_values : CampaignRowValue → List ℕ → Row
+campaign_row_values head world = int head.month ∷ int head.next_faction ∷ int head.next_unit ∷ int head.next_structure ∷ Text head.pass ∷ Text world ∷ []
+
+-- a row of `faction`: number, joined_as, name, pass, gone
+abbrev pub faction_row : ℕ → List ℕ → List ℕ → List ℕ → Bool → Row
+faction_row number joined_as name pass gone = int number ∷ Text joined_as ∷ Text name ∷ Text pass ∷ flag gone ∷ []
+
+-- a row of `region`: number, peasants, money
+abbrev pub region_row : ℕ → ℕ → ℕ → Row
+region_row number peasants money = int number ∷ int peasants ∷ int money ∷ []
+
+-- a row of `unit`: number, faction, name, region, structure, men, money, guard
+abbrev pub unit_row : ℕ → ℕ → List ℕ → ℕ → ℕ → ℕ → ℕ → Bool → Row
+unit_row number faction name region structure men money guard = int number ∷ int faction ∷ Text name ∷ int region ∷ int structure ∷ int men ∷ int money ∷ flag guard ∷ []
+
+-- a row of `structure`: number, kind, name, region, done, owner
+abbrev pub structure_row : ℕ → ℕ → List ℕ → ℕ → ℕ → ℕ → Row
+structure_row number kind name region done owner = int number ∷ int kind ∷ Text name ∷ int region ∷ int done ∷ int owner ∷ []
+
+-- a row of `mail`: faction, text
+abbrev pub mail_row : ℕ → List ℕ → Row
+mail_row faction text = int faction ∷ Blob text ∷ []
+
+-- a row of `report`: faction, text
+abbrev pub report_row : ℕ → List ℕ → Row
+report_row faction text = int faction ∷ Text text ∷ []
+
+-- the key of a row of `has`: unit, sort (0 item, 1 skill), thing
+abbrev pub has_key : ℕ → ℕ → ℕ → Row
+has_key unit sort thing = int unit ∷ int sort ∷ int thing ∷ []
+
+-- a row of `has`: unit, sort (0 item, 1 skill), thing, amount
+abbrev pub has_row : ℕ → ℕ → ℕ → ℕ → Row
+has_row unit sort thing amount = int unit ∷ int sort ∷ int thing ∷ int amount ∷ []
+
+-- the key of a row of `books`: entry, thing
+abbrev pub books_key : ℕ → ℕ → Row
+books_key entry thing = int entry ∷ int thing ∷ []
+
+-- a row of `books`: entry, thing, amount
+abbrev pub books_row : ℕ → ℕ → ℤ → Row
+books_row entry thing amount = int entry ∷ int thing ∷ Int amount ∷ []
+
+-- the key of a row of `market`: region, item
+abbrev pub market_key : ℕ → ℕ → Row
+market_key region item = int region ∷ int item ∷ []
+
+-- a row of `market`: region, item, stock
+abbrev pub market_row : ℕ → ℕ → ℕ → Row
+market_row region item stock = int region ∷ int item ∷ int stock ∷ []
+
+-- ---- rows that are read
+
+-- the campaign row that was read, without its world text
+abbrev pub campaign_row_stored : StoredCampaignRow → Row
+campaign_row_stored s = Int s.id ∷ Int s.format ∷ Int s.month ∷ Int s.next_faction ∷ Int s.next_unit ∷ Int s.next_structure ∷ Text s.pass ∷ []
+
+-- the forms of the columns of `campaign`, without the world text
+abbrev pub campaign_row_forms : List Form
+campaign_row_forms = Number ∷ Number ∷ Number ∷ Number ∷ Number ∷ Number ∷ TextBytes ∷ []
+
+-- the campaign row that was read, with its world text
+abbrev pub campaign_stored : StoredCampaign → Row
+campaign_stored s = campaign_row_stored s.head ++ Text (string_bytes s.world) ∷ []
+
+-- the forms of the columns of `campaign`, with the world text
+abbrev pub campaign_forms : List Form
+campaign_forms = campaign_row_forms ++ Utf8Text ∷ []
+
+-- a row of `faction` that was read
+abbrev pub faction_stored : StoredFaction → Row
+faction_stored s = Int s.number ∷ Text s.joined_as ∷ Text s.name ∷ Text s.pass ∷ Int s.gone ∷ []
+
+-- the forms of the columns of `faction`
+abbrev pub faction_forms : List Form
+faction_forms = Number ∷ TextBytes ∷ TextBytes ∷ TextBytes ∷ Number ∷ []
+
+-- a row of `region` that was read
+abbrev pub region_stored : StoredRegion → Row
+region_stored s = Int s.number ∷ Int s.peasants ∷ Int s.money ∷ []
+
+-- the forms of the columns of `region`
+abbrev pub region_forms : List Form
+region_forms = Number ∷ Number ∷ Number ∷ []
+
+-- a row of `unit` that was read
+abbrev pub unit_stored : StoredUnit → Row
+unit_stored s = Int s.number ∷ Int s.faction ∷ Text s.name ∷ Int s.region ∷ Int s.structure ∷ Int s.men ∷ Int s.money ∷ Int s.guard ∷ []
+
+-- the forms of the columns of `unit`
+abbrev pub unit_forms : List Form
+unit_forms = Number ∷ Number ∷ TextBytes ∷ Number ∷ Number ∷ Number ∷ Number ∷ Number ∷ []
+
+-- a row of `structure` that was read
+abbrev pub structure_stored : StoredStructure → Row
+structure_stored s = Int s.number ∷ Int s.kind ∷ Text s.name ∷ Int s.region ∷ Int s.done ∷ Int s.owner ∷ []
+
+-- the forms of the columns of `structure`
+abbrev pub structure_forms : List Form
+structure_forms = Number ∷ Number ∷ TextBytes ∷ Number ∷ Number ∷ Number ∷ []
+
+-- a row of `mail` that was read
+abbrev pub mail_stored : StoredMail → Row
+mail_stored s = Int s.faction ∷ Blob s.text ∷ []
+
+-- the forms of the columns of `mail`
+abbrev pub mail_forms : List Form
+mail_forms = Number ∷ Bytes ∷ []
+
+-- a row of `report` that was read
+abbrev pub report_stored : StoredReport → Row
+report_stored s = Int s.faction ∷ Text s.text ∷ []
+
+-- the forms of the columns of `report`
+abbrev pub report_forms : List Form
+report_forms = Number ∷ Utf8Text ∷ []
+
+-- a row of `has` that was read, with its rowid as a last column
+abbrev pub has_stored : RowWithId StoredHas → Row
+has_stored s = Int s.row.unit ∷ Int s.row.sort ∷ Int s.row.thing ∷ Int s.row.amount ∷ Int s.rowid ∷ []
+
+-- the forms of the columns of `has`, and of the rowid after them
+abbrev pub has_forms : List Form
+has_forms = Number ∷ Number ∷ Number ∷ Number ∷ Number ∷ []
+
+-- a row of `books` that was read, with its rowid as a last column
+abbrev pub books_stored : RowWithId StoredBooks → Row
+books_stored s = Int s.row.entry ∷ Int s.row.thing ∷ Int s.row.amount ∷ Int s.rowid ∷ []
+
+-- the forms of the columns of `books`, and of the rowid after them
+abbrev pub books_forms : List Form
+books_forms = Number ∷ Number ∷ Number ∷ Number ∷ []
+
+-- a row of `market` that was read, with its rowid as a last column
+abbrev pub market_stored : RowWithId StoredMarket → Row
+market_stored s = Int s.row.region ∷ Int s.row.item ∷ Int s.row.stock ∷ Int s.rowid ∷ []
+
+-- the forms of the columns of `market`, and of the rowid after them
+abbrev pub market_forms : List Form
+market_forms = Number ∷ Number ∷ Number ∷ Number ∷ []

@@ -1,0 +1,26 @@
+-- The rows that are handed in to be written, as SQL shows them.
+use Rattle.std.specs.Prelude.{ℕ}
+use Rattle.sqlite.specs.Order.{Row}
+use Rattle.atl_sql.specs.declared.rows.campaign.CampaignRow.{CampaignRow}
+use Rattle.atl_sql.specs.declared.rows.has.HasRow.{HasRow}
+use Rattle.atl_sql.specs.declared.rows.has.ThingKind.{ThingKind}
+use Rattle.atl_sql.specs.declared.rows.has.ThingKind.TheVariants.{Item, Skill}
+use Rattle.atl_sql.specs.declared.rows.books.BooksRow.{BooksRow}
+use Rattle.atl_sql.specs.Shown.{has_row, books_row, CampaignRowValue}
+
+-- what a campaign row that is handed in says
+abbrev pub head_shown : CampaignRow → CampaignRowValue
+head_shown row = record { month = row.month; next_faction = row.next_faction; next_unit = row.next_unit; next_structure = row.next_structure; pass = row.pass.now }
+
+-- the number of a kind of goods in the column `sort` of `has`
+abbrev pub sort_number : ThingKind → ℕ
+sort_number Item = 0
+sort_number Skill = 1
+
+-- a row of `has` that is handed in, as SQL shows it
+abbrev pub has_shown : HasRow → Row
+has_shown row = has_row row.unit (sort_number row.sort) row.thing row.amount
+
+-- a row of `books` that is handed in, as SQL shows it
+abbrev pub books_shown : BooksRow → Row
+books_shown row = books_row row.entry row.thing row.amount

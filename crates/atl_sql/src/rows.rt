@@ -1,0 +1,16 @@
+//! The tables, one module each: how a row is put, deleted and read. See docs/FORMATS.md, "Tables".
+
+pub mod books;
+pub mod campaign;
+mod columns;
+pub mod faction;
+pub mod has;
+pub mod mail;
+pub mod market;
+pub mod region;
+pub mod report;
+pub(crate) mod stored;
+pub mod structure;
+pub mod unit;
+
+pub use stored::{HasSelect, RowWithId, Stored, parse_rows};

@@ -1,0 +1,166 @@
+//! The row of the table `campaign`, which is the campaign row.
+ghost use Rattle.std.specs.Prelude.{◌≡◌, false, not, IsTrue, IfOk, IfErr, refl};
+ghost use Rattle.atl_sql.specs.Errors.{is_memory};
+ghost use Rattle.atl_sql.specs.Stored.{first_columns, IsTyped};
+ghost use Rattle.atl_sql.specs.Tables.{Own, campaign_table};
+ghost use Rattle.atl_sql.specs.Written.{head_shown};
+ghost use Rattle.atl_sql.specs.PutsCampaignRow.{PutsCampaignRow, UpgradesCampaignRow};
+ghost use Rattle.atl_sql.specs.Shown.{campaign_row_values, campaign_row_stored, campaign_row_forms, campaign_stored, campaign_forms};
+ghost use Rattle.atl_sql.specs.Statements.{campaign_upsert, selection, upgrading_upsert, Only};
+ghost use Rattle.atl_sql.specs.Writes.{Writes};
+ghost use Rattle.atl_sql.specs.Inside.{Inside, HasTables};
+ghost use Rattle.atl_sql.specs.Reading.{Asks};
+
+use crate::fault::ReadFault;
+use crate::rows::columns::{text_bytes, three_integers, utf8_text};
+use crate::rows::stored::{HasSelect, Stored, select};
+use crate::statement::run;
+use atl_state::parts::StoredCampaignRow;
+use atl_tables::Format;
+use sqlite::{Alter, Connection, Error, Row, Transaction, params};
+use std::alloc::Global;
+
+/// What the campaign row says besides its id (1), its format (2) and its world text.
+#[derive(Clone, Copy, Debug)]
+pub struct CampaignRow<'a> {
+    /// The month last closed, 0 before the first.
+    pub month: u32,
+    /// The number that the next faction gets.
+    pub next_faction: u32,
+    /// The number that the next unit gets.
+    pub next_unit: u32,
+    /// The number that the next structure gets.
+    pub next_structure: u32,
+    /// The moderator's pass text.
+    pub pass: &'a str,
+}
+
+/// Inserts the campaign row with this world text; a row that is there keeps its format and text.
+pub fn put_campaign<S: Alter>(
+    tx: &mut Transaction<'_, S>,
+    row: &CampaignRow<'_>,
+    world: &str,
+) -> Result<(), Error>
+    ensures { Writes S.Store
+        (Only campaign_upsert (campaign_row_values (head_shown row.now) world.now))
+        (Inside HasTables (PutsCampaignRow (head_shown row.now) world.now)) result tx.old.conn
+        tx.new.conn }
+{
+    run(
+        tx,
+        "INSERT INTO campaign (id, format, month, next_faction, next_unit, next_structure, pass, world) VALUES (1, 2, ?1, ?2, ?3, ?4, ?5, ?6) ON CONFLICT (id) DO UPDATE SET month = ?1, next_faction = ?2, next_unit = ?3, next_structure = ?4, pass = ?5",
+        params![
+            row.month,
+            row.next_faction,
+            row.next_unit,
+            row.next_structure,
+            row.pass,
+            world
+        ],
+    )
+}
+
+/// Sets the format, to 2, and the world text of a campaign row that is there.
+pub fn put_upgraded<S: Alter>(
+    tx: &mut Transaction<'_, S>,
+    row: &CampaignRow<'_>,
+    world: &str,
+) -> Result<(), Error>
+    ensures { Writes S.Store
+        (Only upgrading_upsert (campaign_row_values (head_shown row.now) world.now))
+        (Inside HasTables (UpgradesCampaignRow (head_shown row.now) world.now)) result tx.old.conn
+        tx.new.conn }
+{
+    run(
+        tx,
+        "INSERT INTO campaign (id, format, month, next_faction, next_unit, next_structure, pass, world) VALUES (1, 2, ?1, ?2, ?3, ?4, ?5, ?6) ON CONFLICT (id) DO UPDATE SET format = 2, world = ?6",
+        params![
+            row.month,
+            row.next_faction,
+            row.next_unit,
+            row.next_structure,
+            row.pass,
+            world
+        ],
+    )
+}
+
+/// A row of `campaign` as it is in the table, whoever wrote it, with its world text.
+#[derive(Debug)]
+pub struct StoredCampaign {
+    /// All columns of the row but the world text.
+    pub head: StoredCampaignRow,
+    /// The text of a world file, byte for byte as it was handed in.
+    pub world: String,
+}
+
+impl Drop for StoredCampaign {
+    fn drop(self) {
+        let StoredCampaign { head: _, world: _ } = self;
+    }
+}
+
+impl StoredCampaign {
+    /// The row without its world text.
+    pub fn into_campaign_row(self) -> StoredCampaignRow
+        ensures { result ≡ self.head }
+    {
+        let StoredCampaign { head, world: _ } = self;
+        head
+    }
+}
+
+/// Reads all columns of a row of `campaign` but the world text.
+fn head(alloc: Global, row: &Row) -> Result<StoredCampaignRow, Error>
+    ensures ok { IfOk result (λ head. campaign_row_stored head ≡ first_columns 7 row.now) }
+    ensures typed { IfOk result (λ _. IsTyped campaign_row_forms row.now) }
+    ensures other { IfErr result
+        (λ e. IsTrue (not (is_memory e)) → ¬ IsTyped campaign_row_forms row.now) }
+{
+    let (id, format, month) = three_integers(row, 0)?;
+    let (next_faction, next_unit, next_structure) = three_integers(row, 3)?;
+    Ok(StoredCampaignRow {
+        id,
+        format,
+        month,
+        next_faction,
+        next_unit,
+        next_structure,
+        pass: text_bytes(alloc, row, 6)?,
+    })
+}
+
+impl Stored for StoredCampaign {
+    ghost forms = { campaign_forms };
+
+    ghost shown = { campaign_stored };
+
+    fn from_row(alloc: Global, row: &Row) -> Result<StoredCampaign, Error> {
+        let head = head(alloc, row)?;
+        let world = utf8_text(row, 7)?;
+        Ok(StoredCampaign { head, world })
+    }
+}
+
+/// The SELECT of all rows of `campaign`.
+const ALL: &str =
+    "SELECT id, format, month, next_faction, next_unit, next_structure, pass, world FROM campaign ORDER BY id";
+
+/// Reads the rows of `campaign` as SQL shows them, whatever their values are. Nothing is changed.
+/// Each fault is returned as `ReadFault` says; OtherType is never returned.
+pub fn select_campaign<S: Alter>(conn: &mut Connection<S>) -> Result<Vec<Row>, ReadFault>
+    requires { conn.old.in_transaction ≡ false }
+    ensures { Asks S.Store (selection campaign_table 1) conn.old result conn.new }
+{
+    select(conn, ALL)
+}
+
+impl HasSelect for StoredCampaign {
+    ghost part = { Own };
+
+    ghost columns = { refl };
+
+    fn select_of() -> (Format, &'static str) {
+        (Format::First, ALL)
+    }
+}

@@ -1,0 +1,116 @@
+//! The rows of the table `has`: in each an amount of an item, or days of a skill, of a unit.
+ghost use Rattle.std.specs.Prelude.{◌≡◌, [], ◌∷◌, refl};
+ghost use Rattle.atl_sql.specs.Tables.{Goods, has_table};
+ghost use Rattle.atl_sql.specs.Shown.{int, has_key, has_stored, has_forms};
+ghost use Rattle.atl_sql.specs.Written.{has_shown, sort_number};
+ghost use Rattle.atl_sql.specs.Writes.{WritesRow, TakesOut};
+
+use crate::rows::columns::{three_integers, two_integers};
+use crate::rows::stored::{HasSelect, RowWithId, Stored};
+use crate::statement::run;
+use atl_state::parts::StoredHas;
+use atl_tables::Format;
+use sqlite::{Alter, Error, Row, Transaction, params};
+use std::alloc::Global;
+
+/// The kind of a row of `has`: an amount of an item, or days of a skill.
+#[derive(Clone, Copy, Debug, PartialEq, Eq)]
+pub enum ThingKind {
+    /// An amount of an item.
+    Item,
+    /// Days of a skill.
+    Skill,
+}
+
+impl ThingKind {
+    /// The kind's number in the column `sort`: 0 for an item, 1 for a skill.
+    pub(crate) fn number(self) -> u32
+        ensures { result ≡ sort_number self }
+    {
+        match self {
+            ThingKind::Item => 0,
+            ThingKind::Skill => 1,
+        }
+    }
+}
+
+/// A row of `has`: how much a unit has of an item or a skill, which is more than 0.
+#[derive(Clone, Copy, Debug)]
+pub struct HasRow {
+    /// The number of the unit.
+    pub unit: u32,
+    /// Whether it is an item or a skill.
+    pub sort: ThingKind,
+    /// The world's number of the item or the skill.
+    pub thing: u32,
+    /// How many of the item, or how many days of the skill.
+    pub amount: u32,
+}
+
+/// Inserts a row of `has`, or changes the row with the same unit, kind and thing.
+pub fn put_has<S: Alter>(tx: &mut Transaction<'_, S>, row: &HasRow) -> Result<(), Error>
+    ensures { WritesRow S.Store has_table 3 (has_shown row.now) result tx.old.conn tx.new.conn }
+{
+    let sort = row.sort.number();
+    run(
+        tx,
+        "INSERT INTO has (unit, sort, thing, amount) VALUES (?1, ?2, ?3, ?4) ON CONFLICT (unit, sort, thing) DO UPDATE SET amount = ?4",
+        params![row.unit, sort, row.thing, row.amount],
+    )
+}
+
+/// Deletes the row of this unit, kind and thing from `has`, if there is one.
+pub fn drop_has<S: Alter>(
+    tx: &mut Transaction<'_, S>,
+    unit: u32,
+    sort: ThingKind,
+    thing: u32,
+) -> Result<(), Error>
+    ensures { TakesOut S.Store has_table 3 (has_key unit (sort_number sort) thing) result
+        tx.old.conn tx.new.conn }
+{
+    let sort = sort.number();
+    run(
+        tx,
+        "DELETE FROM has WHERE unit = ?1 AND sort = ?2 AND thing = ?3",
+        params![unit, sort, thing],
+    )
+}
+
+/// Deletes all rows of this unit from `has`.
+pub fn drop_goods<S: Alter>(tx: &mut Transaction<'_, S>, unit: u32) -> Result<(), Error>
+    ensures { TakesOut S.Store has_table 1 (int unit ∷ []) result tx.old.conn tx.new.conn }
+{
+    run(tx, "DELETE FROM has WHERE unit = ?1", params![unit])
+}
+
+impl Stored for RowWithId<StoredHas> {
+    ghost forms = { has_forms };
+
+    ghost shown = { has_stored };
+
+    fn from_row(_alloc: Global, row: &Row) -> Result<RowWithId<StoredHas>, Error> {
+        let (unit, sort) = two_integers(row, 0)?;
+        let (thing, amount, rowid) = three_integers(row, 2)?;
+        let row = StoredHas {
+            unit,
+            sort,
+            thing,
+            amount,
+        };
+        Ok(RowWithId { row, rowid })
+    }
+}
+
+impl HasSelect for RowWithId<StoredHas> {
+    ghost part = { Goods };
+
+    ghost columns = { refl };
+
+    fn select_of() -> (Format, &'static str) {
+        (
+            Format::First,
+            "SELECT unit, sort, thing, amount, rowid FROM has ORDER BY unit, sort, thing",
+        )
+    }
+}

@@ -1,0 +1,83 @@
+//! The rows of the table `market`: the stock of an item of a region in each row.
+ghost use Rattle.std.specs.Prelude.{[], ◌∷◌, refl};
+ghost use Rattle.atl_sql.specs.Tables.{Markets, market_table};
+ghost use Rattle.atl_sql.specs.Shown.{int, market_key, market_row, market_stored, market_forms};
+ghost use Rattle.atl_sql.specs.Writes.{WritesRow, TakesOut};
+
+use crate::rows::columns::two_integers;
+use crate::rows::stored::{HasSelect, RowWithId, Stored};
+use crate::statement::run;
+use atl_state::parts::StoredMarket;
+use atl_tables::Format;
+use sqlite::{Alter, Error, Row, Transaction, params};
+use std::alloc::Global;
+
+/// Inserts the row of a stock into `market`, or changes the row with the same region and item.
+pub fn put_stock<S: Alter>(
+    tx: &mut Transaction<'_, S>,
+    region: u32,
+    item: u32,
+    stock: u32,
+) -> Result<(), Error>
+    ensures { WritesRow S.Store market_table 2 (market_row region item stock) result tx.old.conn
+        tx.new.conn }
+{
+    run(
+        tx,
+        "INSERT INTO market (region, item, stock) VALUES (?1, ?2, ?3) ON CONFLICT (region, item) DO UPDATE SET stock = ?3",
+        params![region, item, stock],
+    )
+}
+
+/// Deletes the row of this region and item from `market`, if there is one.
+pub fn drop_stock<S: Alter>(
+    tx: &mut Transaction<'_, S>,
+    region: u32,
+    item: u32,
+) -> Result<(), Error>
+    ensures { TakesOut S.Store market_table 2 (market_key region item) result tx.old.conn
+        tx.new.conn }
+{
+    run(
+        tx,
+        "DELETE FROM market WHERE region = ?1 AND item = ?2",
+        params![region, item],
+    )
+}
+
+/// Deletes all rows of this region from `market`.
+pub fn drop_stocks<S: Alter>(tx: &mut Transaction<'_, S>, region: u32) -> Result<(), Error>
+    ensures { TakesOut S.Store market_table 1 (int region ∷ []) result tx.old.conn tx.new.conn }
+{
+    run(tx, "DELETE FROM market WHERE region = ?1", params![region])
+}
+
+impl Stored for RowWithId<StoredMarket> {
+    ghost forms = { market_forms };
+
+    ghost shown = { market_stored };
+
+    fn from_row(_alloc: Global, row: &Row) -> Result<RowWithId<StoredMarket>, Error> {
+        let (region, item) = two_integers(row, 0)?;
+        let (stock, rowid) = two_integers(row, 2)?;
+        let row = StoredMarket {
+            region,
+            item,
+            stock,
+        };
+        Ok(RowWithId { row, rowid })
+    }
+}
+
+impl HasSelect for RowWithId<StoredMarket> {
+    ghost part = { Markets };
+
+    ghost columns = { refl };
+
+    fn select_of() -> (Format, &'static str) {
+        (
+            Format::Second,
+            "SELECT region, item, stock, rowid FROM market ORDER BY region, item",
+        )
+    }
+}

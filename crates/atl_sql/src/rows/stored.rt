@@ -1,0 +1,168 @@
+//! Reads all rows of a table with a SELECT, and parses each.
+ghost use Rattle.std.specs.Prelude.{◌≡◌, ◌≢◌, List, map, length, false, true, not, IsTrue, IfOk, IfErr};
+ghost use Rattle.sqlite.specs.Given.{IsPlain};
+ghost use Rattle.sqlite.specs.Listing.{understood};
+ghost use Rattle.sqlite.specs.Order.{Row as SqlRow};
+ghost use Rattle.atl_sql.specs.Errors.{is_memory};
+ghost use Rattle.atl_sql.specs.Reading.{AddsRow, Asks, GivesTable, ReadsRows, Streams, listing_of};
+ghost use Rattle.atl_sql.specs.Stored.{Form, first_columns, IsTyped, AreTyped};
+ghost use Rattle.atl_sql.specs.Tables.{Part, HasTablesOf};
+ghost use Rattle.atl_sql.specs.declared.fault.ReadFault.TheVariants.{Memory, OtherType};
+
+use crate::fault::{ReadFault, unread};
+use crate::schema::has_tables_of;
+use atl_tables::Format;
+use sqlite::{Alter, Connection, Error, Row};
+use std::alloc::Global;
+
+/// A row of a table as it is stored, whoever wrote it, such as `StoredUnit`.
+pub trait Stored: Drop + Sized {
+    // The forms of the columns, and the row as SQL shows it.
+    ghost forms: { List Form };
+
+    ghost shown: { Self → SqlRow };
+
+    /// Parses a row that SQL shows. The error is lack of memory, or a value is of another type.
+    fn from_row(alloc: Global, row: &Row) -> Result<Self, Error>
+        ensures ok { IfOk result (λ stored. shown stored ≡ first_columns (length forms) row.now) }
+        ensures typed { IfOk result (λ _. IsTyped forms row.now) }
+        ensures other { IfErr result (λ e. IsTrue (not (is_memory e)) → ¬ IsTyped forms row.now) };
+}
+
+/// A row of a table that has a SELECT of all its rows.
+pub trait HasSelect: Stored {
+    // The part of a campaign that the table is of.
+    ghost part: { Part };
+
+    /// The first format that has the table, and the SELECT of all its columns.
+    fn select_of() -> (Format, &'static str)
+        ensures since { result.0 ≡ (listing_of part).since }
+        ensures select { result.1.now ≡ (listing_of part).select };
+
+    /// Reads all rows of the table, in the order of its key. Nothing is changed. Rows of `has`,
+    /// `books` and `market` come with their rowids. Each fault is returned as `ReadFault` says,
+    /// OtherType also for a report or a world text that isn't UTF-8.
+    final fn read<S: Alter>(alloc: Global, conn: &mut Connection<S>) -> Result<Vec<Self>, ReadFault>
+        requires { conn.old.in_transaction ≡ false }
+        ensures select { ReadsRows S.Store (listing_of part).select conn.old Self.forms Self.shown
+            result conn.new }
+        ensures table { GivesTable S.Store (listing_of part).since (listing_of part).in_table
+            Self.shown result conn.old conn.new }
+    {
+        let (since, select) = Self::select_of();
+        read_all(alloc, conn, since, select)
+    }
+
+    // There are as many forms as columns that are shown.
+    ghost columns: { length Self.forms ≡ length (listing_of part).names };
+}
+
+/// A row of a table without an INTEGER PRIMARY KEY, with the rowid that the database gave it.
+#[derive(Debug, Drop)]
+pub struct RowWithId<T> {
+    /// The row without its rowid.
+    pub row: T,
+    /// The row's rowid, which no other row of the table should have.
+    pub rowid: i64,
+}
+
+/// Parses all rows that a SELECT showed.
+pub fn parse_rows<T: Stored>(alloc: Global, rows: &[Row]) -> Result<Vec<T>, ReadFault>
+    ensures ok { IfOk result
+        (λ all. map T.shown all.items ≡ map (first_columns (length T.forms)) rows.now) }
+    ensures typed { IfOk result (λ _. AreTyped T.forms rows.now) }
+    ensures other { IfErr result (λ fault. fault ≡ OtherType → ¬ AreTyped T.forms rows.now) }
+    ensures which { IfErr result (λ fault. fault ≢ OtherType → fault ≡ Memory) }
+{
+    let mut all = Vec::with_capacity(alloc, rows.len())?;
+    for row in rows {
+        match T::from_row(alloc, row) {
+            Ok(stored) => all.push(stored)?,
+            Err(error) => return Err(unread(error)),
+        }
+    }
+    Ok(all)
+}
+
+/// The rows that a SELECT shows. The SELECT runs in a transaction of its own, which is rolled back,
+/// so that nothing is changed, whatever the schema is.
+pub(crate) fn select<S: Alter>(conn: &mut Connection<S>, sql: &str) -> Result<Vec<Row>, ReadFault>
+    requires { conn.old.in_transaction ≡ false }
+    ensures { Asks S.Store sql.now conn.old result conn.new }
+{
+    let mut tx = conn.transaction();
+    let rows = tx.query_all(sql, &[])?;
+    tx.rollback();
+    Ok(rows)
+}
+
+/// Parses a row and adds it to the end of a list; false if it can't be parsed or kept.
+fn push_row<T: Stored>(alloc: Global, all: &mut Vec<T>, row: &Row) -> bool
+    ensures { result ≡ true → AddsRow T.forms T.shown all.old.items row.now all.new.items }
+{
+    match T::from_row(alloc, row) {
+        Ok(stored) => all.push(stored).is_ok(),
+        Err(_) => false,
+    }
+}
+
+/// All rows that a query shows, each parsed as it comes; None if one couldn't be parsed or kept.
+/// Nothing is changed.
+fn stream<T: Stored, S: Alter>(
+    alloc: Global,
+    conn: &mut Connection<S>,
+    sql: &str,
+) -> Result<Option<Vec<T>>, ReadFault>
+    requires idle { conn.old.in_transaction ≡ false }
+    requires plain { IsPlain (understood conn.old.schema sql.now) }
+    ensures { Streams S.Store sql.now conn.old T.Stored.forms T.Stored.shown result conn.new }
+{
+    let mut all = Vec::new(alloc);
+    let mut rows = conn.query(sql, &[])?;
+    'rows: for _ in 0..u64::MAX {
+        let Some(row) = rows.next()? else {
+            return Ok(Some(all));
+        };
+        if !push_row(alloc, &mut all, row) {
+            return Ok(None);
+        }
+    }
+    Ok(None)
+}
+
+/// All rows that a SELECT shows, parsed after all of them have come, whatever the schema is.
+fn read_inside<T: Stored, S: Alter>(
+    alloc: Global,
+    conn: &mut Connection<S>,
+    sql: &str,
+) -> Result<Vec<T>, ReadFault>
+    requires { conn.old.in_transaction ≡ false }
+    ensures { ReadsRows S.Store sql.now conn.old T.Stored.forms T.Stored.shown result conn.new }
+{
+    let rows = select(conn, sql)?;
+    parse_rows(alloc, rows.as_slice())
+}
+
+/// All rows that a SELECT shows, parsed.
+/// If the tables are those of the format `since`, each is parsed as it comes. Otherwise, or if one
+/// couldn't be parsed or kept, all are parsed after they have come, so that the first fault is
+/// reported.
+pub(crate) fn read_all<T: Stored, S: Alter>(
+    alloc: Global,
+    conn: &mut Connection<S>,
+    since: Format,
+    sql: &str,
+) -> Result<Vec<T>, ReadFault>
+    requires idle { conn.old.in_transaction ≡ false }
+    requires plain { HasTablesOf since conn.old.schema
+        → IsPlain (understood conn.old.schema sql.now) }
+    ensures { ReadsRows S.Store sql.now conn.old T.Stored.forms T.Stored.shown result conn.new }
+{
+    if !has_tables_of(conn.schema(), since) {
+        return read_inside(alloc, conn, sql);
+    }
+    match stream(alloc, conn, sql)? {
+        Some(all) => Ok(all),
+        None => read_inside(alloc, conn, sql),
+    }
+}

@@ -1,0 +1,88 @@
+//! Tests whether a schema begins with the tables of a campaign. See docs/FORMATS.md, "Tables".
+ghost use Rattle.std.specs.Prelude.{◌≡◌, ◌≤◌, [], length, ◌↔◌, IsTrue};
+ghost use Rattle.std.specs.List.{AllByRecursion};
+ghost use Rattle.atl_sql.specs.Tables.{IsJustOld, all_tables, all_indexes, AreTables, Begins, HasAll, HasTablesOf};
+
+pub(crate) mod checks;
+mod columns;
+mod indexes;
+pub(crate) mod keys;
+pub(crate) mod shapes;
+
+use crate::tables::{FIRST_INDEXES, FIRST_TABLES, INDEXES, TABLES, are_first_tables};
+use atl_tables::Format;
+use indexes::are_indexes;
+use sqlite_schema::schema::{Schema, Table};
+
+/// Whether the table has no foreign key.
+fn is_free(found: &Table) -> bool
+    ensures { IsTrue result ↔ (found.now.references ≡ []) }
+{
+    found.references.is_empty()
+}
+
+/// Whether no table has a foreign key.
+fn are_free(tables: &[Table]) -> bool
+    ensures { IsTrue result ↔ (AllByRecursion (λ t. t.references ≡ []) tables.now) }
+{
+    for table in tables {
+        if !is_free(table) {
+            return false;
+        }
+    }
+    true
+}
+
+/// Whether these are the first `count` tables of a campaign and then tables without a foreign key.
+fn are_tables(tables: &[Table], count: usize) -> bool
+    requires { count ≤ length all_tables }
+    ensures { IsTrue result ↔ (AreTables count tables.now) }
+{
+    tables.len() >= count && are_first_tables(tables, count) && are_free(&tables[count..])
+}
+
+/// Whether the schema begins with the first `tables` tables and `keys` indexes of a campaign and
+/// has no view. Only other tables without a foreign key, and indexes that make nothing unique in
+/// the first, may come after them.
+fn begins(schema: &Schema, tables: usize, keys: usize) -> bool
+    requires tables { tables ≤ length all_tables }
+    requires keys { keys ≤ length all_indexes }
+    ensures { IsTrue result ↔ (Begins tables keys schema.now) }
+{
+    if !are_tables(schema.tables.as_slice(), tables) {
+        return false;
+    }
+    if !are_indexes(schema.indexes.as_slice(), tables, keys) {
+        return false;
+    }
+    schema.views.is_empty()
+}
+
+/// Whether the schema begins with a format's tables and has no view. Only other tables without a
+/// foreign key, and indexes that make nothing unique in the first, may come after them.
+pub fn has_tables_of(schema: &Schema, format: Format) -> bool
+    ensures { IsTrue result ↔ (HasTablesOf format schema.now) }
+{
+    match format {
+        Format::First => begins(schema, FIRST_TABLES, FIRST_INDEXES),
+        Format::Second => has_all_tables(schema),
+    }
+}
+
+/// Whether the schema has exactly the tables and indexes of the first format.
+pub fn is_just_old(schema: &Schema) -> bool
+    ensures { IsTrue result ↔ (IsJustOld schema.now) }
+{
+    schema.tables.len() == FIRST_TABLES
+        && schema.indexes.len() == FIRST_INDEXES
+        && has_tables_of(schema, Format::First)
+}
+
+/// Whether the schema begins with the tables of a campaign, made as `create` makes them: after
+/// `create` it does. Other tables without a foreign key, and indexes that make nothing unique in
+/// these, may come after them; with a view or a trigger it does not. See docs/FORMATS.md, "Tables".
+pub fn has_all_tables(schema: &Schema) -> bool
+    ensures { IsTrue result ↔ (HasAll schema.now) }
+{
+    begins(schema, TABLES, INDEXES)
+}

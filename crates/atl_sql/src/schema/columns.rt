@@ -1,0 +1,35 @@
+//! Compares the columns of a table with names and kinds.
+ghost use Rattle.std.specs.Prelude.{◌≡◌, map, ◌↔◌, IsTrue};
+ghost use Rattle.atl_sql.specs.Sets.{field};
+
+use sqlite_schema::schema::{Column, Kind};
+use sqlite_value::keys::Collation;
+use sqlite_value::value::Value;
+
+/// Whether the column is STRICT and NOT NULL, without a default, with this name and kind.
+fn is_field(column: &Column, name: &[u8], kind: Kind) -> bool
+    ensures { IsTrue result ↔ (column.now ≡ field name.now kind) }
+{
+    column.name.as_slice() == name
+        && column.kind == kind
+        && column.is_strict
+        && column.not_null
+        && matches!(column.default, Value::Null)
+        && column.collation == Collation::Binary
+}
+
+/// Whether the columns are STRICT and NOT NULL, without a default, and have these names and kinds
+/// in this order.
+pub(crate) fn are_fields(columns: &[Column], fields: &[(&[u8], Kind)]) -> bool
+    ensures { IsTrue result ↔ (columns.now ≡ map (λ f. field f.0.now f.1) fields.now) }
+{
+    if columns.len() != fields.len() {
+        return false;
+    }
+    for i in 0..columns.len() {
+        if !is_field(&columns[i], fields[i].0, fields[i].1) {
+            return false;
+        }
+    }
+    true
+}

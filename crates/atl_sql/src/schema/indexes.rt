@@ -1,0 +1,155 @@
+//! Compares the indexes of a schema with those of the tables' keys, and tests all others.
+ghost use Rattle.std.specs.Prelude.{◌≡◌, ◌==◌, ◌≤◌, ◌++◌, true, codes, length, slice_get, take, ◌↔◌, IsTrue};
+ghost use Rattle.std.specs.List.{AllByRecursion, list_any};
+ghost use Rattle.std.specs.Fmt.{decimal};
+ghost use Rattle.sqlite_value.specs.Keys.{plain};
+ghost use Rattle.atl_sql.specs.Tables.{all_tables, all_indexes, IsHarmless, AreIndexes};
+
+use crate::schema::keys::is_plain;
+use crate::tables::{
+    ALL, BOOKS, BOOKS_INDEX, BOOKS_UNIQUE, FACTION, FACTION_INDEX, FACTION_UNIQUE, HAS, HAS_INDEX,
+    HAS_UNIQUE, MARKET, MARKET_INDEX, MARKET_UNIQUE, TableDefinition,
+};
+use sqlite_schema::schema::Index;
+
+/// Whether this is a unique index of this name, tree, table and columns.
+fn is_index(found: &Index, name: &[u8], tree: u32, table: u32, columns: &[usize]) -> bool
+    ensures { IsTrue result ↔
+        (found.now ≡ record {
+          name = name.now;
+          tree = tree;
+          table = table;
+          columns = columns.now;
+          order = plain;
+          is_unique = true;
+        }) }
+{
+    found.name.as_slice() == name
+        && found.tree == tree
+        && found.table == table
+        && found.columns.as_slice() == columns
+        && is_plain(&found.order)
+        && found.is_unique
+}
+
+/// Whether this is the index that the database makes for the only unique key of a table.
+fn is_index_of(
+    found: &Index,
+    made: &TableDefinition,
+    name: &[u8],
+    tree: u32,
+    columns: &[usize],
+) -> bool
+    requires { name.now ≡ codes "sqlite_autoindex_" ++ (made.now.name.now ++ codes "_1") }
+    ensures { IsTrue result ↔
+        (found.now ≡ record {
+          name = codes "sqlite_autoindex_"
+              ++ (made.now.name.now ++ (codes "_" ++ decimal 1));
+          tree = tree;
+          table = made.now.tree;
+          columns = columns.now;
+          order = plain;
+          is_unique = true;
+        }) }
+{
+    is_index(found, name, tree, made.tree, columns)
+}
+
+/// Whether this is number `place`, from 0, of the four indexes that the database makes for unique
+/// keys, in the order of the tables.
+fn is_key_index(found: &Index, place: usize) -> bool
+    ensures { IsTrue result ↔ (slice_get all_indexes place ≡ Some found.now) }
+{
+    match place {
+        0 => is_index_of(
+            found,
+            &FACTION,
+            b"sqlite_autoindex_faction_1",
+            FACTION_INDEX,
+            &FACTION_UNIQUE,
+        ),
+        1 => is_index_of(
+            found,
+            &HAS,
+            b"sqlite_autoindex_has_1",
+            HAS_INDEX,
+            &HAS_UNIQUE,
+        ),
+        2 => is_index_of(
+            found,
+            &BOOKS,
+            b"sqlite_autoindex_books_1",
+            BOOKS_INDEX,
+            &BOOKS_UNIQUE,
+        ),
+        3 => is_index_of(
+            found,
+            &MARKET,
+            b"sqlite_autoindex_market_1",
+            MARKET_INDEX,
+            &MARKET_UNIQUE,
+        ),
+        _ => false,
+    }
+}
+
+/// Whether the first `count` indexes are the first `count` of the tables' keys.
+fn are_first_indexes(indexes: &[Index], count: usize) -> bool
+    requires { count ≤ length indexes.now }
+    ensures { IsTrue result ↔ (take count indexes.now ≡ take count all_indexes) }
+{
+    for place in 0..count {
+        if !is_key_index(&indexes[place], place) {
+            return false;
+        }
+    }
+    true
+}
+
+/// Whether the tree is that of one of these tables.
+fn is_among(tree: u32, tables: &[TableDefinition]) -> bool
+    ensures { result ≡ list_any (λ t. tree == t.tree) tables.now }
+{
+    tables.iter().any(|table| tree == table.tree)
+}
+
+/// Whether the tree is that of one of the first `count` tables of a campaign.
+fn is_ours(tree: u32, count: usize) -> bool
+    requires { count ≤ length all_tables }
+    ensures { result ≡ list_any (λ t. tree == t.tree) (take count all_tables) }
+{
+    is_among(tree, &ALL[..count])
+}
+
+/// Whether the index makes nothing unique in the first `count` tables of a campaign.
+fn is_harmless(found: &Index, count: usize) -> bool
+    requires { count ≤ length all_tables }
+    ensures { IsTrue result ↔ (IsHarmless count found.now) }
+{
+    !found.is_unique || !is_ours(found.table, count)
+}
+
+/// Whether no index makes anything unique in the first `count` tables of a campaign.
+fn are_harmless(indexes: &[Index], count: usize) -> bool
+    requires { count ≤ length all_tables }
+    ensures { IsTrue result ↔ (AllByRecursion (IsHarmless count) indexes.now) }
+{
+    for index in indexes {
+        if !is_harmless(index, count) {
+            return false;
+        }
+    }
+    true
+}
+
+/// Whether these are the first `keys` indexes of a campaign, and then indexes that make nothing
+/// unique in the first `tables` tables.
+pub(crate) fn are_indexes(indexes: &[Index], tables: usize, keys: usize) -> bool
+    requires tables { tables ≤ length all_tables }
+    requires keys { keys ≤ length all_indexes }
+    ensures { IsTrue result ↔ (AreIndexes tables keys indexes.now) }
+{
+    indexes.len() >= keys
+        && are_first_indexes(indexes, keys)
+        && are_harmless(&indexes[keys..], tables)
+}

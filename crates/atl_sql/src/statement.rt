@@ -1,0 +1,20 @@
+//! Runs one statement inside a transaction: all writes of this crate go through `run`.
+ghost use Rattle.sqlite.specs.Values.{bound};
+ghost use Rattle.atl_sql.specs.Statements.{Only};
+ghost use Rattle.atl_sql.specs.Writes.{Writes, RunsStatement};
+
+use sqlite::types::ValueRef;
+use sqlite::{Alter, Error, Transaction};
+
+/// Runs a statement with these parameters inside a transaction, however many rows it changes.
+pub(crate) fn run<S: Alter>(
+    tx: &mut Transaction<'_, S>,
+    sql: &str,
+    params: &[ValueRef<'_>],
+) -> Result<(), Error>
+    ensures { Writes S.Store (Only sql.now (bound params.now))
+        (RunsStatement sql.now (bound params.now)) result tx.old.conn tx.new.conn }
+{
+    tx.execute(sql, params)?;
+    Ok(())
+}

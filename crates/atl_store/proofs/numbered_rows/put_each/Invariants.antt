@@ -1,7 +1,0 @@
-use Rattle.atl_store.specs.Tables.{table_of}
-use Rattle.atl_store.specs.Rows.{lines_of}
-use Rattle.atl_store.proofs.PuttingLaws.{Putting}
-use Rattle.atl_store.proofs.numbered_rows.put_each.Given as goal
-
-abbrev pub invariant-loop-number : goal.invariant-loop-number
-invariant-loop-number g l = Putting g.S.Store (table_of g.V.NumberedRow.part) 1 (lines_of g.V.NumberedRow.line l.number-iterator) (lines_of g.V.NumberedRow.line l.fn.values) l.fn.tx.conn l.tx.conn

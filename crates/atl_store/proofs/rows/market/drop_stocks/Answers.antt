@@ -1,7 +1,0 @@
-use Rattle.std.proofs.Common.{rules}
-use Rattle.atl_store.proofs.KeyedTableLaws.{drops_stocks}
-use Rattle.atl_store.proofs.StatementLaws.{runs_with}
-use Rattle.atl_store.proofs.rows.market.drop_stocks.Goals as goal
-
-pub returns : goal.returns
-returns g c = runs_with g.S.Store _ _ _ _ (drops_stocks c.args.region) (search rules) c.run.ensures

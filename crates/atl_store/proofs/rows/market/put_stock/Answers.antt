@@ -1,7 +1,0 @@
-use Rattle.std.proofs.Common.{rules}
-use Rattle.atl_store.proofs.KeyedTableLaws.{puts_market}
-use Rattle.atl_store.proofs.StatementLaws.{runs_with}
-use Rattle.atl_store.proofs.rows.market.put_stock.Goals as goal
-
-pub returns : goal.returns
-returns g c = runs_with g.S.Store _ _ _ _ (puts_market c.args.region c.args.item c.args.stock) (search rules) c.run.ensures

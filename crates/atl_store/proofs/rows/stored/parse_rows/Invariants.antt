@@ -1,9 +1,0 @@
-use Rattle.std.proofs.Common.{◌≡◌, map, take, length}
-use Rattle.atl_store.specs.Stored.{first_columns, AreTyped}
-use Rattle.atl_store.proofs.rows.stored.parse_rows.Given as goal
-
-abbrev pub invariant-loop-row : goal.invariant-loop-row
-invariant-loop-row g l =
-    let done = take l.row-index l.rows in
-    (map g.T.Stored.shown l.all.items ≡ map (first_columns (length g.T.Stored.forms)) done)
-    × AreTyped g.T.Stored.forms done

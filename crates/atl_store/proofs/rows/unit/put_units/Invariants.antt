@@ -1,7 +1,0 @@
-use Rattle.atl_store.specs.Tables.{unit_table}
-use Rattle.atl_store.specs.Rows.{lines_of, unit_line}
-use Rattle.atl_store.proofs.PuttingLaws.{Putting}
-use Rattle.atl_store.proofs.rows.unit.put_units.Given as goal
-
-abbrev pub invariant-loop-number : goal.invariant-loop-number
-invariant-loop-number g l = Putting g.S.Store unit_table 1 (lines_of unit_line l.number-iterator) (lines_of unit_line l.fn.units) l.fn.tx.conn l.tx.conn

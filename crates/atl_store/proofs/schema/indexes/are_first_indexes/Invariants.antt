@@ -1,6 +1,0 @@
-use Rattle.std.proofs.Common.{◌≡◌, take}
-use Rattle.atl_store.specs.Tables.{all_indexes}
-use Rattle.atl_store.proofs.schema.indexes.are_first_indexes.Given as goal
-
-abbrev pub invariant-loop-place : goal.invariant-loop-place
-invariant-loop-place l = take l.place l.indexes ≡ take l.place all_indexes

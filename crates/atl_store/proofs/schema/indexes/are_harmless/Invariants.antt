@@ -1,7 +1,0 @@
-use Rattle.std.proofs.Common.{take}
-use Rattle.std.specs.List.{AllByRecursion}
-use Rattle.atl_store.specs.Tables.{IsHarmless}
-use Rattle.atl_store.proofs.schema.indexes.are_harmless.Given as goal
-
-abbrev pub invariant-loop-index : goal.invariant-loop-index
-invariant-loop-index l = AllByRecursion (IsHarmless l.count) (take l.index-index l.indexes)

@@ -1,7 +1,0 @@
-use Rattle.std.proofs.Common.{refl, ◌∙◌}
-use Rattle.atl_store.specs.declared.tables.TableDefinition.{TableDefinition}
-use Rattle.atl_store.proofs.SchemaLaws.{our_trees}
-use Rattle.atl_store.proofs.schema.indexes.is_ours.Goals as goal
-
-pub returns : goal.returns
-returns c = c.is_among.ensures ∙ our_trees (λ (t : TableDefinition). t.tree) _ refl c.args.tree c.args.count

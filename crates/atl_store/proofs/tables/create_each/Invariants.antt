@@ -1,7 +1,0 @@
-use Rattle.atl_store.specs.OwnStatements.{Creations}
-use Rattle.atl_store.proofs.MakingLaws.{MakesSome}
-use Rattle.atl_store.proofs.WriteLaws.{SoFar}
-use Rattle.atl_store.proofs.tables.create_each.Given as goal
-
-abbrev pub invariant-loop-table : goal.invariant-loop-table
-invariant-loop-table g l = SoFar g.S.Store Creations (MakesSome l.table-index) l.fn.tx.conn l.tx.conn

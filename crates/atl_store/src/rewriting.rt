@@ -1,0 +1,42 @@
+//! Rewrites things with one row in a table, by number: each is put, or deleted.
+ghost use Rattle.atl_sql.specs.Tables.{table_of};
+ghost use Rattle.atl_store.specs.OwnStatements.{OfChange};
+ghost use Rattle.atl_sql.specs.Writes.{Writes};
+ghost use Rattle.atl_sql.specs.Inside.{Inside, HasTables};
+ghost use Rattle.atl_store.specs.Rewriting.{RewritesNumber, RewritesMarked};
+
+use atl_sql::numbered_rows::{NumberedRow, take_out};
+use atl_state::Campaign;
+use sqlite::{Alter, Error, Transaction};
+
+/// Puts the row of the thing with this number, or deletes it if there is no such thing.
+fn rewrite<V: NumberedRow + Drop, S: Alter>(
+    tx: &mut Transaction<'_, S>,
+    campaign: &Campaign,
+    number: u32,
+) -> Result<(), Error>
+    ensures { Writes S.Store (OfChange campaign.now.value)
+        (Inside HasTables (RewritesNumber (table_of V.NumberedRow.part) V.NumberedRow.line
+        (V.NumberedRow.values campaign.now.value) number)) result tx.old.conn tx.new.conn }
+{
+    match V::of(campaign, number) {
+        Some(value) => value.put(tx, number),
+        None => take_out::<V, S>(tx, number),
+    }
+}
+
+/// Puts the rows of all marked numbers, and deletes those of numbers that have no thing.
+pub(crate) fn rewrite_marked<V: NumberedRow + Drop, S: Alter>(
+    tx: &mut Transaction<'_, S>,
+    campaign: &Campaign,
+) -> Result<(), Error>
+    ensures { Writes S.Store (OfChange campaign.now.value)
+        (Inside HasTables (RewritesMarked (table_of V.NumberedRow.part) V.NumberedRow.line
+        (V.NumberedRow.values campaign.now.value) (V.NumberedRow.marks campaign.now.marks))) result
+        tx.old.conn tx.new.conn }
+{
+    for number in V::marked(campaign) {
+        rewrite::<V, S>(tx, campaign, number)?;
+    }
+    Ok(())
+}
