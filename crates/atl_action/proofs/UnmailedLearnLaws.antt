@@ -24,13 +24,13 @@ use Rattle.atl_action.specs.Teach.{TaughtMen, after_lessons, is_teaching, teach,
 -- ---- TEACH adds its events and changes nothing else of the month
 
 -- The month has the same readings and aliases, and its events report the same number of starved men for each unit.
-pub record IsTold (before after : MonthValue) : Type 0 where
+pub record AddsNoStarved (before after : MonthValue) : Type 0 where
   pub readings : after.readings ≡ before.readings
   pub aliases : after.aliases ≡ before.aliases
   pub starved : (n : ℕ) → starved_in after.events n ≡ starved_in before.events n
 
 -- an order of TEACH keeps readings and aliases, and adds no men who starved to the events
-lesson_told : (c : CampaignValue) (learning : Learning) (p : TaughtMen × MonthValue) (t : Task) → IsTold p.1 (teach_order c learning p t).1
+lesson_told : (c : CampaignValue) (learning : Learning) (p : TaughtMen × MonthValue) (t : Task) → AddsNoStarved p.1 (teach_order c learning p t).1
 lesson_told c learning (taught, m) t = record {
   readings = refl;
   aliases = refl;
@@ -38,7 +38,7 @@ lesson_told c learning (taught, m) t = record {
 }
 
 -- orders of TEACH keep readings and aliases, and add no men who starved to the events
-lessons_told : (c : CampaignValue) (learning : Learning) (p : TaughtMen × MonthValue) (ts : List Task) → IsTold p.1 (fold (teach_order c learning) p ts).1
+lessons_told : (c : CampaignValue) (learning : Learning) (p : TaughtMen × MonthValue) (ts : List Task) → AddsNoStarved p.1 (fold (teach_order c learning) p ts).1
 lessons_told c learning p [] = record { readings = refl; aliases = refl; starved = λ n. refl }
 lessons_told c learning p (t ∷ ts) =
     let one = lesson_told c learning p t in
@@ -46,7 +46,7 @@ lessons_told c learning p (t ∷ ts) =
     record { readings = rest.readings ∙ one.readings; aliases = rest.aliases ∙ one.aliases; starved = λ n. rest.starved n ∙ one.starved n }
 
 -- all orders of TEACH of a month keep readings and aliases, and add no men who starved to the events
-pub taught_told : (c : CampaignValue) (learning : Learning) (m : MonthValue) → IsTold m (after_lessons c learning m).1
+pub taught_told : (c : CampaignValue) (learning : Learning) (m : MonthValue) → AddsNoStarved m (after_lessons c learning m).1
 unfolding after_lessons
 taught_told c learning m = lessons_told c learning ((λ n. 0), m) (values (orders_of is_teaching ByUnit m.aliases m.readings))
 

@@ -22,7 +22,7 @@ use Rattle.atl_state.specs.Marking.{mark_unit_added, mark_unit_begun}
 use Rattle.atl_state.specs.Campaign.{MarkedCampaign, CampaignValue, with_unit, with_unit_begun}
 use Rattle.atl_records.specs.Amounts.{unit_amount}
 use Rattle.atl_state.specs.Totals.{total}
-use Rattle.atl_state.proofs.CoverLaws.{Row, Stays, Tells, marks-trans, marks-unit, part_by_part}
+use Rattle.atl_state.proofs.CoverLaws.{Row, Stays, KeepsUnmarked, marks-trans, marks-unit, part_by_part}
 use Rattle.atl_records.proofs.EveryLaws.{every-empty, every-insert, get-insert_other, none_some, there-insert}
 use Rattle.atl_state.proofs.NumberListLaws.{none_passing}
 use Rattle.atl_state.proofs.TotalLaws.{total-with_unit}
@@ -209,4 +209,4 @@ marks-begun c u =
     (marks-unit c (insert c.value.units n u) n (λ k apart. get-insert_other c.value.units n k u apart))
     (part_by_part mid next
     (λ p. elim p as (Stays mid.marks next.marks) [ Row ↦ λ k h. refl | _ ↦ λ k h. h ])
-    (λ p. elim p as (Tells next.marks mid.value next.value) [ Row ↦ λ k free. absurd (true≢false free) | _ ↦ λ k free. refl ]))
+    (λ p. elim p as (KeepsUnmarked next.marks mid.value next.value) [ Row ↦ λ k free. absurd (true≢false free) | _ ↦ λ k free. refl ]))

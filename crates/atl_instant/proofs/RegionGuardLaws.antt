@@ -137,8 +137,8 @@ module _ (c : CampaignValue) (m : GuardMap) (are : AreRegionGuards c m) (region 
       by_test u false noted here = refl
 
   -- by the map another faction guards the region exactly if this is so in the campaign
-  pub holders_tell : has_other_guard faction (get m region) ≡ is_guarded_against c region faction
-  holders_tell = by_holder (get m region) refl
+  pub map_agrees : has_other_guard faction (get m region) ≡ is_guarded_against c region faction
+  map_agrees = by_holder (get m region) refl
     where
       other_holder : (holder : ℕ) → get m region ≡ Some holder → (b : Bool) → (holder == faction) ≡ b → not b ≡ is_guarded_against c region faction
       other_holder holder at true same =
@@ -154,11 +154,11 @@ module _ (c : CampaignValue) (m : GuardMap) (are : AreRegionGuards c m) (region 
       by_holder (Some holder) at = other_holder holder at (holder == faction) refl
 
 -- the fault of beginning to guard that the code finds by the map is the right one
-pub fault_told : (c : CampaignValue) (m : GuardMap) → AreRegionGuards c m → (u : Unit) (few held : Bool) → (u.holding.men == 0) ≡ few → has_other_guard u.faction (get m u.region) ≡ held
+pub found_fault_is : (c : CampaignValue) (m : GuardMap) → AreRegionGuards c m → (u : Unit) (few held : Bool) → (u.holding.men == 0) ≡ few → has_other_guard u.faction (get m u.region) ≡ held
     → first_fault ((few, NoMen) ∷ (held, Guarded) ∷ []) ≡ guard_fault c u
-fault_told c m are u few held few_is held_is =
+found_fault_is c m are u few held few_is held_is =
     ap (λ b. first_fault ((b, NoMen) ∷ (held, Guarded) ∷ [])) (sym few_is)
-    ∙ ap (λ b. first_fault ((u.holding.men == 0, NoMen) ∷ (b, Guarded) ∷ [])) (sym held_is ∙ holders_tell c m are u.region u.faction)
+    ∙ ap (λ b. first_fault ((u.holding.men == 0, NoMen) ∷ (b, Guarded) ∷ [])) (sym held_is ∙ map_agrees c m are u.region u.faction)
 
 -- ---- once a unit begins to guard
 

@@ -34,7 +34,7 @@ use Rattle.atl_market.specs.declared.trade.Trade.TheVariants.{Sell, Buy}
 use Rattle.atl_market.proofs.AtOnceLaws.{drawn_is}
 use Rattle.atl_market.proofs.DrawLaws.{AreUntouched, all_pairs, drawn, still, untouched}
 use Rattle.atl_market.proofs.PotLaws.{found_other}
-use Rattle.atl_market.proofs.TradeLaws.{market_is, stock_is, told_there, traded_is, traded_others, trades_give}
+use Rattle.atl_market.proofs.TradeLaws.{market_is, stock_is, draws_item, traded_is, traded_others, trades_give}
 use Rattle.atl_market.proofs.WantLaws.{given_is_named}
 
 -- ---- what a trade leaves to unit and stock
@@ -93,7 +93,7 @@ module _ (trade : Trade) (items : FinMap nat_cmp ℕ) (w : WorldValue) (units : 
     (is : get d.units e.0 ≡ Some u) (there : get units e.0 ≡ Some u) where
   -- how many of item `i` the unit takes from, or adds to, the stock of region `r`
   abbrev drawn_here : (r i : ℕ) → ℕ
-  drawn_here r i = cond (told_there units items (r, i) e.0) e.1 0
+  drawn_here r i = cond (draws_item units items (r, i) e.0) e.1 0
 
   -- region `r`, which was `q`, is there after the trade, and each of its stocks changed by `drawn_here`
   abbrev IsTraded : ℕ → Region → Type 0
@@ -109,7 +109,7 @@ module _ (trade : Trade) (items : FinMap nat_cmp ℕ) (w : WorldValue) (units : 
   without_market at none r q around = record {
     stocks = q.stocks;
     region = ap (λ (s : CampaignValue). get s.regions r) (traded_is trade items w d e u is None at) ∙ around;
-    amounts = λ i. sym (ap (stock_after trade (amount_of q.stocks i)) (none_drawn (told_there units items (r, i) e.0) e.1 none) ∙ none_traded trade (amount_of q.stocks i));
+    amounts = λ i. sym (ap (stock_after trade (amount_of q.stocks i)) (none_drawn (draws_item units items (r, i) e.0) e.1 none) ∙ none_traded trade (amount_of q.stocks i));
   }
 
   module _ (m : Market) (at : market_for w u (get items e.0) ≡ Some m) (told : get items e.0 ≡ Some m.item) where
@@ -128,11 +128,11 @@ module _ (trade : Trade) (items : FinMap nat_cmp ℕ) (w : WorldValue) (units : 
         ∙ ap (λ k. get k r) (dealt_regions d e.0 u m.item (trade_entry trade) deal is)
 
     -- the unit draws from the pot of its own region and item alone
-    draws : (r i : ℕ) → told_there units items (r, i) e.0 ≡ (u.region == r && m.item == i)
+    draws : (r i : ℕ) → draws_item units items (r, i) e.0 ≡ (u.region == r && m.item == i)
     draws r i = ap (λ o. stands_in r o && is_for i (get items e.0)) there ∙ ap (λ o. u.region == r && is_for i o) told
 
     -- a pot from which the unit doesn't draw stays as it is
-    undrawn : (r i stock : ℕ) → told_there units items (r, i) e.0 ≡ false → stock ≡ stock_after trade stock (drawn_here r i)
+    undrawn : (r i stock : ℕ) → draws_item units items (r, i) e.0 ≡ false → stock ≡ stock_after trade stock (drawn_here r i)
     undrawn r i stock other = sym (ap (λ b. stock_after trade stock (cond b e.1 0)) other ∙ none_traded trade stock)
 
     -- the trade changes the stocks of the unit's own region by the share, as `IsTraded` says
@@ -145,7 +145,7 @@ module _ (trade : Trade) (items : FinMap nat_cmp ℕ) (w : WorldValue) (units : 
       amounts = amounts;
     }
       where
-        mine : (i : ℕ) → told_there units items (r, i) e.0 ≡ (m.item == i)
+        mine : (i : ℕ) → draws_item units items (r, i) e.0 ≡ (m.item == i)
         mine i = draws r i ∙ ap (λ b. b && m.item == i) (ap (λ k. u.region == k) same ∙ same_number u.region)
 
         stock : deal.stock ≡ stock_after trade (amount_of q.stocks m.item) e.1
@@ -156,7 +156,7 @@ module _ (trade : Trade) (items : FinMap nat_cmp ℕ) (w : WorldValue) (units : 
         amounts : (i : ℕ) → amount_of (with_amount_of q.stocks m.item deal.stock) i ≡ stock_after trade (amount_of q.stocks i) (drawn_here r i)
         amounts i = elim (cases_eq i m.item) [
           | inl one ↦
-              let drawing : told_there units items (r, i) e.0 ≡ true = mine i ∙ ap (λ k. m.item == k) one ∙ same_number m.item in
+              let drawing : draws_item units items (r, i) e.0 ≡ true = mine i ∙ ap (λ k. m.item == k) one ∙ same_number m.item in
               ap (amount_of (with_amount_of q.stocks m.item deal.stock)) one ∙ set_same q.stocks m.item deal.stock ∙ stock
               ∙ ap (λ k. stock_after trade (amount_of q.stocks k) e.1) (sym one) ∙ ap (λ b. stock_after trade (amount_of q.stocks i) (cond b e.1 0)) (sym drawing)
           | inr apart ↦
@@ -215,7 +215,7 @@ module _ (trade : Trade) (items : FinMap nat_cmp ℕ) (w : WorldValue) where
 
     -- after trades in the order of unit numbers the stocks of each region have changed by what its units traded
     regions_traded : IsWorld w → (d : CampaignValue) (es : List (ℕ × ℕ)) → Rise es → AreUntouched c d es → AllByRecursion Trades es → (r : ℕ) (q : Region) → get d.regions r ≡ Some q
-        → HasNewStocks q (stock_after trade) (λ i. drawn (told_there c.units items (r, i)) es) (get (fold (after_trade trade items w) d es).regions r)
+        → HasNewStocks q (stock_after trade) (λ i. drawn (draws_item c.units items (r, i)) es) (get (fold (after_trade trade items w) d es).regions r)
     regions_traded world d [] rise same all r q around = record { stocks = q.stocks; region = around; amounts = λ i. sym (none_traded trade (amount_of q.stocks i)) }
     regions_traded world d (e ∷ es) rise same all r q around =
         let (u, there, none) = all.0 in
@@ -226,9 +226,9 @@ module _ (trade : Trade) (items : FinMap nat_cmp ℕ) (w : WorldValue) where
           stocks = rest.stocks;
           region = rest.region;
           amounts = λ i.
-              let later = drawn (told_there c.units items (r, i)) es in
+              let later = drawn (draws_item c.units items (r, i)) es in
               rest.amounts i ∙ ap (λ a. stock_after trade a later) (one.amounts i)
-              ∙ traded_twice trade (amount_of q.stocks i) (cond (told_there c.units items (r, i) e.0) e.1 0) later;
+              ∙ traded_twice trade (amount_of q.stocks i) (cond (draws_item c.units items (r, i) e.0) e.1 0) later;
         }
 
 module _ (trade : Trade) (w : WorldValue) (c : CampaignValue) (os : List Task) where
@@ -273,6 +273,6 @@ trades_at_once trade w c os world =
           record {
             stocks = after.stocks;
             region = after.region;
-            amounts = λ i. after.amounts i ∙ ap (stock_after trade (amount_of q.stocks i)) (drawn_is (told_there c.units items (r, i)) shares);
+            amounts = λ i. after.amounts i ∙ ap (stock_after trade (amount_of q.stocks i)) (drawn_is (draws_item c.units items (r, i)) shares);
           };
     }

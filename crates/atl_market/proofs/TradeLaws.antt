@@ -227,12 +227,12 @@ stock_low w c r q i early around = by_amount (get q.stocks i) refl
     by_amount (Some a) is = ((early.steady.numbers.regions r q around).stocks i a is).1
 
 -- which units draw from the pot of a region and an item: those that are there and whose order names the item
-abbrev pub told_there : FinMap nat_cmp Unit → FinMap nat_cmp ℕ → ℕ × ℕ → ℕ → Bool
-told_there units items k n = stands_in k.0 (get units n) && is_for k.1 (get items n)
+abbrev pub draws_item : FinMap nat_cmp Unit → FinMap nat_cmp ℕ → ℕ × ℕ → ℕ → Bool
+draws_item units items k n = stands_in k.0 (get units n) && is_for k.1 (get items n)
 
 -- the pots of SELL or BUY, by region and item
 abbrev pub item_pots : Trade → WorldValue → FinMap nat_cmp Unit → FinMap nat_cmp ℕ → DrawnPots (ℕ × ℕ)
-item_pots trade w units items = record { pot_region = λ k. k.0; draws = told_there units items; left = λ k q. pot_by trade (limit_of w k.1 k.0) (amount_of q.stocks k.1) }
+item_pots trade w units items = record { pot_region = λ k. k.0; draws = draws_item units items; left = λ k q. pot_by trade (limit_of w k.1 k.0) (amount_of q.stocks k.1) }
 
 -- after a trade of `share` pieces that the market's pot allows, the pot has `share` less
 pot_less : (trade : Trade) (h : HoldingValue) (limit stock share : ℕ) (m : Market) → limit ≡ m.limit → HasPot trade stock share (Some m)
@@ -290,17 +290,17 @@ module _ (trade : Trade) (items : FinMap nat_cmp ℕ) (w : WorldValue) (c : Camp
         no_less : (a : ℕ) → a + 0 ≡ a
         no_less a = omega arith
 
-        told_is : (k : ℕ × ℕ) → k.0 ≡ can.at.unit.region → told_there units items k e.0 ≡ (m.item == k.1)
+        told_is : (k : ℕ × ℕ) → k.0 ≡ can.at.unit.region → draws_item units items k e.0 ≡ (m.item == k.1)
         told_is k same =
             ap (λ b. b && is_for k.1 (get items e.0)) (ap (stands_in k.0) there ∙ ap (λ r. can.at.unit.region == r) same ∙ same_number can.at.unit.region)
             ∙ ap (is_for k.1) market.told
 
         here : (k : ℕ × ℕ) → k.0 ≡ can.at.unit.region → (b : Bool) → eq_by_cmp nat_cmp k.1 m.item ≡ b
-            → pot_by trade (limit_of w k.1 k.0) (amount_of (with_amount_of can.at.region.stocks m.item deal.stock) k.1) + cond (told_there units items k e.0) e.1 0 ≡ pot_by trade (limit_of w k.1 k.0) (amount_of can.at.region.stocks k.1)
+            → pot_by trade (limit_of w k.1 k.0) (amount_of (with_amount_of can.at.region.stocks m.item deal.stock) k.1) + cond (draws_item units items k e.0) e.1 0 ≡ pot_by trade (limit_of w k.1 k.0) (amount_of can.at.region.stocks k.1)
         here k same true is =
             let item : k.1 ≡ m.item = alike m.item k.1 is in
             let limit : limit_of w k.1 k.0 ≡ m.limit = ap (λ j. limit_of w j k.0) item ∙ ap (λ r. limit_of w m.item r) same ∙ ap (λ o. option_map_or (λ (x : Market). x.limit) o 0) market.there in
-            let drawing : told_there units items k e.0 ≡ true = told_is k same ∙ ap (λ j. m.item == j) item ∙ same_number m.item in
+            let drawing : draws_item units items k e.0 ≡ true = told_is k same ∙ ap (λ j. m.item == j) item ∙ same_number m.item in
             ap (λ b. pot_by trade (limit_of w k.1 k.0) (amount_of (with_amount_of can.at.region.stocks m.item deal.stock) k.1) + cond b e.1 0) drawing
             ∙ ap (λ a. pot_by trade (limit_of w k.1 k.0) a + e.1) (set_amount can.at.region.stocks m.item deal.stock k.1 ∙ ap (λ b. cond b deal.stock (amount_of can.at.region.stocks k.1)) is)
             ∙ pot_less trade can.at.unit.holding (limit_of w k.1 k.0) (amount_of can.at.region.stocks m.item) e.1 m limit (can.pot m at)
@@ -415,7 +415,7 @@ module _ (trade : Trade) (items : FinMap nat_cmp ℕ) (w : WorldValue) (world : 
         pot = λ m at.
             let market = market_is w world u (get items e.0) m at in
             let k : ℕ × ℕ = (u.region, m.item) in
-            let drawing : told_there c.units items k e.0 ≡ true =
+            let drawing : draws_item c.units items k e.0 ≡ true =
             ap (λ b. b && is_for m.item (get items e.0)) (ap (stands_in u.region) there ∙ same_number u.region) ∙ ap (is_for m.item) market.told ∙ same_number m.item in
             let few = first_draws pots d e es ready.enough k q around drawing in
             let limit : stock_limit w u.region m.item ≡ m.limit = ap (λ o. option_map_or (λ (x : Market). x.limit) o most_amount) market.there in
@@ -481,8 +481,8 @@ module _ (trade : Trade) (w : WorldValue) (world : IsWorld w) (c : CampaignValue
   all_enough : HaveEnough drawn_pots c shares
   all_enough k q around =
       let wants = wants_by (trade_pots trade) w c os in
-      subst (λ stock. drawn (told_there c.units named k) shares ≤ pot_by trade (limit_of w k.1 k.0) stock) (stock_is c k.0 q k.1 around)
-      (shares_are_enough (trade_pot trade w c k.1) (wants_for (get named) wants k.1) c k.0 (told_there c.units named k) given (λ n share is drawing.
+      subst (λ stock. drawn (draws_item c.units named k) shares ≤ pot_by trade (limit_of w k.1 k.0) stock) (stock_is c k.0 q k.1 around)
+      (shares_are_enough (trade_pot trade w c k.1) (wants_for (get named) wants k.1) c k.0 (draws_item c.units named k) given (λ n share is drawing.
       let parts = and_parts _ _ drawing in
       let told = for_item k.1 (get named n) parts.1 in
       (sym (ap (share_for (get named) (trade_pot trade w c) wants c n) told) ∙ sym (shares_at (get named) (trade_pot trade w c) wants c n) ∙ is, parts.0)) (q, around))

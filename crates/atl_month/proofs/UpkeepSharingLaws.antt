@@ -16,7 +16,7 @@ use Rattle.atl_state.proofs.RegionLaws.{get-insert_same}
 use Rattle.atl_month.specs.declared.accounts.Account.{Account}
 use Rattle.atl_month.specs.declared.upkeep_sharing.UpkeepInput.{UpkeepInput}
 use Rattle.atl_month.specs.declared.upkeep_sharing.UpkeepResult.{UpkeepResult}
-use Rattle.atl_month.specs.Accounts.{AccountMap, IsOpen, account_after, account_at, account_of, left_among, no_account, short_among, upkeep_result_by, with_account, with_counted}
+use Rattle.atl_month.specs.Accounts.{FactionAccounts, IsOpen, account_after, account_at, account_of, left_among, no_account, short_among, upkeep_result_by, with_account, with_counted}
 use Rattle.atl_phase.specs.InTurn.{amount_in_turn}
 use Rattle.atl_month.specs.UpkeepSharing.{AreInOrder, EachCanSpare, given_among, is_input_of, left_of, paid_by, peers_of, short_of, starved_of, upkeep_result_among}
 
@@ -30,9 +30,9 @@ account_or o = unwrap_or o no_account
 abbrev account_in : ℕ → Option (FinMap nat_cmp Account) → Account
 account_in faction o = account_or (get (unwrap_or o empty) faction)
 
-module _ (m : AccountMap) (r f : ℕ) (a : Account) where
+module _ (m : FactionAccounts) (r f : ℕ) (a : Account) where
   -- the map with account `a` of faction `f` in region `r`
-  abbrev put : AccountMap
+  abbrev put : FactionAccounts
   put = with_account m r f a
 
   -- the account that was set is the one of the faction in the region
@@ -82,7 +82,7 @@ account_is : (a b c d e f g h : ℕ) → a ≡ e → b ≡ f → c ≡ g → d �
 account_is a b c d e f g h x y z u = rw (x, y, z, u) refl
 
 -- what holds of the account that is set, and of each of another faction or region, holds of all accounts
-pub each_account : (P : ℕ → ℕ → Account → Type 0) (m : AccountMap) (p : UpkeepInput) (a : Account)
+pub each_account : (P : ℕ → ℕ → Account → Type 0) (m : FactionAccounts) (p : UpkeepInput) (a : Account)
     → P p.region p.faction a → ((s g : ℕ) → is_input_of s g p ≡ false → P s g (account_at m s g))
     → (s g : ℕ) → P s g (account_at (with_account m p.region p.faction a) s g)
 each_account P m p a here others s g = by_test (is_input_of s g p) refl
@@ -151,7 +151,7 @@ module _ (m : ℕ) (before : List UpkeepInput) (p : UpkeepInput) where
   none_given x y = omega arith
 
   -- with the next unit counted, each account is that of the units counted so far and this one
-  pub opened_more : (accounts : AccountMap) (a : Account) → ((s g : ℕ) → account_at accounts s g ≡ account_of m before [] s g)
+  pub opened_more : (accounts : FactionAccounts) (a : Account) → ((s g : ℕ) → account_at accounts s g ≡ account_of m before [] s g)
       → a ≡ with_counted m p (account_at accounts p.region p.faction)
       → (s g : ℕ) → account_at (with_account accounts p.region p.faction a) s g ≡ account_of m more [] s g
   opened_more accounts a each is =
@@ -160,7 +160,7 @@ module _ (m : ℕ) (before : List UpkeepInput) (p : UpkeepInput) where
       (λ s g apart. each s g ∙ account_is _ _ _ _ _ _ _ _ (sym (left_other s g apart)) (sym (short_other s g apart)) (none_given _ _) (none_given _ _))
 
 -- with one more unit counted, the sums of each account are at most those of one more unit
-pub few_more : (m n : ℕ) (accounts : AccountMap) (p : UpkeepInput) (a : Account) → left_of m p ≤ holding_limit → short_of m p ≤ most_per_head * men_limit
+pub few_more : (m n : ℕ) (accounts : FactionAccounts) (p : UpkeepInput) (a : Account) → left_of m p ≤ holding_limit → short_of m p ≤ most_per_head * men_limit
     → ((s g : ℕ) → IsFew n (account_at accounts s g)) → a ≡ with_counted m p (account_at accounts p.region p.faction)
     → (s g : ℕ) → IsFew (n + 1) (account_at (with_account accounts p.region p.faction a) s g)
 few_more m n accounts p a left short each is =
@@ -231,7 +231,7 @@ next_dealt before want amount = omega arith
 is_dealt : (before want amount : ℕ) → min (amount - min before amount) want ≡ min (before + want) amount - min before amount
 is_dealt before want amount = omega arith
 
-module _ (m : ℕ) (all before : List UpkeepInput) (p : UpkeepInput) (accounts : AccountMap)
+module _ (m : ℕ) (all before : List UpkeepInput) (p : UpkeepInput) (accounts : FactionAccounts)
     (each : (s g : ℕ) → account_at accounts s g ≡ account_of m all before s g) where
   -- the account of the unit's faction in its region, as its turn comes
   abbrev now : Account

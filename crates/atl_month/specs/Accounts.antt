@@ -11,19 +11,19 @@ use Rattle.atl_month.specs.UpkeepSharing.{given_among, left_of, paid_by, peers_o
 use Rattle.atl_tables.specs.Groups.{group_of}
 
 -- accounts by region, and then by faction
-abbrev pub AccountMap : Type 0
-AccountMap = FinMap nat_cmp (FinMap nat_cmp Account)
+abbrev pub FactionAccounts : Type 0
+FactionAccounts = FinMap nat_cmp (FinMap nat_cmp Account)
 
 -- an account without units: all amounts 0
 abbrev pub no_account : Account
 no_account = record { left = 0; short = 0; given = 0; covered = 0 }
 
 -- the account of a faction in a region; `no_account` where the map has none
-abbrev pub account_at : AccountMap → (region faction : ℕ) → Account
+abbrev pub account_at : FactionAccounts → (region faction : ℕ) → Account
 account_at m region faction = unwrap_or (get (group_of m region) faction) no_account
 
 -- a map of accounts in which that of a faction in a region is `a`
-abbrev pub with_account : AccountMap → (region faction : ℕ) → Account → AccountMap
+abbrev pub with_account : FactionAccounts → (region faction : ℕ) → Account → FactionAccounts
 with_account m region faction a = insert m region (insert (group_of m region) faction a)
 
 -- the money that the listed units of a faction in a region have left after their own upkeep

@@ -296,9 +296,9 @@ module _ (step : OrderMeaning) where
     carried_readings w c m = orders_readings w (c, m) (values (orders_of is_of ByUnit m.aliases m.readings))
 
     -- a phase that carries out its orders one by one adds no men who starved to the events
-    pub carried_told : (w : WorldValue) (c : CampaignValue) (m : MonthValue) (n : ℕ) → starved_in (meaning_by_orders step is_of w c m).1.events n ≡ starved_in m.events n
+    pub carried_starve_none : (w : WorldValue) (c : CampaignValue) (m : MonthValue) (n : ℕ) → starved_in (meaning_by_orders step is_of w c m).1.events n ≡ starved_in m.events n
     unfolding meaning_by_orders
-    carried_told w c m n = orders_told w (c, m) (values (orders_of is_of ByUnit m.aliases m.readings)) n
+    carried_starve_none w c m n = orders_told w (c, m) (values (orders_of is_of ByUnit m.aliases m.readings)) n
 
     -- if its step satisfies `SparesMen`, a phase leaves units of factions without a mailing their men
     pub carried_men : SparesMen step → (w : WorldValue) (c : CampaignValue) (m : MonthValue) → UnmailedAre HasItsMen m c (meaning_by_orders step is_of w c m).0
@@ -311,7 +311,7 @@ module _ (step : OrderMeaning) where
     -- units of other factions their men (`SparesMen`), and units of factions without a mailing keep their items.
     pub carried_leaves : {keeps : Frame} → SparesMen step → ((w : WorldValue) (c d : CampaignValue) (m : MonthValue) → keeps w m c d → UnmailedAre HasItsItems m c d) → LeavesUnmailed (meaning_by_orders step is_of) keeps
     carried_leaves {keeps} spares items =
-        whole_leaves {meaning = meaning_by_orders step is_of} {keeps = keeps} carried_readings carried_told
+        whole_leaves {meaning = meaning_by_orders step is_of} {keeps = keeps} carried_readings carried_starve_none
         (λ w c m h. carried_men spares w c m) (λ w c m h. items w c (meaning_by_orders step is_of w c m).0 m h)
 
 -- an order for a unit by its own faction is of that faction

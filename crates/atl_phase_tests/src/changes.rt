@@ -144,7 +144,7 @@ fn tell_new_units(
 // ---- structures
 
 /// A structure's region, how much is built, and its owner; zeros if there is no structure.
-fn sides_of(structure: Option<&Structure>) -> [i64; 3] {
+fn structure_numbers(structure: Option<&Structure>) -> [i64; 3] {
     match structure {
         Some(found) => [
             i64::from(found.region),
@@ -155,7 +155,7 @@ fn sides_of(structure: Option<&Structure>) -> [i64; 3] {
     }
 }
 
-/// The names of the numbers of `sides_of`.
+/// The names of the numbers of `structure_numbers`.
 static SIDES: [&str; 3] = ["region", "done", "owner"];
 
 /// The name of a structure and that of its kind; empty texts if there is no structure.
@@ -181,7 +181,7 @@ fn tell_structure(
     let ((old_name, old_kind), (name, kind)) = (names_of(world, before), names_of(world, after));
     text(alloc, of, "name", old_name, name, told)?;
     text(alloc, of, "kind", old_kind, kind, told)?;
-    let (old, new) = (sides_of(before), sides_of(after));
+    let (old, new) = (structure_numbers(before), structure_numbers(after));
     for (what, (was, is)) in SIDES.iter().zip(old.iter().zip(new.iter())) {
         number(alloc, of, what, *was, *is, told)?;
     }

@@ -54,8 +54,8 @@ abbrev pub possible_things : ℕ
 possible_things = 2 + (most_u16 + 1)
 
 -- how many numbers of 32 bits there are, which bounds the entries of a map by number
-abbrev pub most_numbered : ℕ
-most_numbered = most_u32 + 1
+abbrev pub most_map_entries : ℕ
+most_map_entries = most_u32 + 1
 
 -- a bound on the money, and on the peasants, of all regions together at founding
 abbrev pub most_founded : ℕ

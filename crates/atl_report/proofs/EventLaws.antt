@@ -35,10 +35,10 @@ some_length : (f : FaultyLine) (fs : List FaultyLine) → (length (f ∷ fs) == 
 some_length f fs = grind (arith, nat_tests)
 
 -- without faulty lines and own events, the text of these in a report is `None.`
-pub told_nothing : (faction : ℕ) (faults : List FaultyLine) (events : List Event) → ((length faults == 0) && not (list_any (λ (e : Event). e.faction == faction) events)) ≡ true
+pub results_none : (faction : ℕ) (faults : List FaultyLine) (events : List Event) → ((length faults == 0) && not (list_any (λ (e : Event). e.faction == faction) events)) ≡ true
     → results_text faults (own_events faction events) ≡ codes "None.\n"
-told_nothing faction (f ∷ fs) events h = absurd (false≢true (sym (ap (λ b. b && not (list_any (λ (e : Event). e.faction == faction) events)) (some_length f fs)) ∙ h))
-told_nothing faction [] events h = by_test (list_any (λ (e : Event). e.faction == faction) events) h (none_passes (λ (e : Event). e.faction == faction) events)
+results_none faction (f ∷ fs) events h = absurd (false≢true (sym (ap (λ b. b && not (list_any (λ (e : Event). e.faction == faction) events)) (some_length f fs)) ∙ h))
+results_none faction [] events h = by_test (list_any (λ (e : Event). e.faction == faction) events) h (none_passes (λ (e : Event). e.faction == faction) events)
   where
     -- without own events the text is `None.`
     by_test : (t : Bool) → not t ≡ true → (t ≡ false → results_text [] (own_events faction events) ≡ codes "None.\n") → results_text [] (own_events faction events) ≡ codes "None.\n"
@@ -46,10 +46,10 @@ told_nothing faction [] events h = by_test (list_any (λ (e : Event). e.faction 
     by_test false h rest = rest refl
 
 -- with faulty lines or own events, the text of these in a report is their lines
-pub told_something : (faction : ℕ) (faults : List FaultyLine) (events : List Event) → ((length faults == 0) && not (list_any (λ (e : Event). e.faction == faction) events)) ≡ false
+pub results_lines : (faction : ℕ) (faults : List FaultyLine) (events : List Event) → ((length faults == 0) && not (list_any (λ (e : Event). e.faction == faction) events)) ≡ false
     → results_text faults (own_events faction events) ≡ faulty_lines faults ++ event_lines (own_events faction events)
-told_something faction (f ∷ fs) events h = refl
-told_something faction [] events h = by_test (list_any (λ (e : Event). e.faction == faction) events) h (some_passes (λ (e : Event). e.faction == faction) events)
+results_lines faction (f ∷ fs) events h = refl
+results_lines faction [] events h = by_test (list_any (λ (e : Event). e.faction == faction) events) h (some_passes (λ (e : Event). e.faction == faction) events)
   where
     -- with own events the text is their lines
     by_test : (t : Bool) → not t ≡ false → (t ≡ true → results_text [] (own_events faction events) ≡ event_lines (own_events faction events)) → results_text [] (own_events faction events) ≡ event_lines (own_events faction events)

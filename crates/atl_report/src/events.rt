@@ -90,7 +90,7 @@ fn has_no_results(faction: u32, faults: &[FaultyLine], events: &[Event]) -> bool
 }
 
 /// Writes the faulty lines and the faction's own events, or `None.` where there is neither.
-#[tactic(auto, using(crate::proofs::EventLaws::told_nothing))]
+#[tactic(auto, using(crate::proofs::EventLaws::results_none))]
 fn write_results(
     out: &mut String,
     faction: u32,

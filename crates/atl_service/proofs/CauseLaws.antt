@@ -5,7 +5,7 @@ use Rattle.sqlite_trees.specs.declared.store.Store.{Ghosts}
 use Rattle.sqlite.specs.Held.{Held, state}
 use Rattle.sqlite.specs.State.{HasCleanDisk}
 use Rattle.atl_sql.specs.Statements.{Statements}
-use Rattle.atl_sql.specs.Causes.{IsTold}
+use Rattle.atl_sql.specs.Causes.{IsFaultOfError}
 use Rattle.atl_sql.specs.Errors.{is_memory}
 use Rattle.atl_store.specs.Faults.{create_fault, write_fault}
 use Rattle.atl_store.specs.declared.fault.CreateFault.TheVariants as create
@@ -36,27 +36,27 @@ module _ {S : Type 0} (g : Ghosts S) (own : Statements) (old new : Held S) where
   writes_apart is = let e = is in cc
 
   -- if creating the tables reported Memory, one of its calls ran out of memory
-  pub creation_lacked : IsTold g own create_fault old new create.Memory → GivesError g own true old new
+  pub creation_lacked : IsFaultOfError g own create_fault old new create.Memory → GivesError g own true old new
   creation_lacked (e, is, given) = record { error = e; memory_is = is_first create.Memory create.Store creates_apart (is_memory e) is; given = given }
 
   -- if creating the tables reported Store, one of its calls gave an error other than out of memory
-  pub creation_failed : IsTold g own create_fault old new create.Store → GivesError g own false old new
+  pub creation_failed : IsFaultOfError g own create_fault old new create.Store → GivesError g own false old new
   creation_failed (e, is, given) = record { error = e; memory_is = is_second create.Memory create.Store creates_apart (is_memory e) is; given = given }
 
   -- if a write reported Memory, one of its calls ran out of memory
-  lacked : IsTold g own write_fault old new write.Memory → GivesError g own true old new
+  lacked : IsFaultOfError g own write_fault old new write.Memory → GivesError g own true old new
   lacked (e, is, given) = record { error = e; memory_is = is_first write.Memory write.Store writes_apart (is_memory e) is; given = given }
 
   -- if a write reported Store, one of its calls gave an error other than out of memory
-  failed : IsTold g own write_fault old new write.Store → GivesError g own false old new
+  failed : IsFaultOfError g own write_fault old new write.Store → GivesError g own false old new
   failed (e, is, given) = record { error = e; memory_is = is_second write.Memory write.Store writes_apart (is_memory e) is; given = given }
 
   -- the service's fault for one that a write reports, if the disk is clean, has its cause (`HasCause`)
-  pub writing_told : (fault : WriteFault) → (HasCleanDisk (state g new) → IsTold g own write_fault old new fault) → HasCause g own old new (of_write fault)
+  pub writing_told : (fault : WriteFault) → (HasCleanDisk (state g new) → IsFaultOfError g own write_fault old new fault) → HasCause g own old new (of_write fault)
   writing_told write.Memory told = inr (λ clean. lacked (told clean))
   writing_told write.Store told = λ clean. failed (told clean)
 
   -- if a result's error is the fault that a write reports, the service's fault for it has its cause (`HasCause`)
-  pub ended_by : {A : Type 0} (fault : WriteFault) (r : Result A WriteFault) → IsErrAnd r (λ f. f ≡ fault) → (HasCleanDisk (state g new) → IsTold g own write_fault old new fault) → IfErr r (λ f. HasCause g own old new (of_write f))
+  pub ended_by : {A : Type 0} (fault : WriteFault) (r : Result A WriteFault) → IsErrAnd r (λ f. f ≡ fault) → (HasCleanDisk (state g new) → IsFaultOfError g own write_fault old new fault) → IfErr r (λ f. HasCause g own old new (of_write f))
   ended_by fault (Ok a) is told = tt
   ended_by fault (Err f) is told = subst (λ x. HasCause g own old new (of_write x)) (sym is) (writing_told fault told)

@@ -15,7 +15,7 @@ use Rattle.atl_store.proofs.StayLaws.{spares_itself}
 use Rattle.atl_store.specs.declared.fault.CreateFault.{CreateFault}
 use Rattle.atl_store.specs.declared.fault.CreateFault.TheVariants.{NotEmpty, Store, Memory}
 use Rattle.atl_store.proofs.WorldTextLaws.{world_text_is}
-use Rattle.atl_sql.specs.Causes.{IsTold}
+use Rattle.atl_sql.specs.Causes.{IsFaultOfError}
 use Rattle.atl_store.specs.Faults.{create_fault}
 use Rattle.atl_store.specs.OwnStatements.{OfFounding}
 use Rattle.atl_sql.proofs.CauseLaws.{gives_among}
@@ -88,7 +88,7 @@ module _ {S : Type 0} (g : Ghosts S) where
 
     -- a fault of creating the founded campaign's tables comes from the statements that found by this world text and
     -- pass text
-    told_by_founding : (fault : CreateFault) → IsTold g (OfFounding text c) create_fault old new fault → IsTold g (FoundsBy text pass) create_fault old new fault
+    told_by_founding : (fault : CreateFault) → IsFaultOfError g (OfFounding text c) create_fault old new fault → IsFaultOfError g (FoundsBy text pass) create_fault old new fault
     told_by_founding fault told = (
       told.0,
       told.1,

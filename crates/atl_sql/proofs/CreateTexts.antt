@@ -23,7 +23,7 @@ use Rattle.atl_sql.specs.Statements.{Only, Creations}
 use Rattle.atl_sql.proofs.Made.{Creates, Extends}
 use Rattle.atl_sql.proofs.CreateLaws.{creates}
 use Rattle.atl_sql.proofs.ListLaws.{has_map}
-use Rattle.atl_sql.proofs.MakingLaws.{extends, so_many}
+use Rattle.atl_sql.proofs.MakingLaws.{extends, schema_of_first}
 use Rattle.atl_sql.proofs.PartLaws.{all_among, tree_of}
 use Rattle.atl_sql.proofs.WriteLaws.{weaker, among_only}
 
@@ -58,7 +58,7 @@ abbrev place : Part → ℕ
 place part = place_among part all_parts
 
 -- the text of a part makes its table after those of the parts before it
-pub is_made : (part : Part) → IsCreate (so_many (place part)) (so_many (place part + 1)) (table_of part) (creation_of part)
+pub is_made : (part : Part) → IsCreate (schema_of_first (place part)) (schema_of_first (place part + 1)) (table_of part) (creation_of part)
 unfolding understood everything
 is_made Own = record { command = refl; whole = refl; defines = refl; plain = (refl, refl); after_is = refl; tree_is = refl; last = refl; uncounted = refl }
 is_made part = record { command = refl; whole = refl; defines = refl; plain = (refl, refl); after_is = refl; tree_is = refl; last = refl; uncounted = refl }
@@ -68,10 +68,10 @@ placed : (i : ℕ) (d : Part) → i < length all_parts → place (get_or all_par
 placed i d small = sym (get_or-map place all_parts i d 0 small) ∙ get_or-range_with_len 0 (length all_parts) i 0 small ∙ zero-add i
 
 -- the text of the part at index `i` makes its table after the first `i` tables
-made_at : (i : ℕ) (d : Part) → i < length all_parts → IsCreate (so_many i) (so_many (i + 1)) (table_of (get_or all_parts i d)) (creation_of (get_or all_parts i d))
+made_at : (i : ℕ) (d : Part) → i < length all_parts → IsCreate (schema_of_first i) (schema_of_first (i + 1)) (table_of (get_or all_parts i d)) (creation_of (get_or all_parts i d))
 made_at i d small =
     let part = get_or all_parts i d in
-    subst (λ n. IsCreate (so_many n) (so_many (n + 1)) (table_of part) (creation_of part)) (placed i d small) (is_made part)
+    subst (λ n. IsCreate (schema_of_first n) (schema_of_first (n + 1)) (table_of part) (creation_of part)) (placed i d small) (is_made part)
 
 -- ---- of all, one after another
 
@@ -93,13 +93,13 @@ module _ {X : Type 0} (text : X → List ℕ) (xs : List X) (all : map text xs �
   as_many = sym (length-map xs text) ∙ ap length all
 
   -- the text of index `i` makes the table of index `i`
-  pub makes_next : (i : ℕ) (d : X) → i < length xs → Makes (so_many i) (so_many (i + 1)) (text (get_or xs i d))
+  pub makes_next : (i : ℕ) (d : X) → i < length xs → Makes (schema_of_first i) (schema_of_first (i + 1)) (text (get_or xs i d))
   makes_next i d small =
       let part = get_or all_parts i Own in
       let few : i < length all_parts = subst (λ n. i < n) as_many small in
       let is : text (get_or xs i d) ≡ creation_of part = sym (get_or-map text xs i d [] small) ∙ ap (λ (l : List (List ℕ)). get_or l i []) all ∙ get_or-map creation_of all_parts i Own [] few in
       let listed : Has (map creation_of all_parts) (creation_of part) = has_map creation_of all_parts part (all_among all_parts refl part) in
-      subst (Makes (so_many i) (so_many (i + 1))) (sym is) (makes (so_many i) (so_many (i + 1)) (table_of part) (creation_of part) listed (made_at i Own few))
+      subst (Makes (schema_of_first i) (schema_of_first (i + 1))) (sym is) (makes (schema_of_first i) (schema_of_first (i + 1)) (table_of part) (creation_of part) listed (made_at i Own few))
 
 -- ---- in a transaction
 

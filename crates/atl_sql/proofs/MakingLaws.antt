@@ -40,19 +40,19 @@ abbrev pub with_tables : List Table → Schema
 with_tables tables = record { tables = tables; indexes = take (sum_by (λ t. length t.uniques) tables) all_indexes; views = [] }
 
 -- the schema of the first `count` tables
-abbrev pub so_many : ℕ → Schema
-so_many count = with_tables (take count all_tables)
+abbrev pub schema_of_first : ℕ → Schema
+schema_of_first count = with_tables (take count all_tables)
 
 -- A step inside a transaction, which remains open: from no table to the first `count` tables, all empty.
 abbrev pub MakesSome : ℕ → State → State → Type 0
-MakesSome count old new = (new.in_transaction ≡ old.in_transaction) × (AreBare no_tables old.now → AreBare (so_many count) new.now × (0 < count → IsDatabase new.now))
+MakesSome count old new = (new.in_transaction ≡ old.in_transaction) × (AreBare no_tables old.now → AreBare (schema_of_first count) new.now × (0 < count → IsDatabase new.now))
 
 -- doing nothing makes no table
 pub makes_none : (s : State) → MakesSome 0 s s
 makes_none s = (refl, λ bare. (bare, λ some. absurd (omega (arith, some))))
 
 -- making the next table after the first `count` makes the first `count + 1`
-pub makes_more : (count : ℕ) (a b c : State) → MakesSome count a b → Extends (so_many count) (so_many (count + 1)) b c → MakesSome (count + 1) a c
+pub makes_more : (count : ℕ) (a b c : State) → MakesSome count a b → Extends (schema_of_first count) (schema_of_first (count + 1)) b c → MakesSome (count + 1) a c
 makes_more count a b c first next = (next.0 ∙ first.0, λ bare. let made = next.1 (first.1 bare).0 in (made.0, λ some. made.1))
 
 -- ---- all ten tables

@@ -51,5 +51,5 @@ pub record Gives {S : Type 0} (g : Ghosts S) (own : Statements) (e : Error) (old
   pub cause : is_memory e ≡ false → IsBroken (state g old) (state g new) ⊎ IsRefused e (state g before) (state g after)
 
 -- The fault is the one that `fault_of` makes of an error that a transaction of statements of `own` gave (`Gives`).
-abbrev pub IsTold : {S F : Type 0} → Ghosts S → Statements → (Error → F) → Held S → Held S → F → Type 0
-IsTold g own fault_of old new fault = (e : Error) × (fault ≡ fault_of e) × Gives g own e old new
+abbrev pub IsFaultOfError : {S F : Type 0} → Ghosts S → Statements → (Error → F) → Held S → Held S → F → Type 0
+IsFaultOfError g own fault_of old new fault = (e : Error) × (fault ≡ fault_of e) × Gives g own e old new

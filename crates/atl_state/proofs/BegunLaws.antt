@@ -17,7 +17,7 @@ use Rattle.atl_records.specs.Limits.{most_structures}
 use Rattle.atl_state.specs.Marking.{mark_structure_begun}
 use Rattle.atl_state.specs.Campaign.{MarkedCampaign, CampaignValue, with_done, with_structure_begun}
 use Rattle.atl_state.specs.Totals.{total}
-use Rattle.atl_state.proofs.CoverLaws.{Row, Stays, Structures, Tells, apart_by, part_by_part, put_stays}
+use Rattle.atl_state.proofs.CoverLaws.{Row, Stays, Structures, KeepsUnmarked, apart_by, part_by_part, put_stays}
 use Rattle.atl_records.proofs.EveryLaws.{every-insert, get-insert_other, none_some}
 use Rattle.atl_state.proofs.RegionLaws.{changed-known, get-insert_same, same_len}
 
@@ -161,7 +161,7 @@ marks-raised c s =
     let next : MarkedCampaign = record { value = with_structure_begun c.value s; marks = mark_structure_begun c } in
     part_by_part c next
     (λ p. elim p as (Stays c.marks next.marks) [ Structures ↦ put_stays c.marks.structures n | Row ↦ λ k h. refl | _ ↦ λ k h. h ])
-    (λ p. elim p as (Tells next.marks c.value next.value) [
+    (λ p. elim p as (KeepsUnmarked next.marks c.value next.value) [
       | Structures ↦ λ k free. get-insert_other c.value.structures n k s (apart_by c.marks.structures n k free)
       | Row ↦ λ k free. absurd (true≢false free)
       | _ ↦ λ k free. refl

@@ -199,16 +199,16 @@ is_marked Books m k = contains m.books k
 is_marked Row m k = m.row
 
 -- what a value of a part is looked up by: a number, or a pair of numbers for stocks, items and skills, or an account
-abbrev pub IndexEntry : Part → Type 0
-IndexEntry Stocks = ℕ × ℕ
-IndexEntry Items = ℕ × ℕ
-IndexEntry Skills = ℕ × ℕ
-IndexEntry Books = Entry × Thing
-IndexEntry Row = Prim.Unit {0}
-IndexEntry _ = ℕ
+abbrev pub LookupKey : Part → Type 0
+LookupKey Stocks = ℕ × ℕ
+LookupKey Items = ℕ × ℕ
+LookupKey Skills = ℕ × ℕ
+LookupKey Books = Entry × Thing
+LookupKey Row = Prim.Unit {0}
+LookupKey _ = ℕ
 
 -- the mark that covers the value of a part under an index: the index itself, or the number of an amount
-abbrev pub mark_at : (p : Part) → IndexEntry p → Mark p
+abbrev pub mark_at : (p : Part) → LookupKey p → Mark p
 mark_at Books k = amount_number k.0 k.1
 mark_at _ k = k
 
@@ -230,7 +230,7 @@ Shown Books = ℤ
 Shown Row = ℕ × (List ℕ × (ℕ × (ℕ × ℕ)))
 
 -- the value of a part under an index
-abbrev pub shown : (p : Part) → CampaignValue → IndexEntry p → Shown p
+abbrev pub shown : (p : Part) → CampaignValue → LookupKey p → Shown p
 shown Factions c k = get c.factions k
 shown Regions c k = option_map unstocked (get c.regions k)
 shown Markets c k = tt
@@ -251,11 +251,11 @@ abbrev pub Stays : Marks → Marks → Part → Type 0
 Stays m n p = (k : Mark p) → is_marked p m k ≡ true → is_marked p n k ≡ true
 
 -- each value of a part that is not marked in m is the same before and after
-abbrev pub Tells : Marks → CampaignValue → CampaignValue → Part → Type 0
-Tells m before after p = (k : IndexEntry p) → is_marked p m (mark_at p k) ≡ false → shown p after k ≡ shown p before k
+abbrev pub KeepsUnmarked : Marks → CampaignValue → CampaignValue → Part → Type 0
+KeepsUnmarked m before after p = (k : LookupKey p) → is_marked p m (mark_at p k) ≡ false → shown p after k ≡ shown p before k
 
 -- MarksChanges holds if for each part no mark is lost, and all values that are not marked are unchanged
-pub part_by_part : (a b : MarkedCampaign) → ((p : Part) → Stays a.marks b.marks p) → ((p : Part) → Tells b.marks a.value b.value p) → MarksChanges a b
+pub part_by_part : (a b : MarkedCampaign) → ((p : Part) → Stays a.marks b.marks p) → ((p : Part) → KeepsUnmarked b.marks a.value b.value p) → MarksChanges a b
 part_by_part a b stays tells = record {
   stay = record {
     factions = stays Factions;
@@ -310,7 +310,7 @@ marks-faction f c n =
     let next = after (map.insert c.value.factions n (f v)) (Some v) in
     part_by_part c next
     (λ p. elim p as (Stays c.marks next.marks) [ Factions ↦ put_stays c.marks.factions n | _ ↦ λ k h. h ])
-    (λ p. elim p as (Tells next.marks c.value next.value) [ Factions ↦ λ k free. get-insert_other c.value.factions n k (f v) (apart_by c.marks.factions n k free) | _ ↦ λ k free. refl ]))
+    (λ p. elim p as (KeepsUnmarked next.marks c.value next.value) [ Factions ↦ λ k free. get-insert_other c.value.factions n k (f v) (apart_by c.marks.factions n k free) | _ ↦ λ k free. refl ]))
 
 -- replacing a value by one that a view shows alike changes nothing that the view shows of the map
 pub shown_still : {V X : Type 0} (shows : Option V → X) (values : FinMap nat_cmp V) (n k : ℕ) (v w : V) → get values n ≡ Some v → (k ≡ n → shows (Some w) ≡ shows (Some v)) → shows (get (map.insert values n w) k) ≡ shows (get values k)
@@ -333,7 +333,7 @@ marks-region f same c n =
     let next = after (map.insert c.value.regions n (f v)) (Some v) in
     part_by_part c next
     (λ p. elim p as (Stays c.marks next.marks) [ Regions ↦ put_stays c.marks.regions n | _ ↦ λ k h. h ])
-    (λ p. elim p as (Tells next.marks c.value next.value) [
+    (λ p. elim p as (KeepsUnmarked next.marks c.value next.value) [
       | Regions ↦ λ k free. ap (option_map unstocked) (get-insert_other c.value.regions n k (f v) (apart_by c.marks.regions n k free))
       | Stocks ↦ λ k free. shown_still (in_stock k.1) c.value.regions n k.0 v (f v) is (λ _. ap (λ s. amount_of s k.1) (same v))
       | _ ↦ λ k free. refl
@@ -375,7 +375,7 @@ module _ (c : MarkedCampaign) (n item amount : ℕ) where
   stock_stays v is was =
       let next : MarkedCampaign = record c { value = there_after v } in
       part_by_part c next (λ p k h. h)
-      (λ p. elim p as (Tells next.marks c.value next.value) [
+      (λ p. elim p as (KeepsUnmarked next.marks c.value next.value) [
         | Regions ↦ λ k free. unstocked_stays v is k
         | Stocks ↦ λ k free. shown_still (in_stock k.1) c.value.regions n k.0 v (stocked v) is (λ _. set_again v.stocks k.1 was)
         | _ ↦ λ k free. refl
@@ -392,7 +392,7 @@ module _ (c : MarkedCampaign) (n item amount : ℕ) where
         | Stocks ↦ λ k h. thing_stays c.marks.stocks c.marks.stock_items n item k.0 k.1 h
         | _ ↦ λ k h. h
       ])
-      (λ p. elim p as (Tells next.marks c.value next.value) [
+      (λ p. elim p as (KeepsUnmarked next.marks c.value next.value) [
         | Regions ↦ λ k free. unstocked_stays v is k
         | Stocks ↦ λ k free. other_stays v is k.0 k.1 (apart_by_thing c.marks.stocks c.marks.stock_items n item k.0 k.1 free)
         | _ ↦ λ k free. refl
@@ -409,7 +409,7 @@ module _ (c : MarkedCampaign) (n item amount : ℕ) where
         | Stocks ↦ λ k h. whole_stays c.marks.stocks c.marks.stock_items n k.0 k.1 h
         | _ ↦ λ k h. h
       ])
-      (λ p. elim p as (Tells next.marks c.value next.value) [
+      (λ p. elim p as (KeepsUnmarked next.marks c.value next.value) [
         | Regions ↦ λ k free. unstocked_stays v is k
         | Stocks ↦ λ k free. other_stays v is k.0 k.1 (λ here. absurd (apart_by_whole c.marks.stocks c.marks.stock_items n k.0 k.1 free here))
         | _ ↦ λ k free. refl
@@ -474,7 +474,7 @@ marks-unit c units n others =
       | Skills ↦ λ k h. whole_stays c.marks.goods c.marks.skills n k.0 k.1 h
       | _ ↦ λ k h. h
     ])
-    (λ p. elim p as (Tells next.marks c.value next.value) [
+    (λ p. elim p as (KeepsUnmarked next.marks c.value next.value) [
       | Rows ↦ λ k free. ap (option_map bare) (others k (apart_by c.marks.rows n k free))
       | Items ↦ λ k free. ap (λ o. get (items_under o) k.1) (others k.0 (apart_by_whole c.marks.goods c.marks.items n k.0 k.1 free))
       | Skills ↦ λ k free. ap (λ o. get (days_under o) k.1) (others k.0 (apart_by_whole c.marks.goods c.marks.skills n k.0 k.1 free))
@@ -487,4 +487,4 @@ marks-amount c f u z =
     let next : MarkedCampaign = record { value = with_amount c.value f u z; marks = mark_amount c f u } in
     part_by_part c next
     (λ p. elim p as (Stays c.marks next.marks) [ Books ↦ put_stays c.marks.books (amount_number f u) | _ ↦ λ k h. h ])
-    (λ p. elim p as (Tells next.marks c.value next.value) [ Books ↦ λ k free. amount-other c.value.books k.0 f k.1 u z (apart_by c.marks.books (amount_number f u) (amount_number k.0 k.1) free) | _ ↦ λ k free. refl ])
+    (λ p. elim p as (KeepsUnmarked next.marks c.value next.value) [ Books ↦ λ k free. amount-other c.value.books k.0 f k.1 u z (apart_by c.marks.books (amount_number f u) (amount_number k.0 k.1) free) | _ ↦ λ k free. refl ])

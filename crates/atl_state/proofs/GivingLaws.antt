@@ -11,7 +11,7 @@ use Rattle.atl_state.specs.declared.parts.StoredHas.{StoredHas}
 use Rattle.atl_state.specs.declared.parts.StoredMarket.{StoredMarket}
 use Rattle.atl_state.specs.declared.parts.StoredRegion.{StoredRegion}
 use Rattle.atl_state.specs.declared.parts.StoredUnit.{StoredUnit}
-use Rattle.atl_state.specs.Assembling.{bare_unit, bare_region, holding_more, stocking_more, give}
+use Rattle.atl_state.specs.Assembling.{bare_unit, bare_region, with_has_row, with_market_row, give}
 use Rattle.atl_state.specs.FromRows.{as_u32, is_of, put_rows, by_number, unit_with, unit_of, region_with, region_of}
 use Rattle.atl_state.proofs.AssemblyLaws.{get_same, get_other, taken_or_not, is_same}
 
@@ -112,19 +112,19 @@ no_skill s h = ap (λ k. k == 1) (is_same s 0 h)
 
 -- the bare unit of a row, once all rows of goods are added, has the items and days that its rows of goods name
 unit_given : (r : StoredUnit) (n : ℕ) (has : List StoredHas) (items days : FinMap nat_cmp ℕ)
-    → given (λ h. as_u32 h.unit) holding_more n has (unit_with r items days) ≡ unit_with r (put_rows thing_of amount_of (filter (is_of n 0) has) items) (put_rows thing_of amount_of (filter (is_of n 1) has) days)
+    → given (λ h. as_u32 h.unit) with_has_row n has (unit_with r items days) ≡ unit_with r (put_rows thing_of amount_of (filter (is_of n 0) has) items) (put_rows thing_of amount_of (filter (is_of n 1) has) days)
 unit_given r n [] items days = refl
 unit_given r n (h ∷ has) items days =
     let items' = insert items (thing_of h) (amount_of h) in
     let days' = insert days (thing_of h) (amount_of h) in
-    ap (given (λ h. as_u32 h.unit) holding_more n has) (picked r items items' days days' (as_u32 h.unit == n) (as_u32 h.sort == 0) (as_u32 h.sort == 1) (no_skill (as_u32 h.sort)))
+    ap (given (λ h. as_u32 h.unit) with_has_row n has) (picked r items items' days days' (as_u32 h.unit == n) (as_u32 h.sort == 0) (as_u32 h.sort == 1) (no_skill (as_u32 h.sort)))
     ∙ unit_given r n has (cond (is_of n 0 h) items' items) (cond (is_of n 1 h) days' days)
     ∙ ap (λ m. unit_with r m (put_rows thing_of amount_of (filter (is_of n 1) has) (cond (is_of n 1 h) days' days))) (sym (taken_or_not thing_of amount_of (is_of n 0) h has (is_of n 0 h) items refl))
     ∙ ap (λ m. unit_with r (put_rows thing_of amount_of (filter (is_of n 0) (h ∷ has)) items) m) (sym (taken_or_not thing_of amount_of (is_of n 1) h has (is_of n 1 h) days refl))
 
 -- the bare units, once all rows of goods are added, are the units assembled with these rows
-pub units_given : (has : List StoredHas) (rows : List StoredUnit) → give (λ h. as_u32 h.unit) holding_more has (by_number (λ r. as_u32 r.number) bare_unit rows) ≡ by_number (λ r. as_u32 r.number) (unit_of has) rows
-units_given has rows = give_all (λ (h : StoredHas). as_u32 h.unit) holding_more (λ (r : StoredUnit). as_u32 r.number) bare_unit (unit_of has) has (λ r. unit_given r (as_u32 r.number) has empty empty) rows
+pub units_given : (has : List StoredHas) (rows : List StoredUnit) → give (λ h. as_u32 h.unit) with_has_row has (by_number (λ r. as_u32 r.number) bare_unit rows) ≡ by_number (λ r. as_u32 r.number) (unit_of has) rows
+units_given has rows = give_all (λ (h : StoredHas). as_u32 h.unit) with_has_row (λ (r : StoredUnit). as_u32 r.number) bare_unit (unit_of has) has (λ r. unit_given r (as_u32 r.number) has empty empty) rows
 
 -- ---- regions
 
@@ -143,16 +143,16 @@ stocked r stocks stocks' false = refl
 
 -- the bare region of a row, once all rows of markets are added, has the stocks that its rows of markets name
 region_given : (r : StoredRegion) (n : ℕ) (markets : List StoredMarket) (stocks : FinMap nat_cmp ℕ)
-    → given (λ m. as_u32 m.region) stocking_more n markets (region_with r stocks) ≡ region_with r (put_rows item_of stock_of (filter (λ m. as_u32 m.region == n) markets) stocks)
+    → given (λ m. as_u32 m.region) with_market_row n markets (region_with r stocks) ≡ region_with r (put_rows item_of stock_of (filter (λ m. as_u32 m.region == n) markets) stocks)
 region_given r n [] stocks = refl
 region_given r n (m ∷ markets) stocks =
     let mine = as_u32 m.region == n in
     let stocks' = insert stocks (item_of m) (stock_of m) in
-    ap (given (λ m. as_u32 m.region) stocking_more n markets) (stocked r stocks stocks' mine)
+    ap (given (λ m. as_u32 m.region) with_market_row n markets) (stocked r stocks stocks' mine)
     ∙ region_given r n markets (cond mine stocks' stocks)
     ∙ ap (region_with r) (sym (taken_or_not item_of stock_of (λ m. as_u32 m.region == n) m markets mine stocks refl))
 
 -- the bare regions, once all rows of markets are added, are the regions assembled with these rows
 pub regions_given : (markets : List StoredMarket) (rows : List StoredRegion)
-    → give (λ m. as_u32 m.region) stocking_more markets (by_number (λ r. as_u32 r.number) bare_region rows) ≡ by_number (λ r. as_u32 r.number) (region_of markets) rows
-regions_given markets rows = give_all (λ (m : StoredMarket). as_u32 m.region) stocking_more (λ (r : StoredRegion). as_u32 r.number) bare_region (region_of markets) markets (λ r. region_given r (as_u32 r.number) markets empty) rows
+    → give (λ m. as_u32 m.region) with_market_row markets (by_number (λ r. as_u32 r.number) bare_region rows) ≡ by_number (λ r. as_u32 r.number) (region_of markets) rows
+regions_given markets rows = give_all (λ (m : StoredMarket). as_u32 m.region) with_market_row (λ (r : StoredRegion). as_u32 r.number) bare_region (region_of markets) markets (λ r. region_given r (as_u32 r.number) markets empty) rows

@@ -115,16 +115,16 @@ IsGood-with_mail w c faction text sent active good =
     }
 
 -- if a join answers Ok y, it was not refused, so y is the joined campaign with the new numbers, x
-let_in : (taken full : Bool) (x y : CampaignValue × (ℕ × ℕ)) → ◌≡◌ {A = Result (CampaignValue × (ℕ × ℕ)) JoinFault} (cond taken (Err NameTaken) (cond full (Err Full) (Ok x))) (Ok y) → x ≡ y
-let_in true full x y e = cc
-let_in false true x y e = cc
-let_in false false x y e = cc
+joined_answer : (taken full : Bool) (x y : CampaignValue × (ℕ × ℕ)) → ◌≡◌ {A = Result (CampaignValue × (ℕ × ℕ)) JoinFault} (cond taken (Err NameTaken) (cond full (Err Full) (Ok x))) (Ok y) → x ≡ y
+joined_answer true full x y e = cc
+joined_answer false true x y e = cc
+joined_answer false false x y e = cc
 
 -- a good campaign that a faction joined, if it is sound then, is good once a report of the faction is stored
 pub IsGood-joined : (w : WorldValue) (name pass : List ℕ) (word : ℕ) (c d : CampaignValue) (faction unit : ℕ) (text : List ℕ) → join_of w name pass word c ≡ Ok (d, (faction, unit)) → IsGood w c → IsSound w d → IsGood w (with_report d faction text)
 unfolding join_of joined
 IsGood-joined w name pass word c d faction unit text is good sound =
-    let same = let_in (name_taken c name) (is_full c) (joined w name pass word c, (c.next_faction, c.next_unit)) (d, (faction, unit)) is in
+    let same = joined_answer (name_taken c name) (is_full c) (joined w name pass word c, (c.next_faction, c.next_unit)) (d, (faction, unit)) is in
     let member = new_faction c.next_faction name pass in
     let whole : IsSound w d → IsGood w (with_report d faction text) = subst (λ (p : CampaignValue × (ℕ × ℕ)). IsSound w p.0 → IsGood w (with_report p.0 p.1.0 text)) same (λ new. record {
       sound = IsSound-with_report w (joined w name pass word c) c.next_faction text (there-new c.factions c.next_faction member) new;

@@ -24,7 +24,7 @@ use Rattle.atl_state.specs.Marks.{thing_marked}
 use Rattle.atl_state.specs.Campaign.{MarkedCampaign, CampaignValue, unit_changed, with_item, with_skill}
 use Rattle.atl_records.specs.Amounts.{region_amount, unit_amount}
 use Rattle.atl_state.specs.Totals.{total}
-use Rattle.atl_state.proofs.CoverLaws.{Items, Rows, Skills, Stays, Tells, Units, apart_by, apart_by_thing, changed_there, marks-refl, marks-unit, part_by_part, put_stays, shown_still, thing_stays}
+use Rattle.atl_state.proofs.CoverLaws.{Items, Rows, Skills, Stays, KeepsUnmarked, Units, apart_by, apart_by_thing, changed_there, marks-refl, marks-unit, part_by_part, put_stays, shown_still, thing_stays}
 use Rattle.atl_records.proofs.EveryLaws.{every-insert, get-insert_other, none_some, there-insert}
 use Rattle.atl_records.proofs.HoldingLaws.{get-set_other}
 use Rattle.atl_state.proofs.RegionLaws.{get-insert_same, same_len}
@@ -198,7 +198,7 @@ marks-unit_row f same c n =
     let next = after (insert c.value.units n (f u)) (Some u) in
     part_by_part c next
     (λ p. elim p as (Stays c.marks next.marks) [ Units ↦ put_stays c.marks.units n | Rows ↦ put_stays c.marks.rows n | _ ↦ λ k h. h ])
-    (λ p. elim p as (Tells next.marks c.value next.value) [
+    (λ p. elim p as (KeepsUnmarked next.marks c.value next.value) [
       | Rows ↦ λ k free. ap (option_map bare) (get-insert_other c.value.units n k (f u) (apart_by c.marks.rows n k free))
       | Items ↦ λ k free. shown_still (λ o. get (items_under o) k.1) c.value.units n k.0 u (f u) is (λ _. ap (λ (g : FinMap nat_cmp ℕ × FinMap nat_cmp ℕ). get g.0 k.1) (same u))
       | Skills ↦ λ k free. shown_still (λ o. get (days_under o) k.1) c.value.units n k.0 u (f u) is (λ _. ap (λ (g : FinMap nat_cmp ℕ × FinMap nat_cmp ℕ). get g.1 k.1) (same u))
@@ -214,7 +214,7 @@ marks-item c n item amount =
     let next = after (insert c.value.units n (with_other u)) (Some u) in
     part_by_part c next
     (λ p. elim p as (Stays c.marks next.marks) [ Units ↦ put_stays c.marks.units n | Items ↦ λ k h. thing_stays c.marks.goods c.marks.items n item k.0 k.1 h | _ ↦ λ k h. h ])
-    (λ p. elim p as (Tells next.marks c.value next.value) [
+    (λ p. elim p as (KeepsUnmarked next.marks c.value next.value) [
       | Rows ↦ λ k free. shown_still (option_map bare) c.value.units n k u (with_other u) is (λ _. refl)
       | Items ↦ λ k free. shown_still (λ o. get (items_under o) k.1) c.value.units n k.0 u (with_other u) is (λ here. get-set_other u.holding.items item amount k.1 (apart_by_thing c.marks.goods c.marks.items n item k.0 k.1 free here))
       | Skills ↦ λ k free. shown_still (λ o. get (days_under o) k.1) c.value.units n k.0 u (with_other u) is (λ _. refl)
@@ -230,7 +230,7 @@ marks-skill c n skill days =
     let next = after (insert c.value.units n (with_other u)) (Some u) in
     part_by_part c next
     (λ p. elim p as (Stays c.marks next.marks) [ Units ↦ put_stays c.marks.units n | Skills ↦ λ k h. thing_stays c.marks.goods c.marks.skills n skill k.0 k.1 h | _ ↦ λ k h. h ])
-    (λ p. elim p as (Tells next.marks c.value next.value) [
+    (λ p. elim p as (KeepsUnmarked next.marks c.value next.value) [
       | Rows ↦ λ k free. shown_still (option_map bare) c.value.units n k u (with_other u) is (λ _. refl)
       | Items ↦ λ k free. shown_still (λ o. get (items_under o) k.1) c.value.units n k.0 u (with_other u) is (λ _. refl)
       | Skills ↦ λ k free. shown_still (λ o. get (days_under o) k.1) c.value.units n k.0 u (with_other u) is (λ here. get-set_other u.holding.days skill days k.1 (apart_by_thing c.marks.goods c.marks.skills n skill k.0 k.1 free here))

@@ -22,7 +22,7 @@ use Rattle.atl_state.specs.Owners.{after_handover, heir, is_owned_by, without_un
 use Rattle.atl_state.specs.Campaign.{MarkedCampaign, CampaignValue, numbers_inside, structure_changed, with_owner}
 use Rattle.atl_records.specs.Amounts.{unit_amount}
 use Rattle.atl_state.specs.Totals.{total}
-use Rattle.atl_state.proofs.CoverLaws.{Stays, Structures, Tells, apart_by, changed_there, marks-refl, marks-trans, marks-unit, part_by_part, put_stays}
+use Rattle.atl_state.proofs.CoverLaws.{Stays, Structures, KeepsUnmarked, apart_by, changed_there, marks-refl, marks-trans, marks-unit, part_by_part, put_stays}
 use Rattle.atl_records.proofs.EveryLaws.{every-insert, get-insert_other, none_some}
 use Rattle.atl_state.proofs.HoldingLaws.{structure_in}
 use Rattle.atl_state.proofs.InsideLaws.{inside_is_listed, is_no_zero, listed_is_inside}
@@ -354,7 +354,7 @@ marks-structure f c n =
     let next = after (insert c.value.structures n (f v)) (Some v) in
     part_by_part c next
     (λ p. elim p as (Stays c.marks next.marks) [ Structures ↦ put_stays c.marks.structures n | _ ↦ λ k h. h ])
-    (λ p. elim p as (Tells next.marks c.value next.value) [ Structures ↦ λ k free. get-insert_other c.value.structures n k (f v) (apart_by c.marks.structures n k free) | _ ↦ λ k free. refl ]))
+    (λ p. elim p as (KeepsUnmarked next.marks c.value next.value) [ Structures ↦ λ k free. get-insert_other c.value.structures n k (f v) (apart_by c.marks.structures n k free) | _ ↦ λ k free. refl ]))
 
 -- handing a structure on, with its mark, marks all that changes (MarksChanges)
 pub marks-after_handover : (c : MarkedCampaign) (s from to : ℕ) → MarksChanges c (handed_marked c s from to)

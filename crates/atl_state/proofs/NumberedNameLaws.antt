@@ -7,7 +7,7 @@ use Rattle.std.proofs.lemmas.Fmt.{decimal_by_steps, length-decimal-le}
 use Rattle.std.proofs.lemmas.List.{get_or_append_left}
 use Rattle.std.proofs.lemmas.List.Folds.{list_all-append}
 use Rattle.std.proofs.Math.Seq.{get_or-append_seam}
-use Rattle.atl_tables.specs.Names.{name_ok, is_name_byte, is_short, has_open_ends}
+use Rattle.atl_tables.specs.Names.{name_ok, is_name_byte, is_short, has_no_edge_space}
 use Rattle.atl_records.specs.Limits.{last_unit}
 
 -- a decimal digit is a byte of names
@@ -53,7 +53,7 @@ pub record IsFront (word : List ℕ) : Type 0 where
 
 module _ (word : List ℕ) (front : IsFront word) where
   -- a word that can be the front of a name (IsFront), followed by digits, neither begins nor ends with a space
-  open_ends : (digits : List ℕ) (last : ℕ) → 48 ≤ last → has_open_ends (word ++ (digits ++ last ∷ [])) ≡ true
+  open_ends : (digits : List ℕ) (last : ℕ) → 48 ≤ last → has_no_edge_space (word ++ (digits ++ last ∷ [])) ≡ true
   open_ends digits last h =
       let bs = word ++ (digits ++ last ∷ []) in
       let place : length bs - 1 ≡ length (word ++ digits) = omega (arith, length-append word (digits ++ last ∷ []), length-append word digits, length-append digits (last ∷ [])) in
@@ -69,7 +69,7 @@ module _ (word : List ℕ) (front : IsFront word) where
       let e = decimal_ends n (omega arith) in
       let few : length (decimal n) ≤ 20 = length-decimal-le 20 n (omega arith) (omega arith) (omega arith) in
       let size = length-append word (decimal n) in
-      both_true (both_true (short (word ++ decimal n) (omega (arith, size, front.some)) (omega (arith, size, few, front.few))) (ap (λ ds. has_open_ends (word ++ ds)) e.is ∙ open_ends e.front e.last e.least))
+      both_true (both_true (short (word ++ decimal n) (omega (arith, size, front.some)) (omega (arith, size, few, front.few))) (ap (λ ds. has_no_edge_space (word ++ ds)) e.is ∙ open_ends e.front e.last e.least))
       (list_all-append is_name_byte word (decimal n) ∙ both_true front.bytes (all_digits (decimal n) e))
 
 -- `Unit ` followed by a number up to last_unit is a good name

@@ -88,8 +88,8 @@ module _ {V : Type 0} (m : FinMap nat_cmp V) (next : ℕ) where
   from_one (suc n) v first is = omega arith
 
   -- the numbers from `next` on have no value, if all numbers of the map are below `next`
-  pub free_behind : Every (λ n v. n < next) m → (n : ℕ) → next ≤ n → get m n ≡ None
-  free_behind few n l = free_from m n (λ there. let low = few n there.0 there.1 in omega (arith, low))
+  pub free_from_next : Every (λ n v. n < next) m → (n : ℕ) → next ≤ n → get m n ≡ None
+  free_from_next few n l = free_from m n (λ there. let low = few n there.0 there.1 in omega (arith, low))
 
   -- all numbers of the map are below `next`, if the numbers from `next` on have no value
   pub every_before : ((n : ℕ) → next ≤ n → get m n ≡ None) → Every (λ n v. n < next) m

@@ -39,9 +39,9 @@ module _ {V : Type 0} where
   through s (Some k) = slab.get s k
 
   -- with an entry of n put in front, looking up q gives that entry's value if q is n, else what the rest gives
-  lodged_step : (n q : ℕ) (o : Option V) (rest : List (ℕ × V)) → is_some o ≡ true → find nat_cmp q (slot_entry_at n o rest) ≡ cond (eq_by_cmp nat_cmp q n) o (find nat_cmp q rest)
-  lodged_step n q None rest h = absurd (false≢true h)
-  lodged_step n q (Some v) rest h = refl
+  find_entry_step : (n q : ℕ) (o : Option V) (rest : List (ℕ × V)) → is_some o ≡ true → find nat_cmp q (slot_entry_at n o rest) ≡ cond (eq_by_cmp nat_cmp q n) o (find nat_cmp q rest)
+  find_entry_step n q None rest h = absurd (false≢true h)
+  find_entry_step n q (Some v) rest h = refl
 
   -- following a choice between two slots gives the choice between their values
   through_cond : (b : Bool) (s : slab.Slab V) (k : ℕ) (o : Option ℕ) → cond b (slab.get s k) (through s o) ≡ through s (cond b (Some k) o)
@@ -52,7 +52,7 @@ module _ {V : Type 0} where
   find_lodged : (s : slab.Slab V) (q : ℕ) (es : List (ℕ × ℕ)) → AreInUse es s → find nat_cmp q (slot_entries es s) ≡ through s (find nat_cmp q es)
   find_lodged s q [] h = refl
   find_lodged s q (e ∷ es) h =
-      lodged_step e.0 q (slab.get s e.1) (slot_entries es s) h.0 ∙ ap (cond (eq_by_cmp nat_cmp q e.0) (slab.get s e.1)) (find_lodged s q es h.1)
+      find_entry_step e.0 q (slab.get s e.1) (slot_entries es s) h.0 ∙ ap (cond (eq_by_cmp nat_cmp q e.0) (slab.get s e.1)) (find_lodged s q es h.1)
       ∙ through_cond (eq_by_cmp nat_cmp q e.0) s e.1 (find nat_cmp q es)
 
   -- each slot that a number leads to is in use

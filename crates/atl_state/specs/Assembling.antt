@@ -43,8 +43,8 @@ bare_region r = region_with r empty
 -- ---- row by row
 
 -- a unit with the amount of a row of `has` put in: pieces of an item (sort 0) or days of a skill (sort 1)
-abbrev pub holding_more : StoredHas → Unit → Unit
-holding_more r u =
+abbrev pub with_has_row : StoredHas → Unit → Unit
+with_has_row r u =
     if as_u32 r.sort == 0
     then record u { holding = record u.holding { items = insert u.holding.items (as_u32 r.thing) (as_u32 r.amount) } }
     else if as_u32 r.sort == 1
@@ -52,8 +52,8 @@ holding_more r u =
     else u
 
 -- a region with the stock of a row of `market` put in
-abbrev pub stocking_more : StoredMarket → Region → Region
-stocking_more r x = record x { stocks = insert x.stocks (as_u32 r.item) (as_u32 r.stock) }
+abbrev pub with_market_row : StoredMarket → Region → Region
+with_market_row r x = record x { stocks = insert x.stocks (as_u32 r.item) (as_u32 r.stock) }
 
 -- the map after `more` changed, for one row after another, the value under the row's number `owner`, if there is one
 abbrev pub give : {R V : Type 0} → (R → ℕ) → (R → V → V) → List R → FinMap nat_cmp V → FinMap nat_cmp V

@@ -57,8 +57,8 @@ abbrev pub with_item_marked : MarkedRegions → (region item : ℕ) → MarkedRe
 with_item_marked r n item = with_item_marked_in r n item (map.get r.values n)
 
 -- the regions with all stocks of region n marked, if there is such a region
-abbrev pub with_items_marked : MarkedRegions → (region : ℕ) → MarkedRegions
-with_items_marked r n = with_items_marked_in r n (map.get r.values n)
+abbrev pub with_stocks_marked : MarkedRegions → (region : ℕ) → MarkedRegions
+with_stocks_marked r n = with_items_marked_in r n (map.get r.values n)
 
 -- region n, if there is one and its stock of an item is another than `amount`; else None
 abbrev pub region_to_restock : map.FinMap nat_cmp Region → (region item : ℕ) → ℕ → Option Region

@@ -5,7 +5,7 @@ ghost use Rattle.std.specs.FinSet as set;
 ghost use Rattle.atl_tables.specs.Limits.{number_count};
 ghost use Rattle.atl_tables.specs.Tracking.{Lists, marked_with};
 ghost use Rattle.atl_state.specs.Marks.{AreStocksWithin};
-ghost use Rattle.atl_state.specs.Regions.{MarksStockAt, unmarked_regions, with_item_marked, with_items_marked, with_region_row, with_stock_at};
+ghost use Rattle.atl_state.specs.Regions.{MarksStockAt, unmarked_regions, with_item_marked, with_stocks_marked, with_region_row, with_stock_at};
 ghost use Rattle.atl_state.specs.Stocks.{stock_in};
 
 use atl_records::{Region, put_amount};
@@ -161,7 +161,7 @@ impl Regions {
     /// Marks one stock of a region, or all its stocks where there is no memory for that mark.
     fn mark_item(&mut self, alloc: Global, number: u32, item: u32)
         ensures { (self.new ≡ with_item_marked self.old number item) ⊎ (self.new
-            ≡ with_items_marked self.old number) }
+            ≡ with_stocks_marked self.old number) }
     {
         match self.values.get(number) {
             Some(_) => {}

@@ -3,7 +3,7 @@ ghost use Rattle.std.specs.Prelude.{◌≡◌, ◌≤◌, ◌⊎◌, IfOk, OnOk,
 ghost use Rattle.std.specs.FinMap as map;
 ghost use Rattle.std.specs.FinSet as set;
 ghost use Rattle.atl_tables.specs.Tracking.{Lists};
-ghost use Rattle.atl_records.specs.Limits.{holding_limit, men_limit, most_numbered};
+ghost use Rattle.atl_records.specs.Limits.{holding_limit, men_limit, most_map_entries};
 ghost use Rattle.atl_records.specs.Holdings.{with_amount_of};
 ghost use Rattle.atl_state.specs.Marks.{AreWithin};
 ghost use Rattle.atl_state.specs.Roster.{no_units, unmarked_units, with_unit_at, with_unit_row, with_item_at, with_skill_at, without_unit_at, item_marked_at, skill_marked_at};
@@ -107,7 +107,7 @@ impl Units {
     /// How many units are marked.
     pub(crate) fn marked(&self) -> usize
         ensures value { result ≡ set.len self.now.marks }
-        ensures small { result ≤ most_numbered }
+        ensures small { result ≤ most_map_entries }
         ensures within { AreWithin self.now.marks self.now.rows self.now.goods self.now.items
             self.now.skills }
     {

@@ -35,8 +35,8 @@ use Rattle.atl_store.proofs.ThingLaws.{same_sort}
 -- ---- maps whose rows determine their numbers and values
 
 -- A row of a map determines its number and its value: equal rows of the two maps have equal numbers and values.
-abbrev Tells : {V : Type 0} → (ℕ → V → Row) → FinMap nat_cmp V → FinMap nat_cmp V → Type 0
-Tells {V} line m k = (n p : ℕ) (v u : V) → get m n ≡ Some v → get k p ≡ Some u → line n v ≡ line p u → (n ≡ p) × (v ≡ u)
+abbrev Determines : {V : Type 0} → (ℕ → V → Row) → FinMap nat_cmp V → FinMap nat_cmp V → Type 0
+Determines {V} line m k = (n p : ℕ) (v u : V) → get m n ≡ Some v → get k p ≡ Some u → line n v ≡ line p u → (n ≡ p) × (v ≡ u)
 
 module _ {V : Type 0} (line : ℕ → V → Row) (rows : List Row) where
   -- if one table has exactly the rows of two maps, each entry of the first map has an equal row in the second
@@ -44,14 +44,14 @@ module _ {V : Type 0} (line : ℕ → V → Row) (rows : List Row) where
   other_line m k a b n v is = (b (line n v)).0 ((a (line n v)).1 (n, v, is, refl))
 
   -- if one table has exactly the rows of two maps, and rows determine number and value, each entry is in the other map
-  one_way : (m k : FinMap nat_cmp V) → Tells line m k → Is rows (RowsOf line m) → Is rows (RowsOf line k) → Every (λ n v. get k n ≡ Some v) m
+  one_way : (m k : FinMap nat_cmp V) → Determines line m k → Is rows (RowsOf line m) → Is rows (RowsOf line k) → Every (λ n v. get k n ≡ Some v) m
   one_way m k tells a b n v is =
       let (p, u, there, same) = other_line m k a b n v is in
       let at = tells n p v u is there same in
       ap (get k) at.0 ∙ there ∙ sym (ap Some at.1)
 
   -- two maps are equal if one table has exactly the rows of each, and the rows determine number and value
-  same_values : (m k : FinMap nat_cmp V) → Tells line m k → Tells line k m → Is rows (RowsOf line m) → Is rows (RowsOf line k) → m ≡ k
+  same_values : (m k : FinMap nat_cmp V) → Determines line m k → Determines line k m → Is rows (RowsOf line m) → Is rows (RowsOf line k) → m ≡ k
   same_values m k there back a b = agree m k (one_way m k there a b) (one_way k m back b a)
 
 -- two booleans are equal if a row shows them as equal flags
@@ -62,7 +62,7 @@ same_flag false true is = cc
 same_flag false false is = refl
 
 -- a faction's row determines its number and value, if each faction is stored under its own number
-factions_tell : (m k : FinMap nat_cmp Faction) → Every (λ n f. f.number ≡ n) m → Every (λ n f. f.number ≡ n) k → Tells faction_line m k
+factions_tell : (m k : FinMap nat_cmp Faction) → Every (λ n f. f.number ≡ n) m → Every (λ n f. f.number ≡ n) k → Determines faction_line m k
 factions_tell m k a b n p f g is there same =
     let at : n ≡ p = cc in
     let number : f.number ≡ g.number = a n f is ∙ at ∙ sym (b p g there) in
@@ -73,7 +73,7 @@ factions_tell m k a b n p f g is there same =
     (at, λ i. record { number = number i; joined_as = joined i; name = name i; pass = pass i; gone = gone i })
 
 -- a structure's row determines its number and value
-structures_tell : (m k : FinMap nat_cmp Structure) → Tells structure_line m k
+structures_tell : (m k : FinMap nat_cmp Structure) → Determines structure_line m k
 structures_tell m k n p s t is there same =
     let kind : s.kind ≡ t.kind = cc in
     let name : s.name ≡ t.name = cc in
@@ -83,11 +83,11 @@ structures_tell m k n p s t is there same =
     (cc, λ i. record { kind = kind i; name = name i; region = region i; done = done i; owner = owner i })
 
 -- a mailing's row determines its number and text
-mails_tell : (m k : FinMap nat_cmp (List ℕ)) → Tells mail_row m k
+mails_tell : (m k : FinMap nat_cmp (List ℕ)) → Determines mail_row m k
 mails_tell m k n p s t is there same = (cc, cc)
 
 -- a report's row determines its number and text
-reports_tell : (m k : FinMap nat_cmp (List ℕ)) → Tells report_row m k
+reports_tell : (m k : FinMap nat_cmp (List ℕ)) → Determines report_row m k
 reports_tell m k n p s t is there same = (cc, cc)
 
 -- ---- units, with what they have

@@ -22,7 +22,7 @@ use Rattle.atl_sql.specs.Tables.{books_table}
 use Rattle.atl_sql.specs.Shown.{int, books_key, books_row}
 use Rattle.atl_sql.specs.Rows.{BooksRowsOf}
 use Rattle.atl_store.specs.Lines.{amount_lines}
-use Rattle.atl_store.specs.Arriving.{Settles}
+use Rattle.atl_store.specs.Arriving.{WritesAmount}
 use Rattle.atl_sql.specs.Inside.{Inside, HasTables}
 use Rattle.atl_sql.specs.Marked.{accounts, amount_marked, is_marked_amount}
 use Rattle.atl_store.specs.Rewriting.{RewritesAmounts, RewritesBooks, is_number, is_among, of_amounts}
@@ -187,8 +187,8 @@ module _ (c : MarkedCampaign) (e : Entry) (t : Thing) where
         ap (λ x. is_here (x ∷ w ∷ row)) (first ∙ ap int place) ∙ ap (λ x. is_here (int (suc (entry_index e)) ∷ x ∷ row)) second
         ∙ ap (λ b. b && (is_number (thing_index t) (thing_index t) && contains c.marks.books (amount_number e t))) (is_itself (entry_index e)) ∙ ap (λ b. b && contains c.marks.books (amount_number e t)) (is_itself (thing_index t)) ∙ marked
 
-    -- writing the amount (`Settles`) rewrites the rows of this entry and thing and no other
-    settle_rewrite : (old new : Database) → Settles c.value e t old new
+    -- writing the amount (`WritesAmount`) rewrites the rows of this entry and thing and no other
+    settle_rewrite : (old new : Database) → WritesAmount c.value e t old new
         → RewritesAmounts c (is_number (entry_index e)) (is_number (thing_index t)) old new
     settle_rewrite old new did = rewrites_key is_here (λ r. take 2 r ≡ books_key (entry_index e + 1) (thing_index t)) (Has (amount_lines c.value e t)) (BooksRowsOf c.value.books) key_of of_key
         (λ r here. let is = optional_has (int_eq (amount_in c.value.books e t) (pos 0)) row r here in (ap (take 2) is.1, (e, t, differs_zero (amount_in c.value.books e t) is.0, is.1)))
@@ -197,10 +197,10 @@ module _ (c : MarkedCampaign) (e : Entry) (t : Thing) where
         same_place of.0 of.1 of.2 (omega (arith, keys.0)) keys.1 r of.3)
         books_table old new did.rows did.others
 
-    -- inside a transaction, writing a dirty amount (`Settles`) rewrites the amount
-    pub settle_done : (old new : State) → Inside HasTables (Settles c.value e t) old new
+    -- inside a transaction, writing a dirty amount (`WritesAmount`) rewrites the amount
+    pub settle_done : (old new : State) → Inside HasTables (WritesAmount c.value e t) old new
         → Inside HasTables (RewritesAmounts c (is_number (entry_index e)) (is_number (thing_index t))) old new
-    settle_done old new did = inside_weaker HasTables (Settles c.value e t) (RewritesAmounts c (is_number (entry_index e)) (is_number (thing_index t))) old new (λ has settles. settle_rewrite old.now new.now settles) did
+    settle_done old new did = inside_weaker HasTables (WritesAmount c.value e t) (RewritesAmounts c (is_number (entry_index e)) (is_number (thing_index t))) old new (λ has settles. settle_rewrite old.now new.now settles) did
 
 -- ---- one entry after another, and one thing after another
 

@@ -12,8 +12,8 @@ use Rattle.sqlite_rules.specs.Lists.{Has}
 use Rattle.sqlite_rules.proofs.ListLemmas.{has_left, has_right, has_either, test_has}
 use Rattle.atl_tables.specs.declared.format.Format.{Format}
 use Rattle.atl_tables.specs.declared.format.Format.TheVariants.{First, Second}
-use Rattle.atl_store.specs.Gathering.{IsSettled, kept_of, ReadRows, AreRows, AreAllRows, AreOfFormat, AreNone, late_parts, selects_by, Found, AnswersOne, FailsToRead, ReadsSome}
-use Rattle.atl_store.specs.Loading.{Stays, AfterReads, Tells, AreTold, AreToldTyped, HasOtherType, RefusesOne, other_parts, other_selects}
+use Rattle.atl_store.specs.Gathering.{IsSettled, rows_or_none, ReadRows, AreRows, AreAllRows, AreOfFormat, AreNone, second_format_parts, selects_by, Found, AnswersOne, FailsToRead, ReadsSome}
+use Rattle.atl_store.specs.Loading.{Stays, AfterReads, SelectShows, AllSelectsShow, AllSelectsShowTyped, HasOtherType, RefusesOne, other_parts, other_selects}
 use Rattle.atl_sql.specs.Reading.{ReadsRows, GivesTable, Rests, Selects, RefusesToSelect, listing_of}
 use Rattle.atl_sql.specs.Stored.{Form, AreTyped}
 use Rattle.atl_sql.specs.Tables.{Part, parts_in}
@@ -113,7 +113,7 @@ module _ {S : Type 0} (g : Ghosts S) where
     this_select = (sql, forms) ∷ []
 
     -- a SELECT that showed rows on a connection with the tables of `old` shows the rows of these tables
-    tells : (rows : List Row) → Selects g sql old rows → Tells g old sql rows
+    tells : (rows : List Row) → Selects g sql old rows → SelectShows g old sql rows
     tells rows told = record { before = told.0; during = told.1; same = told.2.same; shown = told.3 }
 
     -- a connection whose SELECT showed rows was open
@@ -121,14 +121,14 @@ module _ {S : Type 0} (g : Ghosts S) where
     selects_open rows told = told.2.was_open (shown_open sql _ _ rows told.3)
 
     -- rows that were read of one table are what the list of its SELECT finds (`Found`)
-    found_one : {Z : Type 0} (r : Result (Vec A Z) ReadFault) → ReadsRows g sql old forms shown r new → GivesTable g (listing_of part).since (listing_of part).in_table shown r old new → HasCleanDisk (state g new) → IfOk (kept_of r) (Found g old this_select (λ all. AreAllRows (state g old).now ((part, map shown all.items) ∷ [])))
+    found_one : {Z : Type 0} (r : Result (Vec A Z) ReadFault) → ReadsRows g sql old forms shown r new → GivesTable g (listing_of part).since (listing_of part).in_table shown r old new → HasCleanDisk (state g new) → IfOk (rows_or_none r) (Found g old this_select (λ all. AreAllRows (state g old).now ((part, map shown all.items) ∷ [])))
     found_one (Ok all) reads gives clean =
         let told = reads.rows clean in
-        (each_of_one (λ s. (rows : List Row) × Tells g old s.0 rows × AreTyped s.1 rows) (sql, forms) (told.0, tells told.0 told.1, told.3), each_of_one (λ read. AreRows (state g old).now read.0 read.1) (part, map shown all.items) (gives clean))
+        (each_of_one (λ s. (rows : List Row) × SelectShows g old s.0 rows × AreTyped s.1 rows) (sql, forms) (told.0, tells told.0 told.1, told.3), each_of_one (λ read. AreRows (state g old).now read.0 read.1) (part, map shown all.items) (gives clean))
     found_one (Err read.OtherType) reads gives clean =
         let told = reads.other clean refl in
         record {
-          all = each_of_one (λ s. (rows : List Row) × Tells g old s.0 rows) (sql, forms) (told.0, tells told.0 told.1);
+          all = each_of_one (λ s. (rows : List Row) × SelectShows g old s.0 rows) (sql, forms) (told.0, tells told.0 told.1);
           select = (sql, forms);
           one = inl refl;
           rows = told.0;
@@ -140,7 +140,7 @@ module _ {S : Type 0} (g : Ghosts S) where
     found_one (Err read.Refused) reads gives clean = tt
 
     -- a connection that read one table was open
-    open_one : {Z : Type 0} (r : Result (Vec A Z) ReadFault) → ReadsRows g sql old forms shown r new → HasCleanDisk (state g new) → IfOk (kept_of r) (λ _. IsTrue (state g old).is_open)
+    open_one : {Z : Type 0} (r : Result (Vec A Z) ReadFault) → ReadsRows g sql old forms shown r new → HasCleanDisk (state g new) → IfOk (rows_or_none r) (λ _. IsTrue (state g old).is_open)
     open_one (Ok all) reads clean = let told = reads.rows clean in selects_open told.0 told.1
     open_one (Err read.OtherType) reads clean = let told = reads.other clean refl in selects_open told.0 told.1
     open_one (Err read.Memory) reads clean = tt
@@ -157,7 +157,7 @@ module _ {S : Type 0} (g : Ghosts S) where
     wants (inr told) = inr (record { select = (sql, forms); one = inl refl; before = old; leaves = leaves_none old idle; rows = told.0; answered = told.1 })
 
     -- a fault of reading one table is one that the list of its SELECT may return
-    fails_one : {Z : Type 0} (r : Result (Vec A Z) ReadFault) → ReadsRows g sql old forms shown r new → HasCleanDisk (state g new) → IfErr (kept_of r) (FailsToRead g old this_select)
+    fails_one : {Z : Type 0} (r : Result (Vec A Z) ReadFault) → ReadsRows g sql old forms shown r new → HasCleanDisk (state g new) → IfErr (rows_or_none r) (FailsToRead g old this_select)
     fails_one (Ok all) reads clean = tt
     fails_one (Err read.OtherType) reads clean = tt
     fails_one (Err read.Memory) reads clean = wants (reads.memory clean refl)
@@ -165,7 +165,7 @@ module _ {S : Type 0} (g : Ghosts S) where
     fails_one (Err read.Refused) reads clean = inr (refuses read.Refused (reads.refused clean not_refused refused_no_memory))
 
     -- reading one table is reading the list with its SELECT alone (`ReadsSome`)
-    pub reads_one : {Z : Type 0} (r : Result (Vec A Z) ReadFault) → ReadsRows g sql old forms shown r new → GivesTable g (listing_of part).since (listing_of part).in_table shown r old new → (kept : Result (Option (Vec A Z)) LoadFault) → kept ≡ kept_of r
+    pub reads_one : {Z : Type 0} (r : Result (Vec A Z) ReadFault) → ReadsRows g sql old forms shown r new → GivesTable g (listing_of part).since (listing_of part).in_table shown r old new → (kept : Result (Option (Vec A Z)) LoadFault) → kept ≡ rows_or_none r
         → ReadsSome g old this_select (λ all. AreAllRows (state g old).now ((part, map shown all.items) ∷ [])) kept new
     reads_one r reads gives kept is = record {
       was_open = λ clean. subst (λ k. IfOk k (λ _. IsTrue (state g old).is_open)) (sym is) (open_one r reads clean);
@@ -182,11 +182,11 @@ module _ {S : Type 0} (g : Ghosts S) where
 
   module _ (old mid : Held S) (same : (state g mid).now ≡ (state g old).now) where
     -- rows that a SELECT gave later it would have given before, since the tables are unchanged
-    told_then : (sql : List ℕ) (rows : List Row) → Tells g mid sql rows → Tells g old sql rows
+    told_then : (sql : List ℕ) (rows : List Row) → SelectShows g mid sql rows → SelectShows g old sql rows
     told_then sql rows told = record { before = told.before; during = told.during; same = told.same ∙ same; shown = told.shown }
 
     -- if each of several SELECTs showed rows later, each would have shown them before, since the tables are unchanged
-    all_told_then : (selects : List (List ℕ × List Form)) → AreTold g mid selects → AreTold g old selects
+    all_told_then : (selects : List (List ℕ × List Form)) → AllSelectsShow g mid selects → AllSelectsShow g old selects
     all_told_then selects all select one = let told = all select one in (told.0, told_then select.0 told.0 told.1)
 
     -- what SELECTs found later they would have found before, since the tables are unchanged
@@ -252,19 +252,19 @@ module _ {S : Type 0} (g : Ghosts S) where
     fails_within Memory (inr answers) = inr (answers_within answers)
 
     -- if `more` show rows, a value of another type that the SELECTs `few` show is one that `more` show
-    other_within : AreTold g old more → HasOtherType g old few → HasOtherType g old more
+    other_within : AllSelectsShow g old more → HasOtherType g old few → HasOtherType g old more
     other_within all other = record { all = all; select = other.select; one = within other.select other.one; rows = other.rows; told = other.told; other = other.other }
 
   -- SELECTs that gave typed rows gave rows
-  told_of : (old : Held S) (selects : List (List ℕ × List Form)) → AreToldTyped g old selects → AreTold g old selects
+  told_of : (old : Held S) (selects : List (List ℕ × List Form)) → AllSelectsShowTyped g old selects → AllSelectsShow g old selects
   told_of old selects typed select one = let told = typed select one in (told.0, told.1)
 
   -- what two reads on one connection found is found by all their SELECTs together
   found_both : {A B : Type 0} (xs ys : List (List ℕ × List Form)) (P : A → Type 0) (Q : B → Type 0) (old : Held S) (a : Option A) (b : Option B) → Found g old xs P a → Found g old ys Q b → Found g old (xs ++ ys) (λ x. P x.0 × Q x.1) (option_zip a b)
-  found_both xs ys P Q old (Some a) (Some b) p q = (each_of_both (λ s. (rows : List Row) × Tells g old s.0 rows × AreTyped s.1 rows) xs ys p.0 q.0, (p.1, q.1))
-  found_both xs ys P Q old (Some a) None p q = other_within old ys (xs ++ ys) (has_right xs ys) (each_of_both (λ s. (rows : List Row) × Tells g old s.0 rows) xs ys (told_of old xs p.0) q.all) q
-  found_both xs ys P Q old None (Some b) p q = other_within old xs (xs ++ ys) (has_left xs ys) (each_of_both (λ s. (rows : List Row) × Tells g old s.0 rows) xs ys p.all (told_of old ys q.0)) p
-  found_both xs ys P Q old None None p q = other_within old xs (xs ++ ys) (has_left xs ys) (each_of_both (λ s. (rows : List Row) × Tells g old s.0 rows) xs ys p.all q.all) p
+  found_both xs ys P Q old (Some a) (Some b) p q = (each_of_both (λ s. (rows : List Row) × SelectShows g old s.0 rows × AreTyped s.1 rows) xs ys p.0 q.0, (p.1, q.1))
+  found_both xs ys P Q old (Some a) None p q = other_within old ys (xs ++ ys) (has_right xs ys) (each_of_both (λ s. (rows : List Row) × SelectShows g old s.0 rows) xs ys (told_of old xs p.0) q.all) q
+  found_both xs ys P Q old None (Some b) p q = other_within old xs (xs ++ ys) (has_left xs ys) (each_of_both (λ s. (rows : List Row) × SelectShows g old s.0 rows) xs ys p.all (told_of old ys q.0)) p
+  found_both xs ys P Q old None None p q = other_within old xs (xs ++ ys) (has_left xs ys) (each_of_both (λ s. (rows : List Row) × SelectShows g old s.0 rows) xs ys p.all q.all) p
 
   -- what a later stage found was in the tables before the first stage
   found_behind : {A : Type 0} (old mid new : Held S) → AfterReads g old mid → (selects : List (List ℕ × List Form)) (P Q : A → Type 0) (r : Result (Option A) LoadFault) → ReadsSome g mid selects P r new → (o : Option A) → r ≡ Ok o
@@ -341,11 +341,11 @@ module _ {S : Type 0} (g : Ghosts S) where
   found_with old selects P Q b weaker None found = found
 
   -- all rows of some tables and none of the others are the rows of the first format
-  of_first : (db : Database) (some others : ReadRows) → AreAllRows db some → map (λ read. read.0) some ≡ other_parts First → AreNone others → map (λ read. read.0) others ≡ late_parts → AreOfFormat First db (some ++ others)
+  of_first : (db : Database) (some others : ReadRows) → AreAllRows db some → map (λ read. read.0) some ≡ other_parts First → AreNone others → map (λ read. read.0) others ≡ second_format_parts → AreOfFormat First db (some ++ others)
   of_first db some others are early none late = record {
     each =
         each_of_both (λ read. (Has (parts_in First) read.0 × AreRows db read.0 read.1) ⊎ ((¬ Has (parts_in First) read.0) × (read.1 ≡ []))) some others (λ read there. inl (inr (is_there some (other_parts First) early read there), are read there))
-        (λ read there. inr (not_early read.0 (is_there others late_parts late read there), none read there));
+        (λ read there. inr (not_early read.0 (is_there others second_format_parts late read there), none read there));
   }
     where
       is_there : (reads : ReadRows) (parts : List Part) → map (λ read. read.0) reads ≡ parts → (read : Part × List Row) → Has reads read → Has parts read.0
@@ -355,12 +355,12 @@ module _ {S : Type 0} (g : Ghosts S) where
       no true is = absurd (true≢false (sym is))
       no false is = refl
 
-      not_early : (part : Part) → Has late_parts part → ¬ Has (parts_in First) part
-      not_early part there = not_among (parts_in First) part (no (is_among (parts_in First) part) (test_has (λ p. not (is_among (parts_in First) p)) late_parts part refl there))
+      not_early : (part : Part) → Has second_format_parts part → ¬ Has (parts_in First) part
+      not_early part there = not_among (parts_in First) part (no (is_among (parts_in First) part) (test_has (λ p. not (is_among (parts_in First) p)) second_format_parts part refl there))
 
   -- in the first format the rows of some tables are read, and none of the others
   pub reads_first : {A B : Type 0} (selects : List (List ℕ × List Form)) (some : A → ReadRows) (others : B → ReadRows) (old new : Held S) (one : Result (Option A) LoadFault) → ReadsSome g old selects (λ a. AreAllRows (state g old).now (some a)) one new
-      → (a : Option A) → one ≡ Ok a → (b : B) → AreNone (others b) → ((a : A) → map (λ read. read.0) (some a) ≡ other_parts First) → map (λ read. read.0) (others b) ≡ late_parts
+      → (a : Option A) → one ≡ Ok a → (b : B) → AreNone (others b) → ((a : A) → map (λ read. read.0) (some a) ≡ other_parts First) → map (λ read. read.0) (others b) ≡ second_format_parts
       → (o : Option (A × B)) → o ≡ option_zip a (Some b) → ReadsSome g old selects (λ x. AreOfFormat First (state g old).now (some x.0 ++ others x.1)) (Ok o) new
   reads_first selects some others old new one first a was b none early late o is = record {
     was_open = λ clean. subst (λ r. IfOk r (λ _. IsTrue (state g old).is_open)) was (first.was_open clean);

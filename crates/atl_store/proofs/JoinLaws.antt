@@ -29,7 +29,7 @@ use Rattle.atl_sql.specs.Rows.{campaign_row_of, campaign_line, faction_line, uni
 use Rattle.atl_sql.specs.PutsCampaignRow.{PutsCampaignRow}
 use Rattle.atl_sql.specs.Inside.{Inside, HasTables, Both, Puts}
 use Rattle.atl_store.specs.Keeps.{IsJoining}
-use Rattle.atl_store.specs.Arriving.{IsFound, Enters, settled, Settles, HasPut, WritesJoin, WritesMail}
+use Rattle.atl_store.specs.Arriving.{IsFound, Enters, settled, WritesAmount, HasPut, WritesJoin, WritesMail}
 use Rattle.atl_sql.proofs.PartLaws.{listed, same_part, is_among, not_among}
 use Rattle.atl_store.proofs.TurnLaws.{stays_is}
 use Rattle.atl_store.proofs.ArriveLaws.{get_inserted, put_rows, no_goods, settled_rows}
@@ -112,7 +112,7 @@ Enrolls n f m u after world = Both (PutsCampaignRow (campaign_row_of after) worl
 
 -- The report's row is put, and the two amounts of the books are written.
 abbrev Welcomes : ℕ → List ℕ → CampaignValue → Database → Database → Type 0
-Welcomes n report after = Both (Puts report_table 1 (report_row n report)) (Both (Settles after Joining Money) (Settles after Joining People))
+Welcomes n report after = Both (Puts report_table 1 (report_row n report)) (Both (WritesAmount after Joining Money) (WritesAmount after Joining People))
 
 -- a table that the steps before and after leave alone changes as the step between changes it
 rows_moved : (t : Table) (F : List Row → Set) (a b c d : Database) → b.trees t.tree ≡ a.trees t.tree → d.trees t.tree ≡ c.trees t.tree → Is (rows_in t c.trees) (F (rows_in t b.trees)) → Is (rows_in t d.trees) (F (rows_in t a.trees))
@@ -203,17 +203,17 @@ enrolling_done n f m u after world start one two three first second third =
     inside_then HasTables (PutsCampaignRow (campaign_row_of after) world) (Both factions units) start one three first (inside_then HasTables factions units one two three second third)
 
 -- putting the report and writing the two amounts welcomes the faction (`Welcomes`)
-pub reporting_done : (n : ℕ) (report : List ℕ) (after : CampaignValue) (start one two three : State) → Inside HasTables (Puts report_table 1 (report_row n report)) start one → Inside HasTables (Settles after Joining Money) one two
-    → Inside HasTables (Settles after Joining People) two three → Inside HasTables (Both (Puts report_table 1 (report_row n report)) (Both (Settles after Joining Money) (Settles after Joining People))) start three
+pub reporting_done : (n : ℕ) (report : List ℕ) (after : CampaignValue) (start one two three : State) → Inside HasTables (Puts report_table 1 (report_row n report)) start one → Inside HasTables (WritesAmount after Joining Money) one two
+    → Inside HasTables (WritesAmount after Joining People) two three → Inside HasTables (Both (Puts report_table 1 (report_row n report)) (Both (WritesAmount after Joining Money) (WritesAmount after Joining People))) start three
 reporting_done n report after start one two three first second third =
-    let money = Settles after Joining Money in
-    let people = Settles after Joining People in
+    let money = WritesAmount after Joining Money in
+    let people = WritesAmount after Joining People in
     inside_then HasTables (Puts report_table 1 (report_row n report)) (Both money people) start one three first (inside_then HasTables money people one two three second third)
 
 -- enrolling and then welcoming a faction writes the join, inside a transaction
 pub joining_done : (n : ℕ) (f : Faction) (m : ℕ) (u : Unit) (report : List ℕ) (after : CampaignValue) (world : List ℕ) (start one two : State) → IsFound after n f m u report
     → Inside HasTables (Both (PutsCampaignRow (campaign_row_of after) world) (Both (Puts faction_table 1 (faction_line n f)) (Puts unit_table 1 (unit_line m u)))) start one
-    → Inside HasTables (Both (Puts report_table 1 (report_row n report)) (Both (Settles after Joining Money) (Settles after Joining People))) one two → Inside HasTables (WritesJoin n after) start two
+    → Inside HasTables (Both (Puts report_table 1 (report_row n report)) (Both (WritesAmount after Joining Money) (WritesAmount after Joining People))) one two → Inside HasTables (WritesJoin n after) start two
 joining_done n f m u report after world start one two found first second =
     inside_weaker HasTables (Both (Enrolls n f m u after world) (Welcomes n report after)) (WritesJoin n after) start two (λ has did. joins n f m u report after found world start.now did.0 two.now did.1 did.2)
     (inside_then HasTables (Enrolls n f m u after world) (Welcomes n report after) start one two first second)

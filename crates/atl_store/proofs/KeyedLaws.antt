@@ -18,7 +18,7 @@ use Rattle.sqlite_rules.proofs.ListLemmas.{all_from, all_has}
 use Rattle.atl_tables.specs.declared.format.Format.TheVariants.{Second}
 use Rattle.atl_state.specs.declared.parts.Parts.{Parts}
 use Rattle.atl_state.specs.declared.parts.StoredCampaignRow.{StoredCampaignRow}
-use Rattle.atl_store.specs.Gathering.{AreApart, AreAllApart, HaveKeys, IsMadeOf, Lacks, ReadRows, without_ids, width}
+use Rattle.atl_store.specs.Gathering.{AreApart, AreAllApart, HaveKeys, IsMadeOf, FailsWithout, ReadRows, without_ids, width}
 use Rattle.atl_store.specs.Loading.{shows_rowids, has_values, books_values, market_values, other_parts, rows_read}
 use Rattle.atl_sql.specs.Reading.{listing_of}
 use Rattle.atl_sql.specs.Rows.{lines_of}
@@ -236,13 +236,13 @@ made_of {head} {reads} {p} parts campaign all = record {
   apart = record { each = λ read there. (all_has (IsMadeAs p) reads read all there).apart };
 }
 
--- a fault of testing the rowids of one part is a fault of testing those of all parts (`Lacks`)
+-- a fault of testing the rowids of one part is a fault of testing those of all parts (`FailsWithout`)
 pub lacks_all : {A B : Type 0} {part : Part} {stored : RowWithId A → Row} {values : A → Row} → IsPlacedAs part stored values → shows_rowids part ≡ true → (placed : List (RowWithId A)) (reads : ReadRows) → Has reads (part, map stored placed)
-    → (fault : LoadFault) → Lacks (AreApart placed) fault → (r : Result B LoadFault) → IsErrAnd r (λ told. told ≡ fault) → IfErr r (Lacks (AreAllApart reads))
+    → (fault : LoadFault) → FailsWithout (AreApart placed) fault → (r : Result B LoadFault) → IsErrAnd r (λ told. told ≡ fault) → IfErr r (FailsWithout (AreAllApart reads))
 lacks_all is has placed reads there fault lacks (Ok b) told = tt
-lacks_all {A} {B} {part} {stored} is has placed reads there fault lacks (Err f) told = subst (Lacks (AreAllApart reads)) (sym told) (all fault lacks)
+lacks_all {A} {B} {part} {stored} is has placed reads there fault lacks (Err f) told = subst (FailsWithout (AreAllApart reads)) (sym told) (all fault lacks)
   where
-    all : (fault : LoadFault) → Lacks (AreApart placed) fault → Lacks (AreAllApart reads) fault
+    all : (fault : LoadFault) → FailsWithout (AreApart placed) fault → FailsWithout (AreAllApart reads) fault
     all Store lacks = λ apart. lacks (placed_apart is placed (apart.each (part, map stored placed) there has))
     all (Damaged rule) lacks = lacks
     all NotACampaign lacks = lacks

@@ -26,9 +26,9 @@ use Rattle.atl_state.specs.declared.checking.Rule.TheVariants.{OneRow, Ranges, N
 use Rattle.atl_state.specs.declared.parts.Parts.{Parts}
 use Rattle.atl_state.specs.declared.parts.StoredCampaignRow.{StoredCampaignRow}
 use Rattle.atl_store.specs.Faults.{fault_of_check}
-use Rattle.atl_store.specs.Gathering.{IsSettled, Lacks, Found, FailsToRead, FailsToConfirm, ReadRows, AreOfFormat, AreAllApart, HaveKeys, without_ids, width, OwnRead, IsMadeOf, ReadsSome, Gathered, IsConfirmed, IsLoaded}
+use Rattle.atl_store.specs.Gathering.{IsSettled, FailsWithout, Found, FailsToRead, FailsToConfirm, ReadRows, AreOfFormat, AreAllApart, HaveKeys, without_ids, width, OwnRead, IsMadeOf, ReadsSome, Gathered, IsConfirmed, IsLoaded}
 use Rattle.atl_store.specs.Keeps.{Keeps, Stores}
-use Rattle.atl_store.specs.Loading.{HaveRows, rows_read, own_stored, KeepsOneRow, BreaksRule, MayReturnDamaged, RefusesToLoadIn, StandsIn, LoadsIn, Loads, LeavesAlone, AfterReads, AreMade, AreToldTyped, MayReturnMemory, FailedMeanwhile, RefusesAgain, shows_rowids, tables_with_rowids, other_parts, other_selects}
+use Rattle.atl_store.specs.Loading.{HaveRows, rows_read, own_stored, KeepsOneRow, BreaksRule, MayReturnDamaged, RefusesToLoadIn, StandsIn, LoadsIn, Loads, LeavesAlone, AfterReads, AreMade, AllSelectsShowTyped, MayReturnMemory, FailedMeanwhile, RefusesAgain, shows_rowids, tables_with_rowids, other_parts, other_selects}
 use Rattle.atl_sql.specs.Rows.{HoldsIn}
 use Rattle.atl_sql.specs.Statements.{selection}
 use Rattle.atl_sql.specs.Reading.{listing_of}
@@ -152,7 +152,7 @@ module _ (f : Format) {S : Type 0} (g : Ghosts S) (old : Held S) (reads : ReadRo
 
 module _ (f : Format) {S : Type 0} (g : Ghosts S) where
   -- a campaign row that was read, typed reads of all other tables, and the rows made of both are gathered (`Gathered`)
-  gathered_of : (old : Held S) (own : StoredCampaign) (w : WorldValue) (reads : ReadRows) (p : Parts) → OwnRead g old f own w → AreToldTyped g old (other_selects f) → AreOfFormat f (state g old).now reads → (head : StoredCampaignRow) → head ≡ own.head → IsMadeOf head reads p → Gathered f g old w p
+  gathered_of : (old : Held S) (own : StoredCampaign) (w : WorldValue) (reads : ReadRows) (p : Parts) → OwnRead g old f own w → AllSelectsShowTyped g old (other_selects f) → AreOfFormat f (state g old).now reads → (head : StoredCampaignRow) → head ≡ own.head → IsMadeOf head reads p → Gathered f g old w p
   gathered_of old own w reads p row typed are head same made = record {
     one = own_kept f g old own w row;
     first = keeps_one_row f w p head (ap (λ (h : StoredCampaignRow). h.id) same ∙ row.row.id) (ap (λ (h : StoredCampaignRow). h.format) same ∙ row.row.format) made.campaign (none_read f g old reads are head p made);
@@ -228,7 +228,7 @@ module _ (f : Format) {S : Type 0} (g : Ghosts S) where
     ]
 
     -- a fault of confirming the tables refuses the load
-    pub unconfirmed_refuses : old.in_transaction ≡ false → AreToldTyped g old (other_selects f) → (fault : LoadFault) → FailsToConfirm g mid f fault → RefusesToLoadIn f g old fault
+    pub unconfirmed_refuses : old.in_transaction ≡ false → AllSelectsShowTyped g old (other_selects f) → (fault : LoadFault) → FailsToConfirm g mid f fault → RefusesToLoadIn f g old fault
     unconfirmed_refuses idle typed Store (inl other) = inr (inr (kept, inr (typed, other_schema other)))
     unconfirmed_refuses idle typed Store (inr again) =
         inr (inr (kept, inr (typed, inr (inr (record { before = mid; leaves = first; during = again.1.0; error = again.1.1; refused = again.1.2; memory_is = again.1.3 })))))
@@ -253,10 +253,10 @@ module _ (f : Format) {S : Type 0} (g : Ghosts S) {A : Type 0} (rows : A → Rea
   mistyped_refuses is = inl (own_kept f g old own w row, found None is)
 
   -- a fault of putting the rows together refuses the load
-  pub unmade_refuses : old.in_transaction ≡ false → (a : A) → o ≡ Some a → (fault : LoadFault) → Lacks (AreAllApart (rows a)) fault → RefusesToLoadIn f g old fault
+  pub unmade_refuses : old.in_transaction ≡ false → (a : A) → o ≡ Some a → (fault : LoadFault) → FailsWithout (AreAllApart (rows a)) fault → RefusesToLoadIn f g old fault
   unmade_refuses idle a is fault = refused fault
     where
-      refused : (fault : LoadFault) → Lacks (AreAllApart (rows a)) fault → RefusesToLoadIn f g old fault
+      refused : (fault : LoadFault) → FailsWithout (AreAllApart (rows a)) fault → RefusesToLoadIn f g old fault
       refused Store lacks = let all = found (Some a) is in inr (inr (own_kept f g old own w row, inr (all.0, inl (λ made. lacks (all_apart f g old (rows a) all.1 made)))))
       refused (Damaged rule) lacks = absurd lacks
       refused NotACampaign lacks = absurd lacks

@@ -119,8 +119,8 @@ module _ (region item : ℕ) where
     wanted_here r here of =
         let had = stock_had c.regions r of in
         let keys = two_same had.0 had.1 region item (ap (take 2) (sym had.3) ∙ key_of r here) in
-        let Tells : ℕ → ℕ → Type 0 = λ n t. (stock_in c.regions n t ≢ 0) × (r ≡ market_row n t (stock_in c.regions n t)) in
-        let told : Tells region item = subst (λ n. Tells n item) keys.0 (subst (Tells had.0) keys.1 (had.2, had.3)) in
+        let Determines : ℕ → ℕ → Type 0 = λ n t. (stock_in c.regions n t ≢ 0) × (r ≡ market_row n t (stock_in c.regions n t)) in
+        let told : Determines region item = subst (λ n. Determines n item) keys.0 (subst (Determines had.0) keys.1 (had.2, had.3)) in
         (λ none. told.0 (sym is ∙ none), told.1 ∙ ap (market_row region item) (sym is))
 
     -- if the stock of this region and item is 0, no row of the campaign has their key

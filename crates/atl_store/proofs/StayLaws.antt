@@ -14,7 +14,7 @@ use Rattle.atl_sql.specs.Inside.{HasTables, Carries, Commits, LeavesOff, MayLeav
 use Rattle.atl_store.specs.Keeps.{Stores, Keeps, IsLater, IsReadyToCreate, FailsToCreate, BreaksOffCreation, RefusesToCreate, LeavesAfterFault, ChangesNothing, LeavesOthersAlone, MayFound}
 use Rattle.atl_sql.specs.Statements.{Statements}
 use Rattle.atl_store.specs.OwnStatements.{OfFounding}
-use Rattle.atl_sql.specs.Causes.{Gives, IsTold}
+use Rattle.atl_sql.specs.Causes.{Gives, IsFaultOfError}
 use Rattle.atl_sql.specs.Errors.{is_memory}
 use Rattle.atl_store.specs.Faults.{create_fault}
 use Rattle.atl_store.specs.declared.fault.CreateFault.{CreateFault}
@@ -102,7 +102,7 @@ module _ {S : Type 0} (g : Ghosts S) (text : List ℕ) (c : CampaignValue) (old 
   refused_with e (Err f) told gave = refused_as f (λ none. tells_more e (sym told ∙ none)) (record { ready = ready; told = λ clean. (e, told, gave clean) })
 
 -- the fault of a write is that of the error with which the database ended the write
-pub told_by : {S F A : Type 0} (g : Ghosts S) (own : Statements) (fault_of : Error → F) (old new : Held S) (e : Error) (r : Result A F) → IsErrAnd r (λ f. f ≡ fault_of e) → Gives g own e old new → IfErr r (IsTold g own fault_of old new)
+pub told_by : {S F A : Type 0} (g : Ghosts S) (own : Statements) (fault_of : Error → F) (old new : Held S) (e : Error) (r : Result A F) → IsErrAnd r (λ f. f ≡ fault_of e) → Gives g own e old new → IfErr r (IsFaultOfError g own fault_of old new)
 told_by g own fault_of old new e (Ok a) told gave = tt
 told_by g own fault_of old new e (Err f) told gave = (e, told, gave)
 

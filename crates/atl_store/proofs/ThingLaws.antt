@@ -81,8 +81,8 @@ module _ (unit : ℕ) (sort : ThingKind) (thing : ℕ) where
     wanted_here r here of =
         let had = had_of c.units r of in
         let keys = three_same had.0 (sort_number had.1) had.2 unit (sort_number sort) thing (ap (take 3) (sym had.4) ∙ key_of r here) in
-        let Tells : ℕ → ThingKind → ℕ → Type 0 = λ n s t. (amount_under c.units n s t ≢ 0) × (r ≡ has_row n (sort_number s) t (amount_under c.units n s t)) in
-        let told : Tells unit sort thing = subst (λ n. Tells n sort thing) keys.0 (subst (λ s. Tells had.0 s thing) (same_sort had.1 sort keys.1) (subst (Tells had.0 had.1) keys.2 (had.3, had.4))) in
+        let Determines : ℕ → ThingKind → ℕ → Type 0 = λ n s t. (amount_under c.units n s t ≢ 0) × (r ≡ has_row n (sort_number s) t (amount_under c.units n s t)) in
+        let told : Determines unit sort thing = subst (λ n. Determines n sort thing) keys.0 (subst (λ s. Determines had.0 s thing) (same_sort had.1 sort keys.1) (subst (Determines had.0 had.1) keys.2 (had.3, had.4))) in
         (λ none. told.0 (sym is ∙ none), told.1 ∙ ap (has_row unit (sort_number sort) thing) (sym is))
 
     -- if the unit's amount of the thing is 0, no row of the campaign has the key of unit, kind and thing

@@ -43,8 +43,8 @@ abbrev pub settled : CampaignValue → Entry → Thing → Set → Set
 settled c entry thing S r = Has (amount_lines c entry thing) r ⊎ (S r × (take 2 r ≢ books_key (entry_index entry + 1) (thing_index thing)))
 
 -- the amount of a thing under an entry has its row, or none if it is 0; all other rows and tables are as they were
-abbrev pub Settles : CampaignValue → Entry → Thing → Database → Database → Type 0
-Settles c entry thing old new = Alters books_table (settled c entry thing (Has (rows_in books_table old.trees))) old new
+abbrev pub WritesAmount : CampaignValue → Entry → Thing → Database → Database → Type 0
+WritesAmount c entry thing old new = Alters books_table (settled c entry thing (Has (rows_in books_table old.trees))) old new
 
 -- the row replaces the one with its number, or is added, and every other row of the table is as it was
 abbrev pub HasPut : Table → Row → Database → Database → Type 0

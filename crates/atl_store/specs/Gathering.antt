@@ -24,7 +24,7 @@ use Rattle.atl_state.specs.declared.checking.Rule.TheVariants.{OneRow}
 use Rattle.atl_state.specs.declared.parts.Parts.{Parts}
 use Rattle.atl_state.specs.declared.parts.StoredCampaignRow.{StoredCampaignRow}
 use Rattle.atl_sql.specs.Errors.{is_memory}
-use Rattle.atl_store.specs.Loading.{HaveRows, AreOwnRow, IsOther, HasOtherType, KeepsOneRow, other_parts, other_selects, shows_rowids, tables_with_rowids, rows_read, AfterReads, AreToldTyped, RefusesOne}
+use Rattle.atl_store.specs.Loading.{HaveRows, AreOwnRow, IsOther, HasOtherType, KeepsOneRow, other_parts, other_selects, shows_rowids, tables_with_rowids, rows_read, AfterReads, AllSelectsShowTyped, RefusesOne}
 use Rattle.atl_sql.specs.Reading.{Selects, listing_of}
 use Rattle.atl_sql.specs.Statements.{selection}
 use Rattle.atl_sql.specs.Sets.{IsKeyed, rows_in}
@@ -54,20 +54,20 @@ own_fault read.Memory = Memory
 own_fault read.OtherType = Damaged OneRow
 
 -- what reading another table gives: its rows, None if a value is of another type, or the fault that ends the loading
-abbrev pub kept_of : {A Z : Type 0} → Result (Vec A Z) ReadFault → Result (Option (Vec A Z)) LoadFault
-kept_of (Ok rows) = Ok (Some rows)
-kept_of (Err read.Store) = Err Store
-kept_of (Err read.Refused) = Err Store
-kept_of (Err read.Memory) = Err Memory
-kept_of (Err read.OtherType) = Ok None
+abbrev pub rows_or_none : {A Z : Type 0} → Result (Vec A Z) ReadFault → Result (Option (Vec A Z)) LoadFault
+rows_or_none (Ok rows) = Ok (Some rows)
+rows_or_none (Err read.Store) = Err Store
+rows_or_none (Err read.Refused) = Err Store
+rows_or_none (Err read.Memory) = Err Memory
+rows_or_none (Err read.OtherType) = Ok None
 
 -- when a step that needs `P` may return each fault: Store if `P` doesn't hold, and Memory at any time
-abbrev pub Lacks : Type 0 → LoadFault → Type 0
-Lacks P Store = ¬ P
-Lacks P (Damaged rule) = ⊥
-Lacks P NotACampaign = ⊥
-Lacks P OtherFormat = ⊥
-Lacks P Memory = ⊤
+abbrev pub FailsWithout : Type 0 → LoadFault → Type 0
+FailsWithout P Store = ¬ P
+FailsWithout P (Damaged rule) = ⊥
+FailsWithout P NotACampaign = ⊥
+FailsWithout P OtherFormat = ⊥
+FailsWithout P Memory = ⊤
 
 -- ---- the campaign row
 
@@ -130,8 +130,8 @@ abbrev pub AreNone : ReadRows → Type 0
 AreNone reads = (read : Part × List Row) → Has reads read → read.1 ≡ []
 
 -- the parts that the first format doesn't have
-abbrev pub late_parts : List Part
-late_parts = drop (length (parts_in First)) all_parts
+abbrev pub second_format_parts : List Part
+second_format_parts = drop (length (parts_in First)) all_parts
 
 -- the SELECTs of a format: `some`, and in the second format `others` too
 abbrev pub selects_by : Format → List (List ℕ × List Form) → List (List ℕ × List Form) → List (List ℕ × List Form)
@@ -153,7 +153,7 @@ module _ {S : Type 0} (g : Ghosts S) (old : Held S) where
   -- None: a value in the rows of one of them is of another form than its column.
   abbrev pub Found : {A : Type 0} → List (List ℕ × List Form) → (A → Type 0) → Option A → Type 0
   Found selects P None = HasOtherType g old selects
-  Found selects P (Some a) = AreToldTyped g old selects × P a
+  Found selects P (Some a) = AllSelectsShowTyped g old selects × P a
 
   -- one of these SELECTs, asked after other reads, shows some rows
   pub record AnswersOne (selects : List (List ℕ × List Form)) : Type 0 where
@@ -236,7 +236,7 @@ pub record Gathered (f : Format) {S : Type 0} (g : Ghosts S) (old : Held S) (w :
   pub first : KeepsRule f w p OneRow
   pub text : List ℕ
   pub world : world_by f text ≡ Ok w
-  pub typed : AreToldTyped g old (other_selects f)
+  pub typed : AllSelectsShowTyped g old (other_selects f)
   pub rows : HasTablesOf f old.schema → HaveRows f (state g old).now.trees text p
   pub keyed : HasTablesOf f old.schema → (table : Table) → Has (tables_with_rowids f) table → IsKeyed ((state g old).now.trees table.tree)
 

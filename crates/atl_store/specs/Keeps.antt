@@ -15,7 +15,7 @@ use Rattle.atl_sql.specs.Inside.{HasTables, Carries, IsBlank}
 use Rattle.atl_sql.specs.Making.{has_campaign}
 use Rattle.atl_sql.specs.Rows.{Holds}
 use Rattle.atl_store.specs.Faults.{create_fault}
-use Rattle.atl_sql.specs.Causes.{IsTold}
+use Rattle.atl_sql.specs.Causes.{IsFaultOfError}
 use Rattle.atl_store.specs.OwnStatements.{OfFounding}
 use Rattle.atl_store.specs.declared.fault.CreateFault.{CreateFault}
 use Rattle.atl_store.specs.declared.fault.CreateFault.TheVariants.{NotEmpty, Store, Memory}
@@ -96,7 +96,7 @@ IsReadyToCreate s = IsBlank s.now × (s.in_transaction ≡ false)
 -- The fault is that of the error, if the disk is clean.
 pub record BreaksOffCreation {S : Type 0} (g : Ghosts S) (text : List ℕ) (c : CampaignValue) (old new : Held S) (fault : CreateFault) : Type 0 where
   pub ready : IsReadyToCreate (state g old)
-  pub told : HasCleanDisk (state g new) → IsTold g (OfFounding text c) create_fault old new fault
+  pub told : HasCleanDisk (state g new) → IsFaultOfError g (OfFounding text c) create_fault old new fault
 
 -- When `create` may return each fault.
 -- If there is a table `campaign` (NotEmpty), or the database isn't ready (Store), nothing at all is changed.

@@ -145,7 +145,7 @@ pub record AfterReads {S : Type 0} (g : Ghosts S) (old new : Held S) : Type 0 wh
 
 module _ {S : Type 0} (g : Ghosts S) (old : Held S) where
   -- the SELECT, asked of the tables of `old`, shows these rows
-  pub record Tells (sql : List ℕ) (rows : List Row) : Type 0 where
+  pub record SelectShows (sql : List ℕ) (rows : List Row) : Type 0 where
     pub before : Held S
     pub during : Held S
     pub same : (state g before).now ≡ (state g old).now
@@ -153,20 +153,20 @@ module _ {S : Type 0} (g : Ghosts S) (old : Held S) where
 
   module _ (selects : List (List ℕ × List Form)) where
     -- each of these SELECTs shows some rows
-    abbrev pub AreTold : Type 0
-    AreTold = (select : List ℕ × List Form) → Has selects select → (rows : List Row) × Tells select.0 rows
+    abbrev pub AllSelectsShow : Type 0
+    AllSelectsShow = (select : List ℕ × List Form) → Has selects select → (rows : List Row) × SelectShows select.0 rows
 
     -- each of these SELECTs shows some rows, in which each value is of its column's form
-    abbrev pub AreToldTyped : Type 0
-    AreToldTyped = (select : List ℕ × List Form) → Has selects select → (rows : List Row) × Tells select.0 rows × AreTyped select.1 rows
+    abbrev pub AllSelectsShowTyped : Type 0
+    AllSelectsShowTyped = (select : List ℕ × List Form) → Has selects select → (rows : List Row) × SelectShows select.0 rows × AreTyped select.1 rows
 
     -- each of these SELECTs shows some rows, and in those of one of them a value is of another form than its column
     pub record HasOtherType : Type 0 where
-      pub all : AreTold
+      pub all : AllSelectsShow
       pub select : List ℕ × List Form
       pub one : Has selects select
       pub rows : List Row
-      pub told : Tells select.0 rows
+      pub told : SelectShows select.0 rows
       pub other : ¬ AreTyped select.1 rows
 
     -- one of these SELECTs, asked after other reads, is refused, and this is the fault of its error
@@ -261,7 +261,7 @@ module _ (f : Format) {S : Type 0} (g : Ghosts S) (old : Held S) where
   -- They aren't made as the format has them (`AreMade`), or the disk failed meanwhile.
   -- Or the SELECT of the campaign row, asked again, is refused for another cause than memory.
   abbrev pub CannotConfirm : Type 0
-  CannotConfirm = AreToldTyped g old (other_selects f) × ((¬ AreMade) ⊎ (FailedMeanwhile g old ⊎ RefusesAgain g old false))
+  CannotConfirm = AllSelectsShowTyped g old (other_selects f) × ((¬ AreMade) ⊎ (FailedMeanwhile g old ⊎ RefusesAgain g old false))
 
   -- When Store may be returned: in a transaction, or if the SELECT of the campaign row could not go on (`is_failure`).
   -- Also, if that row keeps the first rule, if another table can't be read or the tables can't be confirmed.

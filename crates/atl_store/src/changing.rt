@@ -6,7 +6,7 @@ ghost use Rattle.atl_state.specs.Covers.{Covers};
 ghost use Rattle.atl_records.specs.Limits.{most_things};
 ghost use Rattle.atl_state.specs.Marks.{no_marks};
 ghost use Rattle.atl_state.specs.Campaign.{CampaignValue};
-ghost use Rattle.atl_sql.specs.Causes.{IsTold};
+ghost use Rattle.atl_sql.specs.Causes.{IsFaultOfError};
 ghost use Rattle.atl_store.specs.Changing.{WritesChanges, HoldsUnmarked};
 ghost use Rattle.atl_store.specs.Faults.{write_fault};
 ghost use Rattle.atl_store.specs.OwnStatements.{OfChange};
@@ -79,7 +79,7 @@ pub fn write_changes<S: Alter>(
     ensures left { HasCleanDisk (state S.Store conn.new)
         → OnErr result (LeavesOff (state S.Store conn.old) (state S.Store conn.new)) }
     ensures told { HasCleanDisk (state S.Store conn.new)
-        → IfErr result (IsTold S.Store (OfChange campaign.old.value) write_fault conn.old
+        → IfErr result (IsFaultOfError S.Store (OfChange campaign.old.value) write_fault conn.old
         conn.new) }
     ensures done { OnOk result (campaign.new ≡ record campaign.old { marks = no_marks }) }
     ensures undone { OnErr result (campaign.new ≡ campaign.old) }

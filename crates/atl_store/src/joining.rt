@@ -9,12 +9,12 @@ ghost use Rattle.atl_sql.specs.Tables.{faction_table, unit_table, report_table};
 ghost use Rattle.atl_sql.specs.Shown.{report_row};
 ghost use Rattle.atl_sql.specs.Rows.{campaign_row_of, faction_line, unit_line};
 ghost use Rattle.atl_sql.specs.PutsCampaignRow.{PutsCampaignRow};
-ghost use Rattle.atl_sql.specs.Causes.{IsTold};
+ghost use Rattle.atl_sql.specs.Causes.{IsFaultOfError};
 ghost use Rattle.atl_store.specs.Faults.{write_fault};
 ghost use Rattle.atl_store.specs.OwnStatements.{OfJoining};
 ghost use Rattle.atl_sql.specs.Writes.{Writes, Transacts};
 ghost use Rattle.atl_sql.specs.Inside.{Inside, HasTables, Both, Puts, LeavesOff};
-ghost use Rattle.atl_store.specs.Arriving.{HasArrival, IsFound, Settles, WritesJoin};
+ghost use Rattle.atl_store.specs.Arriving.{HasArrival, IsFound, WritesAmount, WritesJoin};
 ghost use Rattle.atl_store.specs.Keeps.{Keeps, LeavesAfterFault, IsLater, LeavesOthersAlone, IsJoining};
 
 use crate::campaign_row::put_campaign_row;
@@ -82,8 +82,8 @@ fn put_welcome<S: Alter>(
     ensures { Writes S.Store (OfJoining arrival.now.number campaign.now.value)
         (Inside HasTables (Both
         (Puts report_table 1 (report_row arrival.now.number arrival.now.report.now))
-        (Both (Settles campaign.now.value Joining Money)
-        (Settles campaign.now.value Joining People)))) result tx.old.conn tx.new.conn }
+        (Both (WritesAmount campaign.now.value Joining Money)
+        (WritesAmount campaign.now.value Joining People)))) result tx.old.conn tx.new.conn }
 {
     arrival.report.put(tx, arrival.number)?;
     settle_amount(tx, campaign, Entry::Joining, Thing::Money)?;
@@ -152,7 +152,7 @@ pub fn write_join<S: Alter>(
     ensures left { HasCleanDisk (state S.Store conn.new)
         → OnErr result (LeavesOff (state S.Store conn.old) (state S.Store conn.new)) }
     ensures told { HasCleanDisk (state S.Store conn.new)
-        → IfErr result (IsTold S.Store (OfJoining faction campaign.now.value) write_fault conn.old
+        → IfErr result (IsFaultOfError S.Store (OfJoining faction campaign.now.value) write_fault conn.old
         conn.new) }
     ensures later { IsLater (state S.Store conn.old) (state S.Store conn.new) }
     ensures others { HasCleanDisk (state S.Store conn.new)

@@ -8,7 +8,7 @@ ghost use Rattle.atl_store.specs.Lines.{amount_lines, entries_lines, things_line
 ghost use Rattle.atl_store.specs.OwnStatements.{OfAmount, OfChange};
 ghost use Rattle.atl_sql.specs.Writes.{Writes, WritesRows};
 ghost use Rattle.atl_sql.specs.Inside.{Inside, HasTables};
-ghost use Rattle.atl_store.specs.Arriving.{Settles};
+ghost use Rattle.atl_store.specs.Arriving.{WritesAmount};
 ghost use Rattle.atl_store.specs.Rewriting.{RewritesAmounts, RewritesBooks, is_number, is_among};
 
 use atl_sql::rows::books::{BooksRow, drop_books, put_books};
@@ -47,7 +47,7 @@ pub(crate) fn settle_amount<S: Alter>(
 ) -> Result<(), Error>
     requires { thing_index thing < campaign.now.value.books.things }
     ensures { Writes S.Store (OfAmount campaign.now.value entry thing)
-        (Inside HasTables (Settles campaign.now.value entry thing)) result tx.old.conn tx.new.conn }
+        (Inside HasTables (WritesAmount campaign.now.value entry thing)) result tx.old.conn tx.new.conn }
 {
     let amount = campaign.booked(entry, thing);
     if amount == 0 {

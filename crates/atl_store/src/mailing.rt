@@ -3,7 +3,7 @@ ghost use Rattle.std.specs.Prelude.{◌≡◌, false, List, ℕ, IfErr, OnOk, On
 ghost use Rattle.sqlite.specs.Held.{state};
 ghost use Rattle.sqlite.specs.State.{HasCleanDisk};
 ghost use Rattle.atl_state.specs.Campaign.{CampaignValue, with_mail};
-ghost use Rattle.atl_sql.specs.Causes.{IsTold};
+ghost use Rattle.atl_sql.specs.Causes.{IsFaultOfError};
 ghost use Rattle.atl_store.specs.Faults.{write_fault};
 ghost use Rattle.atl_store.specs.OwnStatements.{OfMail};
 ghost use Rattle.atl_sql.specs.Writes.{Transacts};
@@ -52,7 +52,7 @@ pub fn write_mail<S: Alter>(
     ensures left { HasCleanDisk (state S.Store conn.new)
         → OnErr result (LeavesOff (state S.Store conn.old) (state S.Store conn.new)) }
     ensures told { HasCleanDisk (state S.Store conn.new)
-        → IfErr result (IsTold S.Store (OfMail faction text.now) write_fault conn.old conn.new) }
+        → IfErr result (IsFaultOfError S.Store (OfMail faction text.now) write_fault conn.old conn.new) }
     ensures later { IsLater (state S.Store conn.old) (state S.Store conn.new) }
     ensures others { HasCleanDisk (state S.Store conn.new)
         → LeavesOthersAlone (state S.Store conn.old) (state S.Store conn.new) }

@@ -8,10 +8,10 @@ use Rattle.atl_tables.specs.Each.{each}
 use Rattle.atl_tables.specs.Faults.{Conditions, first_fault}
 use Rattle.atl_tables.specs.Keys.{path, element_path}
 use Rattle.atl_tables.specs.Names.{same_name, NamesDiffer}
-use Rattle.atl_tables.specs.Drafts.{HaveNames}
-use Rattle.atl_tables.specs.RegionTable.{market_twins}
+use Rattle.atl_tables.specs.Drafts.{ThingNamesDiffer}
+use Rattle.atl_tables.specs.RegionTable.{duplicate_market_items}
 use Rattle.atl_tables.specs.Regions.{duplicate_numbers}
-use Rattle.atl_tables.specs.TerrainTable.{terrain_twins}
+use Rattle.atl_tables.specs.TerrainTable.{duplicate_output_keys}
 use Rattle.atl_tables.specs.Titles.{no_twin_before, no_twins}
 use Rattle.atl_tables.specs.World.{titles_differ, names_differ}
 use Rattle.atl_tables.specs.declared.fault.WorldFault.{WorldFault}
@@ -84,7 +84,7 @@ names_kept f n m h [] = refl
 names_kept f n m h (x ∷ xs) = rw (h x, names_kept f n m h xs) refl
 
 -- the names of terrains, items, skills and kinds differ, if the conditions on duplicates hold
-titles_have_names : (all : WorldDraft) → first_fault (titles_differ all) ≡ None → HaveNames all
+titles_have_names : (all : WorldDraft) → first_fault (titles_differ all) ≡ None → ThingNamesDiffer all
 unfolding titles_differ
 titles_have_names all h =
     let terrains = no_twins (λ d. d.name) (codes "terrain") (codes "name") all.terrains in
@@ -101,6 +101,6 @@ titles_have_names all h =
     }
 
 -- the names of terrains, items, skills and kinds differ, if all conditions on duplicates hold
-pub have_names : (all : WorldDraft) → first_fault (names_differ all) ≡ None → HaveNames all
+pub thing_names_differ : (all : WorldDraft) → first_fault (names_differ all) ≡ None → ThingNamesDiffer all
 unfolding names_differ
-have_names all h = titles_have_names all (front_none (titles_differ all) (duplicate_numbers all.regions ++ (each terrain_twins 0 all.terrains ++ each market_twins 0 all.regions)) h)
+thing_names_differ all h = titles_have_names all (front_none (titles_differ all) (duplicate_numbers all.regions ++ (each duplicate_output_keys 0 all.terrains ++ each duplicate_market_items 0 all.regions)) h)

@@ -9,7 +9,7 @@ use Rattle.atl_tables.specs.declared.region_table.RegionDraft.{RegionDraft}
 use Rattle.atl_tables.specs.declared.fault.WorldFault.TheVariants.{TwoNames}
 use Rattle.atl_tables.specs.Faults.{first_fault}
 use Rattle.atl_tables.specs.Keys.{path, element_path}
-use Rattle.atl_tables.specs.Regions.{has_number, twin_number_at}
+use Rattle.atl_tables.specs.Regions.{has_number, duplicate_number_at}
 
 -- an option that is Some v if b is true, else o, has a value exactly if o has one or b is true
 is_some-put : {V : Type 0} (v : V) (b : Bool) (o : Option V) → is_some (cond b (Some v) o) ≡ (is_some o || b)
@@ -29,7 +29,7 @@ seen_more m v ds i d below here seen n =
     ∙ sym (list_any_more (λ e. n == e.place.number) ds i d below)
 
 -- the fault of a region's number: TwoNames if a region before it has the number, else none
-pub by_map : (all : List RegionDraft) (i : ℕ) (d : RegionDraft) (b : Bool) → has_number d.place.number (take i all) ≡ b → first_fault (twin_number_at all i d) ≡ cond b (Some (TwoNames (path (element_path (codes "region") i) (codes "number")))) None
-unfolding twin_number_at
+pub by_map : (all : List RegionDraft) (i : ℕ) (d : RegionDraft) (b : Bool) → has_number d.place.number (take i all) ≡ b → first_fault (duplicate_number_at all i d) ≡ cond b (Some (TwoNames (path (element_path (codes "region") i) (codes "number")))) None
+unfolding duplicate_number_at
 by_map all i d true h = rw h
 by_map all i d false h = rw h

@@ -4,7 +4,7 @@ use Rattle.std.specs.List.{All, slice_get}
 use Rattle.std.proofs.lemmas.List.{length-map}
 use Rattle.std.proofs.lemmas.Option.{get_or_from_slice_get, slice_get_within}
 use Rattle.std.proofs.lemmas.List.Elements.{All-get_or, All-head, All-tail}
-use Rattle.atl_tables.specs.Drafts.{HaveNames, IsWorldDraft}
+use Rattle.atl_tables.specs.Drafts.{ThingNamesDiffer, IsWorldDraft}
 use Rattle.atl_tables.specs.EachIndex.{EachIndex}
 use Rattle.atl_tables.specs.ItemTable.{item_of}
 use Rattle.atl_tables.specs.Names.{NamesDiffer}
@@ -30,7 +30,7 @@ mapped_indices P Q f then (x ∷ xs) all zero y h = let same : f x ≡ y = cc in
 mapped_indices P Q f then (x ∷ xs) all (suc i) y h = mapped_indices P Q f then xs (All-tail P x xs all) i y h
 
 -- the world of tables in bounds is a world, if names differ, neighbours are mutual, and there is land
-pub is_world : (all : WorldDraft) → IsWorldDraft all → AreWorldPartsOf all (world_parts_of all) → HaveNames all → All (λ d. HasNeighbours (regions_of all) d.place.number d.sides.north d.sides.south d.sides.east d.sides.west) all.regions → 0 < length (land_of (world_of_tables all)) → IsWorld (world_of_tables all)
+pub is_world : (all : WorldDraft) → IsWorldDraft all → AreWorldPartsOf all (world_parts_of all) → ThingNamesDiffer all → All (λ d. HasNeighbours (regions_of all) d.place.number d.sides.north d.sides.south d.sides.east d.sides.west) all.regions → 0 < length (land_of (world_of_tables all)) → IsWorld (world_of_tables all)
 unfolding world_of_tables regions_of region_of terrain_of item_of kind_of
 is_world all tables parts names back land =
     let regions = regions_of all in

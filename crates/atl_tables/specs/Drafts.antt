@@ -151,7 +151,7 @@ pub record IsWorldDraft (t : WorldDraft) : Type 0 where
   pub few_regions : length t.regions ≤ most_regions
 
 -- no two terrains, no two items, no two skills and no two kinds have the same name, ignoring ASCII case
-pub record HaveNames (t : WorldDraft) : Type 0 where
+pub record ThingNamesDiffer (t : WorldDraft) : Type 0 where
   pub terrains : NamesDiffer (map (λ (d : TerrainDraft). d.name) t.terrains)
   pub items : NamesDiffer (map (λ (d : ItemDraft). d.name) t.items)
   pub skills : NamesDiffer (map (λ (s : Skill). s.name) t.skills)

@@ -57,8 +57,8 @@ output_at = λ at t. record {
 }
 
 -- the condition that no key before the i-th is equal to the i-th, ignoring ASCII case; else TwoNames
-unfoldable pub twin_key_at : List ℕ → List Output → ℕ → Output → Conditions
-twin_key_at at all i o = (if list_any (λ p. same_name p.item o.item) (take i all) then Some (TwoNames (path at o.item)) else None) ∷ []
+unfoldable pub duplicate_key_at : List ℕ → List Output → ℕ → Output → Conditions
+duplicate_key_at at all i o = (if list_any (λ p. same_name p.item o.item) (take i all) then Some (TwoNames (path at o.item)) else None) ∷ []
 
 -- the condition that a key names an item; else UnknownName
 unfoldable pub known_key_at : WorldDraft → List ℕ → ℕ → Output → Conditions

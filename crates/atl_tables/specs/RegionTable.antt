@@ -102,8 +102,8 @@ unfoldable pub region_from : List ℕ → Members → RegionDraft
 region_from at t = record { place = basics_from at t; sides = sides_from at t; markets = markets_from at t }
 
 -- the conditions that no two markets of the i-th region are of the same item
-unfoldable pub market_twins : ℕ → RegionDraft → Conditions
-market_twins i d = duplicate_items (element_path (codes "region") i) d.markets
+unfoldable pub duplicate_market_items : ℕ → RegionDraft → Conditions
+duplicate_market_items i d = duplicate_items (element_path (codes "region") i) d.markets
 
 -- the conditions on the names in the i-th region: `terrain` names a terrain, and each market's `item` an item
 unfoldable pub region_known : WorldDraft → ℕ → RegionDraft → Conditions

@@ -12,9 +12,9 @@ abbrev pub has_number : ℕ → List RegionDraft → Bool
 has_number n ds = list_any (λ d. n == d.place.number) ds
 
 -- the condition that no region before the i-th has the number of the i-th; else TwoNames
-unfoldable pub twin_number_at : List RegionDraft → ℕ → RegionDraft → Conditions
-twin_number_at all i d = (if has_number d.place.number (take i all) then Some (TwoNames (path (element_path (codes "region") i) (codes "number"))) else None) ∷ []
+unfoldable pub duplicate_number_at : List RegionDraft → ℕ → RegionDraft → Conditions
+duplicate_number_at all i d = (if has_number d.place.number (take i all) then Some (TwoNames (path (element_path (codes "region") i) (codes "number"))) else None) ∷ []
 
 -- the conditions that no two regions of the file have the same number
 abbrev pub duplicate_numbers : List RegionDraft → Conditions
-duplicate_numbers all = each (twin_number_at all) 0 all
+duplicate_numbers all = each (duplicate_number_at all) 0 all

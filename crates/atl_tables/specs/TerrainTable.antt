@@ -7,7 +7,7 @@ use Rattle.atl_tables.specs.Faults.{Conditions}
 use Rattle.atl_tables.specs.KeyByKey.{Table, conditions_of, value_of, ◌>>=◌, says, part, number_key, name_key, flag_key}
 use Rattle.atl_tables.specs.Keys.{element_path}
 use Rattle.atl_tables.specs.Limits.{most_amount, most_price}
-use Rattle.atl_tables.specs.OutputTable.{output_path, output_at, twin_key_at, known_key_at, amount_of}
+use Rattle.atl_tables.specs.OutputTable.{output_path, output_at, duplicate_key_at, known_key_at, amount_of}
 use Rattle.atl_tables.specs.declared.world_draft.WorldDraft.{WorldDraft}
 use Rattle.atl_tables.specs.declared.terrain_table.Economy.{Economy}
 use Rattle.atl_tables.specs.declared.terrain_table.TerrainDraft.{TerrainDraft}
@@ -40,8 +40,8 @@ abbrev pub terrain_from : List ℕ → Members → TerrainDraft
 terrain_from = value_of terrain_at
 
 -- the conditions that no two keys of the i-th terrain's output are equal, ignoring ASCII case
-unfoldable pub terrain_twins : ℕ → TerrainDraft → Conditions
-terrain_twins i d = each (twin_key_at (output_path (element_path (codes "terrain") i)) d.output) 0 d.output
+unfoldable pub duplicate_output_keys : ℕ → TerrainDraft → Conditions
+duplicate_output_keys i d = each (duplicate_key_at (output_path (element_path (codes "terrain") i)) d.output) 0 d.output
 
 -- the conditions that each key of the i-th terrain's output names an item
 unfoldable pub terrain_known : WorldDraft → ℕ → TerrainDraft → Conditions

@@ -14,12 +14,12 @@ use Rattle.atl_tables.specs.KindTable.{kind_keys, kind_from, kind_known, kind_of
 use Rattle.atl_tables.specs.Limits.{most_terrains, most_items, most_skills, most_kinds, most_regions}
 use Rattle.atl_tables.specs.Neighbours.{neighbours_at}
 use Rattle.atl_tables.specs.Worlds.{WorldValue, land_of}
-use Rattle.atl_tables.specs.RegionTable.{old_region_keys, old_region_from, as_draft, region_keys, region_from, market_twins, region_known, region_of}
+use Rattle.atl_tables.specs.RegionTable.{old_region_keys, old_region_from, as_draft, region_keys, region_from, duplicate_market_items, region_known, region_of}
 use Rattle.atl_tables.specs.Regions.{duplicate_numbers}
 use Rattle.atl_tables.specs.RulesTable.{rules_conditions, rules_in, rules_known, rules_of}
 use Rattle.atl_tables.specs.SkillTable.{skill_keys, skill_from}
 use Rattle.atl_tables.specs.Sums.{by_number}
-use Rattle.atl_tables.specs.TerrainTable.{terrain_keys, terrain_from, terrain_twins, terrain_known, terrain_of}
+use Rattle.atl_tables.specs.TerrainTable.{terrain_keys, terrain_from, duplicate_output_keys, terrain_known, terrain_of}
 use Rattle.atl_tables.specs.Titles.{no_twins}
 use Rattle.atl_tables.specs.declared.fault.WorldFault.{WorldFault}
 use Rattle.atl_tables.specs.declared.fault.WorldFault.TheVariants.{NotToml, NoLand}
@@ -103,8 +103,8 @@ unfoldable pub names_differ : WorldDraft → Conditions
 names_differ all =
     titles_differ all
     ++ (duplicate_numbers all.regions
-    ++ (each terrain_twins 0 all.terrains
-    ++ each market_twins 0 all.regions))
+    ++ (each duplicate_output_keys 0 all.terrains
+    ++ each duplicate_market_items 0 all.regions))
 
 -- the conditions that each name that refers to a thing is the name of one
 unfoldable pub names_are_known : WorldDraft → Conditions

@@ -89,7 +89,7 @@ impl Marks {
         if self.contains(number) {
             return;
         }
-        if merges_recent(&self.recent) {
+        if has_recent_room(&self.recent) {
             self.recent.add(number);
         } else {
             self.numbers.merge_from(&mut self.recent);
@@ -164,7 +164,7 @@ impl Marks {
 
 /// Whether one more number can be added to the recent ones without merging them first: they are
 /// fewer than their room and `RECENT_LIMIT`.
-fn merges_recent(recent: &SortedNumbers) -> bool
+fn has_recent_room(recent: &SortedNumbers) -> bool
     ensures { result ≡ true → set.len recent.now.numbers < recent.now.room }
 {
     recent.len() < recent.room().min(RECENT_LIMIT)

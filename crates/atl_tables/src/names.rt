@@ -1,7 +1,7 @@
 //! The rules for names and pass texts. See docs/RULES.md, "Names and pass texts".
 ghost use Rattle.std.specs.Prelude.{◌≡◌};
 ghost use Rattle.std.specs.List.{list_all};
-ghost use Rattle.atl_tables.specs.Names.{name_ok, pass_ok, is_short, is_name_byte, is_pass_byte, has_open_ends};
+ghost use Rattle.atl_tables.specs.Names.{name_ok, pass_ok, is_short, is_name_byte, is_pass_byte, has_no_edge_space};
 ghost use Rattle.atl_tables.specs.Lookup.{name_of};
 
 use crate::letters::{QUOTE, SPACE, TILDE};
@@ -30,8 +30,8 @@ fn is_pass_byte(byte: u8) -> bool
 }
 
 /// Whether the name that a word means neither begins nor ends with a space.
-fn has_open_ends(word: &[u8], quoted: bool) -> bool
-    ensures { result ≡ has_open_ends (name_of word.now quoted) }
+fn has_no_edge_space(word: &[u8], quoted: bool) -> bool
+    ensures { result ≡ has_no_edge_space (name_of word.now quoted) }
 {
     if word.is_empty() {
         return true;
@@ -62,7 +62,7 @@ fn are_pass_bytes(text: &[u8]) -> bool
 pub fn word_ok(word: &[u8], quoted: bool) -> bool
     ensures { result ≡ name_ok (name_of word.now quoted) }
 {
-    is_short(word) && has_open_ends(word, quoted) && are_name_bytes(word, quoted)
+    is_short(word) && has_no_edge_space(word, quoted) && are_name_bytes(word, quoted)
 }
 
 /// Whether a text keeps the rule of names: 1 to 40 bytes from 32 to 126, no quotation mark, and no

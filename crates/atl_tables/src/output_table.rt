@@ -8,7 +8,7 @@ ghost use Rattle.atl_tables.specs.Faults.{first_fault};
 ghost use Rattle.atl_tables.specs.Results.{Gives};
 ghost use Rattle.atl_tables.specs.KeyByKey.{conditions_of, value_of};
 ghost use Rattle.atl_tables.specs.Limits.{most_amount};
-ghost use Rattle.atl_tables.specs.OutputTable.{in_byte_order, amounts_keys, amounts_from, output_at, twin_key_at, known_key_at, amount_of};
+ghost use Rattle.atl_tables.specs.OutputTable.{in_byte_order, amounts_keys, amounts_from, output_at, duplicate_key_at, known_key_at, amount_of};
 
 use crate::fault::WorldFault;
 use crate::item_table::ItemDraft;
@@ -82,7 +82,7 @@ pub(crate) fn no_duplicate_keys(
     outputs: &[Output],
 ) -> Result<(), WorldFault>
     ensures { Gives (λ u. u) result
-        (first_fault (each (twin_key_at at.now outputs.now) 0 outputs.now)) (tt {0}) }
+        (first_fault (each (duplicate_key_at at.now outputs.now) 0 outputs.now)) (tt {0}) }
 {
     let mut seen = BTreeSet::new(alloc);
     for output in outputs {

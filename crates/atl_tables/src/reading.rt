@@ -2,7 +2,7 @@
 ghost use Rattle.std.specs.Prelude.{◌≡◌, ◌≤◌, ◌<◌, ◌++◌, length, IfOk};
 ghost use Rattle.std.specs.List.{All};
 ghost use Rattle.toml.specs.View.{table_view};
-ghost use Rattle.atl_tables.specs.Drafts.{IsRegionDraft, AreThingDrafts, IsWorldDraft, HaveNames};
+ghost use Rattle.atl_tables.specs.Drafts.{IsRegionDraft, AreThingDrafts, IsWorldDraft, ThingNamesDiffer};
 ghost use Rattle.atl_tables.specs.Faults.{first_fault, Reads};
 ghost use Rattle.atl_tables.specs.Results.{Gives};
 ghost use Rattle.atl_tables.specs.Limits.{most_regions};
@@ -214,7 +214,7 @@ fn with_land(
 #[tactic(auto, unfolding(crate::specs::World::neighbours_are_mutual))]
 fn join(alloc: Global, all: WorldDraft, parts: WorldParts) -> Result<World, WorldFault>
     requires all { IsWorldDraft all }
-    requires names { HaveNames all }
+    requires names { ThingNamesDiffer all }
     requires parts { parts ≡ world_parts_of all }
     requires sound { AreWorldPartsOf all parts }
     ensures { Gives (λ w. w) result

@@ -4,7 +4,7 @@ ghost use Rattle.toml.specs.View.{table_view};
 ghost use Rattle.atl_tables.specs.Drafts.{AreRegionBasics, IsOldRegion, IsRegionDraft};
 ghost use Rattle.atl_tables.specs.Faults.{first_fault};
 ghost use Rattle.atl_tables.specs.Results.{Gives};
-ghost use Rattle.atl_tables.specs.RegionTable.{basics_keys, basics_from, side_keys, sides_from, old_region_keys, old_region_from, as_draft, region_keys, region_from, market_twins, region_known, region_of};
+ghost use Rattle.atl_tables.specs.RegionTable.{basics_keys, basics_from, side_keys, sides_from, old_region_keys, old_region_from, as_draft, region_keys, region_from, duplicate_market_items, region_known, region_of};
 ghost use Rattle.atl_tables.specs.Worlds.{IsRegionPlan};
 
 use crate::elements::Element;
@@ -177,9 +177,9 @@ pub(crate) fn without_markets(
 
 /// Checks that no two markets of a region are of the same item.
 impl HasUniqueNames for RegionDraft {
-    ghost no_twins = { market_twins };
+    ghost no_twins = { duplicate_market_items };
 
-    #[tactic(auto, unfolding(crate::specs::RegionTable::market_twins))]
+    #[tactic(auto, unfolding(crate::specs::RegionTable::duplicate_market_items))]
     fn no_duplicates_inside(&self, alloc: Global, i: usize) -> Result<(), WorldFault> {
         let place = element_path(alloc, "region", i)?;
         let place = path(alloc, place.as_str(), "market")?;

@@ -124,7 +124,7 @@ impl SortedNumbers {
         ensures low { (n : ℕ) → set.contains self.now.numbers n ≡ true → n < number_count }
     {
         match self.numbers.last() {
-            Some(last) => count_up_to(&self.numbers, *last),
+            Some(last) => length_of_bounded(&self.numbers, *last),
             None => 0,
         }
     }
@@ -165,7 +165,7 @@ fn put_at(numbers: &mut Vec<u32>, place: usize, number: u32)
 }
 
 /// The length of a list of numbers; the clause `small` adds that `last` is below 2^32.
-fn count_up_to(numbers: &[u32], last: u32) -> usize
+fn length_of_bounded(numbers: &[u32], last: u32) -> usize
     ensures value { result ≡ length numbers.now }
     ensures small { last < number_count }
 {

@@ -4,7 +4,7 @@ ghost use Rattle.std.specs.Prelude.{length};
 ghost use Rattle.atl_tables.specs.Drafts.{IsEconomy, IsTerrainDraft};
 ghost use Rattle.atl_tables.specs.KeyByKey.{conditions_of, value_of};
 ghost use Rattle.atl_tables.specs.Worlds.{IsTerrain};
-ghost use Rattle.atl_tables.specs.TerrainTable.{economy_at, terrain_keys, terrain_from, terrain_twins, terrain_known, terrain_of};
+ghost use Rattle.atl_tables.specs.TerrainTable.{economy_at, terrain_keys, terrain_from, duplicate_output_keys, terrain_known, terrain_of};
 
 use crate::elements::Element;
 use crate::fault::WorldFault;
@@ -140,9 +140,9 @@ impl Draft for TerrainDraft {
 
 /// Checks that no two keys of a terrain's output are equal.
 impl HasUniqueNames for TerrainDraft {
-    ghost no_twins = { terrain_twins };
+    ghost no_twins = { duplicate_output_keys };
 
-    #[tactic(auto, unfolding(crate::specs::TerrainTable::terrain_twins))]
+    #[tactic(auto, unfolding(crate::specs::TerrainTable::duplicate_output_keys))]
     fn no_duplicates_inside(&self, alloc: Global, i: usize) -> Result<(), WorldFault> {
         let place = element_path(alloc, "terrain", i)?;
         let place = path(alloc, place.as_str(), "output")?;

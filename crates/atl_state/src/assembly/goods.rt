@@ -2,7 +2,7 @@
 ghost use Rattle.std.specs.Prelude.{◌≡◌, OnOk, true};
 ghost use Rattle.std.specs.List.{list_all};
 ghost use Rattle.atl_tables.specs.Sums.{changed};
-ghost use Rattle.atl_state.specs.Assembling.{holding_more, stocking_more, give};
+ghost use Rattle.atl_state.specs.Assembling.{with_has_row, with_market_row, give};
 ghost use Rattle.atl_state.specs.FromRows.{as_u32};
 ghost use Rattle.atl_state.specs.RowRules.{has_in_range};
 
@@ -18,7 +18,7 @@ use std::alloc::AllocError;
 fn put_thing(units: &mut Arena<Unit>, row: &StoredHas) -> Result<(), AllocError>
     requires { has_in_range row.now ≡ true }
     ensures { OnOk result (units.new
-        ≡ changed (holding_more row.now) units.old (as_u32 row.now.unit)) }
+        ≡ changed (with_has_row row.now) units.old (as_u32 row.now.unit)) }
 {
     let Some(unit) = units.get_mut(as_u32(row.unit)) else {
         return Ok(());
@@ -34,7 +34,7 @@ fn put_thing(units: &mut Arena<Unit>, row: &StoredHas) -> Result<(), AllocError>
 /// Puts the amounts of rows of `has` into their units, row by row; the rows are in their ranges.
 pub(super) fn put_things(units: &mut Arena<Unit>, rows: &[StoredHas]) -> Result<(), AllocError>
     requires { list_all has_in_range rows.now ≡ true }
-    ensures { OnOk result (units.new ≡ give (λ r. as_u32 r.unit) holding_more rows.now units.old) }
+    ensures { OnOk result (units.new ≡ give (λ r. as_u32 r.unit) with_has_row rows.now units.old) }
 {
     for row in rows {
         put_thing(units, row)?;
@@ -45,7 +45,7 @@ pub(super) fn put_things(units: &mut Arena<Unit>, rows: &[StoredHas]) -> Result<
 /// Puts the stock of a row of `market` into its region, if there is such a region.
 fn put_stock(regions: &mut Numbered<Region>, row: &StoredMarket) -> Result<(), AllocError>
     ensures { OnOk result (regions.new
-        ≡ changed (stocking_more row.now) regions.old (as_u32 row.now.region)) }
+        ≡ changed (with_market_row row.now) regions.old (as_u32 row.now.region)) }
 {
     match regions.get_mut(as_u32(row.region)) {
         Some(region) => region.stocks.insert(as_u32(row.item), as_u32(row.stock)),
@@ -59,7 +59,7 @@ pub(super) fn put_stocks(
     rows: &[StoredMarket],
 ) -> Result<(), AllocError>
     ensures { OnOk result (regions.new
-        ≡ give (λ r. as_u32 r.region) stocking_more rows.now regions.old) }
+        ≡ give (λ r. as_u32 r.region) with_market_row rows.now regions.old) }
 {
     for row in rows {
         put_stock(regions, row)?;

@@ -64,7 +64,7 @@ fn joined_names(alloc: Global, rows: &[StoredFaction]) -> Result<Vec<&[u8]>, All
 }
 
 /// Whether no two factions joined under the same name.
-fn have_joined(alloc: Global, rows: &[StoredFaction]) -> Result<bool, AllocError>
+fn joined_names_differ(alloc: Global, rows: &[StoredFaction]) -> Result<bool, AllocError>
     ensures { IfOk result (λ yes. IsTrue yes ↔ (AreJoinedNamesDistinct rows.now)) }
 {
     let names = joined_names(alloc, rows)?;
@@ -76,6 +76,6 @@ pub(crate) fn rows_named(alloc: Global, parts: &Parts) -> Result<bool, AllocErro
     requires { length parts.now.campaign ≡ 1 }
     ensures { IfOk result (λ yes. IsTrue yes ↔ (AreRowsNamed parts.now)) }
 {
-    let joined = have_joined(alloc, parts.factions.as_slice())?;
+    let joined = joined_names_differ(alloc, parts.factions.as_slice())?;
     Ok(joined && are_named(parts))
 }

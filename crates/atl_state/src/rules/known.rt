@@ -150,7 +150,7 @@ fn is_somewhere(campaign: &Campaign, unit: &Unit) -> bool
 }
 
 /// Whether a unit's structure is 0 or one of its region, and its items and skills are the world's.
-fn is_at_home(world: &World, campaign: &Campaign, unit: &Unit) -> bool
+fn has_known_goods(world: &World, campaign: &Campaign, unit: &Unit) -> bool
     ensures { IsTrue result ↔
         ((unit.now.structure ≢ 0
         → (s : builds.Structure)
@@ -166,7 +166,7 @@ fn is_at_home(world: &World, campaign: &Campaign, unit: &Unit) -> bool
 fn is_placed(world: &World, campaign: &Campaign, unit: &Unit) -> bool
     ensures { IsTrue result ↔ (IsPlaced world.now campaign.now.value unit.now) }
 {
-    is_somewhere(campaign, unit) && is_at_home(world, campaign, unit)
+    is_somewhere(campaign, unit) && has_known_goods(world, campaign, unit)
 }
 
 /// Whether each unit's faction, region, structure, items and skills are there.

@@ -15,7 +15,7 @@ fn are_between<V>(mut entries: Entries<'_, V>, least: u32, next: u32) -> bool
 }
 
 /// Whether `next` is one more than `count`.
-fn is_behind(next: u32, count: usize) -> bool
+fn is_next_above(next: u32, count: usize) -> bool
     ensures { IsTrue result ↔ (next ≡ count + 1) }
 {
     1 <= next && (next - 1) as usize == count
@@ -27,7 +27,7 @@ fn are_factions_numbered(campaign: &Campaign) -> bool
         (IsNumbered campaign.now.value.factions campaign.now.value.next_faction) }
 {
     let next = campaign.next_faction();
-    are_between(campaign.factions(), 1, next) && is_behind(next, campaign.faction_count())
+    are_between(campaign.factions(), 1, next) && is_next_above(next, campaign.faction_count())
 }
 
 /// Whether the structures are numbered from 1 to one below the next structure number, with no gap.
@@ -36,7 +36,7 @@ fn are_structures_numbered(campaign: &Campaign) -> bool
         (IsNumbered campaign.now.value.structures campaign.now.value.next_structure) }
 {
     let next = campaign.next_structure();
-    are_between(campaign.structures(), 1, next) && is_behind(next, campaign.structure_count())
+    are_between(campaign.structures(), 1, next) && is_next_above(next, campaign.structure_count())
 }
 
 /// Whether each unit's number is below the next unit number.

@@ -6,7 +6,7 @@ ghost use Rattle.sqlite.specs.Held.{state};
 ghost use Rattle.sqlite.specs.Order.{Row as SqlRow};
 ghost use Rattle.atl_store.specs.declared.fault.LoadFault.TheVariants.{Store};
 ghost use Rattle.atl_tables.specs.declared.format.Format.TheVariants.{First};
-ghost use Rattle.atl_store.specs.Gathering.{IsSettled, ReadRows, AreAllRows, AreNone, AreOfFormat, ReadsSome, Lacks, AreApart, kept_of, late_parts, selects_by};
+ghost use Rattle.atl_store.specs.Gathering.{IsSettled, ReadRows, AreAllRows, AreNone, AreOfFormat, ReadsSome, FailsWithout, AreApart, rows_or_none, second_format_parts, selects_by};
 ghost use Rattle.atl_store.specs.Loading.{other_parts};
 ghost use Rattle.atl_sql.specs.Reading.{listing_of};
 ghost use Rattle.atl_sql.specs.Stored.{Form};
@@ -51,7 +51,7 @@ pub(crate) trait AllRows: Drop + Sized {
 
 /// What reading a table gives: its rows, None for a value of another type, or the fault of loading.
 fn kept<T: Drop>(rows: Result<Vec<T>, ReadFault>) -> Result<Option<Vec<T>>, LoadFault>
-    ensures { result ≡ kept_of rows }
+    ensures { result ≡ rows_or_none rows }
 {
     match rows {
         Ok(rows) => Ok(Some(rows)),
@@ -115,7 +115,7 @@ pub(crate) fn read_by<X: AllRows, Y: AllRows, S: Alter>(
     requires idle { conn.old.in_transaction ≡ false }
     requires settled { IsSettled (state S.Store conn.old) }
     requires some { X.AllRows.parts ≡ other_parts First }
-    requires others { Y.AllRows.parts ≡ late_parts }
+    requires others { Y.AllRows.parts ≡ second_format_parts }
     ensures { ReadsSome S.Store conn.old (selects_by format X.AllRows.selects Y.AllRows.selects)
         (λ both. AreOfFormat format (state S.Store conn.old).now
         (X.AllRows.rows both.0 ++ Y.AllRows.rows both.1)) result conn.new }
@@ -177,7 +177,7 @@ pub(crate) fn rows_apart<T: Drop>(
 ) -> Result<Sequence<T>, LoadFault>
     ensures ok { IfOk result
         (λ rows. (rows ≡ map (λ s. s.row) placed.items) × AreApart placed.items) }
-    ensures fails { IfErr result (Lacks (AreApart placed.items)) }
+    ensures fails { IfErr result (FailsWithout (AreApart placed.items)) }
 {
     check_apart(are_apart(alloc, &placed)?)?;
     let rows = without_ids(alloc, placed)?;

@@ -1,7 +1,7 @@
 //! Reads all tables but `campaign`, and puts the rows of all tables together.
 ghost use Rattle.std.specs.Prelude.{◌≡◌, false, IfOk, IfErr};
 ghost use Rattle.sqlite.specs.Held.{state};
-ghost use Rattle.atl_store.specs.Gathering.{IsSettled, AreOfFormat, ReadsSome, Lacks, AreAllApart, IsMadeOf};
+ghost use Rattle.atl_store.specs.Gathering.{IsSettled, AreOfFormat, ReadsSome, FailsWithout, AreAllApart, IsMadeOf};
 ghost use Rattle.atl_store.specs.Loading.{other_selects};
 
 use crate::fault::LoadFault;
@@ -64,7 +64,7 @@ pub(crate) fn parts_with(
     others: OtherRows,
 ) -> Result<Parts, LoadFault>
     ensures ok { IfOk result (λ parts. IsMadeOf head (⟦<OtherRows as AllRows>⟧.rows others) parts) }
-    ensures fails { IfErr result (Lacks (AreAllApart (⟦<OtherRows as AllRows>⟧.rows others))) }
+    ensures fails { IfErr result (FailsWithout (AreAllApart (⟦<OtherRows as AllRows>⟧.rows others))) }
 {
     let ((people, works), markets) = others;
     let (factions, (regions, (units, has))) = people;

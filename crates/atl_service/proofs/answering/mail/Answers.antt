@@ -1,7 +1,7 @@
 use Rattle.std.proofs.Common.{◌≡◌, sym, ap, ◌∙◌, subst}
 use Rattle.sqlite.specs.Held.{state}
 use Rattle.atl_state.specs.Campaign.{CampaignValue, MarkedCampaign, with_mail}
-use Rattle.atl_sql.specs.Causes.{IsTold}
+use Rattle.atl_sql.specs.Causes.{IsFaultOfError}
 use Rattle.atl_store.specs.Faults.{write_fault}
 use Rattle.atl_store.specs.Keeps.{LeavesAfterFault}
 use Rattle.atl_store.specs.OwnStatements.{OfMail}
@@ -33,4 +33,4 @@ returns-in_err-write_mail-clause-err g c = on_err _ (GivesUp g.S.Store c.args.wo
 pub returns-in_err-write_mail-clause-cause : goal.returns-in_err-write_mail-clause-cause
 returns-in_err-write_mail-clause-cause g c =
     ended_by g.S.Store (OfMail c.args.faction c.args.text.now) c.args.conn.now c.write_mail.new.conn _ c.from_residual-in_err-write_mail.result c.from_residual-in_err-write_mail.ensures.1
-    (λ clean. subst (λ text. IsTold g.S.Store (OfMail c.args.faction text) write_fault c.args.conn.now c.write_mail.new.conn c.in_err-write_mail.field-0.0) c.as_slice.ensures (c.in_err-write_mail.ensures.told clean))
+    (λ clean. subst (λ text. IsFaultOfError g.S.Store (OfMail c.args.faction text) write_fault c.args.conn.now c.write_mail.new.conn c.in_err-write_mail.field-0.0) c.as_slice.ensures (c.in_err-write_mail.ensures.told clean))

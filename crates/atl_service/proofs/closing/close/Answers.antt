@@ -2,7 +2,7 @@ use Rattle.std.proofs.Common.{◌≡◌, ap, sym, ◌∙◌, subst}
 use Rattle.sqlite.specs.Held.{state}
 use Rattle.atl_state.specs.Campaign.{CampaignValue, MarkedCampaign}
 use Rattle.atl_state.proofs.CoverLaws.{marks-trans}
-use Rattle.atl_sql.specs.Causes.{IsTold}
+use Rattle.atl_sql.specs.Causes.{IsFaultOfError}
 use Rattle.atl_store.specs.Faults.{write_fault}
 use Rattle.atl_store.specs.Keeps.{LeavesAfterFault}
 use Rattle.atl_store.specs.OwnStatements.{OfChange}
@@ -53,4 +53,4 @@ returns-in_err-write_changes-clause-cause g c =
     let after = c.report_to_all.new.campaign.value in
     let done = rw c.as_slice.ensures at (closed_after_reports w old c.turn_month.new.campaign.value after c.as_slice.result.now c.in_ok-outcome.outcome c.in_ok-outcome.ensures.outcome c.in_ok-report_to_all.ensures.what c.in_ok-outcome.ensures.there c.in_ok-outcome.ensures.good) in
     ended_by g.S.Store (OfCommand w old (Close c.args.month c.args.pass.now c.args.words.now)) c.args.conn.now c.write_changes.new.conn _ c.from_residual-in_err-write_changes.result c.from_residual-in_err-write_changes.ensures.1
-    (λ clean. subst (λ (a : CampaignValue). IsTold g.S.Store (OfChange a) write_fault c.args.conn.now c.write_changes.new.conn c.in_err-write_changes.field-0.0) (done.0 ∙ sym (ap (λ p. p.0) c.in_default.ensures.ok.step_is)) (c.in_err-write_changes.ensures.told clean))
+    (λ clean. subst (λ (a : CampaignValue). IsFaultOfError g.S.Store (OfChange a) write_fault c.args.conn.now c.write_changes.new.conn c.in_err-write_changes.field-0.0) (done.0 ∙ sym (ap (λ p. p.0) c.in_default.ensures.ok.step_is)) (c.in_err-write_changes.ensures.told clean))

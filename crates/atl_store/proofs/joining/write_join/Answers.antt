@@ -3,7 +3,7 @@ use Rattle.sqlite.specs.Held.{state}
 use Rattle.atl_sql.specs.Inside.{HasTables}
 use Rattle.atl_store.specs.Arriving.{WritesJoin}
 use Rattle.atl_store.specs.Faults.{write_fault}
-use Rattle.atl_sql.specs.Causes.{IsTold}
+use Rattle.atl_sql.specs.Causes.{IsFaultOfError}
 use Rattle.atl_store.specs.OwnStatements.{OfJoining}
 use Rattle.atl_store.specs.Keeps.{IsJoining}
 use Rattle.atl_store.proofs.JoinLaws.{join_held}
@@ -51,7 +51,7 @@ returns-in_err-write_joining-clause-told g c clean =
     let old = c.args.conn.now in
     let new = c.write_joining.new.conn in
     let after = c.args.campaign.now.value in
-    subst (λ n. IfErr c.from_residual.result (IsTold g.S.Store (OfJoining n after) write_fault old new)) c.arrival_of-arrival.ensures.number
+    subst (λ n. IfErr c.from_residual.result (IsFaultOfError g.S.Store (OfJoining n after) write_fault old new)) c.arrival_of-arrival.ensures.number
     (told_by g.S.Store (OfJoining c.arrival_of-arrival.result.number after) write_fault old new _ c.from_residual.result c.from_residual.ensures.1 (c.in_err-write_joining.ensures.told clean))
 
 pub returns-in_err-write_joining-clause-left : goal.returns-in_err-write_joining-clause-left

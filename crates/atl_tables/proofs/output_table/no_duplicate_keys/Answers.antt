@@ -3,7 +3,7 @@ use Rattle.std.specs.List.{list_any}
 use Rattle.atl_tables.specs.Each.{each}
 use Rattle.atl_tables.specs.Faults.{first_fault}
 use Rattle.atl_tables.specs.Keys.{path}
-use Rattle.atl_tables.specs.OutputTable.{twin_key_at}
+use Rattle.atl_tables.specs.OutputTable.{duplicate_key_at}
 use Rattle.atl_tables.specs.Names.{same_name}
 use Rattle.atl_tables.specs.declared.fault.WorldFault.TheVariants.{TwoNames}
 use Rattle.atl_tables.specs.declared.output_table.Output.{Output}
@@ -12,8 +12,8 @@ use Rattle.atl_tables.proofs.SeenLaws.{stands_before, stands_first, has_one_more
 use Rattle.atl_tables.proofs.output_table.no_duplicate_keys.Goals as goal
 
 -- the condition on the i-th key of an output is broken (TwoNames) exactly if an earlier key is equal
-by_test : (at : List ℕ) (all : List Output) (i : ℕ) (o : Output) (b : Bool) → list_any (λ p. same_name p.item o.item) (take i all) ≡ b → first_fault (twin_key_at at all i o) ≡ cond b (Some (TwoNames (path at o.item))) None
-unfolding twin_key_at
+by_test : (at : List ℕ) (all : List Output) (i : ℕ) (o : Output) (b : Bool) → list_any (λ p. same_name p.item o.item) (take i all) ≡ b → first_fault (duplicate_key_at at all i o) ≡ cond b (Some (TwoNames (path at o.item))) None
+unfolding duplicate_key_at
 by_test at all i o true h = rw h
 by_test at all i o false h = rw h
 
@@ -24,7 +24,7 @@ returns-then-not-branch c =
     let at = c.args.at.now in
     let i = c.loop-output.output-index in
     let test = stands_before (λ p. p.item) all i o c.loop-output.seen c.loop-output.invariant.seen _ c.in_ok-is_new.ensures.new c.if-not-branch.true in
-    rw (c.in_ok-path.ensures, c.as_str.ensures) (ends_at (twin_key_at at all) all i o (first_fault (each (twin_key_at at all) 0 all)) c.loop-output-test.true c.output-item.is c.loop-output.invariant.faults (TwoNames (path at o.item)) (by_test at all i o true test))
+    rw (c.in_ok-path.ensures, c.as_str.ensures) (ends_at (duplicate_key_at at all) all i o (first_fault (each (duplicate_key_at at all) 0 all)) c.loop-output-test.true c.output-item.is c.loop-output.invariant.faults (TwoNames (path at o.item)) (by_test at all i o true test))
 
 pub loop-output-preserved : goal.loop-output-preserved
 loop-output-preserved c =
@@ -35,5 +35,5 @@ loop-output-preserved c =
     let test = stands_first (λ p. p.item) all i o c.loop-output.seen c.loop-output.invariant.seen _ c.in_ok-is_new.ensures.new c.if-not-branch.false in
     record {
       seen = has_one_more (λ p. p.item) all i o c.loop-output.seen c.loop-output.invariant.seen c.is_new.new.seen c.loop-output-test.true c.output-item.is c.in_ok-is_new.ensures.seen;
-      faults = goes_on_at (twin_key_at at all) all i o (first_fault (each (twin_key_at at all) 0 all)) c.loop-output-test.true c.output-item.is c.loop-output.invariant.faults (by_test at all i o false test);
+      faults = goes_on_at (duplicate_key_at at all) all i o (first_fault (each (duplicate_key_at at all) 0 all)) c.loop-output-test.true c.output-item.is c.loop-output.invariant.faults (by_test at all i o false test);
     }

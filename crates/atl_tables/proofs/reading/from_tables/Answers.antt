@@ -4,7 +4,7 @@ use Rattle.atl_tables.specs.Worlds.{land_of}
 use Rattle.atl_tables.specs.World.{names_differ, names_are_known, neighbours_are_mutual, is_some_land, world_of_tables}
 use Rattle.atl_tables.specs.declared.world_draft.WorldDraft.{WorldDraft}
 use Rattle.atl_tables.proofs.FaultLaws.{exits, stops_on, stops_after, gives_after}
-use Rattle.atl_tables.proofs.DuplicateLaws.{have_names}
+use Rattle.atl_tables.proofs.DuplicateLaws.{thing_names_differ}
 use Rattle.atl_tables.proofs.reading.from_tables.Goals as goal
 
 -- the conditions after names: mutual neighbours, and some land
@@ -29,4 +29,4 @@ returns c =
     (gives_after (λ w. w) c.join.result (names_are_known all) (last all) (world_of_tables all) c.in_ok-parts.ensures.value.0 c.join.ensures)
 
 pub join-requires-clause-names : goal.join-requires-clause-names
-join-requires-clause-names c = have_names c.args.all c.in_ok-names_differ.ensures.0
+join-requires-clause-names c = thing_names_differ c.args.all c.in_ok-names_differ.ensures.0

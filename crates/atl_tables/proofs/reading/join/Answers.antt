@@ -28,9 +28,9 @@ abbrev made_of : WorldDraft → WorldParts → FinMap nat_cmp RegionPlan → Wor
 made_of all p regions = world_of_parts p.rules p.terrains p.items all.skills p.kinds regions
 
 -- the world that is made of the tables' own parts and regions is the world that the tables describe
-planet_is : (all : WorldDraft) (p : WorldParts) (regions : FinMap nat_cmp RegionPlan) → p ≡ world_parts_of all → regions ≡ regions_of all → made_of all p regions ≡ world_of_tables all
+made_is_world : (all : WorldDraft) (p : WorldParts) (regions : FinMap nat_cmp RegionPlan) → p ≡ world_parts_of all → regions ≡ regions_of all → made_of all p regions ≡ world_of_tables all
 unfolding world_of_tables
-planet_is all p regions e q = ap (made_of all p) q ∙ ap (λ (x : WorldParts). made_of all x (regions_of all)) e
+made_is_world all p regions e q = ap (made_of all p) q ∙ ap (λ (x : WorldParts). made_of all x (regions_of all)) e
 
 pub returns-in_err-mutual_neighbours : goal.returns-in_err-mutual_neighbours
 unfolding neighbours_are_mutual
@@ -43,7 +43,7 @@ pub with_land-requires : goal.with_land-requires
 with_land-requires c =
     let all = c.args.all in
     let made = c.in_ok-regions.ensures.value ∙ regions_are all c.args.parts c.into_vec.result.items c.requires.parts c.into_vec.ensures in
-    let e = planet_is all c.args.parts c.in_ok-regions.regions c.requires.parts made in
+    let e = made_is_world all c.args.parts c.in_ok-regions.regions c.requires.parts made in
     let back = rw (c.as_slice.ensures, made) at c.in_ok-mutual_neighbours.ensures.back in
     record { world = rw c.into_skills-skills.ensures (subst (λ (w : WorldValue). 0 < length (land_of w) → IsWorld w) (sym e) (is_world all c.requires.all (subst (AreWorldPartsOf all) c.requires.parts c.requires.sound) c.requires.names back)) }
 
@@ -52,6 +52,6 @@ unfolding neighbours_are_mutual
 returns c =
     let all = c.args.all in
     let made = c.in_ok-regions.ensures.value ∙ regions_are all c.args.parts c.into_vec.result.items c.requires.parts c.into_vec.ensures in
-    let e = planet_is all c.args.parts c.in_ok-regions.regions c.requires.parts made in
+    let e = made_is_world all c.args.parts c.in_ok-regions.regions c.requires.parts made in
     gives_after (λ w. w) c.with_land.result (neighbours_are_mutual all) (land all) (world_of_tables all) (rw (c.as_slice.ensures, made) at c.in_ok-mutual_neighbours.ensures.value.0)
     (subst (λ (w : WorldValue). Gives (λ x. x) c.with_land.result (first_fault (is_some_land (land_of w))) w) e (rw c.into_skills-skills.ensures at c.with_land.ensures))

@@ -1,9 +1,9 @@
 use Rattle.std.proofs.Common.{◌++◌}
 use Rattle.atl_tables.specs.Each.{each}
 use Rattle.atl_tables.specs.Faults.{Conditions}
-use Rattle.atl_tables.specs.RegionTable.{market_twins}
+use Rattle.atl_tables.specs.RegionTable.{duplicate_market_items}
 use Rattle.atl_tables.specs.Regions.{duplicate_numbers}
-use Rattle.atl_tables.specs.TerrainTable.{terrain_twins}
+use Rattle.atl_tables.specs.TerrainTable.{duplicate_output_keys}
 use Rattle.atl_tables.specs.World.{titles_differ, names_differ}
 use Rattle.atl_tables.specs.declared.world_draft.WorldDraft.{WorldDraft}
 use Rattle.atl_tables.proofs.FaultLaws.{exits, stops_on, stops_after, gives_after}
@@ -15,11 +15,11 @@ numbers all = duplicate_numbers all.regions
 
 -- the conditions that the keys of each terrain's output are unique
 abbrev outputs : WorldDraft → Conditions
-outputs all = each terrain_twins 0 all.terrains
+outputs all = each duplicate_output_keys 0 all.terrains
 
 -- the conditions that the items of each region's markets are unique
 abbrev markets : WorldDraft → Conditions
-markets all = each market_twins 0 all.regions
+markets all = each duplicate_market_items 0 all.regions
 
 pub returns-in_err-titles_differ : goal.returns-in_err-titles_differ
 unfolding names_differ

@@ -5,7 +5,7 @@ use Rattle.std.specs.Ordering.{nat_cmp}
 use Rattle.atl_tables.specs.declared.region_table.RegionDraft.{RegionDraft}
 use Rattle.atl_tables.specs.declared.fault.WorldFault.TheVariants.{TwoNames}
 use Rattle.atl_tables.specs.Keys.{path, element_path}
-use Rattle.atl_tables.specs.Regions.{has_number, twin_number_at}
+use Rattle.atl_tables.specs.Regions.{has_number, duplicate_number_at}
 use Rattle.atl_tables.proofs.EachLaws.{goes_on_at, ends_at}
 use Rattle.atl_tables.proofs.RegionLaws.{seen_more, by_map}
 use Rattle.atl_tables.proofs.regions.no_duplicate_numbers.Goals as goal
@@ -18,7 +18,7 @@ returns-in-Some c =
     let d = c.index-drafts-i.result in
     let ds = c.args.drafts.now in
     let test : has_number d.place.number (take c.loop-i.i ds) ≡ true = sym (c.loop-i.invariant.seen d.place.number) ∙ ap (λ (e : RegionDraft). is_some (get c.loop-i.seen e.place.number)) c.index-drafts-i.is ∙ ap is_some (sym c.in-Some.ensures) in
-    rw (c.in_ok-path.ensures, c.as_str.ensures, c.in_ok-place.ensures) (ends_at (twin_number_at ds) ds c.loop-i.i d _ c.loop-i-test.true c.index-drafts-i.is c.loop-i.invariant.faults (TwoNames (path (element_path (codes "region") c.loop-i.i) (codes "number"))) (by_map ds c.loop-i.i d true test))
+    rw (c.in_ok-path.ensures, c.as_str.ensures, c.in_ok-place.ensures) (ends_at (duplicate_number_at ds) ds c.loop-i.i d _ c.loop-i-test.true c.index-drafts-i.is c.loop-i.invariant.faults (TwoNames (path (element_path (codes "region") c.loop-i.i) (codes "number"))) (by_map ds c.loop-i.i d true test))
 
 pub loop-i-preserved : goal.loop-i-preserved
 loop-i-preserved c =
@@ -26,6 +26,6 @@ loop-i-preserved c =
     let ds = c.args.drafts.now in
     let test : has_number d.place.number (take c.loop-i.i ds) ≡ false = sym (c.loop-i.invariant.seen d.place.number) ∙ ap (λ (e : RegionDraft). is_some (get c.loop-i.seen e.place.number)) c.index-drafts-i.is ∙ ap is_some (sym c.in_default.ensures) in
     record {
-      faults = goes_on_at (twin_number_at ds) ds c.loop-i.i d _ c.loop-i-test.true c.index-drafts-i.is c.loop-i.invariant.faults (by_map ds c.loop-i.i d false test);
+      faults = goes_on_at (duplicate_number_at ds) ds c.loop-i.i d _ c.loop-i-test.true c.index-drafts-i.is c.loop-i.invariant.faults (by_map ds c.loop-i.i d false test);
       seen = rw (c.in_ok-insert.ensures.ok, ← c.index-drafts-i.is) (seen_more c.loop-i.seen _ ds c.loop-i.i d c.loop-i-test.true c.index-drafts-i.is c.loop-i.invariant.seen);
     }

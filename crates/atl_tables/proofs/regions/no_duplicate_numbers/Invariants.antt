@@ -3,11 +3,11 @@ use Rattle.std.specs.Option.{is_some}
 use Rattle.std.specs.FinMap.{get}
 use Rattle.atl_tables.specs.Each.{each}
 use Rattle.atl_tables.specs.Faults.{first_fault}
-use Rattle.atl_tables.specs.Regions.{has_number, twin_number_at}
+use Rattle.atl_tables.specs.Regions.{has_number, duplicate_number_at}
 use Rattle.atl_tables.proofs.regions.no_duplicate_numbers.Given as goal
 
 abbrev pub invariant-loop-i : goal.invariant-loop-i
 invariant-loop-i l = record {
-  faults : first_fault (each (twin_number_at l.drafts) l.i (drop l.i l.drafts)) ≡ first_fault (each (twin_number_at l.drafts) 0 l.drafts);
+  faults : first_fault (each (duplicate_number_at l.drafts) l.i (drop l.i l.drafts)) ≡ first_fault (each (duplicate_number_at l.drafts) 0 l.drafts);
   seen : (n : ℕ) → is_some (get l.seen n) ≡ has_number n (take l.i l.drafts);
 }

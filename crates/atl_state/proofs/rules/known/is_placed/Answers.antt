@@ -5,7 +5,7 @@ pub returns-then-is_somewhere : goal.returns-then-is_somewhere
 returns-then-is_somewhere c = (
   λ r.
       let somewhere = c.is_somewhere.ensures.0 (search rules) in
-      let home = c.is_at_home.ensures.0 r in
+      let home = c.has_known_goods.ensures.0 r in
       record { faction = somewhere.0; region = somewhere.1; structure = home.0; items = home.1.0; skills = home.1.1 },
-  λ placed. c.is_at_home.ensures.1 (placed.structure, (placed.items, placed.skills)),
+  λ placed. c.has_known_goods.ensures.1 (placed.structure, (placed.items, placed.skills)),
 )

@@ -7,7 +7,7 @@ pub returns-then-are_between : goal.returns-then-are_between
 returns-then-are_between c =
     let what = c.args.campaign.now.value in
     let within = rw (c.factions.ensures, c.next_faction-next.ensures) at c.are_between.ensures in
-    let behind = rw (c.faction_count.ensures, c.next_faction-next.ensures) at c.is_behind.ensures in
+    let behind = rw (c.faction_count.ensures, c.next_faction-next.ensures) at c.is_next_above.ensures in
     (λ r. numbered what.factions what.next_faction (within.0 (search rules)) (behind.0 r), λ is. behind.1 is.count)
 
 pub returns-else-are_between : goal.returns-else-are_between

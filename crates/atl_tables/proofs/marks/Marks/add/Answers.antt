@@ -12,19 +12,19 @@ returns-then-contains c =
 
 pub add-requires : goal.add-requires
 add-requires c =
-    fits_recent c.self.inside.numbers c.self.inside.recent c.args.self.now c.args.number c.self.view_is c.self.invariant (sym c.contains.ensures ∙ c.if-contains.false) (c.merges_recent.ensures c.if-merges_recent.true)
+    fits_recent c.self.inside.numbers c.self.inside.recent c.args.self.now c.args.number c.self.view_is c.self.invariant (sym c.contains.ensures ∙ c.if-contains.false) (c.has_recent_room.ensures c.if-has_recent_room.true)
 
 pub invariant_of-self : goal.invariant_of-self
 invariant_of-self c =
     rw c.add.ensures (one_recent c.self.inside.numbers c.self.inside.recent c.args.self.now c.args.number c.self.view_is c.self.invariant (sym c.contains.ensures ∙ c.if-contains.false) c.requires)
 
-pub invariant_of-self-else-merges_recent : goal.invariant_of-self-else-merges_recent
-invariant_of-self-else-merges_recent c =
-    rw (c.add-else-merges_recent.ensures, c.merge_from.ensures.numbers, c.merge_from.ensures.others)
+pub invariant_of-self-else-has_recent_room : goal.invariant_of-self-else-has_recent_room
+invariant_of-self-else-has_recent_room c =
+    rw (c.add-else-has_recent_room.ensures, c.merge_from.ensures.numbers, c.merge_from.ensures.others)
     (one_more c.self.inside.numbers c.self.inside.recent c.args.self.now c.args.number c.self.view_is c.self.invariant c.requires)
 
-pub returns-then-merges_recent : goal.returns-then-merges_recent
-returns-then-merges_recent c =
+pub returns-then-has_recent_room : goal.returns-then-has_recent_room
+returns-then-has_recent_room c =
     let n = c.args.number in
     let numbers : set.union c.self.inside.numbers.numbers c.add.new.self.numbers ≡ set.insert c.args.self.now.numbers n =
     (λ i. set.union c.self.inside.numbers.numbers (c.add.ensures i).numbers) ∙ union-insert c.self.inside.numbers.numbers c.self.inside.recent.numbers n
@@ -32,11 +32,11 @@ returns-then-merges_recent c =
     let room = ap (λ (m : RoomySet). m.room) c.self.view_is in
     λ i. record { numbers = numbers i; room = room i }
 
-pub returns-else-merges_recent : goal.returns-else-merges_recent
-returns-else-merges_recent c =
+pub returns-else-has_recent_room : goal.returns-else-has_recent_room
+returns-else-has_recent_room c =
     let n = c.args.number in
-    let numbers : set.union c.add-else-merges_recent.new.self.numbers c.merge_from.new.others.numbers ≡ set.insert c.args.self.now.numbers n =
-    (λ i. set.union (c.add-else-merges_recent.ensures i).numbers (c.merge_from.ensures.others i).numbers) ∙ union-empty (set.insert c.merge_from.new.self.numbers n)
+    let numbers : set.union c.add-else-has_recent_room.new.self.numbers c.merge_from.new.others.numbers ≡ set.insert c.args.self.now.numbers n =
+    (λ i. set.union (c.add-else-has_recent_room.ensures i).numbers (c.merge_from.ensures.others i).numbers) ∙ union-empty (set.insert c.merge_from.new.self.numbers n)
     ∙ ap (λ (m : RoomySet). set.insert m.numbers n) (c.merge_from.ensures.numbers ∙ c.self.view_is) in
-    let room = ap (λ (m : RoomySet). m.room) c.add-else-merges_recent.ensures ∙ ap (λ (m : RoomySet). m.room) (c.merge_from.ensures.numbers ∙ c.self.view_is) in
+    let room = ap (λ (m : RoomySet). m.room) c.add-else-has_recent_room.ensures ∙ ap (λ (m : RoomySet). m.room) (c.merge_from.ensures.numbers ∙ c.self.view_is) in
     λ i. record { numbers = numbers i; room = room i }

@@ -11,7 +11,7 @@ use Rattle.atl_tables.proofs.sorted_numbers.SortedNumbers.len.Goals as goal
 
 pub returns-in-Some-clause-value : goal.returns-in-Some-clause-value
 returns-in-Some-clause-value c =
-    c.count_up_to.ensures.value ∙ ap length c.deref-in-Some.ensures.value ∙ sym (len-rising c.self.inside.numbers.items c.self.invariant) ∙ ap (λ (m : RoomySet). set.len m.numbers) c.self.view_is
+    c.length_of_bounded.ensures.value ∙ ap length c.deref-in-Some.ensures.value ∙ sym (len-rising c.self.inside.numbers.items c.self.invariant) ∙ ap (λ (m : RoomySet). set.len m.numbers) c.self.view_is
 
 pub returns-in-None-clause-value : goal.returns-in-None-clause-value
 returns-in-None-clause-value c =
@@ -26,7 +26,7 @@ returns-in-Some-clause-low c n there =
     let items = c.self.inside.numbers.items in
     let last : get_or items (length items - 1) 0 ≡ c.in-Some.last.now = ap (λ xs. get_or xs (length xs - 1) 0) (sym c.deref.ensures.value) ∙ sym (c.in-Some.ensures.item.3.1 0) in
     listed_below items number_count n
-    (λ k l. let rises = non_decreasing_from_sorted items c.self.invariant k (length items - 1) 0 (omega (arith, l)) (omega (arith, l)) in omega (arith, rises, last, c.count_up_to.ensures.small))
+    (λ k l. let rises = non_decreasing_from_sorted items c.self.invariant k (length items - 1) 0 (omega (arith, l)) (omega (arith, l)) in omega (arith, rises, last, c.length_of_bounded.ensures.small))
     (sym (set.contains-from_list nat_cmp_total items n) ∙ ap (λ (m : RoomySet). set.contains m.numbers n) c.self.view_is ∙ there)
 
 pub returns-in-None-clause-low : goal.returns-in-None-clause-low
