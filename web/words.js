@@ -24,7 +24,7 @@ export const EVENT_FAULTS = {
   4: ['NoRoom', 'the receiver cannot hold so much. Give less.'],
   5: ['Guarded', 'another faction guards the region. Ask them to stop with GUARD 0, or go elsewhere.'],
   6: ['NotOwner', 'another unit owns the structure. Let the owner PROMOTE this one.'],
-  7: ['NotInside', 'the unit is inside no structure, or in none of this kind. ENTER in the same month.'],
+  7: ['NotInside', 'the unit is inside no structure, or in none of this kind. ENTER in the same month, or for NAME in the month before.'],
   8: ['UnitLimit', 'no further unit can be formed. Transfer men to units that are there.'],
   9: ['AtSea', 'the unit is on water. Sail to land first.'],
   10: ['NoMen', 'the unit has no men. TRANSFER some to it.'],
