@@ -2,7 +2,7 @@
 # A club's first hour: a campaign is founded on an island, two players join, one sends orders, the first month is closed, and reports are read. It prints
 # each command and what the program answers, and works in a temporary folder. Called without arguments; the program is built first where it isn't.
 set -eu
-here=$(cd "$(dirname "$0")/.." && pwd)
+here=$(cd "$(dirname "$(readlink -f "$0")")/.." && pwd)
 club=$(mktemp -d)
 trap 'rm -rf "$club"' EXIT
 cd "$club"
