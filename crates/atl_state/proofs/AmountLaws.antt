@@ -30,7 +30,7 @@ pub none_weighed : {V : Type 0} (f : V → ℕ) (es : List (ℕ × V)) → EachO
 none_weighed f [] each = refl
 none_weighed {V} f (e ∷ es) each = let more = sum_by-cons (λ (e : ℕ × V). f e.1) e es in omega (arith, more, each.0, none_weighed f es each.1)
 
--- if all items listed are below count, the amount of an item at or above count is 0
+-- if all listed items have numbers below `count`, an item with a number of `count` or more has the amount 0
 unheld : (items : FinMap nat_cmp ℕ) (count i : ℕ) → Every (λ k amount. k < count) items → count ≤ i → amount_of items i ≡ 0
 unheld items count i known l = ap (λ o. unwrap_or o 0) (free_from items i (λ there. let few = known i there.0 there.1 in omega (arith, few)))
 

@@ -56,21 +56,21 @@ from_range low high (pos n) h e =
     (ap pos (sym same), rw same least, rw same most)
 from_range low high (negsuc n) h e = absurd (false≢true e)
 
--- the number of the item or skill in a row of a unit's goods, as it is read
+-- the number of the item or skill in a row of `has`, as it is read
 abbrev thing_of : StoredHas → ℕ
 thing_of r = as_u32 r.thing
 
--- the amount in a row of a unit's goods, as it is read
+-- the amount in a row of `has`, as it is read
 abbrev amount_of : StoredHas → ℕ
 amount_of r = as_u32 r.amount
 
--- a kind that is read as 0, items, is not 1, skills
+-- a sort that is read as 0 (items) is not 1 (skills)
 is_skill : (z : ℤ) → as_u32 z ≡ 0 → is_from 1 1 z ≡ false
 is_skill (pos zero) h = refl
 is_skill (pos (suc n)) h = absurd (grind arith)
 is_skill (negsuc n) h = refl
 
--- if an or is true and its first part is false, its second part is true
+-- if `b || c` is true and b is false, c is true
 or_right : (b c : Bool) → b ≡ false → (b || c) ≡ true → c ≡ true
 or_right true c h e = absurd (false≢true (sym h))
 or_right false c h e = e
@@ -79,14 +79,14 @@ or_right false c h e = e
 pub is_same : (m n : ℕ) → (m == n) ≡ true → m ≡ n
 is_same m n h = grind (arith, nat_tests)
 
--- a row of an item that is in range has an amount from 1 to holding_limit
+-- a row of `has` for an item, if it is in range, has an amount from 1 to holding_limit
 pub item_amount : (r : StoredHas) → has_in_range r ≡ true → as_u32 r.sort ≡ 0 → (1 ≤ amount_of r) × (amount_of r ≤ holding_limit)
 item_amount r h sort =
     let item = or_right (is_from 1 1 r.sort) (is_from 0 0 r.sort && is_from 1 holding_limit r.amount) (is_skill r.sort sort) h in
     let range = from_range 1 holding_limit r.amount (omega arith) (and_parts (is_from 0 0 r.sort) (is_from 1 holding_limit r.amount) item).1 in
     (range.1, range.2)
 
--- a row that is of unit n's items and in range has an amount from 1 to holding_limit
+-- a row of `has` that is of unit n's items and in range has an amount from 1 to holding_limit
 good_amount : (n : ℕ) (r : StoredHas) → has_in_range r ≡ true → is_of n 0 r ≡ true → (1 ≤ amount_of r) × (amount_of r ≤ holding_limit)
 good_amount n r h of = item_amount r h (is_same (as_u32 r.sort) 0 (and_parts (as_u32 r.unit == n) (as_u32 r.sort == 0) of).1)
 
@@ -94,7 +94,7 @@ good_amount n r h of = item_amount r h (is_same (as_u32 r.sort) 0 (and_parts (as
 some_same : (a b : ℕ) → Some a ≡ Some b → a ≡ b
 some_same a b e = cc
 
--- amounts of items stay within their limits once an amount within them is put in
+-- if each amount of a map is from 1 to holding_limit (AreAmounts), so it is once one more such amount is put in
 AreAmounts-insert : (m : FinMap nat_cmp ℕ) (k v : ℕ) → (1 ≤ v) × (v ≤ holding_limit) → AreAmounts m → AreAmounts (insert m k v)
 AreAmounts-insert m k v h old item amount e =
     elim (cases_eq item k) [
@@ -104,12 +104,12 @@ AreAmounts-insert m k v h old item amount e =
       | inr apart ↦ old item amount (sym (get_other m k item v apart) ∙ e)
     ]
 
--- amounts of items stay within their limits whether a row in range is put in or not
+-- amounts stay from 1 to holding_limit (AreAmounts) if a row in range is put in where it is of unit n's items
 chosen : (n : ℕ) (r : StoredHas) (m : FinMap nat_cmp ℕ) (b : Bool) → is_of n 0 r ≡ b → has_in_range r ≡ true → AreAmounts m → AreAmounts (cond b (insert m (thing_of r) (amount_of r)) m)
 chosen n r m true of h old = AreAmounts-insert m (thing_of r) (amount_of r) (good_amount n r h of) old
 chosen n r m false of h old = old
 
--- amounts of items stay within their limits once rows in range are put in
+-- amounts stay from 1 to holding_limit (AreAmounts) once all rows of unit n's items, each in range, are put in
 put_good : (n : ℕ) (rows : List StoredHas) (m : FinMap nat_cmp ℕ) → list_all has_in_range rows ≡ true → AreAmounts m → AreAmounts (put_rows thing_of amount_of (filter (is_of n 0) rows) m)
 put_good n [] m h old = old
 put_good n (r ∷ rows) m h old =
@@ -120,11 +120,11 @@ put_good n (r ∷ rows) m h old =
 no_some : (x : ℕ) → None ≡ Some x → ⊥
 no_some x e = cc
 
--- the empty map lists no amount, so each is within its limits
+-- each amount that the empty map lists is from 1 to holding_limit, as it lists none
 pub none_held : (item amount : ℕ) → get (empty {X = ℕ} {R = nat_cmp}) item ≡ Some amount → (1 ≤ amount) × (amount ≤ holding_limit)
 none_held item amount e = absurd (no_some amount (sym (get-empty nat_cmp item) ∙ e))
 
--- the items that a unit has by rows in range are within their limits
+-- the items that rows in range give unit n have amounts from 1 to holding_limit (AreAmounts)
 pub AreAmounts-had : (n : ℕ) (rows : List StoredHas) → list_all has_in_range rows ≡ true → AreAmounts (things_had n 0 rows)
 AreAmounts-had n rows h = put_good n rows empty h none_held
 
@@ -137,7 +137,7 @@ IfOk-text (Err x) some bytes e h f = tt
 
 -- ---- a test that all rows pass
 
--- a test that all rows pass is passed by the row at an index
+-- the row at index i passes a test, if all rows do
 pub at_row : {R : Type 0} (p : R → Bool) (rows : List R) (i : ℕ) (r : R) → i < length rows → r ≡ get_or rows i r → list_all p rows ≡ true → p r ≡ true
 at_row p [] i r h is all = absurd (omega arith)
 at_row p (x ∷ rows) zero r h is all = ap p is ∙ (and_parts (p x) (list_all p rows) all).0

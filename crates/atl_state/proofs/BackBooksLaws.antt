@@ -27,12 +27,12 @@ use Rattle.atl_state.proofs.HasLaws.{same}
 
 -- ---- each row
 
--- if P holds for the row of each entry, it holds for each row
+-- if P holds for the row that each account and amount of a list is written as, it holds for all rows of the list
 rows_each : (P : StoredBooks → Type 0) (es : List (Account × ℤ)) → AllByRecursion (λ x. P (books_row x.0.0 x.0.1 x.1)) es → AllByRecursion P (amounts_rows es)
 rows_each P [] h = tt
 rows_each P (x ∷ es) h = (h.0, rows_each P es h.1)
 
--- if P holds for each row, it holds for the row of each entry
+-- if P holds for all rows of a list of accounts and amounts, it holds for the row that each of them is written as
 each_row : (P : StoredBooks → Type 0) (es : List (Account × ℤ)) → AllByRecursion P (amounts_rows es) → AllByRecursion (λ x. P (books_row x.0.0 x.0.1 x.1)) es
 each_row P [] h = tt
 each_row P (x ∷ es) h = (h.0, each_row P es h.1)
@@ -97,7 +97,7 @@ others_apart x (y ∷ es) h =
       others_apart x es parts.1,
     )
 
--- the rows of sorted entries have distinct keys
+-- the rows of accounts in rising order have distinct keys
 entries_apart : (es : List (Account × ℤ)) → is_sorted account_cmp es ≡ true → IsDistinct (λ a b. same (books_key a) (books_key b)) (amounts_rows es)
 unfolding IsDistinct
 entries_apart [] h = tt

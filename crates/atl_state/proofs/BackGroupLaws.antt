@@ -39,37 +39,37 @@ module _ {U R : Type 0} (f : ℕ × U → List R) (P : R → Type 0) where
   each_of [] h = tt
   each_of (e ∷ es) h = (h.0, each_of es h.1)
 
-  -- if P holds for each row of each group, it holds for each row of all groups joined
+  -- if P holds for each row of each unit or region of a map, it holds for each of all these rows joined
   pub groups_each : (units : FinMap nat_cmp U) → Every (λ n u. AllByRecursion P (f (n, u))) units → AllByRecursion P (flat_map f (entries units))
   groups_each units h = flat_each P f (entries units) (of_each (entries units) (each-from_every (λ n u. AllByRecursion P (f (n, u))) units h))
 
-  -- if P holds for each row of all groups joined, it holds for each row of each group
+  -- if P holds for each of the joined rows of all units or regions of a map, it holds for each row of each of them
   pub each_group : (units : FinMap nat_cmp U) → AllByRecursion P (flat_map f (entries units)) → Every (λ n u. AllByRecursion P (f (n, u))) units
   each_group units h = every-from_each (λ n u. AllByRecursion P (f (n, u))) units (each_of (entries units) (each_flat P f (entries units) h))
 
 -- ---- the rows of a group: of each amount that is not 0
 
 module _ {R : Type 0} (none : R → Bool) (row : ℕ → ℕ → R) (m : FinMap nat_cmp ℕ) where
-  -- the rows of a group: one for each amount that is not 0
+  -- the rows of a map of amounts (a unit's goods, a region's stocks): one for each amount that is not 0
   abbrev lines : List R
   lines = filter (λ r. not (none r)) (rows_by row (entries m))
 
-  -- if P holds for the row of each amount that is not 0, it holds for each row of the group
+  -- if P holds for the row of each amount of a map that is not 0, it holds for each row of the map (`lines`)
   pub lines_each : (P : R → Type 0) → Every (λ i a. none (row i a) ≡ false → P (row i a)) m → AllByRecursion P lines
   lines_each P h = kept (λ r. not (none r)) P (rows_by row (entries m)) (rows_every row (λ r. not (none r) ≡ true → P r) m (λ i a is some. h i a is (not-true (none (row i a)) some)))
 
-  -- if P holds for each row of the group, it holds for the row of each amount that is not 0
+  -- if P holds for each row of a map of amounts (`lines`), it holds for the row of each amount that is not 0
   pub each_line : (P : R → Type 0) → AllByRecursion P lines → Every (λ i a. none (row i a) ≡ false → P (row i a)) m
   each_line P h i a is some = every_row row (λ r. not (none r) ≡ true → P r) m (unkept (λ r. not (none r)) P (rows_by row (entries m)) h) i a is (not_from_false (none (row i a)) some)
 
-  -- the rows of a group are distinct by e, if e is false for rows of two different things
+  -- the rows of a map of amounts (`lines`) are distinct by e, if e is false for the rows of a lower and a higher number
   pub lines_apart : (e : R → R → Bool) → ((i k a b : ℕ) → i < k → e (row i a) (row k b) ≡ false) → IsDistinct e lines
   lines_apart e apart = filter_apart (λ r. not (none r)) e (rows_by row (entries m)) (rows_apart row e apart (entries m) (entries_rise m))
 
 -- ---- the amounts of a group
 
 module _ {R : Type 0} (thing amount : R → ℕ) (mine : R → Bool) (m : FinMap nat_cmp ℕ) (listed rows : List R) (same : IsPermutation listed rows) where
-  -- the map has the row's amount under the row's thing
+  -- the map k has the row's amount under the row's thing
   abbrev IsIn : FinMap nat_cmp ℕ → R → Type 0
   IsIn k r = get k (thing r) ≡ Some (amount r)
 

@@ -19,7 +19,7 @@ use Rattle.atl_state.proofs.AssemblyLaws.{is_same}
 use Rattle.atl_state.proofs.BackGroupLaws.{groups_each, each_group, lines_each, each_line, lines_apart, amounts_back}
 use Rattle.atl_state.proofs.HasLaws.{IsKeyed, same, things_apart}
 
--- a unit's items (kind 0) or days of study (kind 1)
+-- a unit's items for sort 0, and its days of study for any other
 abbrev pub goods_of : ℕ → Unit → FinMap nat_cmp ℕ
 goods_of zero u = u.holding.items
 goods_of (suc n) u = u.holding.days
@@ -34,7 +34,7 @@ none r = is_zero r.amount
 abbrev held : ℕ × Unit → List StoredHas
 held e = held_rows e.0 e.1.holding
 
--- the rows of one unit and one kind have distinct keys
+-- the rows of `has` of one unit and one sort have distinct keys
 sort_apart : (n sort : ℕ) (m : FinMap nat_cmp ℕ) → IsDistinct (λ a b. same (has_key a) (has_key b)) (rows_of_sort n sort (entries m))
 sort_apart n sort m =
     lines_apart none (has_row n sort) m (λ a b. same (has_key a) (has_key b)) (λ i k a b l. apart_keys (has_key (has_row n sort i a)) (has_key (has_row n sort k b)) (λ keys. let one = same_size i k keys.third in omega arith))
@@ -49,18 +49,18 @@ module _ (units : FinMap nat_cmp Unit) where
   pub each_had : (P : StoredHas → Type 0) → AllByRecursion P (has_rows (entries units)) → Every (λ n u. (s : ℕ) → s < 2 → Every (λ i a. is_zero (pos a) ≡ false → P (has_row n s i a)) (goods_of s u)) units
   each_had P h n u is = of_sort (each_appended P (rows_of_sort n 0 (entries u.holding.items)) (rows_of_sort n 1 (entries u.holding.days)) (each_group held P units h n u is))
     where
-      -- if P holds for the rows of a unit's items and of its days, it holds for the row of each amount of either kind
+      -- if P holds for the rows of a unit's items and of its days, it holds for the row of each amount that isn't 0
       of_sort : AllByRecursion P (rows_of_sort n 0 (entries u.holding.items)) × AllByRecursion P (rows_of_sort n 1 (entries u.holding.days)) → (s : ℕ) → s < 2 → Every (λ i a. is_zero (pos a) ≡ false → P (has_row n s i a)) (goods_of s u)
       of_sort both zero l = each_line none (has_row n 0) u.holding.items P both.0
       of_sort both (suc zero) l = each_line none (has_row n 1) u.holding.days P both.1
       of_sort both (suc (suc s)) l = absurd (omega arith)
 
-  -- a row of kind 0 has another key than rows of kind 1
+  -- a row of `has` of sort 0 has another key than rows of sort 1
   sorts_differ : (a : StoredHas) (ys : List StoredHas) → a.sort ≡ pos 0 → AllByRecursion (λ b. b.sort ≡ pos 1) ys → AllByRecursion (λ b. same (has_key a) (has_key b) ≡ false) ys
   sorts_differ a [] item h = tt
   sorts_differ a (b ∷ ys) item h = (apart_keys (has_key a) (has_key b) (λ k. let one = same_size 0 1 (sym item ∙ k.second ∙ h.0) in omega arith), sorts_differ a ys item h.1)
 
-  -- rows of kind 0 have other keys than rows of kind 1
+  -- rows of `has` of sort 0 have other keys than rows of sort 1
   all_differ : (xs ys : List StoredHas) → AllByRecursion (λ a. a.sort ≡ pos 0) xs → AllByRecursion (λ b. b.sort ≡ pos 1) ys → AllByRecursion (λ a. AllByRecursion (λ b. same (has_key a) (has_key b) ≡ false) ys) xs
   all_differ [] ys h k = tt
   all_differ (a ∷ xs) ys h k = (sorts_differ a ys h.0 k, all_differ xs ys h.1 k)
@@ -79,7 +79,7 @@ module _ (units : FinMap nat_cmp Unit) where
       (λ e. append_each (λ r. r.unit ≡ pos e.0) (rows_of_sort e.0 0 (entries e.1.holding.items)) (rows_of_sort e.0 1 (entries e.1.holding.days)) (lines_each none (has_row e.0 0) e.1.holding.items (λ r. r.unit ≡ pos e.0) (λ i a is some. refl)) (lines_each none (has_row e.0 1) e.1.holding.days (λ r. r.unit ≡ pos e.0) (λ i a is some. refl)))
       (λ e. held_apart e.0 e.1) (entries units) (entries_rise units)
 
-  -- the numbers of units and things fit 32 bits, and each amount is from 1 to most_u32
+  -- the numbers of units, items and skills fit 32 bits, and each amount that a unit has of these is from 1 to most_u32
   pub record AreHad : Type 0 where
     pub numbers : Every (λ n u. n ≤ most_u32) units
     pub goods : Every (λ n u. (s : ℕ) → s < 2 → Every (λ i a. (i ≤ most_u32) × (1 ≤ a) × (a ≤ most_u32)) (goods_of s u)) units
@@ -89,7 +89,7 @@ module _ (units : FinMap nat_cmp Unit) where
     pub has_keys : HaveKeys has_key rows
     has_keys = keys_permuted has_key (has_rows (entries units)) rows h has_apart
 
-    -- the numbers in the keys of the rows, in any order, are read as themselves
+    -- the numbers in the keys of the rows of `has`, in any order, are read as themselves (IsKeyed)
     pub all_keyed : AllByRecursion IsKeyed rows
     all_keyed =
         each_permuted IsKeyed (has_rows (entries units)) rows h (has_each IsKeyed (λ n u there s few i a is some. record {
@@ -106,18 +106,18 @@ module _ (units : FinMap nat_cmp Unit) where
     some_same : (u v : Unit) → Some u ≡ Some v → u ≡ v
     some_same u v e = cc
 
-    -- unit k and kind s are unit n and kind `sort`: k is n, and s is `sort`
+    -- unit k and sort s are unit n and sort `sort`: k is n, and s is `sort`
     record Of (n sort k s : ℕ) : Type 0 where
       unit : k ≡ n
       kind : s ≡ sort
 
-    -- if a row of unit k and kind s is read as of unit n and kind `sort`, k is n and s is `sort`
+    -- if a row of unit k and sort s is read as of unit n and sort `sort`, k is n and s is `sort`
     of_row : (n sort k s i a : ℕ) → k ≤ most_u32 → s < 2 → is_of n sort (has_row k s i a) ≡ true → Of n sort k s
     of_row n sort k s i a few l e =
         let both = and_parts (as_u32 (pos k) == n) (as_u32 (pos s) == sort) e in
         record { unit = sym (read_whole k few) ∙ is_same (as_u32 (pos k)) n both.0; kind = sym (read_whole s (omega arith)) ∙ is_same (as_u32 (pos s)) sort both.1 }
 
-    -- a row that is made for unit n and kind s is read as one of unit n and kind s
+    -- a row that is made for unit n and sort s is read as one of unit n and sort s
     of_itself : (n s i a : ℕ) → n ≤ most_u32 → s < 2 → is_of n s (has_row n s i a) ≡ true
     of_itself n s i a few l =
         let unit : (as_u32 (pos n) == n) ≡ true = let e = read_whole n few in grind (arith, nat_tests) in
@@ -125,7 +125,7 @@ module _ (units : FinMap nat_cmp Unit) where
         ap (λ b. b && (as_u32 (pos s) == s)) unit ∙ kind
 
     module _ (n : ℕ) (u : Unit) (there : get units n ≡ Some u) (sort : ℕ) (few : sort < 2) where
-      -- the amounts of a kind that the rows give a unit are those that the unit has
+      -- the amounts of a sort that the rows of `has` give a unit of the map are those that the unit has
       pub goods_back : things_had n sort rows ≡ goods_of sort u
       goods_back =
           amounts_back (λ r. as_u32 r.thing) (λ r. as_u32 r.amount) (is_of n sort) (goods_of sort u) (has_rows (entries units)) rows h (things_apart n sort rows all_keyed has_keys)

@@ -28,7 +28,7 @@ none m = is_zero m.stock
 abbrev stocked : ℕ × Region → List StoredMarket
 stocked e = stock_rows e.0 (entries e.1.stocks)
 
--- the rows of the stocks of one region have distinct keys
+-- the rows of `market` for the stocks of one region have distinct keys
 region_apart : (n : ℕ) (stocks : FinMap nat_cmp ℕ) → IsDistinct (λ a b. same (market_key a) (market_key b)) (stock_rows n (entries stocks))
 region_apart n stocks =
     lines_apart none (market_row n) stocks (λ a b. same (market_key a) (market_key b)) (λ i k a b l. apart_keys (market_key (market_row n i a)) (market_key (market_row n k b)) (λ keys. let one = same_size i k keys.second in omega arith))
@@ -54,29 +54,29 @@ module _ (regions : FinMap nat_cmp Region) where
   each_stock : (P : StoredMarket → Type 0) → AllByRecursion P (market_rows Second (entries regions)) → Every (λ n r. Every (λ i a. is_zero (pos a) ≡ false → P (market_row n i a)) r.stocks) regions
   each_stock P h n r is = each_line none (market_row n) r.stocks P (each_group stocked P regions h n r is)
 
-  -- the rows of all regions' stocks have distinct keys
+  -- the rows of `market` for all regions' stocks have distinct keys
   stocks_apart : IsDistinct (λ a b. same (market_key a) (market_key b)) (market_rows Second (entries regions))
   stocks_apart =
       flat_apart (λ a b. same (market_key a) (market_key b)) stocked (λ e f. e.0 < f.0) (λ e m. m.region ≡ pos e.0)
       (λ x y a b l mine yours. apart_keys (market_key a) (market_key b) (λ k. let one = same_size x.0 y.0 (sym mine ∙ k.first ∙ yours) in omega arith))
       (λ e. lines_each none (market_row e.0) e.1.stocks (λ m. m.region ≡ pos e.0) (λ i a is some. refl)) (λ e. region_apart e.0 e.1.stocks) (entries regions) (entries_rise regions)
 
-  -- the numbers of regions and items fit 32 bits, and each stock is from 1 to most_u32
+  -- the numbers of regions and of items in stock fit 32 bits, and each listed stock is from 1 to most_u32
   pub record AreStocked : Type 0 where
     pub numbers : Every (λ n r. n ≤ most_u32) regions
     pub stocks : Every (λ n r. Every (λ i a. (i ≤ most_u32) × (1 ≤ a) × (a ≤ most_u32)) r.stocks) regions
 
   module _ (few : AreStocked) (rows : List StoredMarket) (h : IsPermutation (market_rows Second (entries regions)) rows) where
-    -- the rows of all regions' stocks, in any order, have distinct keys
+    -- the rows of `market` for all regions' stocks, in any order, have distinct keys
     pub market_keys : HaveKeys market_key rows
     market_keys = keys_permuted market_key (market_rows Second (entries regions)) rows h stocks_apart
 
-    -- the numbers in the keys of the rows, in any order, are read as themselves
+    -- the numbers in the keys of the rows of `market`, in any order, are read as themselves (IsKeyed)
     all_keyed : AllByRecursion IsKeyed rows
     all_keyed =
         each_permuted IsKeyed (market_rows Second (entries regions)) rows h (stocks_each IsKeyed (λ n r there i a is some. record { region = written_whole n (few.numbers n r there); item = written_whole i (few.stocks n r there i a is).0 }))
 
-    -- the stocks that the rows, in any order, give a region are those that the region has
+    -- the stocks that the rows of `market`, in any order, give a region are those that the region has
     pub stocks_back : (n : ℕ) (r : Region) → get regions n ≡ Some r → stocks_of n rows ≡ r.stocks
     stocks_back n r there =
         amounts_back (λ m. as_u32 m.item) (λ m. as_u32 m.stock) (is_in n) r.stocks (market_rows Second (entries regions)) rows h (items_apart n rows all_keyed market_keys)

@@ -23,7 +23,7 @@ use Rattle.atl_state.proofs.RegionLaws.{changed-known, get-insert_same, same_len
 
 -- ---- a structure is begun
 
--- a structure that can be begun: on land, with a good name and no owner, and partly or fully done
+-- a structure that can be begun: on land, of a kind of the world, without owner, and 1 to its kind's size done
 pub record IsFresh (w : WorldValue) (c : CampaignValue) (s : Structure) : Type 0 where
   pub kind : s.kind < length w.kinds
   pub name : IsTrue (name_ok s.name)
@@ -34,19 +34,19 @@ pub record IsFresh (w : WorldValue) (c : CampaignValue) (s : Structure) : Type 0
   pub ownerless : s.owner ≡ 0
 
 module _ (w : WorldValue) (c : CampaignValue) (s : Structure) (fresh : IsFresh w c s) (room : c.next_structure ≤ most_structures) (old : IsSteady w c) where
-  -- the number of the new structure
+  -- the number that a structure which is begun gets: the next structure number
   abbrev next : ℕ
   next = c.next_structure
 
-  -- the structures with the new one
+  -- the campaign's structures with s put under the next structure number
   abbrev structures : FinMap nat_cmp Structure
   structures = insert c.structures next s
 
-  -- the campaign with the new structure, and the next number one higher
+  -- the campaign with structure s begun, and the next structure number one higher
   abbrev pub raised : CampaignValue
   raised = with_structure_begun c s
 
-  -- the next number has no structure yet
+  -- no structure has the next structure number yet
   free : get c.structures next ≡ None
   free = old.next.structures.free next (omega arith)
 
@@ -58,7 +58,7 @@ module _ (w : WorldValue) (c : CampaignValue) (s : Structure) (fresh : IsFresh w
   one_more : len structures ≡ len c.structures + 1
   one_more = len-insert nat_cmp_total c.structures next s ∙ ap (λ o. cond (is_some o) (len c.structures) (len c.structures + 1)) free
 
-  -- once a structure is begun, all numbers of the campaign are in range
+  -- once a structure is begun, all numbers of the campaign are still in range
   numbers_kept : AreInRange w raised
   numbers_kept = record {
     month = old.numbers.month;
@@ -75,11 +75,11 @@ module _ (w : WorldValue) (c : CampaignValue) (s : Structure) (fresh : IsFresh w
     books = old.numbers.books;
   }
 
-  -- the new structure has no owner
+  -- the structure that is begun has no owner, so anything follows if it has one
   nobody : {P : Type 0} → s.owner ≢ 0 → P
   nobody some = absurd (some fresh.ownerless)
 
-  -- once a structure is begun, everything that is named by its number exists
+  -- once a structure is begun, all that is named by its number still exists
   known_kept : AreKnown w raised
   known_kept = record {
     regions = old.known.regions;
@@ -92,7 +92,7 @@ module _ (w : WorldValue) (c : CampaignValue) (s : Structure) (fresh : IsFresh w
     posts = old.known.posts;
   }
 
-  -- once a structure is begun, factions and structures are numbered without a gap, and next unit numbers are free
+  -- once a structure is begun, factions and structures are still numbered without a gap, and next unit numbers free
   next_kept : AreNumbered raised
   next_kept =
       let numbered = old.next.structures in
@@ -106,26 +106,26 @@ module _ (w : WorldValue) (c : CampaignValue) (s : Structure) (fresh : IsFresh w
         units = old.next.units;
       }
 
-  -- no unit is inside the structure with the next number
+  -- no unit is inside a structure with the next structure number
   pub nobody_inside : Every (λ m v. v.structure ≢ next) c.units
   nobody_inside m v there here =
       let (y, at, region) = (old.known.units m v there).structure (λ none. omega (arith, none, here, old.next.structures.count)) in
       none_some y (sym free ∙ ap (get c.structures) (sym here) ∙ at)
 
-  -- once a structure is begun, structures are owned by units inside them
+  -- once a structure is begun, structures are still owned by units inside them, or by nobody where none is
   owners_kept : AreOwned raised
   owners_kept =
       every-insert (λ k x. IsOwned raised k x) c.structures next s (record { owned = λ some. nobody some; ownerless = λ none. nobody_inside })
       old.owners
 
-  -- once a structure is begun, what is on water is afloat
+  -- once a structure is begun, units on water are still in ships, and structures there are complete ships
   water_kept : AreAfloat w raised
   water_kept = record {
     units = λ k x there wet. let (y, at, ship) = old.water.units k x there wet in (y, stays x.structure y at, ship);
     structures = every-insert (λ k x. is_land_at w x.region ≡ false → (is_ship w x ≡ true) × (x.done ≡ size_of w x.kind)) c.structures next s (λ wet. absurd (true≢false (sym fresh.land ∙ wet))) old.water.structures;
   }
 
-  -- the campaign stays steady once a fresh structure is begun
+  -- a steady campaign stays steady once a structure that can be begun (IsFresh) is begun
   pub steady_raised : IsSteady w raised
   steady_raised = record {
     numbers = numbers_kept;
@@ -150,11 +150,11 @@ module _ (w : WorldValue) (c : CampaignValue) (s : Structure) (fresh : IsFresh w
   unfolding total
   total_raised t = refl
 
-  -- the new structure is there under the next number
+  -- once structure s is begun, it is there under the next structure number
   pub raised_there : get raised.structures next ≡ Some s
   raised_there = get-insert_same c.structures next s
 
--- beginning a structure marks all that it changes
+-- beginning a structure, with it and the campaign row marked, marks all that changes (MarksChanges)
 pub marks-raised : (c : MarkedCampaign) (s : Structure) → MarksChanges c (record { value = with_structure_begun c.value s; marks = mark_structure_begun c })
 marks-raised c s =
     let n = c.value.next_structure in
@@ -170,20 +170,20 @@ marks-raised c s =
 -- ---- more of a structure is done
 
 module _ (w : WorldValue) (c : CampaignValue) (k : ℕ) (s : Structure) (done : ℕ) (is : get c.structures k ≡ Some s) where
-  -- the structure with more of it done
+  -- structure s with `done` as the number for how much of it is done
   abbrev further : Structure
   further = record s { done = done }
 
-  -- the campaign with more of structure k done
+  -- the campaign with structure k replaced by s with `done` done
   abbrev pub built : CampaignValue
   built = record c { structures = insert c.structures k further }
 
-  -- with_done gives the campaign with more of structure k done
+  -- with_done gives the campaign with structure k replaced by s with `done` done (`built`)
   pub built_is : with_done c k done ≡ built
   built_is = ap (λ m. record c { structures = m }) (changed-known (λ x. record x { done = done }) c.structures k s is)
 
   module _ (more : s.done ≤ done) (most : done ≤ size_of w s.kind) (was : IsSteady w c) where
-    -- a structure with a property P is still there with P once more of structure k is done, if building on k keeps P
+    -- a structure with a property P is still there with P after building on structure k, if building on k keeps P
     still : (P : Structure → Type 0) → (P s → P further) → (j : ℕ) → (y : Structure) × (get c.structures j ≡ Some y) × P y → (y : Structure) × (get built.structures j ≡ Some y) × P y
     still P keep j (y, there, p) = elim (cases_eq j k) [
       | inl same ↦
@@ -193,7 +193,7 @@ module _ (w : WorldValue) (c : CampaignValue) (k : ℕ) (s : Structure) (done : 
       | inr apart ↦ (y, get-insert_other c.structures k j further apart ∙ there, p)
     ]
 
-    -- once more of a structure is done, all numbers of the campaign are in range
+    -- after building on a structure, all numbers of the campaign are still in range
     numbers_built : AreInRange w built
     numbers_built = record {
       month = was.numbers.month;
@@ -210,7 +210,7 @@ module _ (w : WorldValue) (c : CampaignValue) (k : ℕ) (s : Structure) (done : 
       books = was.numbers.books;
     }
 
-    -- once more of a structure is done, everything that is named by its number exists
+    -- after building on a structure, all that is named by its number still exists
     known_built : AreKnown w built
     known_built = record {
       regions = was.known.regions;
@@ -223,11 +223,11 @@ module _ (w : WorldValue) (c : CampaignValue) (k : ℕ) (s : Structure) (done : 
       posts = was.known.posts;
     }
 
-    -- once more of structure k is done, a number without a structure still has none
+    -- after building on structure k, a number without a structure still has none
     apart_free : (j : ℕ) → get c.structures j ≡ None → get built.structures j ≡ None
     apart_free j none = get-insert_other c.structures k j further (λ same. none_some s (sym none ∙ ap (get c.structures) same ∙ is)) ∙ none
 
-    -- once more of a structure is done, factions and structures are numbered without a gap; next unit numbers are free
+    -- after building on a structure, factions and structures are still numbered without a gap, next unit numbers free
     next_built : AreNumbered built
     next_built = record {
       factions = was.next.factions;
@@ -239,17 +239,17 @@ module _ (w : WorldValue) (c : CampaignValue) (k : ℕ) (s : Structure) (done : 
       units = was.next.units;
     }
 
-    -- once more of a structure is done, structures are owned by units inside them
+    -- after building on a structure, structures are still owned by units inside them, or by nobody where none is
     owners_built : AreOwned built
     owners_built =
         every-insert (λ j x. IsOwned built j x) c.structures k further (let o = was.owners k s is in record { owned = o.owned; ownerless = o.ownerless })
         was.owners
 
-    -- if structure s is complete, it is still complete once more of it is done
+    -- if structure s is complete, it is still complete after building on it
     complete : s.done ≡ size_of w s.kind → done ≡ size_of w s.kind
     complete e = omega (arith, e, more, most)
 
-    -- once more of a structure is done, what is on water is afloat
+    -- after building on a structure, units on water are still in ships, and structures there are complete ships
     water_built : AreAfloat w built
     water_built = record {
       units = λ j x there wet. still (λ y. is_ship w y ≡ true) (λ ship. ship) x.structure (was.water.units j x there wet);

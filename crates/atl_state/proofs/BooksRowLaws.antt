@@ -64,7 +64,7 @@ pub record IsBooked (things : ℕ) (r : StoredBooks) : Type 0 where
 one_up : (n i : ℕ) → 1 ≤ n → i ≡ n - 1 → i + 1 ≡ n
 one_up n i h e = omega arith
 
--- a row whose entry and thing are in range and read as they are, and whose amount is not 0, is booked (IsBooked)
+-- a row is read as an account (IsBooked) if its entry and thing are in range and read as they are, its amount not 0
 pub booked_row : (things : ℕ) (r : StoredBooks) → IsWhole r.entry → IsWhole r.thing → 1 ≤ as_u32 r.entry → as_u32 r.entry ≤ entry_count → as_u32 r.thing < things → r.amount ≢ pos 0 → IsBooked things r
 booked_row things r entry thing least most there some =
     let (e, at) = entry_at (as_u32 r.entry - 1) (omega arith) in
@@ -80,11 +80,11 @@ booked_row things r entry thing least most there some =
       some = some;
     }
 
--- the thing of a booked row's account is one of the first `things` things
+-- the thing of the account that a row is read as (IsBooked) is one of the first `things` things
 pub account_there : (things : ℕ) (r : StoredBooks) (h : IsBooked things r) → thing_index h.account.1 < things
 account_there things r h = let is = sym (ap thing_index h.numbered) ∙ place_at (as_u32 r.thing) in omega (arith, is, h.there)
 
--- assembling a booked row sets the amount of its account
+-- putting a row that is read as an account (IsBooked) into books sets the amount of that account
 pub with_booked_row : (things : ℕ) (books : BooksValue) (r : StoredBooks) → AreBooks things books → (h : IsBooked things r) → with_books_row books r ≡ with_amount books h.account.0 h.account.1 r.amount
 with_booked_row things books r are h =
     let few : nat_lt (as_u32 r.thing) books.things ≡ true = let l : as_u32 r.thing < books.things = omega (arith, are.count, h.there) in grind (arith, nat_tests) in
@@ -96,11 +96,11 @@ with_booked_row things books r are h =
 abbrev key_of : Account → Key
 key_of a = books_key (books_row a.0 a.1 (pos 0))
 
--- the key of a booked row is that of its account
+-- the key of a row that is read as an account (IsBooked) is that of the account's row
 its_key : (things : ℕ) (r : StoredBooks) (h : IsBooked things r) → ◌≡◌ {A = Key} (key_of h.account) (books_key r)
 its_key things r h = ap books_key h.row
 
--- booked rows with different keys are of different accounts
+-- two rows with different keys that are read as accounts (IsBooked) are read as different ones
 accounts_apart : (things : ℕ) (r s : StoredBooks) (h : IsBooked things r) (k : IsBooked things s) → same (books_key r) (books_key s) ≡ false → eq_by_cmp account_cmp k.account h.account ≡ false
 accounts_apart things r s h k differ =
     elim (cases_account k.account h.account) [
@@ -108,11 +108,11 @@ accounts_apart things r s h k differ =
       | inr apart ↦ apart
     ]
 
--- the books have no amount yet for the account of a row, if the row is booked
+-- the books have no amount yet for the account of a row, if it is read as one (IsBooked)
 abbrev IsFree : ℕ → BooksValue → StoredBooks → Type 0
 IsFree things books r = (h : IsBooked things r) → get books.amounts h.account ≡ None
 
--- rows whose keys differ from a booked row's are still free in the books once that row's amount is set
+-- accounts of rows whose keys differ from row r's still have no amount (IsFree) once the amount of r's account is set
 stay_free : (things : ℕ) (books : BooksValue) (r : StoredBooks) (h : IsBooked things r) (rows : List StoredBooks) → AllByRecursion (λ y. same (books_key r) y ≡ false) (map books_key rows) → AllByRecursion (IsFree things books) rows
     → AllByRecursion (IsFree things (with_amount books h.account.0 h.account.1 r.amount)) rows
 stay_free things books r h [] d free = tt
@@ -121,7 +121,7 @@ stay_free things books r h (s ∷ rows) d free = (
   stay_free things books r h rows d.1 free.1,
 )
 
--- putting free rows with distinct keys into books adds just these rows to the rows of the books, in some order
+-- putting rows with distinct keys, whose accounts have no amount yet (IsFree), into books adds just these rows
 put_order : (things : ℕ) (rows : List StoredBooks) (books : BooksValue) → AreBooks things books → AllByRecursion (IsBooked things) rows → IsDistinct same (map books_key rows) → AllByRecursion (IsFree things books) rows → IsPermutation (books_rows books ++ rows) (books_rows (put_amounts rows books))
 unfolding IsDistinct
 put_order things [] books are all d free = subst (λ xs. IsPermutation xs (books_rows books)) (sym (append-nil (books_rows books))) (IsPermutation-refl (books_rows books))
@@ -136,12 +136,12 @@ put_order things (r ∷ rows) books are all d free =
     (IsPermutation-trans (books_rows books ++ r ∷ rows) (r ∷ (books_rows books ++ rows)) last (IsPermutation-middle (books_rows books) r rows)
     (IsPermutation-trans (r ∷ (books_rows books ++ rows)) (books_rows new ++ rows) last step (put_order things rows new also all.1 d.1 (stay_free things books r h rows d.0 free.1))))
 
--- in empty books all rows are free (IsFree), as no account has an amount
+-- in empty books no row's account has an amount (IsFree)
 all_free : (things : ℕ) (rows : List StoredBooks) → AllByRecursion (IsFree things (no_amounts things)) rows
 all_free things [] = tt
 all_free things (r ∷ rows) = (λ h. get-empty {X = ℤ} account_cmp h.account, all_free things rows)
 
--- books assembled from booked rows with distinct keys have exactly these rows, in some order
+-- books assembled from rows with distinct keys, each read as an account (IsBooked), have just these rows, in some order
 pub books_order : (things : ℕ) (rows : List StoredBooks) → AllByRecursion (IsBooked things) rows → IsDistinct same (map books_key rows) → IsPermutation (books_rows (put_amounts rows (no_amounts things))) rows
 books_order things rows all d =
     let last = books_rows (put_amounts rows (no_amounts things)) in

@@ -58,14 +58,14 @@ only_one f [] h = absurd (false≢true h)
 only_one f (r ∷ []) h = refl
 only_one f (r ∷ other ∷ rows) h = absurd (false≢true h)
 
--- an entry past those of the first format fails the test (is_entry_in) for an entry of the first format
+-- an entry of markets fails the test for an entry of the first format (is_entry_in)
 late_entry : (n : ℕ) → first_entry_count ≤ n → n < 16 → is_entry_in First (as_u32 (pos (n + 1))) ≡ true → ⊥
 late_entry n l small h =
     let read = read_whole (n + 1) (omega arith) in
     let most = from_le (as_u32 (pos (n + 1))) first_entry_count (and_parts (nat_le 1 (as_u32 (pos (n + 1)))) (nat_le (as_u32 (pos (n + 1))) first_entry_count) h).1 in
     absurd (omega (arith, read, most))
 
--- books whose rows all have entries of the first format have the amount 0 under each later entry
+-- books whose rows all have entries of the first format have the amount 0 under each entry of markets
 no_amount : (books : BooksValue) → AllByRecursion (λ (r : StoredBooks). is_entry_in First (as_u32 r.entry) ≡ true) (books_rows books) → (e : Entry) (t : Thing) → first_entry_count ≤ entry_index e → amount_in books e t ≡ pos 0
 no_amount books listed e t l =
     elim (get books.amounts (e, t)) as (λ o. get books.amounts (e, t) ≡ o → unwrap_or o (pos 0) ≡ pos 0) [
@@ -90,7 +90,7 @@ module _ (f : Format) (w : WorldValue) (p : Parts) where
   pub first_broken : (r : Rule) (b : Bool) → KeepsRulesBelow f w p (rule_number r) → Decides b (KeepsRule f w p r) → b ≡ false → IsFirstBroken f w p r
   first_broken r b before d e = record { before = before; broken = λ holds. false≢true (sym e ∙ d.1 holds) }
 
-  -- rows that keep rules 1 to 11 keep those by which they are the rows of their campaign (RowsKeep)
+  -- rows that keep rules 1 to 11 keep all that makes them the rows of the campaign read from them (RowsKeep)
   pub rows_keep : IsWorld w → KeepsRulesBelow f w p 12 → RowsKeep f w p
   rows_keep world k = record {
     world = world;
@@ -112,13 +112,13 @@ module _ (f : Format) (w : WorldValue) (p : Parts) where
   pub checked-rows : IsWorld w → KeepsRulesBelow f w p 13 → AreRowsOf f (campaign_of w p) p
   checked-rows world k = rows_said f w p (rows_keep world (fewer k))
 
-  -- a campaign assembled from rows of the first format that satisfy RowsKeep has no stocks
+  -- the campaign read from rows of the first format that keep the rules on rows (RowsKeep) has no stocks
   no_stocks : f ≡ First → RowsKeep f w p → HasNoStocks (campaign_of w p)
   unfolding campaign_of
   no_stocks is rows =
       by_number-every (λ r. as_u32 r.number) (region_of p.markets) (λ n r. r.stocks ≡ empty) region_in_range (λ r good. ap (stocks_of (as_u32 r.number)) (none_in_first f w p rows is)) p.regions (ranges f w p rows).regions
 
-  -- if rows of the first format satisfy RowsKeep, the campaign assembled from them has 0 under all later entries
+  -- books read from rows of the first format that keep the rules on rows (RowsKeep) have 0 under entries of markets
   first_entries : f ≡ First → RowsKeep f w p → (e : Entry) (t : Thing) → first_entry_count ≤ entry_index e → amount_in (campaign_of w p).books e t ≡ pos 0
   unfolding campaign_of
   first_entries is rows =

@@ -29,7 +29,7 @@ use Rattle.atl_records.proofs.EveryLaws.{get-insert_other}
 use Rattle.atl_records.proofs.HoldingLaws.{set_amount, set_other}
 use Rattle.atl_state.proofs.RegionLaws.{amount-other}
 
--- if a implies b, and b is false, a is false
+-- if b is true wherever a is, and b is false, a is false
 without_marks : (a b : Bool) → (a ≡ true → b ≡ true) → b ≡ false → a ≡ false
 without_marks true b stays free = absurd (true≢false (sym (stays refl) ∙ free))
 without_marks false b stays free = refl
@@ -57,7 +57,7 @@ stay-trans one two = record {
   row = λ h. two.row (one.row h);
 }
 
--- if m covers a change from a to b, and n, which keeps m's marks, one from b to c, n covers both
+-- if m marks all that changes from a to b, and n, with m's marks too, all from b to c, n marks all from a to c (Covers)
 pub covers-trans : {m n : Marks} (a b c : CampaignValue) → StayMarked m n → Covers m a b → Covers n b c → Covers n a c
 covers-trans {m} {n} a b c stay one two = record {
   factions = λ k free. two.factions k free ∙ one.factions k (was_unmarked m.factions n.factions stay.factions k free);
@@ -156,7 +156,7 @@ module _ (goods : FinSet nat_cmp) (things : Things) (n thing : ℕ) where
 
 -- ---- the parts of a campaign, which are marked each for itself
 
--- the parts of a campaign that have marks of their own
+-- the 14 parts of a campaign that have marks of their own: more than its ten tables, as units and goods have several
 pub data Part : Type 0 where
   Factions : Part
   Regions : Part
@@ -173,7 +173,7 @@ pub data Part : Type 0 where
   Books : Part
   Row : Part
 
--- what is marked of a part: a number; of stocks a pair of region and item, of items and skills one of unit and thing
+-- what a mark on a part names: a number; region and item of stocks, unit and thing of items and skills; of Row nothing
 abbrev pub Mark : Part → Type 0
 Mark Stocks = ℕ × ℕ
 Mark Items = ℕ × ℕ
@@ -198,7 +198,7 @@ is_marked Skills m k = is_thing_marked m.goods m.skills k.0 k.1
 is_marked Books m k = contains m.books k
 is_marked Row m k = m.row
 
--- what a value of a part is looked up by: a number, or a pair of numbers for stocks, items and skills, or an account
+-- what a value of a part is looked up by: a number, two of stocks, items and skills, an account of Books, none of Row
 abbrev pub LookupKey : Part → Type 0
 LookupKey Stocks = ℕ × ℕ
 LookupKey Items = ℕ × ℕ
@@ -207,7 +207,7 @@ LookupKey Books = Entry × Thing
 LookupKey Row = Prim.Unit {0}
 LookupKey _ = ℕ
 
--- the mark that covers the value of a part under an index: the index itself, or the number of an amount
+-- the mark for the value of a part under a key: the key itself, but for the books the number of the account's amount
 abbrev pub mark_at : (p : Part) → LookupKey p → Mark p
 mark_at Books k = amount_number k.0 k.1
 mark_at _ k = k
@@ -229,7 +229,7 @@ Shown Skills = Option ℕ
 Shown Books = ℤ
 Shown Row = ℕ × (List ℕ × (ℕ × (ℕ × ℕ)))
 
--- the value of a part under an index
+-- the value of a part under a key; nothing for Units, Goods and Markets
 abbrev pub shown : (p : Part) → CampaignValue → LookupKey p → Shown p
 shown Factions c k = get c.factions k
 shown Regions c k = option_map unstocked (get c.regions k)

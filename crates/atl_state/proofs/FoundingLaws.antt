@@ -41,7 +41,7 @@ use Rattle.atl_state.proofs.AmountLaws.{none_weighed}
 use Rattle.atl_state.proofs.AmountMarkLaws.{none_marked}
 use Rattle.atl_records.proofs.BookLaws.{booked-after_booking, booked-no_amounts, amount-no_amounts, AreBooks-no_amounts, AreBooks-after_booking, IsWithin-after_booking, share_of}
 
--- right lists of units, with an empty dirty set that has room for all amounts, satisfy the invariant AreKept
+-- lists that are those of the units, and an empty dirty set with room for all amounts, are what is kept (AreKept)
 pub AreKept-without_marks : (things : ℕ) (units : FinMap nat_cmp Unit) (lists : UnitLists) → AreUnitLists units lists → AreKept units lists things (record { numbers = set.empty; room = entry_count * things })
 AreKept-without_marks things units lists listed = record { unit_lists = listed; amounts = none_marked things (entry_count * things) (omega arith) }
 
@@ -50,11 +50,11 @@ AreBooks-founding : (things money people : ℕ) → 2 ≤ things → AreBooks th
 AreBooks-founding things money people l =
     AreBooks-after_booking things (after_booking (no_amounts things) Founding Money (pos money)) Founding People (pos people) (AreBooks-after_booking things (no_amounts things) Founding Money (pos money) (AreBooks-no_amounts things) (omega arith)) (omega arith)
 
--- the sum over no units is 0
+-- the total of a thing over no units is 0
 nobody : (t : Thing) → sum_over (λ (u : Unit). unit_amount t u.holding) (empty {X = Unit} {R = nat_cmp}) ≡ 0
 nobody t = rw (entries-empty {X = Unit}) refl
 
--- no region of a founded campaign has a stock
+-- the regions of a founded campaign have 0 of each item in stock together
 no_items : (w : WorldValue) (i : ℕ) → sum_over (λ (r : Region). region_amount (Item i) r) (mapped founded_region w.regions) ≡ 0
 no_items w i =
     let founded = mapped founded_region w.regions in
@@ -71,15 +71,15 @@ founding_booked things money people t =
     from_nothing : (z : ℤ) → pos 0 +ℤ z ≡ z
     from_nothing z = omega (arith, ints)
 
--- money balances if units hold none, and all of it is booked
+-- if units hold a = 0 money, the total of a + m money is what founding books of it: m, and 0 with the people
 held_money : (a m : ℕ) → a ≡ 0 → pos (a + m) ≡ pos m +ℤ pos 0
 held_money a m h = omega (arith, ints)
 
--- people balance if units have none, and all of them are booked
+-- if units have a = 0 men, the total of a + p people is what founding books of them: 0 with the money, and p
 held_people : (a p : ℕ) → a ≡ 0 → pos (a + p) ≡ pos 0 +ℤ pos p
 held_people a p h = omega (arith, ints)
 
--- an item balances if neither units nor regions have any
+-- if neither units nor regions have any of item i, its total is what founding books of it: 0
 held_items : (a b i m p : ℕ) → a ≡ 0 → b ≡ 0 → (2 + i == 0) ≡ false → (2 + i == 1) ≡ false → pos (a + b) ≡ cond (2 + i == 0) (pos m) (pos 0) +ℤ cond (2 + i == 1) (pos p) (pos 0)
 held_items a b i m p h g e f = ap (λ n. pos (n + b)) h ∙ ap (λ n. pos (0 + n)) g ∙ sym (ap (λ q. cond q (pos m) (pos 0) +ℤ cond (2 + i == 1) (pos p) (pos 0)) e ∙ ap (λ q. pos 0 +ℤ cond q (pos p) (pos 0)) f)
 

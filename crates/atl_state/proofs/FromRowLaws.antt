@@ -42,14 +42,14 @@ use Rattle.atl_state.proofs.OrderLaws.{each_passes}
 -- ---- maps of rows
 
 module _ {R V : Type 0} (number : R → ℕ) (value : R → V) where
-  -- if P holds for a map's values, and for the value of each row that passes a test, it does once such rows are put in
+  -- if P holds for a map's values, and for the value of each row that passes a test, it holds for all with such rows in
   put-every : (P : ℕ → V → Type 0) (p : R → Bool) → ((r : R) → p r ≡ true → P (number r) (value r)) → (rows : List R) (m : FinMap nat_cmp V) → list_all p rows ≡ true → Every P m → Every P (put_rows number value rows m)
   put-every P p each [] m all old = old
   put-every P p each (r ∷ rows) m all old =
       let parts = and_parts (p r) (list_all p rows) all in
       put-every P p each rows (insert m (number r) (value r)) parts.1 (every-insert P m (number r) (value r) (each r parts.0) old)
 
-  -- if all rows pass a test, and P holds for each value that does, P holds for all values of the rows' map
+  -- if all rows pass a test, and P holds for the value of each row that does, it holds for all values of the rows' map
   pub by_number-every : (P : ℕ → V → Type 0) (p : R → Bool) → ((r : R) → p r ≡ true → P (number r) (value r)) → (rows : List R) → list_all p rows ≡ true → Every P (by_number number value rows)
   by_number-every P p each rows all = put-every P p each rows empty all (every-empty P)
 
@@ -94,7 +94,7 @@ from_le m n h = grind (arith, nat_tests)
 
 -- ---- the books
 
--- books of some things are still books of these once a row's amount is put in, if the row's thing is one of them
+-- books of some things are still books of these once a row's amount is put in, or left out if its thing is none of them
 row_put : (things : ℕ) (books : BooksValue) (e : Entry) (r : StoredBooks) (b : Bool) → nat_lt (as_u32 r.thing) books.things ≡ b → AreBooks things books → AreBooks things (cond b (with_amount books e (thing_at (as_u32 r.thing)) r.amount) books)
 row_put things books e r true inside are =
     let few : as_u32 r.thing < books.things = grind (arith, nat_tests) in
@@ -122,16 +122,16 @@ put-books things (r ∷ rows) books are = put-books things rows (with_books_row 
 
 -- ---- the ranges
 
--- a row's stock is from 1 to the limit of its item's market in region n
+-- a row's stock is from 1 to its item's stock limit in region n (stock_limit)
 abbrev InStock : WorldValue → ℕ → StoredMarket → Type 0
 InStock w n m = (1 ≤ as_u32 m.stock) × (as_u32 m.stock ≤ stock_limit w n (as_u32 m.item))
 
--- a row of region n whose stock is in its range has a stock from 1 to the limit of its item's market there
+-- a row of region n whose stock is in its range has a stock from 1 to its item's stock limit there (InStock)
 has_room : (w : WorldValue) (n : ℕ) (m : StoredMarket) → market_in_range w m ≡ true → (as_u32 m.region == n) ≡ true → InStock w n m
 has_room w n m range of =
     subst (λ k. InStock w k m) (is_same (as_u32 m.region) n of) (in_range 1 (stock_limit w (as_u32 m.region) (as_u32 m.item)) most_u32 m.stock (omega arith) range)
 
--- the stocks that rows in range give region n are from 1 to the limits of their markets
+-- each stock that rows in range give region n is from 1 to its item's stock limit there (stock_limit)
 in_stock : (w : WorldValue) (n : ℕ) (markets : List StoredMarket) → list_all (market_in_range w) markets ≡ true → Every (λ i amount. (1 ≤ amount) × (amount ≤ stock_limit w n i)) (stocks_of n markets)
 in_stock w n markets all =
     every_by (λ m. as_u32 m.item) (λ m. as_u32 m.stock) (λ i amount. (1 ≤ amount) × (amount ≤ stock_limit w n i)) (filter (λ m. as_u32 m.region == n) markets)
@@ -153,14 +153,14 @@ structure_good w r h =
     let size = size_of w (as_u16 r.kind) in
     in_range 1 size most_u32 r.done (omega arith) (and_parts (is_from 1 most_structures r.number) (is_from 1 size r.done) h).1
 
--- each number of a row of `unit` is in its range
+-- the number, the men, the money and the guard flag of a row of `unit` are in their ranges
 pub record UnitRanges (r : StoredUnit) : Type 0 where
   pub number : is_from 1 last_unit r.number ≡ true
   pub men : is_from 1 men_limit r.men ≡ true
   pub money : is_from 0 holding_limit r.money ≡ true
   pub guard : is_from 0 1 r.guard ≡ true
 
--- a row of `unit` that passes unit_in_range has each of its numbers in its range
+-- a row of `unit` that passes unit_in_range has number, men, money and guard flag in their ranges (UnitRanges)
 pub unit_ranges : (r : StoredUnit) → unit_in_range r ≡ true → UnitRanges r
 unit_ranges r h =
     let number = is_from 1 last_unit r.number in
@@ -183,7 +183,7 @@ unit_good has r all h =
       },
     )
 
--- the campaign row and all rows of each table pass the test of their ranges
+-- the campaign row and all rows of the other tables, but for mail and reports, pass the test of their ranges
 pub record NumberRanges (w : WorldValue) (p : Parts) : Type 0 where
   pub head : campaign_row_in_range (campaign_row_of p) ≡ true
   pub factions : list_all faction_in_range p.factions ≡ true
@@ -194,7 +194,7 @@ pub record NumberRanges (w : WorldValue) (p : Parts) : Type 0 where
   pub books : list_all (books_in_range (books_bound p)) p.books ≡ true
   pub markets : list_all (market_in_range w) p.markets ≡ true
 
--- if rows pass numbers_in_range, all rows of each table pass the test of their ranges
+-- if rows pass numbers_in_range, all rows but those of mail and reports pass the test of their ranges (NumberRanges)
 pub number_ranges : (w : WorldValue) (p : Parts) → numbers_in_range w p ≡ true → NumberRanges w p
 number_ranges w p h =
     let head = campaign_row_in_range (campaign_row_of p) in
@@ -215,14 +215,14 @@ number_ranges w p h =
     let start = and_parts factions regions second.0 in
     record { head = first.0; factions = start.0; regions = start.1; units = second.1; has = fourth.1; structures = third.1; books = last.1; markets = whole.1 }
 
--- each number of the campaign row is in its range
+-- the month and the next numbers of a campaign row are in their ranges
 pub record HeadRanges (h : StoredCampaignRow) : Type 0 where
   pub month : is_from 0 last_month h.month ≡ true
   pub next_faction : is_from 1 (last_faction + 1) h.next_faction ≡ true
   pub next_unit : is_from 1 (last_unit + 1) h.next_unit ≡ true
   pub next_structure : is_from 1 (most_structures + 1) h.next_structure ≡ true
 
--- a campaign row that passes campaign_row_in_range has each of its numbers in its range
+-- a campaign row that passes campaign_row_in_range has its month and next numbers in their ranges (HeadRanges)
 pub head_ranges : (h : StoredCampaignRow) → campaign_row_in_range h ≡ true → HeadRanges h
 head_ranges h e =
     let month = is_from 0 last_month h.month in

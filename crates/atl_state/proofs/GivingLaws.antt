@@ -27,7 +27,7 @@ map_twice : {V : Type 0} (f g : V → V) (o : Option V) → option_map f (option
 map_twice f g None = refl
 map_twice f g (Some v) = refl
 
--- `changed_at` changes the value under its number by f
+-- `changed_at` by f leaves f of the old value under its number, or none where there was none
 at_same : {V : Type 0} (f : V → V) (m : FinMap nat_cmp V) (k : ℕ) (o : Option V) → get m k ≡ o → get (changed_at f m k o) k ≡ option_map f o
 at_same f m k None e = e
 at_same f m k (Some v) e = get_same m k (f v)
@@ -38,7 +38,7 @@ at_other f m k n None apart = refl
 at_other f m k n (Some v) apart = get_other m k n (f v) apart
 
 module _ {R V : Type 0} (owner : R → ℕ) (more : R → V → V) where
-  -- a value of number n once each row of number n is added to it
+  -- the value v of number n with each row of number n added to it, in the order of the rows
   abbrev pub given : ℕ → List R → V → V
   given n [] v = v
   given n (r ∷ rows) v = given n rows (cond (owner r == n) (more r v) v)
@@ -62,11 +62,11 @@ module _ {R V : Type 0} (owner : R → ℕ) (more : R → V → V) where
   get-give (r ∷ rows) m n = get-give rows (changed (more r) m (owner r)) n ∙ ap (option_map (given n rows)) (get-changed r m n) ∙ map_twice (given n rows) (λ v. cond (owner r == n) (more r v) v) (get m n)
 
   module _ {T : Type 0} (number : T → ℕ) (before after : T → V) (rows : List R) (each : (t : T) → given (number t) rows (before t) ≡ after t) where
-    -- the maps have the same numbers, and each value of the second is that of the first once the rows are added
+    -- both maps have the same numbers, and the second has each value of the first with the rows of its number added
     abbrev Becomes : FinMap nat_cmp V → FinMap nat_cmp V → Type 0
     Becomes m l = (n : ℕ) → option_map (given n rows) (get m n) ≡ get l n
 
-    -- the maps still agree (Becomes) once a bare value is put into the first map, and its full value into the second
+    -- two maps still agree (Becomes) once a value is put in, into one without its rows, into the other with them
     put_one : (t : T) (m l : FinMap nat_cmp V) → Becomes m l → Becomes (insert m (number t) (before t)) (insert l (number t) (after t))
     put_one t m l all n =
         let k = number t in
@@ -77,12 +77,12 @@ module _ {R V : Type 0} (owner : R → ℕ) (more : R → V → V) where
           | inr apart ↦ ap (option_map (given n rows)) (get_other m k n (before t) (λ e. apart (sym e))) ∙ all n ∙ sym (get_other l k n (after t) (λ e. apart (sym e)))
         ]
 
-    -- the maps still agree (Becomes) once all values are put in, bare into the first map and full into the second
+    -- two maps still agree (Becomes) once all values are put in, into one without their rows, into the other with them
     put_each : (ts : List T) (m l : FinMap nat_cmp V) → Becomes m l → Becomes (put_rows number before ts m) (put_rows number after ts l)
     put_each [] m l all = all
     put_each (t ∷ ts) m l all = put_each ts (insert m (number t) (before t)) (insert l (number t) (after t)) (put_one t m l all)
 
-    -- adding all rows to the map of bare values gives the map of full values
+    -- adding all rows to the map of values without their rows gives the map of values with their rows
     pub give_all : (ts : List T) → give owner more rows (by_number number before ts) ≡ by_number number after ts
     give_all ts =
         let none : Becomes empty empty = λ n. ap (option_map (given n rows)) (get-empty nat_cmp n) ∙ sym (get-empty nat_cmp n) in
@@ -90,15 +90,15 @@ module _ {R V : Type 0} (owner : R → ℕ) (more : R → V → V) where
 
 -- ---- units
 
--- the number of the item or skill in a row of a unit's goods, as it is read
+-- the number of the item or skill in a row of `has`, as it is read
 abbrev thing_of : StoredHas → ℕ
 thing_of r = as_u32 r.thing
 
--- the amount in a row of a unit's goods, as it is read
+-- the amount in a row of `has`, as it is read
 abbrev amount_of : StoredHas → ℕ
 amount_of r = as_u32 r.amount
 
--- a row given to a unit is put among its items, its days, or neither
+-- a unit with a row put among its items, its days or neither is the unit with the items and the days chosen apart
 picked : (r : StoredUnit) (items items' days days' : FinMap nat_cmp ℕ) (mine item skill : Bool) → (item ≡ true → skill ≡ false)
     → cond mine (cond item (unit_with r items' days) (cond skill (unit_with r items days') (unit_with r items days))) (unit_with r items days) ≡ unit_with r (cond (mine && item) items' items) (cond (mine && skill) days' days)
 picked r items items' days days' false item skill h = refl
@@ -106,11 +106,11 @@ picked r items items' days days' true true skill h = ap (λ b. unit_with r items
 picked r items items' days days' true false true h = refl
 picked r items items' days days' true false false h = refl
 
--- a kind that is 0 is not 1
+-- a sort that is 0 (items) is not 1 (days)
 no_skill : (s : ℕ) → (s == 0) ≡ true → (s == 1) ≡ false
 no_skill s h = ap (λ k. k == 1) (is_same s 0 h)
 
--- the bare unit of a row, once all rows of goods are added, has the items and days that its rows of goods name
+-- a unit, once the rows of `has` of number n are added to it, has also the items and days that these name
 unit_given : (r : StoredUnit) (n : ℕ) (has : List StoredHas) (items days : FinMap nat_cmp ℕ)
     → given (λ h. as_u32 h.unit) with_has_row n has (unit_with r items days) ≡ unit_with r (put_rows thing_of amount_of (filter (is_of n 0) has) items) (put_rows thing_of amount_of (filter (is_of n 1) has) days)
 unit_given r n [] items days = refl
@@ -122,26 +122,26 @@ unit_given r n (h ∷ has) items days =
     ∙ ap (λ m. unit_with r m (put_rows thing_of amount_of (filter (is_of n 1) has) (cond (is_of n 1 h) days' days))) (sym (taken_or_not thing_of amount_of (is_of n 0) h has (is_of n 0 h) items refl))
     ∙ ap (λ m. unit_with r (put_rows thing_of amount_of (filter (is_of n 0) (h ∷ has)) items) m) (sym (taken_or_not thing_of amount_of (is_of n 1) h has (is_of n 1 h) days refl))
 
--- the bare units, once all rows of goods are added, are the units assembled with these rows
+-- units without goods (bare_unit), once all rows of `has` are added, are the units assembled with these rows (unit_of)
 pub units_given : (has : List StoredHas) (rows : List StoredUnit) → give (λ h. as_u32 h.unit) with_has_row has (by_number (λ r. as_u32 r.number) bare_unit rows) ≡ by_number (λ r. as_u32 r.number) (unit_of has) rows
 units_given has rows = give_all (λ (h : StoredHas). as_u32 h.unit) with_has_row (λ (r : StoredUnit). as_u32 r.number) bare_unit (unit_of has) has (λ r. unit_given r (as_u32 r.number) has empty empty) rows
 
 -- ---- regions
 
--- the item's number in a row of a market, as it is read
+-- the item's number in a row of `market`, as it is read
 abbrev item_of : StoredMarket → ℕ
 item_of r = as_u32 r.item
 
--- the stock in a row of a market, as it is read
+-- the stock in a row of `market`, as it is read
 abbrev stock_of : StoredMarket → ℕ
 stock_of r = as_u32 r.stock
 
--- a choice between two regions that differ in their stocks is the region with the chosen stocks
+-- choosing between a region with the one stocks or the other is the region with the chosen stocks
 stocked : (r : StoredRegion) (stocks stocks' : FinMap nat_cmp ℕ) (mine : Bool) → cond mine (region_with r stocks') (region_with r stocks) ≡ region_with r (cond mine stocks' stocks)
 stocked r stocks stocks' true = refl
 stocked r stocks stocks' false = refl
 
--- the bare region of a row, once all rows of markets are added, has the stocks that its rows of markets name
+-- a region, once the rows of `market` of number n are added to it, has also the stocks that these name
 region_given : (r : StoredRegion) (n : ℕ) (markets : List StoredMarket) (stocks : FinMap nat_cmp ℕ)
     → given (λ m. as_u32 m.region) with_market_row n markets (region_with r stocks) ≡ region_with r (put_rows item_of stock_of (filter (λ m. as_u32 m.region == n) markets) stocks)
 region_given r n [] stocks = refl
@@ -152,7 +152,7 @@ region_given r n (m ∷ markets) stocks =
     ∙ region_given r n markets (cond mine stocks' stocks)
     ∙ ap (region_with r) (sym (taken_or_not item_of stock_of (λ m. as_u32 m.region == n) m markets mine stocks refl))
 
--- the bare regions, once all rows of markets are added, are the regions assembled with these rows
+-- regions without stocks (bare_region), once all rows of `market` are added, are those assembled with them (region_of)
 pub regions_given : (markets : List StoredMarket) (rows : List StoredRegion)
     → give (λ m. as_u32 m.region) with_market_row markets (by_number (λ r. as_u32 r.number) bare_region rows) ≡ by_number (λ r. as_u32 r.number) (region_of markets) rows
 regions_given markets rows = give_all (λ (m : StoredMarket). as_u32 m.region) with_market_row (λ (r : StoredRegion). as_u32 r.number) bare_region (region_of markets) markets (λ r. region_given r (as_u32 r.number) markets empty) rows

@@ -24,7 +24,7 @@ abbrev pub as_gone : Faction → Faction
 as_gone f = record f { gone = true }
 
 module _ (c : CampaignValue) (n : ℕ) (x : Faction) (is : get c.factions n ≡ Some x) where
-  -- the factions with n set gone
+  -- the campaign's factions with faction n set gone
   abbrev factions : FinMap nat_cmp Faction
   factions = insert c.factions n (as_gone x)
 
@@ -32,7 +32,7 @@ module _ (c : CampaignValue) (n : ℕ) (x : Faction) (is : get c.factions n ≡ 
   abbrev left : CampaignValue
   left = record c { factions = factions }
 
-  -- a number without a faction is not n
+  -- a number without a faction is not n, which has one
   free_apart : (k : ℕ) → get c.factions k ≡ None → k ≢ n
   free_apart k free same = none_some x (sym free ∙ ap (get c.factions) same ∙ is)
 
@@ -65,7 +65,7 @@ module _ (c : CampaignValue) (n : ℕ) (x : Faction) (is : get c.factions n ≡ 
   abbrev JoinedOnce : ℕ → Faction → ℕ → Faction → Type 0
   JoinedOnce k f m g = f.joined_as ≡ g.joined_as → k ≡ m
 
-  -- all names stay good when faction n is set gone
+  -- names and pass texts keep their rules, and joined names differ, when faction n is set gone
   names_kept : AreNamed c → AreNamed left
   names_kept old = record {
     pass = old.pass;
@@ -95,7 +95,7 @@ module _ (c : CampaignValue) (n : ℕ) (x : Faction) (is : get c.factions n ≡ 
     units = old.units;
   }
 
-  -- the campaign stays steady if faction n has no units
+  -- the campaign stays steady with faction n set gone (`left`), if it has no units
   steady_gone : (w : WorldValue) → numbers_of n c.units ≡ [] → IsSteady w c → IsSteady w left
   steady_gone w none old = record {
     numbers = numbers_kept w old.numbers;

@@ -54,16 +54,16 @@ module _ (w : WorldValue) (c : CampaignValue) (month : ℕ) (mail reports : FinM
     books = old.books;
   }
 
-  -- all names stay good with other mail and reports
+  -- names and pass texts keep their rules with another month, other mail and other reports
   posted-names : AreNamed c → AreNamed posted
   posted-names old = record { pass = old.pass; factions = old.factions; joined = old.joined; units = old.units; structures = old.structures }
 
   module _ (early : month ≤ last_month) (posts : AreOfFactions c.factions mail reports) where
-    -- everything that the campaign names by number exists, if mail and reports are of factions that are there
+    -- all that the campaign names by number still exists with other mail and reports, if they are of its factions
     posted-known : AreKnown w c → AreKnown w posted
     posted-known old = record { regions = old.regions; markets = old.markets; units = old.units; structures = old.structures; posts = posts }
 
-    -- the campaign stays steady, if the month is at most the last, and mail and reports are of factions that are there
+    -- the campaign stays steady in another month, up to the last, with other mail and reports of its factions
     pub posted-steady : IsSteady w c → IsSteady w posted
     posted-steady old = record {
       numbers = posted-numbers early old.numbers;
@@ -77,7 +77,7 @@ module _ (w : WorldValue) (c : CampaignValue) (month : ℕ) (mail reports : FinM
       guarded = old.guarded;
     }
 
--- a sound campaign with other mail and reports is sound, if they are of its factions and the mail is good
+-- a sound campaign is sound with other mail and reports of its factions, if each mail is a mailing of one not gone
 posted-sound : (w : WorldValue) (c : CampaignValue) (mail reports : FinMap nat_cmp (List ℕ)) → AreOfFactions c.factions mail reports
     → Every (λ n text. IsMailingOf n text × IsActive c n) mail → IsSound w c → IsSound w (record c { mail = mail; reports = reports })
 unfolding total
@@ -103,7 +103,7 @@ IsGood-with_report w c faction text there good = record {
   reported = λ n f is. there-insert c.reports faction n text (good.reported n f is);
 }
 
--- storing a good mailing of a faction that is not gone keeps a campaign good
+-- storing a mailing of a faction that is not gone (IsMailingOf, IsActive) keeps a campaign good
 pub IsGood-with_mail : (w : WorldValue) (c : CampaignValue) (faction : ℕ) (text : List ℕ) → IsMailingOf faction text → IsActive c faction → IsGood w c → IsGood w (with_mail c faction text)
 IsGood-with_mail w c faction text sent active good =
     let posts = good.sound.steady.known.posts in

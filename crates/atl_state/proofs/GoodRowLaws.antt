@@ -46,15 +46,15 @@ use Rattle.atl_state.proofs.MarketLaws.{market_known}
 
 -- ---- numbers in a good campaign
 
--- the numbers of a map that is numbered from 1 are at most the number of its values
+-- the numbers of a map that is numbered from 1 without a gap are 1 to `most`, if it has at most `most` values
 few_numbered : {V : Type 0} (m : FinMap nat_cmp V) (next most : ℕ) → IsNumbered m next → len m ≤ most → Every (λ n v. (1 ≤ n) × (n ≤ most)) m
 few_numbered m next most is few n v there = let range = every-from_each (λ n v. (1 ≤ n) × (n < next)) m (each_numbered m next is) n v there in (range.0, omega (arith, range.1, is.count, few))
 
--- numbers are at most `most`, if those from next on have no value and next is at most most + 1
+-- the numbers of a map are at most `most`, if those from `next` on have no value, and `next` is at most most + 1
 few_before : {V : Type 0} (m : FinMap nat_cmp V) (next most : ℕ) → ((n : ℕ) → next ≤ n → get m n ≡ None) → next ≤ most + 1 → Every (λ n v. n ≤ most) m
 few_before m next most free few n v there = let low = every_before m next free n v there in omega (arith, low, few)
 
--- numbers up to a bound that fits 32 bits fit 32 bits
+-- if the numbers of a map are at most `most`, and that fits 32 bits, they fit 32 bits
 small_enough : {V : Type 0} (m : FinMap nat_cmp V) (most : ℕ) → most ≤ most_u32 → Every (λ n v. n ≤ most) m → Every (λ n v. n ≤ most_u32) m
 small_enough m most few every n v there = let here = every n v there in omega (arith, few, here)
 
@@ -84,7 +84,7 @@ region_back markets n r few p m stocks =
     let its_stocks = ap (λ k. stocks_of k markets) (read_whole n few) ∙ stocks in
     λ i. record { peasants = peasants i; money = money i; stocks = its_stocks i }
 
--- the numbers of a structure fit 16 and 32 bits
+-- a structure's kind fits 16 bits, and its region, owner and how much is done 32
 pub record StructureFits (s : Structure) : Type 0 where
   pub kind : s.kind ≤ most_u16
   pub region : s.region ≤ most_u32
@@ -100,7 +100,7 @@ structure_back n s h =
     let owner = read_whole s.owner h.owner in
     λ i. record { kind = kind i; name = s.name; region = region i; done = done i; owner = owner i }
 
--- the numbers of a unit fit 32 bits
+-- a unit's faction, region, structure, men and money fit 32 bits
 pub record UnitFits (u : Unit) : Type 0 where
   pub faction : u.faction ≤ most_u32
   pub region : u.region ≤ most_u32
@@ -124,19 +124,19 @@ unit_back has n u few h items days =
 -- ---- a table with a key of one number
 
 module _ {V R : Type 0} (row : ℕ → V → R) (key : R → ℤ) (value : R → V) (keyed : (n : ℕ) (v : V) → key (row n v) ≡ pos n) (m : FinMap nat_cmp V) (few : Every (λ n v. n ≤ most_u32) m) (rows : List R) (h : IsPermutation (rows_by row (entries m)) rows) where
-  -- the rows of different numbers have different keys
+  -- the rows of two numbers, the first below the second, have different keys
   apart : (n k : ℕ) (v u : V) → n < k → same (one_key (key (row n v))) (one_key (key (row k u))) ≡ false
   apart n k v u l = ap (λ z. same (one_key z) (one_key (key (row k u)))) (keyed n v) ∙ ap (λ z. same (one_key (pos n)) (one_key z)) (keyed k u) ∙ apart_numbers n k l
 
-  -- the table's rows, in any order, have distinct keys
+  -- the rows of a map, in any order, have distinct keys
   pub table_keys : HaveKeys (λ r. one_key (key r)) rows
   table_keys = keys_permuted (λ r. one_key (key r)) (rows_by row (entries m)) rows h (rows_apart row (λ a b. same (one_key (key a)) (one_key (key b))) apart (entries m) (entries_rise m))
 
-  -- the keys of the table's rows, in any order, are read as they are
+  -- the keys of a map's rows, in any order, are read as they are: they fit 32 bits
   whole : AllByRecursion (λ r. IsWhole (key r)) rows
   whole = rows_so row (λ r. IsWhole (key r)) m rows h (λ n v is. subst IsWhole (sym (keyed n v)) (written_whole n (few n v is)))
 
-  -- from the table's rows, in any order, the same map is made
+  -- the rows of a map, in any order, make that map again, if each value is read back from its row
   pub table_back : Every (λ n v. value (row n v) ≡ v) m → by_number (λ r. as_u32 (key r)) value rows ≡ m
   table_back back =
       map_back row (λ r. as_u32 (key r)) value m rows h (λ n v is. (ap as_u32 (keyed n v) ∙ read_whole n (few n v is), back n v is))
@@ -161,11 +161,11 @@ none_listed (r ∷ rows) h = let count = length_permutation [] (r ∷ rows) h in
 
 -- ---- what is so of a good campaign's numbers
 
--- the numbers of a unit fit 32 bits, if they are within their limits
+-- a unit's faction, region, structure, men and money fit 32 bits (UnitFits), if they are within their limits
 unit_small_enough : (u : Unit) → u.faction ≤ last_faction → u.region ≤ last_region → u.structure ≤ most_structures → u.holding.men ≤ men_limit → u.holding.money ≤ holding_limit → UnitFits u
 unit_small_enough u f r s m y = record { faction = omega (arith, f); region = omega (arith, r); structure = omega (arith, s); men = omega (arith, m); money = omega (arith, y) }
 
--- the numbers of a structure fit 16 and 32 bits, if they are within their limits
+-- a structure's kind fits 16 bits, and its other numbers 32 (StructureFits), if they are within their limits
 structure_small_enough : (w : WorldValue) → IsWorld w → (s : Structure) → s.kind < length w.kinds → s.region ≤ last_region → s.done ≤ size_of w s.kind → s.owner ≤ last_unit → StructureFits s
 structure_small_enough w world s k r d o =
     let kinds = world.few_kinds in
@@ -187,35 +187,35 @@ few_goods w world u items skills amounts men days (suc s) l i a is =
     (omega (arith, few, at), range.0, omega (arith, range.1, men))
 
 module _ (w : WorldValue) (world : IsWorld w) (c : CampaignValue) (good : IsGood w c) where
-  -- factions have numbers from 1 to last_faction
+  -- the factions of a good campaign have numbers from 1 to last_faction
   pub few_factions : Every (λ n f. (1 ≤ n) × (n ≤ last_faction)) c.factions
   few_factions = few_numbered c.factions c.next_faction last_faction good.sound.steady.next.factions good.sound.steady.numbers.few_factions
 
-  -- structures have numbers from 1 to most_structures
+  -- the structures of a good campaign have numbers from 1 to most_structures
   pub few_structures : Every (λ n s. (1 ≤ n) × (n ≤ most_structures)) c.structures
   few_structures = few_numbered c.structures c.next_structure most_structures good.sound.steady.next.structures good.sound.steady.numbers.few_structures
 
-  -- units have numbers up to last_unit
+  -- the units of a good campaign have numbers up to last_unit
   pub few_units : Every (λ n u. n ≤ last_unit) c.units
   few_units = few_before c.units c.next_unit last_unit good.sound.steady.next.units good.sound.steady.numbers.next_unit_most
 
-  -- the number of a region that is there is at most last_region
+  -- the number of each region of a good campaign is at most last_region
   pub region_small : (n : ℕ) → IsThere c.regions n → n ≤ last_region
   region_small n there = let known = (good.sound.steady.known.regions n).0 there in (world.regions n known.0 known.1).number_most
 
-  -- the number of a faction that is there is at most last_faction
+  -- the number of each faction of a good campaign is at most last_faction
   pub faction_small : (n : ℕ) → IsThere c.factions n → n ≤ last_faction
   faction_small n there = (few_factions n there.0 there.1).1
 
-  -- the number of a unit that is there is at most last_unit
+  -- the number of each unit of a good campaign is at most last_unit
   pub unit_small : (n : ℕ) → IsThere c.units n → n ≤ last_unit
   unit_small n there = few_units n there.0 there.1
 
-  -- the number of a structure that is there is at most most_structures
+  -- the number of each structure of a good campaign is at most most_structures
   pub structure_small : (n : ℕ) → IsThere c.structures n → n ≤ most_structures
   structure_small n there = (few_structures n there.0 there.1).1
 
-  -- the numbers of every unit fit 32 bits
+  -- the numbers in every unit of a good campaign fit 32 bits (UnitFits)
   unit_fits : Every (λ n u. UnitFits u) c.units
   unit_fits n u is =
       let placed = good.sound.steady.known.units n u is in
@@ -227,32 +227,32 @@ module _ (w : WorldValue) (world : IsWorld w) (c : CampaignValue) (good : IsGood
       let money : u.holding.money ≤ holding_limit = holding.money in
       unit_small_enough u faction region structure men money
 
-  -- the numbers of every structure fit 16 and 32 bits
+  -- the kind of every structure of a good campaign fits 16 bits, and its other numbers 32 (StructureFits)
   pub structure_fits : Every (λ n s. StructureFits s) c.structures
   structure_fits n s is =
       let built = good.sound.steady.known.structures n s is in
       let done = (good.sound.steady.numbers.structures n s is).1 in
       structure_small_enough w world s built.kind (region_small s.region built.region) done (none_or_below c.units s.owner last_unit few_units built.owner)
 
-  -- the numbers of every unit's items and skills fit 32 bits, and each amount is from 1 to most_u32
+  -- in a good campaign the numbers of every unit's items and skills fit 32 bits, and each amount is from 1 to most_u32
   goods_few : Every (λ n u. (s : ℕ) → s < 2 → Every (λ i a. (i ≤ most_u32) × (1 ≤ a) × (a ≤ most_u32)) (goods_of s u)) c.units
   goods_few n u is =
       let placed = good.sound.steady.known.units n u is in
       let holding = (good.sound.steady.numbers.units n u is).1 in
       few_goods w world u placed.items placed.skills holding.items holding.men (good.sound.steady.days n u is)
 
-  -- the numbers of units and of what they have fit 32 bits, and each amount is from 1 to most_u32
+  -- in a good campaign the numbers of units and their goods fit 32 bits, each amount is from 1 to most_u32 (AreHad)
   pub had : AreHad c.units
   had = record { numbers = small_enough c.units last_unit (omega arith) few_units; goods = goods_few }
 
-  -- the index of an item with a market fits 32 bits
+  -- the number of an item for which a region has a market fits 32 bits
   item_small : (n i : ℕ) → is_some (market_of w n i) ≡ true → i ≤ most_u32
   item_small n i named =
       let few = world.few_items in
       let below = market_known w world n i named in
       omega (arith, few, below)
 
-  -- the numbers of regions and of items in stock fit 32 bits, and each stock is from 1 to most_u32
+  -- in a good campaign the numbers of regions and items in stock fit 32 bits, and stocks are 1 to most_u32 (AreStocked)
   pub stocked : AreStocked c.regions
   stocked = record {
     numbers = λ n r is. let most = region_small n (r, is) in omega (arith, most);
@@ -263,85 +263,85 @@ module _ (w : WorldValue) (world : IsWorld w) (c : CampaignValue) (good : IsGood
   }
 
   module _ (f : Format) (fits : Fits f c) (p : Parts) (rows : AreRowsOf f c p) where
-    -- the table of the campaign's own row is that row, in any order
+    -- the rows of `campaign` are the campaign row of the good campaign alone, in any order
     head_listed : IsPermutation (campaign_row f c ∷ []) p.campaign
     unfolding rows_of
     head_listed = rows.campaign
 
-    -- the rows of factions are those of the campaign's factions, in any order
+    -- the rows of `faction` are those of the good campaign's factions, in any order
     pub factions_listed : IsPermutation (rows_by faction_row (entries c.factions)) p.factions
     unfolding rows_of
     factions_listed = rows.factions
 
-    -- the rows of regions are those of the campaign's regions, in any order
+    -- the rows of `region` are those of the good campaign's regions, in any order
     pub regions_listed : IsPermutation (rows_by region_row (entries c.regions)) p.regions
     unfolding rows_of
     regions_listed = rows.regions
 
-    -- the rows of units are those of the campaign's units, in any order
+    -- the rows of `unit` are those of the good campaign's units, in any order
     pub units_listed : IsPermutation (rows_by unit_row (entries c.units)) p.units
     unfolding rows_of
     units_listed = rows.units
 
-    -- the rows of goods are those of the campaign's units, in any order
+    -- the rows of `has` are those of the goods of the good campaign's units, in any order
     pub has_listed : IsPermutation (has_rows (entries c.units)) p.has
     unfolding rows_of
     has_listed = rows.has
 
-    -- the rows of structures are those of the campaign's structures, in any order
+    -- the rows of `structure` are those of the good campaign's structures, in any order
     pub structures_listed : IsPermutation (rows_by structure_row (entries c.structures)) p.structures
     unfolding rows_of
     structures_listed = rows.structures
 
-    -- the rows of mail are those of the campaign's mail, in any order
+    -- the rows of `mail` are those of the good campaign's mail, in any order
     pub mail_listed : IsPermutation (rows_by mail_row (entries c.mail)) p.mail
     unfolding rows_of
     mail_listed = rows.mail
 
-    -- the rows of reports are those of the campaign's reports, in any order
+    -- the rows of `report` are those of the good campaign's reports, in any order
     pub reports_listed : IsPermutation (rows_by report_row (entries c.reports)) p.reports
     unfolding rows_of
     reports_listed = rows.reports
 
-    -- the rows of books are those of the campaign's books, in any order
+    -- the rows of `books` are those of the good campaign's books, in any order
     pub books_listed : IsPermutation (books_rows c.books) p.books
     unfolding rows_of
     books_listed = rows.books
 
-    -- the rows of markets are those of the campaign's stocks in this format, in any order
+    -- the rows of `market` are those of the good campaign's stocks, in the first format none, in any order
     pub markets_listed : IsPermutation (market_rows f (entries c.regions)) p.markets
     unfolding rows_of
     markets_listed = rows.markets
 
-    -- the table of the campaign's own row is that row alone
+    -- the rows of `campaign` are the campaign row of the good campaign alone
     pub its_head : p.campaign ≡ campaign_row f c ∷ []
     its_head = only_row (campaign_row f c) p.campaign head_listed
 
-    -- the campaign row read from the tables is the campaign's own row
+    -- the campaign row read from a good campaign's rows is that campaign's
     pub head_said : campaign_row_of p ≡ campaign_row f c
     head_said = ap (λ hs. slice_index_or hs 0 no_campaign_row) its_head
 
-    -- the numbers of factions fit 32 bits
+    -- the numbers of a good campaign's factions fit 32 bits
     pub factions_whole : Every (λ n f. n ≤ most_u32) c.factions
     factions_whole n f is = let most : n ≤ last_faction = (few_factions n f is).1 in omega (arith, most)
 
-    -- the numbers of regions fit 32 bits
+    -- the numbers of a good campaign's regions fit 32 bits
     pub regions_whole : Every (λ n r. n ≤ most_u32) c.regions
     regions_whole n r is = let most : n ≤ last_region = region_small n (r, is) in omega (arith, most)
 
-    -- the numbers of structures fit 32 bits
+    -- the numbers of a good campaign's structures fit 32 bits
     pub structures_whole : Every (λ n s. n ≤ most_u32) c.structures
     structures_whole n s is = let most : n ≤ most_structures = (few_structures n s is).1 in omega (arith, most)
 
-    -- the numbers of the factions of mail fit 32 bits
+    -- the numbers of the factions of a good campaign's mail fit 32 bits
     pub mail_whole : Every (λ n text. n ≤ most_u32) c.mail
     mail_whole n text is = let most : n ≤ last_faction = faction_small n (good.sound.steady.known.posts.mail n text is) in omega (arith, most)
 
-    -- the numbers of the factions of reports fit 32 bits
+    -- the numbers of the factions of a good campaign's reports fit 32 bits
     pub reports_whole : Every (λ n text. n ≤ most_u32) c.reports
     reports_whole n text is = let most : n ≤ last_faction = faction_small n (good.sound.steady.known.posts.reports n text is) in omega (arith, most)
 
-    -- the factions read from the rows are the campaign's
+    -- the factions read from a good campaign's rows are that campaign's
     factions_said : by_number (λ r. as_u32 r.number) faction_of p.factions ≡ c.factions
     factions_said = table_back faction_row (λ r. r.number) faction_of (λ n f. refl) c.factions factions_whole p.factions factions_listed (λ n f is. faction_back n f (factions_whole n f is) (good.sound.steady.numbers.factions n f is))
 
@@ -349,7 +349,7 @@ module _ (w : WorldValue) (world : IsWorld w) (c : CampaignValue) (good : IsGood
     amount_small : (n : ℕ) → n ≤ most_amount → n ≤ most_u32
     amount_small n h = omega (arith, h)
 
-    -- if P holds of the row of every stock, it holds of each row of the table of markets
+    -- if P holds of the row of every listed stock of a good campaign, it holds of each of its rows of `market`
     pub each_market : (P : StoredMarket → Type 0) → Every (λ n r. Every (λ i a. P (market_row n i a)) r.stocks) c.regions → AllByRecursion P p.markets
     each_market P h = elim f as (λ g. IsPermutation (market_rows g (entries c.regions)) p.markets → AllByRecursion P p.markets) [
       | First ↦ λ listed. subst (AllByRecursion P) (sym (none_listed p.markets listed)) tt
@@ -361,74 +361,74 @@ module _ (w : WorldValue) (world : IsWorld w) (c : CampaignValue) (good : IsGood
     unfolding IsDistinct
     no_keys = tt
 
-    -- the rows of markets have distinct keys
+    -- the rows of `market` of a good campaign have distinct keys
     pub markets_keyed : HaveKeys market_key p.markets
     markets_keyed = elim f as (λ g. IsPermutation (market_rows g (entries c.regions)) p.markets → HaveKeys market_key p.markets) [
       | First ↦ λ listed. subst (HaveKeys market_key) (sym (none_listed p.markets listed)) no_keys
       | Second ↦ λ listed. market_keys c.regions stocked p.markets listed
     ] markets_listed
 
-    -- the stocks read from the rows are those of each region
+    -- the stocks read for a region from a good campaign's rows of `market` are those that the region has
     stocks_said : Every (λ n r. stocks_of n p.markets ≡ r.stocks) c.regions
     stocks_said n r is = elim f as (λ g. Fits g c → IsPermutation (market_rows g (entries c.regions)) p.markets → stocks_of n p.markets ≡ r.stocks) [
       | First ↦ λ bare listed. ap (stocks_of n) (none_listed p.markets listed) ∙ sym (bare.stocks n r is)
       | Second ↦ λ _ listed. stocks_back c.regions stocked p.markets listed n r is
     ] fits markets_listed
 
-    -- the regions read from the rows are the campaign's
+    -- the regions read from a good campaign's rows are that campaign's
     regions_said : by_number (λ r. as_u32 r.number) (region_of p.markets) p.regions ≡ c.regions
     regions_said =
         table_back region_row (λ r. r.number) (region_of p.markets) (λ n r. refl) c.regions regions_whole p.regions regions_listed (λ n r is.
         let range = good.sound.steady.numbers.regions n r is in
         region_back p.markets n r (regions_whole n r is) (amount_small r.peasants range.peasants) (amount_small r.money range.money) (stocks_said n r is))
 
-    -- the structures read from the rows are the campaign's
+    -- the structures read from a good campaign's rows are that campaign's
     structures_said : by_number (λ r. as_u32 r.number) structure_of p.structures ≡ c.structures
     structures_said = table_back structure_row (λ r. r.number) structure_of (λ n s. refl) c.structures structures_whole p.structures structures_listed (λ n s is. structure_back n s (structure_fits n s is))
 
-    -- the mail read from the rows is the campaign's
+    -- the mail read from a good campaign's rows is that campaign's
     mail_said : by_number (λ r. as_u32 r.faction) (λ r. r.text) p.mail ≡ c.mail
     mail_said = table_back mail_row (λ r. r.faction) (λ r. r.text) (λ n text. refl) c.mail mail_whole p.mail mail_listed (λ n text is. refl)
 
-    -- the reports read from the rows are the campaign's
+    -- the reports read from a good campaign's rows are that campaign's
     reports_said : by_number (λ r. as_u32 r.faction) (λ r. r.text) p.reports ≡ c.reports
     reports_said = table_back report_row (λ r. r.faction) (λ r. r.text) (λ n text. refl) c.reports reports_whole p.reports reports_listed (λ n text is. refl)
 
-    -- the units read from the rows are the campaign's
+    -- the units read from a good campaign's rows are that campaign's
     units_said : by_number (λ r. as_u32 r.number) (unit_of p.has) p.units ≡ c.units
     units_said =
         table_back unit_row (λ r. r.number) (unit_of p.has) (λ n u. refl) c.units had.numbers p.units units_listed (λ n u is.
         unit_back p.has n u (had.numbers n u is) (unit_fits n u is) (goods_back c.units had p.has has_listed n u is 0 (omega arith)) (goods_back c.units had p.has has_listed n u is 1 (omega arith)))
 
-    -- the numbers of the world's things fit 32 bits
+    -- the world has at most 4,294,967,294 things, so each thing's number fits 32 bits
     pub few_things : things_of w ≤ 4294967294
     few_things = let few = world.few_items in omega (arith, few)
 
-    -- the books read from the rows are the campaign's
+    -- the books read from a good campaign's rows are that campaign's
     books_said : put_amounts p.books (no_amounts (things_of w)) ≡ c.books
     books_said = books_back (things_of w) few_things c.books good.sound.steady.numbers.books p.books books_listed
 
-    -- the month read from the rows is the campaign's
+    -- the month read from a good campaign's rows is that campaign's
     pub month_said : as_u32 (campaign_row_of p).month ≡ c.month
     month_said = let most : c.month ≤ last_month = good.sound.steady.numbers.month in ap (λ (h : StoredCampaignRow). as_u32 h.month) head_said ∙ read_whole c.month (omega (arith, most))
 
-    -- the next faction's number is at most last_faction + 1
+    -- the next faction number of a good campaign is at most last_faction + 1
     pub faction_next : c.next_faction ≤ last_faction + 1
     faction_next = let count : c.next_faction ≡ len c.factions + 1 = good.sound.steady.next.factions.count in let few : len c.factions ≤ last_faction = good.sound.steady.numbers.few_factions in omega (arith, count, few)
 
-    -- the next structure's number is at most most_structures + 1
+    -- the next structure number of a good campaign is at most most_structures + 1
     pub structure_next : c.next_structure ≤ most_structures + 1
     structure_next = let count : c.next_structure ≡ len c.structures + 1 = good.sound.steady.next.structures.count in let few : len c.structures ≤ most_structures = good.sound.steady.numbers.few_structures in omega (arith, count, few)
 
-    -- the next faction's number read from the rows is the campaign's
+    -- the next faction number read from a good campaign's rows is that campaign's
     next_faction_said : as_u32 (campaign_row_of p).next_faction ≡ c.next_faction
     next_faction_said = ap (λ (h : StoredCampaignRow). as_u32 h.next_faction) head_said ∙ read_whole c.next_faction (omega (arith, faction_next))
 
-    -- the next unit's number read from the rows is the campaign's
+    -- the next unit number read from a good campaign's rows is that campaign's
     next_unit_said : as_u32 (campaign_row_of p).next_unit ≡ c.next_unit
     next_unit_said = let most : c.next_unit ≤ last_unit + 1 = good.sound.steady.numbers.next_unit_most in ap (λ (h : StoredCampaignRow). as_u32 h.next_unit) head_said ∙ read_whole c.next_unit (omega (arith, most))
 
-    -- the next structure's number read from the rows is the campaign's
+    -- the next structure number read from a good campaign's rows is that campaign's
     next_structure_said : as_u32 (campaign_row_of p).next_structure ≡ c.next_structure
     next_structure_said = ap (λ (h : StoredCampaignRow). as_u32 h.next_structure) head_said ∙ read_whole c.next_structure (omega (arith, structure_next))
 

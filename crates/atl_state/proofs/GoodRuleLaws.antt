@@ -58,7 +58,7 @@ use Rattle.atl_state.proofs.KeyLaws.{IsDistinct-map}
 from_true : (low high n : ℕ) → low ≤ n → n ≤ high → is_from low high (pos n) ≡ true
 from_true low high n l h = let least : nat_le low n ≡ true = grind (arith, nat_tests) in let most : nat_le n high ≡ true = grind (arith, nat_tests) in ap (λ b. b && nat_le n high) least ∙ most
 
--- an and of two that are true is true
+-- if a and b are true, `a && b` is true
 and_true : (a b : Bool) → a ≡ true → b ≡ true → (a && b) ≡ true
 and_true a b h k = ap (λ x. x && b) h ∙ k
 
@@ -105,21 +105,21 @@ named_apart (e ∷ es) h = (others_named e.1 es h.0, named_apart es h.1)
 text_symm : (a b : List ℕ) → same_text a b ≡ same_text b a
 text_symm = (eq_by_cmp_equiv nat_list_cmp_total).symm
 
--- a campaign's row alone passes is_one_campaign_row
+-- the campaign row of a campaign in a format, alone, passes is_one_campaign_row
 head_true : (f : Format) (c : CampaignValue) → is_one_campaign_row f (campaign_row f c ∷ []) ≡ true
 head_true First c = refl
 head_true Second c = refl
 
 module _ (f : Format) (w : WorldValue) (world : IsWorld w) (c : CampaignValue) (good : IsGood w c) (fits : Fits f c) (p : Parts) (rows : AreRowsOf f c p) where
-  -- the campaign assembled from the rows is the good campaign whose rows they are
+  -- the campaign assembled from a good campaign's rows is that campaign
   back : campaign_of w p ≡ c
   back = row.state_back w world c good f fits p rows
 
-  -- the rows keep the rule OneRow
+  -- the rows of a good campaign have one campaign row, with the id 1 and the number of the format
   one_row : is_one_campaign_row f p.campaign ≡ true
   one_row = ap (is_one_campaign_row f) (row.its_head w world c good f fits p rows) ∙ head_true f c
 
-  -- the rows of markets are those of the format
+  -- a good campaign has no rows of `market` in the first format
   of_format : are_of_format f p.markets ≡ true
   of_format = elim f as (λ g. IsPermutation (market_rows g (entries c.regions)) p.markets → are_of_format g p.markets ≡ true) [
     | First ↦ λ listed. ap (are_of_format First) (row.none_listed p.markets listed)
@@ -128,7 +128,7 @@ module _ (f : Format) (w : WorldValue) (world : IsWorld w) (c : CampaignValue) (
 
   -- ---- ranges
 
-  -- the rows of each table have distinct keys
+  -- a good campaign's rows of each table have distinct keys
   keys : AreKeyed p
   keys = record {
     factions = row.table_keys faction_row (λ r. r.number) faction_of (λ n f. refl) c.factions (row.factions_whole w world c good f fits p rows) p.factions (row.factions_listed w world c good f fits p rows);
@@ -142,15 +142,15 @@ module _ (f : Format) (w : WorldValue) (world : IsWorld w) (c : CampaignValue) (
     markets = row.markets_keyed w world c good f fits p rows;
   }
 
-  -- there are as many rows of factions as factions
+  -- there are as many rows of `faction` as the good campaign has factions
   faction_count : length p.factions ≡ len c.factions
   faction_count = count_rows faction_row c.factions p.factions (row.factions_listed w world c good f fits p rows)
 
-  -- a number equal to one within a bound passes the test of the bound
+  -- a number equal to one that is at most `most` passes the test nat_le against `most`
   fewer : (m n most : ℕ) → m ≡ n → n ≤ most → nat_le m most ≡ true
   fewer m n most e h = le_true m most (omega (arith, e, h))
 
-  -- no table has more rows than its limit
+  -- a good campaign has not too many rows of `faction`, `region`, `unit` and `structure` (are_few)
   few : are_few p ≡ true
   few =
       let factions = fewer (length p.factions) (len c.factions) last_faction faction_count good.sound.steady.numbers.few_factions in
@@ -167,7 +167,7 @@ module _ (f : Format) (w : WorldValue) (world : IsWorld w) (c : CampaignValue) (
   none_less : (n : ℕ) → 0 ≤ n
   none_less n = omega arith
 
-  -- the campaign's row is in range
+  -- the campaign row of a good campaign has month and next numbers in their ranges (campaign_row_in_range)
   head_ranges : campaign_row_in_range (campaign_row_of p) ≡ true
   head_ranges =
       ap campaign_row_in_range (row.head_said w world c good f fits p rows)
@@ -176,19 +176,19 @@ module _ (f : Format) (w : WorldValue) (world : IsWorld w) (c : CampaignValue) (
       (from_true 1 (last_unit + 1) c.next_unit good.sound.steady.numbers.next_unit_least good.sound.steady.numbers.next_unit_most))
       (from_true 1 (most_structures + 1) c.next_structure (at_least_one c.next_structure (len c.structures) good.sound.steady.next.structures.count) (row.structure_next w world c good f fits p rows))
 
-  -- the rows of factions are in range
+  -- each row of `faction` of a good campaign is in its ranges (faction_in_range)
   faction_ranges : list_all faction_in_range p.factions ≡ true
   faction_ranges =
       rows_pass faction_row faction_in_range c.factions p.factions (row.factions_listed w world c good f fits p rows) (λ n f is.
       let range = row.few_factions w world c good n f is in and_true _ _ (from_true 1 last_faction n range.0 range.1) (flag_in_range f.gone))
 
-  -- the rows of regions are in range
+  -- each row of `region` of a good campaign is in its ranges (region_in_range)
   region_ranges : list_all region_in_range p.regions ≡ true
   region_ranges =
       rows_pass region_row region_in_range c.regions p.regions (row.regions_listed w world c good f fits p rows) (λ n r is.
       let range = good.sound.steady.numbers.regions n r is in and_true _ _ (from_true 0 most_amount r.peasants (none_less r.peasants) range.peasants) (from_true 0 most_amount r.money (none_less r.money) range.money))
 
-  -- the rows of units are in range
+  -- each row of `unit` of a good campaign is in its ranges (unit_in_range)
   unit_ranges : list_all unit_in_range p.units ≡ true
   unit_ranges =
       rows_pass unit_row unit_in_range c.units p.units (row.units_listed w world c good f fits p rows) (λ n u is.
@@ -196,19 +196,19 @@ module _ (f : Format) (w : WorldValue) (world : IsWorld w) (c : CampaignValue) (
       and_true _ _ (and_true _ _ (and_true _ _ (from_true 1 last_unit n range.0 (row.few_units w world c good n u is)) (from_true 1 men_limit u.holding.men (good.sound.men n u is) range.1.men))
       (from_true 0 holding_limit u.holding.money (none_less u.holding.money) range.1.money)) (flag_in_range u.holding.guard))
 
-  -- the rows of goods are in range
+  -- each row of `has` of a good campaign is in its ranges (has_in_range)
   has_ranges : list_all has_in_range p.has ≡ true
   has_ranges =
       all_pass has_in_range (λ r. has_in_range r ≡ true) (λ r e. e) p.has (each_permuted (λ r. has_in_range r ≡ true) (has_rows (entries c.units)) p.has (row.has_listed w world c good f fits p rows)
       (has_each c.units (λ r. has_in_range r ≡ true) (λ n u there s l i a is some. in_range n s i a l (λ item. (good.sound.steady.numbers.units n u there).1.items i a (subst (λ k. get (goods_of k u) i ≡ Some a) item is)))))
     where
-      -- a row of goods is in range, if its kind is 0 or 1, and an item's amount is from 1 to holding_limit
+      -- a row of `has` is in range, if its sort is 0 or 1, and an item's amount is from 1 to holding_limit
       in_range : (n s i a : ℕ) → s < 2 → (s ≡ 0 → (1 ≤ a) × (a ≤ holding_limit)) → has_in_range (has_row n s i a) ≡ true
       in_range n zero i a l h = let range = h refl in from_true 1 holding_limit a range.0 range.1
       in_range n (suc zero) i a l h = refl
       in_range n (suc (suc s)) i a l h = absurd (omega (arith, l))
 
-  -- the rows of structures are in range
+  -- each row of `structure` of a good campaign is in its ranges (structure_in_range)
   structure_ranges : list_all (structure_in_range w) p.structures ≡ true
   structure_ranges =
       rows_pass structure_row (structure_in_range w) c.structures p.structures (row.structures_listed w world c good f fits p rows) (λ n s is.
@@ -217,12 +217,12 @@ module _ (f : Format) (w : WorldValue) (world : IsWorld w) (c : CampaignValue) (
       let kind = row.read16 s.kind (row.structure_fits w world c good n s is).kind in
       and_true _ _ (from_true 1 most_structures n range.0 range.1) (ap (λ k. is_from 1 (size_of w k) (pos s.done)) kind ∙ from_true 1 (size_of w s.kind) s.done done.0 done.1))
 
-  -- the bound on amounts read from the rows is the campaign's
+  -- the bound on amounts of the books that rows give (books_bound) is that of their campaign (amount_bound)
   bound_said : books_bound p ≡ amount_bound c
   bound_said =
       ap (λ m. most_in_month * (m + 1) + most_in_joining * length p.factions) (row.month_said w world c good f fits p rows) ∙ ap (λ n. most_in_month * (c.month + 1) + most_in_joining * n) faction_count
 
-  -- the rows of books are within the campaign's bound
+  -- no amount of a row of `books` is 0, and all are within the campaign's bound (amount_bound)
   amounts_in_range : list_all (books_in_range (amount_bound c)) p.books ≡ true
   amounts_in_range =
       all_pass (books_in_range (amount_bound c)) (λ r. books_in_range (amount_bound c) r ≡ true) (λ r e. e) p.books
@@ -231,11 +231,11 @@ module _ (f : Format) (w : WorldValue) (world : IsWorld w) (c : CampaignValue) (
       let some = zero_not z (good.sound.steady.numbers.books.listed e t z is).1 in
       and_true _ _ (not_from_false (is_zero z) some) (within_true (amount_bound c) z (subst (IsWithin (amount_bound c)) (amount_is c.books e t z is) (good.sound.amounts e t))))))
 
-  -- the rows of books are within the bound that is read
+  -- no amount of a row of `books` is 0, and all are within the bound read from the rows (books_bound)
   book_ranges : list_all (books_in_range (books_bound p)) p.books ≡ true
   book_ranges = ap (λ bound. list_all (books_in_range bound) p.books) bound_said ∙ amounts_in_range
 
-  -- the rows of markets are in range
+  -- each row of `market` of a good campaign has a stock in its range (market_in_range)
   market_ranges : list_all (market_in_range w) p.markets ≡ true
   market_ranges =
       all_pass (market_in_range w) (λ m. market_in_range w m ≡ true) (λ m e. e) p.markets (row.each_market w world c good f fits p rows (λ m. market_in_range w m ≡ true) (λ n r there i a is.
@@ -243,7 +243,7 @@ module _ (f : Format) (w : WorldValue) (world : IsWorld w) (c : CampaignValue) (
       let range = (good.sound.steady.numbers.regions n r there).stocks i a is in
       ap (λ k. is_from 1 (stock_limit w k (as_u32 (pos i))) (pos a)) (read_whole n (small.numbers n r there)) ∙ ap (λ k. is_from 1 (stock_limit w n k) (pos a)) (read_whole i (small.stocks n r there i a is).0) ∙ from_true 1 (stock_limit w n i) a range.0 range.1))
 
-  -- the rows keep the rule Ranges
+  -- a good campaign's rows keep rule 2, Ranges: keys differ, there are not too many, and numbers are in their ranges
   in_ranges : AreRowsInRange w p
   in_ranges = record {
     keys = keys;
@@ -253,7 +253,7 @@ module _ (f : Format) (w : WorldValue) (world : IsWorld w) (c : CampaignValue) (
 
   -- ---- names
 
-  -- the rows keep the rule Names
+  -- a good campaign's rows keep rule 3, Names: names and pass texts keep their rules, and joined names differ
   named : AreRowsNamed p
   named = record {
     texts = and_true _ _ (and_true _ _ (and_true _ _ (ap (λ (h : StoredCampaignRow). pass_ok h.pass) (row.head_said w world c good f fits p rows) ∙ good.sound.steady.names.pass)
@@ -266,24 +266,24 @@ module _ (f : Format) (w : WorldValue) (world : IsWorld w) (c : CampaignValue) (
 
   -- ---- what rows say of other rows
 
-  -- each row of goods is of a unit that is there
+  -- each row of `has` of a good campaign is of a unit that is there
   of_units : list_all (is_of_unit c) p.has ≡ true
   of_units =
       all_pass (is_of_unit c) (λ r. is_of_unit c r ≡ true) (λ r e. e) p.has (each_permuted (λ r. is_of_unit c r ≡ true) (has_rows (entries c.units)) p.has (row.has_listed w world c good f fits p rows)
       (has_each c.units (λ r. is_of_unit c r ≡ true) (λ n u there s l i a is some. ap (λ k. is_some (get c.units k)) (read_whole n ((row.had w world c good).numbers n u there)) ∙ ap is_some there)))
 
-  -- each row of a market is of a market of the world
+  -- each row of `market` of a good campaign is of a market of the world
   of_markets : list_all (is_of_market w) p.markets ≡ true
   of_markets =
       all_pass (is_of_market w) (λ m. is_of_market w m ≡ true) (λ m e. e) p.markets (row.each_market w world c good f fits p rows (λ m. is_of_market w m ≡ true) (λ n r there i a is.
       let small = row.stocked w world c good in
       ap (λ k. is_some (market_of w k (as_u32 (pos i)))) (read_whole n (small.numbers n r there)) ∙ ap (λ k. is_some (market_of w n k)) (read_whole i (small.stocks n r there i a is).0) ∙ good.sound.steady.known.markets n r there i a is))
 
-  -- an entry with an amount that is not 0 is one of the format
+  -- an entry with an amount that is not 0 in a good campaign that the format can hold is one of the format
   entry_few : (e : Entry) (t : Thing) → amount_in c.books e t ≢ pos 0 → entry_index e < entries_in f
   entry_few e t some = elim f as (λ g. Fits g c → entry_index e < entries_in g) [ First ↦ λ bare. early bare | Second ↦ λ _. entry_small e ] fits
     where
-      -- in a campaign without markets the entry is one of the first format's
+      -- in a campaign without stocks and amounts of markets, an entry with an amount not 0 is one of the first format
       early : IsWithoutMarkets c → entry_index e < first_entry_count
       early bare = elim (cases_lt (entry_index e) first_entry_count) [ inl few ↦ few | inr late ↦ absurd (some (bare.entries e t late)) ]
 
@@ -293,14 +293,14 @@ module _ (f : Format) (w : WorldValue) (world : IsWorld w) (c : CampaignValue) (
       let least : nat_le 1 (e + 1) ≡ true = le_true 1 (e + 1) (omega arith) in
       ap (is_entry_in f) (read_whole (e + 1) (omega arith)) ∙ and_true _ _ least (le_true (e + 1) (entries_in f) (omega (arith, few)))
 
-  -- the number of a thing of the world passes the test nat_lt
+  -- the number of a thing of the world, as it is read from a row, is below the number of the world's things
   thing_true : (t : ℕ) → t < things_of w → nat_lt (as_u32 (pos t)) (things_of w) ≡ true
   thing_true t inside =
       let few = row.few_things w world c good f fits p rows in
       let read = read_whole t (omega (arith, few)) in
       lt_true (as_u32 (pos t)) (things_of w) (omega (arith, read))
 
-  -- each row of books is of an entry of the format and a thing of the world
+  -- each row of `books` of a good campaign is of an entry of the format and a thing of the world
   of_books : list_all (is_booked f w) p.books ≡ true
   of_books =
       all_pass (is_booked f w) (λ r. is_booked f w r ≡ true) (λ r e. e) p.books (each_permuted (λ r. is_booked f w r ≡ true) (books_rows c.books) p.books (row.books_listed w world c good f fits p rows)
@@ -309,11 +309,11 @@ module _ (f : Format) (w : WorldValue) (world : IsWorld w) (c : CampaignValue) (
       let few = entry_few e t (λ none. some (sym (amount_is c.books e t z is) ∙ none)) in
       and_true _ _ (entry_true (entry_index e) few (entry_small e)) (thing_true (thing_index t) inside))))
 
-  -- if P holds of the good campaign, it holds of the campaign assembled from the rows
+  -- if P holds of a good campaign, it holds of the campaign assembled from its rows
   said : (P : CampaignValue → Type 0) → P c → P (campaign_of w p)
   said P h = subst P (sym back) h
 
-  -- the rows keep every rule
+  -- a good campaign's rows, in any order, keep every rule of the tables
   pub keeps : (r : Rule) → KeepsRule f w p r
   keeps OneRow = (one_row, of_format)
   keeps Ranges = in_ranges

@@ -60,7 +60,7 @@ module _ {R : Type 0} (test : R → Bool) where
       either rest true = ap (λ rs. cond (other r) (r ∷ rs) rs) rest
       either rest false = rest
 
--- a list with r if b is true, followed by rows, is the rows with r in front if b is true, else the rows
+-- putting the list of r, if b is true, or else the empty list before rows gives the rows with r in front, if b is true
 single : {R : Type 0} (b : Bool) (r : R) (rows : List R) → cond b (r ∷ []) [] ++ rows ≡ cond b (r ∷ rows) rows
 single true r rows = refl
 single false r rows = refl
@@ -73,15 +73,15 @@ filter_lines test f (x ∷ xs) = ap (λ rs. filter test (f x ∷ []) ++ rs) (fil
 -- ---- group by group
 
 module _ {R U : Type 0} (group : R → ℕ) (number : U → ℕ) where
-  -- the rows of a group
+  -- the rows whose group has number n, as the goods of unit n or the stocks of region n
   abbrev pub of_group : ℕ → List R → List R
   of_group n rows = filter (λ r. group r == n) rows
 
-  -- the rows that are not of a group
+  -- the rows whose group has another number than n
   abbrev others : ℕ → List R → List R
   others n rows = filter (λ r. not (group r == n)) rows
 
-  -- the rows of a group are the same once the rows of another group are left out
+  -- the rows of group m are the same once the rows of another group n are left out
   same_group : (n m : ℕ) → m ≢ n → (rows : List R) → of_group m rows ≡ of_group m (others n rows)
   same_group n m apart [] = refl
   same_group n m apart (r ∷ rows) =
@@ -137,11 +137,11 @@ module _ {R U : Type 0} (group : R → ℕ) (number : U → ℕ) where
 -- ---- rows of a group with keys
 
 module _ {R K : Type 0} (key : R → K) (same : K → K → Bool) (itself : (k : K) → same k k ≡ true) (thing : R → ℕ) (mine : R → Bool) (P : R → Type 0) where
-  -- a row of the group for which P holds
+  -- a row for which P holds and that passes the test `mine`, so it is of the group
   abbrev pub IsMine : R → Type 0
   IsMine r = P r × (mine r ≡ true)
 
-  -- the rows of the group are of the group, and P holds of each
+  -- if P holds of each row, each that the test `mine` picks passes it, and P holds of it (IsMine)
   pub all_mine : (rows : List R) → AllByRecursion P rows → AllByRecursion IsMine (filter mine rows)
   all_mine rows all = kept mine IsMine rows (each_so P (λ r. mine r ≡ true → IsMine r) (λ r one passes. (one, passes)) rows all)
 
@@ -161,7 +161,7 @@ module _ {R K : Type 0} (key : R → K) (same : K → K → Bool) (itself : (k :
 
 module _ {R : Type 0} (thing amount : R → ℕ) where
   module _ (row : ℕ → ℕ → R) (some : R → Bool) where
-    -- the row of a thing and its amount, if it passes the test
+    -- the row that a thing and its amount are written as, in a list, if it passes the test `some`; else an empty list
     abbrev line : ℕ × ℕ → List R
     line e = filter some (row e.0 e.1 ∷ [])
 

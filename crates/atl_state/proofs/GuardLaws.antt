@@ -39,7 +39,7 @@ module _ {V : Type 0} (p : V → Bool) where
   behind true n k ns h = inr h
   behind false n k ns h = h
 
-  -- the number of a found value that passes is chosen
+  -- the number of a value that is found in entries and passes the test is among the numbers of those that pass (chosen)
   chosen_in : (es : List (ℕ × V)) (n : ℕ) (v : V) → find nat_cmp n es ≡ Some v → p v ≡ true → In n (chosen es)
   chosen_in [] n v is h = none_some v is
   chosen_in (e ∷ es) n v is h =
@@ -49,11 +49,11 @@ module _ {V : Type 0} (p : V → Bool) where
         | Greater ↦ λ _ is. behind (p e.1) n e.0 (chosen es) (chosen_in es n v is h)
       ] refl is)
 
-  -- a number whose value passes is among numbers_where
+  -- a number whose value passes the test is in the list that numbers_where gives
   listed : (m : FinMap nat_cmp V) (n : ℕ) (v : V) → get m n ≡ Some v → p v ≡ true → In n (numbers_where p m)
   listed m n v is h = chosen_in (entries m) n v (sym (get-entries m n) ∙ is) h
 
-  -- a number among numbers_where has a value that passes
+  -- a number in the list that numbers_where gives has a value that passes the test
   of_listed : (m : FinMap nat_cmp V) (n : ℕ) → In n (numbers_where p m) → (v : V) × (get m n ≡ Some v) × (p v ≡ true)
   of_listed m n h = let (i, l, is) = position_of n (numbers_where p m) h in subst (λ k. (v : V) × (get m k ≡ Some v) × (p v ≡ true)) is (passes-listed p m i 0 l)
 
@@ -90,7 +90,7 @@ module _ (faction : ℕ → Option ℕ) where
   not_first m ms none n x (inl same) is = none_some x (sym none ∙ ap faction (sym same) ∙ is)
   not_first m ms none n x (inr mine) is = mine
 
-  -- numbers that pass one_holder have one faction
+  -- if a list passes one_holder, those of its numbers that have a faction have the same (Alike)
   alike : (ns : List ℕ) → one_holder faction None ns ≡ true → Alike ns
   alike [] h n k x y a b is js = absurd a
   alike (m ∷ ms) h n k x y a b is js =
@@ -108,7 +108,7 @@ module _ (faction : ℕ → Option ℕ) where
   fits_on None m ms same fits n x y mine is first = same n m x y (inr mine) (inl refl) is first
   fits_on (Some z) m ms same fits n x y mine is held = fits n x y (inr mine) is held
 
-  -- numbers of one faction, which is the holder if there is one, pass one_holder
+  -- a list passes one_holder, if its numbers that have a faction have the same, which is the holder, if there is one
   hold : (holder : Option ℕ) (ns : List ℕ) → Alike ns → Fits holder ns → one_holder faction holder ns ≡ true
   hold holder [] same fits = refl
   hold holder (m ∷ ms) same fits =
@@ -117,7 +117,7 @@ module _ (faction : ℕ → Option ℕ) where
 
 -- ---- the guards of all regions
 
--- a unit that guards is a guard of its faction
+-- guard_of gives the faction of a unit that guards
 guard_is : (c : CampaignValue) (n : ℕ) (u : Unit) → get c.units n ≡ Some u → guards u ≡ true → guard_of c n ≡ Some u.faction
 guard_is c n u is on = ap (option_and_then (λ (v : Unit). cond (guards v) (Some v.faction) None)) is ∙ ap (λ b. cond b (Some u.faction) None) on
 
@@ -126,11 +126,11 @@ guarding : (b : Bool) (f x : ℕ) → cond b (Some f) None ≡ Some x → (b ≡
 guarding true f x e = (refl, same_value f x e)
 guarding false f x e = none_some x e
 
--- a number that is a guard's is of a unit that guards, of that faction
+-- if guard_of gives x for a unit, the unit guards and is of faction x
 is_guard : (c : CampaignValue) (n x : ℕ) (u : Unit) → get c.units n ≡ Some u → guard_of c n ≡ Some x → (guards u ≡ true) × (u.faction ≡ x)
 is_guard c n x u is e = guarding (guards u) u.faction x (sym (ap (option_and_then (λ (v : Unit). cond (guards v) (Some v.faction) None)) is) ∙ e)
 
--- region r's guards are of one faction: its list of units passes one_holder
+-- the guards in region r's list of units are of one faction: the list passes one_holder
 abbrev pub IsHeldByOne : CampaignValue → ℕ → Type 0
 IsHeldByOne c r = one_holder (guard_of c) None (numbers_in r c.units) ≡ true
 

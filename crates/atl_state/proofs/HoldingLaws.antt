@@ -66,11 +66,11 @@ module _ (w : WorldValue) (c : CampaignValue) (n : ℕ) (u : Unit) (h : HoldingV
   abbrev supplied : CampaignValue
   supplied = record c { units = insert c.units n new_unit }
 
-  -- a number without a unit is not n
+  -- a number without a unit is not n, which has one
   free_apart : (k : ℕ) → get c.units k ≡ None → k ≢ n
   free_apart k free same = none_some u (sym free ∙ ap (get c.units) same ∙ is)
 
-  -- the numbers of the campaign stay in range if the holding is within its limits
+  -- the campaign's numbers stay in range when unit n gets the holding h, if h is within the limits
   pub numbers_kept : IsHolding h → AreInRange w c → AreInRange w supplied
   numbers_kept limits old = record {
     month = old.month;
@@ -87,7 +87,7 @@ module _ (w : WorldValue) (c : CampaignValue) (n : ℕ) (u : Unit) (h : HoldingV
     books = old.books;
   }
 
-  -- everything that is named by its number still exists, if items and skills are of the world
+  -- all that is named by its number still exists when unit n gets holding h, if h's items and skills are the world's
   pub known_kept : Every (λ i amount. i < length w.items) h.items → Every (λ s days. s < length w.skills) h.days → AreKnown w c → AreKnown w supplied
   known_kept items skills old = record {
     regions = old.regions;
@@ -132,7 +132,7 @@ module _ (w : WorldValue) (c : CampaignValue) (n : ℕ) (u : Unit) (h : HoldingV
         ownerless = λ none. every-insert (λ k x. x.structure ≢ m) c.units n new_unit (o.ownerless none n u is) (o.ownerless none);
       }
 
-  -- what is on water is still afloat when unit n gets the holding h
+  -- units and structures on water are still afloat (AreAfloat) when unit n gets the holding h
   water_kept : AreAfloat w c → AreAfloat w supplied
   water_kept old = record {
     units = every-insert _ c.units n new_unit (old.units n u is) old.units;
@@ -145,7 +145,7 @@ module _ (w : WorldValue) (c : CampaignValue) (n : ℕ) (u : Unit) (h : HoldingV
     abbrev Agree : Unit → Unit → Type 0
     Agree x y = test x ≡ true → test y ≡ true → x.region ≡ y.region → x.faction ≡ y.faction
 
-    -- all units of a region that pass the test are still of one faction when unit n gets the holding h
+    -- in each region all units that pass the test are still of one faction when unit n gets the holding h
     pub of_one_faction_kept : AreOfOneFaction test c → AreOfOneFaction test supplied
     of_one_faction_kept old =
         every-insert (λ k x. Every (λ m y. Agree x y) supplied.units) c.units n new_unit
@@ -190,7 +190,7 @@ module _ (w : WorldValue) (c : CampaignValue) (n : ℕ) (u : Unit) (h : HoldingV
 abbrev goods_of : Unit → FinMap nat_cmp ℕ × FinMap nat_cmp ℕ
 goods_of u = (u.holding.items, u.holding.days)
 
--- a change of a unit but for its goods, with the mark of its row, marks all that changes (MarksChanges)
+-- changing a unit by f, which leaves its goods alone, with its row marked, marks all that changes (MarksChanges)
 pub marks-unit_row : (f : Unit → Unit) → ((u : Unit) → goods_of (f u) ≡ goods_of u) → (c : MarkedCampaign) (n : ℕ) → MarksChanges c (record { value = unit_changed f c.value n; marks = mark_unit_row c n })
 marks-unit_row f same c n =
     let after : FinMap nat_cmp Unit → Option Unit → MarkedCampaign = λ m o. record { value = record c.value { units = m }; marks = record c.marks { units = marked_with c.marks.units n o; rows = marked_with c.marks.rows n o } } in

@@ -32,11 +32,11 @@ campaign_maps_of p = record {
 
 -- ---- units and regions without goods and stocks
 
--- the unit of a row, without items and days of study
+-- the unit that a row of `unit` says, without items and days of study
 abbrev pub bare_unit : StoredUnit → Unit
 bare_unit r = unit_with r empty empty
 
--- the region of a row, with nothing in stock
+-- the region that a row of `region` says, with nothing in stock
 abbrev pub bare_region : StoredRegion → Region
 bare_region r = region_with r empty
 
@@ -55,7 +55,7 @@ with_has_row r u =
 abbrev pub with_market_row : StoredMarket → Region → Region
 with_market_row r x = record x { stocks = insert x.stocks (as_u32 r.item) (as_u32 r.stock) }
 
--- the map after `more` changed, for one row after another, the value under the row's number `owner`, if there is one
+-- the map with each row put into its owner's value, row by row: `more` changes the value under the row's `owner`
 abbrev pub give : {R V : Type 0} → (R → ℕ) → (R → V → V) → List R → FinMap nat_cmp V → FinMap nat_cmp V
 give owner more [] m = m
 give owner more (r ∷ rows) m = give owner more rows (changed (more r) m (owner r))

@@ -18,7 +18,7 @@ use Rattle.atl_records.specs.Books.{BooksValue, after_booking, books_code, no_am
 use Rattle.atl_records.specs.Holdings.{with_amount_of}
 use Rattle.atl_state.specs.Marks.{Marks, marks_code, no_marks}
 
--- A campaign: month last closed, the moderator's pass text, next numbers, all things by number, and the books.
+-- A campaign: month last closed, the moderator's pass text, next numbers, the books, and all else by number.
 -- Mail and reports are by the numbers of their factions.
 pub record CampaignValue : Type 0 where
   pub month : ℕ
@@ -39,7 +39,7 @@ pub record MarkedCampaign : Type 0 where
   pub value : CampaignValue
   pub marks : Marks
 
--- the coding of campaigns, as tuples of their fields
+-- for proofs alone: a campaign encoded as nested pairs of its fields
 abbrev pub campaign_code : Coded CampaignValue
 campaign_code =
     code_by (ℕ × (List ℕ × (ℕ × (ℕ × (ℕ × (FinMap nat_cmp Faction × (FinMap nat_cmp Region × (FinMap nat_cmp Unit × (FinMap nat_cmp Structure × (FinMap nat_cmp (List ℕ) × (FinMap nat_cmp (List ℕ) × BooksValue)))))))))))
@@ -63,7 +63,7 @@ campaign_code =
     })
     (λ _. refl)
 
--- the coding of campaigns with marks, as pairs of both
+-- for proofs alone: a campaign with marks encoded as the pair of both
 abbrev pub marked_code : Coded MarkedCampaign
 marked_code = code_by (CampaignValue × Marks) (coded× campaign_code marks_code) (λ m. (m.value, m.marks)) (λ p. record { value = p.0; marks = p.1 }) (λ _. refl)
 
@@ -198,7 +198,7 @@ without_mail c = record c { mail = empty }
 abbrev pub with_structure_begun : CampaignValue → Structure → CampaignValue
 with_structure_begun c s = record c { next_structure = c.next_structure + 1; structures = insert c.structures c.next_structure s }
 
--- the campaign with unit u put under number n
+-- the campaign with unit u put under number n, instead of one that has it
 abbrev pub with_unit : CampaignValue → ℕ → Unit → CampaignValue
 with_unit c n u = record c { units = insert c.units n u }
 

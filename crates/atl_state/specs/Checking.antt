@@ -36,7 +36,7 @@ rule_number Guards = 10
 rule_number Books = 11
 rule_number Mail = 12
 
--- the rows p of format f keep a rule; some rules are about the rows, others about the campaign read from them
+-- the rows p of format f keep a rule, which is about the rows, about the campaign read from them, or about both
 abbrev pub KeepsRule : Format → WorldValue → Parts → Rule → Type 0
 KeepsRule f w p OneRow = IsTrue (is_one_campaign_row f p.campaign) × IsTrue (are_of_format f p.markets)
 KeepsRule f w p Ranges = AreRowsInRange w p

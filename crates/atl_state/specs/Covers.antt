@@ -84,7 +84,7 @@ pub record StayMarked (before after : Marks) : Type 0 where
   pub books : StaysMarked before.books after.books
   pub row : before.row ≡ true → after.row ≡ true
 
--- no mark is lost, and all that changed is marked
+-- from one marked campaign to another no mark is lost, and all that changed is marked
 pub record MarksChanges (before after : MarkedCampaign) : Type 0 where
   pub stay : StayMarked before.marks after.marks
   pub covers : Covers after.marks before.value after.value

@@ -13,7 +13,7 @@ use Rattle.atl_records.specs.Every.{EachOf}
 pub record HasOwnerInside (c : CampaignValue) (n : ℕ) (s : Structure) : Type 0 where
   pub owned : s.owner ≢ 0 → (u : Unit) × (get c.units s.owner ≡ Some u) × (u.structure ≡ n)
 
--- the faction of unit n, where the unit is there and guards
+-- the faction of unit n, if the unit is there and guards, else None
 abbrev pub guard_of : CampaignValue → ℕ → Option ℕ
 guard_of c n = option_and_then (λ u. if guards u then Some u.faction else None) (get c.units n)
 
@@ -23,7 +23,7 @@ agree None b = true
 agree (Some x) None = true
 agree (Some x) (Some y) = x == y
 
--- whether one faction at most holds a region: the factions given for the listed units, and `holder` if Some, are equal
+-- whether all factions that `faction` gives for the listed units are the same one, and `holder`, if that is Some
 abbrev pub one_holder : (ℕ → Option ℕ) → Option ℕ → List ℕ → Bool
 one_holder faction holder [] = true
 one_holder faction holder (n ∷ ns) = agree (faction n) holder && one_holder faction (option_or holder (faction n)) ns

@@ -10,7 +10,7 @@ use Rattle.atl_records.specs.declared.records.Region.{Region}
 use Rattle.atl_records.specs.Books.{after_booking, no_amounts}
 use Rattle.atl_state.specs.Campaign.{CampaignValue, empty_campaign}
 
--- a region as it is founded, with nothing in stock
+-- a region as it is founded: with the peasants and the money of the world text, and nothing in stock
 abbrev pub founded_region : RegionPlan → Region
 founded_region plan = record { peasants = plan.peasants; money = plan.money; stocks = empty }
 
@@ -18,7 +18,7 @@ founded_region plan = record { peasants = plan.peasants; money = plan.money; sto
 abbrev pub things_of : WorldValue → ℕ
 things_of w = 2 + length w.items
 
--- the campaign right after founding: month 0, the world's regions, what they hold booked, and no faction
+-- the campaign right after founding: month 0, the world's regions, what they hold booked, and no faction or unit
 unfoldable pub founded_of : WorldValue → List ℕ → CampaignValue
 founded_of w pass = let regions = mapped founded_region w.regions in record empty_campaign {
   pass = pass;

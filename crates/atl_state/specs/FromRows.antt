@@ -44,11 +44,11 @@ is_set z = not (is_zero z)
 
 -- ---- one row
 
--- the faction of a row
+-- the faction that a row of `faction` says; it is gone if the row's flag is any number but 0
 abbrev pub faction_of : StoredFaction → Faction
 faction_of r = record { number = as_u32 r.number; joined_as = r.joined_as; name = r.name; pass = r.pass; gone = is_set r.gone }
 
--- the structure of a row
+-- the structure that a row of `structure` says, without its number, which is its key
 abbrev pub structure_of : StoredStructure → Structure
 structure_of r = record { kind = as_u16 r.kind; name = r.name; region = as_u32 r.region; done = as_u32 r.done; owner = as_u32 r.owner }
 
@@ -71,7 +71,7 @@ is_of n sort r = (as_u32 r.unit == n) && (as_u32 r.sort == sort)
 abbrev pub things_had : ℕ → ℕ → List StoredHas → FinMap nat_cmp ℕ
 things_had n sort has = by_number (λ r. as_u32 r.thing) (λ r. as_u32 r.amount) (filter (is_of n sort) has)
 
--- the unit of a row, with these items and days of study
+-- the unit that a row of `unit` says, with the given items and days of study
 abbrev pub unit_with : StoredUnit → FinMap nat_cmp ℕ → FinMap nat_cmp ℕ → Unit
 unit_with r items days = record {
   faction = as_u32 r.faction;
@@ -80,7 +80,7 @@ unit_with r items days = record {
   holding = record { name = r.name; men = as_u32 r.men; money = as_u32 r.money; guard = is_set r.guard; items = items; days = days };
 }
 
--- the unit of a row, with the items and days of study that the rows of `has` give to it
+-- the unit that a row of `unit` says, with the items and days of study that the rows of `has` give to it
 abbrev pub unit_of : List StoredHas → StoredUnit → Unit
 unit_of has r = unit_with r (things_had (as_u32 r.number) 0 has) (things_had (as_u32 r.number) 1 has)
 
@@ -88,11 +88,11 @@ unit_of has r = unit_with r (things_had (as_u32 r.number) 0 has) (things_had (as
 abbrev pub stocks_of : ℕ → List StoredMarket → FinMap nat_cmp ℕ
 stocks_of n markets = by_number (λ r. as_u32 r.item) (λ r. as_u32 r.stock) (filter (λ r. as_u32 r.region == n) markets)
 
--- the region of a row, with these stocks
+-- the region that a row of `region` says, with the given stocks
 abbrev pub region_with : StoredRegion → FinMap nat_cmp ℕ → Region
 region_with r stocks = record { peasants = as_u32 r.peasants; money = as_u32 r.money; stocks = stocks }
 
--- the region of a row, with the stocks that the rows of `market` give to it
+-- the region that a row of `region` says, with the stocks that the rows of `market` give to it
 abbrev pub region_of : List StoredMarket → StoredRegion → Region
 region_of markets r = region_with r (stocks_of (as_u32 r.number) markets)
 

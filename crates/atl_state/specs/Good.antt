@@ -35,17 +35,17 @@ IsActive c n = (f : Faction) × (get c.factions n ≡ Some f) × (f.gone ≡ fal
 abbrev pub amount_bound : CampaignValue → ℕ
 amount_bound c = most_in_month * (c.month + 1) + most_in_joining * len c.factions
 
--- each item that is listed in the stocks of region n is there at least once, and up to the limit of its market
+-- each stock that is listed of region n is from 1 to its market's limit, or to 999,999,999 without a market
 abbrev pub AreStocks : WorldValue → ℕ → FinMap nat_cmp ℕ → Type 0
 AreStocks w n stocks = Every (λ i amount. (1 ≤ amount) × (amount ≤ stock_limit w n i)) stocks
 
--- the peasants, money and stocks of region n are in their ranges
+-- region n has at most 999,999,999 peasants, at most 999,999,999 money, and listed stocks in their ranges (AreStocks)
 pub record IsRegion (w : WorldValue) (n : ℕ) (r : Region) : Type 0 where
   pub peasants : r.peasants ≤ most_amount
   pub money : r.money ≤ most_amount
   pub stocks : AreStocks w n r.stocks
 
--- there are not too many things, and each number is in its range; units may be without men
+-- there are not too many factions, regions, units and structures, and numbers are in range; a unit may have no men
 pub record AreInRange (w : WorldValue) (c : CampaignValue) : Type 0 where
   pub month : c.month ≤ last_month
   pub few_factions : len c.factions ≤ last_faction
@@ -102,11 +102,11 @@ pub record IsBuiltAmong (w : WorldValue) (regions : FinMap nat_cmp Region) (unit
 abbrev pub IsBuilt : WorldValue → CampaignValue → Structure → Type 0
 IsBuilt w c s = IsBuiltAmong w c.regions c.units s
 
--- each item that is listed in the stocks of region n has a market there in the world
+-- each item whose stock is listed of region n has a market there in the world
 abbrev pub AreOfMarkets : WorldValue → ℕ → FinMap nat_cmp ℕ → Type 0
 AreOfMarkets w n stocks = Every (λ i amount. IsSome (market_of w n i)) stocks
 
--- all mail and reports are of factions that are there
+-- all mail (`sent`) and all reports (`told`) are of the given factions
 pub record AreOfFactions (factions : FinMap nat_cmp Faction) (sent told : FinMap nat_cmp (List ℕ)) : Type 0 where
   pub mail : Every (λ n text. IsThere factions n) sent
   pub reports : Every (λ n text. IsThere factions n) told
@@ -125,7 +125,7 @@ pub record AreKnown (w : WorldValue) (c : CampaignValue) : Type 0 where
 
 -- ---- of the numbers that come next
 
--- the numbers of the map are those from 1 to `next - 1`, without a gap
+-- the numbers of the map are exactly those from 1 to `next - 1`
 pub record IsNumbered {V : Type 0} (m : FinMap nat_cmp V) (next : ℕ) : Type 0 where
   pub first : get m 0 ≡ None
   pub count : next ≡ len m + 1
@@ -229,7 +229,7 @@ pub record IsEarly (w : WorldValue) (c : CampaignValue) : Type 0 where
   pub steady : IsSteady w c
   pub flags : AreOfOneFaction (λ u. u.holding.guard) c
 
--- a campaign that keeps all rules of a good one, but that factions may lack reports, as one that just joined does
+-- a campaign that keeps all rules of a good one, but that factions may lack reports, as one that has just joined does
 pub record IsSound (w : WorldValue) (c : CampaignValue) : Type 0 where
   pub steady : IsSteady w c
   pub men : HaveMen c

@@ -2,7 +2,7 @@
 use Rattle.std.specs.Prelude.{ℕ, List, map}
 use Rattle.atl_state.specs.declared.index.IndexEntry.{IndexEntry}
 
--- the numbers of the entries of an index, in their order
+-- the number of each entry of an index, in the order of the entries
 abbrev pub index_numbers : List IndexEntry → List ℕ
 index_numbers = map (λ p. p.number)
 

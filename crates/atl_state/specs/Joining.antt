@@ -20,15 +20,15 @@ use Rattle.atl_state.specs.Campaign.{CampaignValue}
 abbrev pub name_taken : CampaignValue → List ℕ → Bool
 name_taken c name = list_any (λ e. pointwise nat_eq e.1.joined_as name) (entries c.factions)
 
--- whether 9,999 factions have joined, there are 100,000 units, or the next unit number is above the last
+-- whether 9,999 factions have joined, there are 100,000 units, or the next unit number is above 999,999,999
 abbrev pub is_full : CampaignValue → Bool
 is_full c = (nat_le last_faction (len c.factions) || nat_le most_units (len c.units)) || nat_lt last_unit c.next_unit
 
--- the number of the region where a faction begins: the land region counted `word mod count`, from 0 by number
+-- the number of the region where a faction begins: the land region at `word` modulo their count, counted from 0
 abbrev pub home_of : WorldValue → ℕ → ℕ
 home_of w word = slice_index (land_of w) (word % length (land_of w))
 
--- a faction as it joins, which shows the name that it joined under
+-- a faction as it joins: not gone, and with the name that it joins under as the name that it shows
 abbrev pub new_faction : ℕ → List ℕ → List ℕ → Faction
 new_faction number name pass = record { number = number; joined_as = name; name = name; pass = pass; gone = false }
 

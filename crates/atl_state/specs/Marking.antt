@@ -39,7 +39,7 @@ marks_of_parts factions regions units structures mail reports books row = record
 abbrev pub whole_marked : Marks → ℕ → Option Unit → Marks
 whole_marked m n u = record m { units = marked_with m.units n u; rows = marked_with m.rows n u; goods = marked_with m.goods n u }
 
--- the marks after unit n was lent or removed: it, its row and all its goods, where it was there
+-- the marks after unit n was lent or removed: it, its row and all its goods are marked too, if it was there
 abbrev pub mark_unit : MarkedCampaign → ℕ → Marks
 mark_unit c n = whole_marked c.marks n (get c.value.units n)
 

@@ -47,11 +47,11 @@ pub record Marks : Type 0 where
   pub books : FinSet nat_cmp
   pub row : Bool
 
--- the coding of single things, as maps of maps
+-- for proofs alone: marked single items, skills or stocks encoded as a map of maps
 abbrev pub things_code : Coded Things
 things_code = map.code coded_ℕ (map.code coded_ℕ coded_unit)
 
--- the coding of marks, as tuples of their fields
+-- for proofs alone: marks encoded as nested pairs of their fields
 abbrev pub marks_code : Coded Marks
 marks_code =
     let numbers = code coded_ℕ in
@@ -113,8 +113,8 @@ no_marks = record {
   row = false;
 }
 
--- how many things are marked. A unit counts once, whatever of it is marked; so do the stocks of a region, and so does
--- the campaign row.
+-- how much is marked: factions, rows of regions, structures, mail, reports, amounts of the books and the campaign row
+-- count one each. A unit counts once, whatever of it is marked, and so do the stocks of a region.
 abbrev pub marks_in : Marks → ℕ
 marks_in m = len m.factions + len m.regions + len m.markets + len m.units + len m.structures + len m.mail + len m.reports + len m.books + (if m.row then 1 else 0)
 
@@ -122,6 +122,6 @@ marks_in m = len m.factions + len m.regions + len m.markets + len m.units + len 
 abbrev pub amount_marked : FinSet nat_cmp → Entry → Thing → FinSet nat_cmp
 amount_marked marks e t = insert marks (amount_number e t)
 
--- in the dirty set of the books, only amounts of the first `things` things are marked
+-- only amounts of the first `things` things are marked in the given dirty set of the books
 abbrev pub AreOfThings : ℕ → FinSet nat_cmp → Type 0
 AreOfThings things marks = (n : ℕ) → contains marks n ≡ true → n < entry_count * things

@@ -36,7 +36,7 @@ is_owned_by (Some x) n = x.owner == n
 abbrev pub after_handover : CampaignValue → ℕ → ℕ → ℕ → CampaignValue
 after_handover c s from to = if is_owned_by (get c.structures s) from then with_owner c s to else c
 
--- the campaign with unit n in region r and structure s; no owner changes
+-- the campaign with unit n put in region r and structure s, if there is such a unit; no owner changes
 abbrev pub placed : CampaignValue → ℕ → ℕ → ℕ → CampaignValue
 placed c n r s = unit_changed (λ u. record u { region = r; structure = s }) c n
 

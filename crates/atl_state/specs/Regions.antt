@@ -22,7 +22,7 @@ pub record MarkedRegions : Type 0 where
   pub stocks : set.FinSet nat_cmp
   pub items : Things
 
--- the coding of regions with marks, as tuples of their fields
+-- for proofs alone: regions with marks encoded as nested pairs of their fields
 abbrev pub regions_code : Coded MarkedRegions
 regions_code =
     let numbers = set.code coded_ℕ in

@@ -20,7 +20,7 @@ pub record Roster : Type 0 where
   pub items : Things
   pub skills : Things
 
--- the coding of rosters, as tuples of their fields
+-- for proofs alone: units with marks (Roster) encoded as nested pairs of their fields
 abbrev pub roster_code : Coded Roster
 roster_code =
     let numbers = set.code coded_ℕ in

@@ -39,13 +39,13 @@ is_from low high (negsuc n) = false
 
 -- ---- the campaign row
 
--- whether there is exactly one campaign row, with the id 1 and the number of this format
+-- whether there is exactly one campaign row, with the id 1 and the number of the given format
 abbrev pub is_one_campaign_row : Format → List StoredCampaignRow → Bool
 is_one_campaign_row f [] = false
 is_one_campaign_row f (h ∷ []) = is_from 1 1 h.id && is_from (format_number f) (format_number f) h.format
 is_one_campaign_row f (h ∷ other ∷ rows) = false
 
--- whether the format may have these rows of `market`: the first none, the second any
+-- whether a format may have the given rows of `market`: the first none, the second any
 abbrev pub are_of_format : Format → List StoredMarket → Bool
 are_of_format First rows = length rows == 0
 are_of_format Second rows = true
@@ -56,27 +56,27 @@ are_of_format Second rows = true
 abbrev pub is_within : ℕ → ℤ → Bool
 is_within bound z = nat_le (nat_abs z) bound
 
--- whether the month and the next numbers of the campaign row are in their ranges
+-- whether the campaign row's month is 0 to 9,999, and each next number from 1 to one above the highest one allowed
 abbrev pub campaign_row_in_range : StoredCampaignRow → Bool
 campaign_row_in_range h = ((is_from 0 last_month h.month && is_from 1 (last_faction + 1) h.next_faction) && is_from 1 (last_unit + 1) h.next_unit) && is_from 1 (most_structures + 1) h.next_structure
 
--- whether the number and the flag `gone` of a row of `faction` are in their ranges
+-- whether the number of a row of `faction` is 1 to 9,999, and its flag `gone` 0 or 1
 abbrev pub faction_in_range : StoredFaction → Bool
 faction_in_range r = is_from 1 last_faction r.number && is_from 0 1 r.gone
 
--- whether the peasants and the money of a row of `region` are in their ranges
+-- whether the peasants and the money of a row of `region` are each 0 to 999,999,999
 abbrev pub region_in_range : StoredRegion → Bool
 region_in_range r = is_from 0 most_amount r.peasants && is_from 0 most_amount r.money
 
--- whether the number, men, money and guard flag of a row of `unit` are in their ranges
+-- whether a unit row's number is 1 to 999,999,999, its men 1 to 999,999, its money 0 to 999,999,999, its flag 0 or 1
 abbrev pub unit_in_range : StoredUnit → Bool
 unit_in_range r = ((is_from 1 last_unit r.number && is_from 1 men_limit r.men) && is_from 0 holding_limit r.money) && is_from 0 1 r.guard
 
--- whether the sort of a row of `has` is 0 or 1, and the amount of an item is in its range; rule 6 is for days
+-- whether a row of `has` is of sort 1, or of sort 0 with an amount of 1 to 999,999,999; rule 6 is for days (sort 1)
 abbrev pub has_in_range : StoredHas → Bool
 has_in_range r = is_from 1 1 r.sort || (is_from 0 0 r.sort && is_from 1 holding_limit r.amount)
 
--- whether the number of a row of `structure` and how much is done, up to its kind's size, are in their ranges
+-- whether the number of a row of `structure` is 1 to 10,000, and how much of it is done 1 to its kind's size
 abbrev pub structure_in_range : WorldValue → StoredStructure → Bool
 structure_in_range w r = is_from 1 most_structures r.number && is_from 1 (size_of w (as_u16 r.kind)) r.done
 
@@ -84,7 +84,7 @@ structure_in_range w r = is_from 1 most_structures r.number && is_from 1 (size_o
 abbrev pub books_bound : Parts → ℕ
 books_bound p = most_in_month * (as_u32 (campaign_row_of p).month + 1) + most_in_joining * length p.factions
 
--- whether the amount of a row of `books` is not 0, and without its sign at most the bound
+-- whether the amount of a row of `books` is not 0, and without its sign at most `bound`
 abbrev pub books_in_range : ℕ → StoredBooks → Bool
 books_in_range bound r = not (is_zero r.amount) && is_within bound r.amount
 
@@ -102,7 +102,7 @@ Key = ℤ × ℤ × ℤ
 abbrev pub key_cmp : Key → Key → Ordering
 key_cmp a b = ordering_then (ordering_then (int_cmp a.0 b.0) (int_cmp a.1 b.1)) (int_cmp a.2 b.2)
 
--- a key of one number
+-- the key with n as its first number, for tables whose key is one number
 abbrev pub one_key : ℤ → Key
 one_key n = (n, pos 0, pos 0)
 
@@ -168,7 +168,7 @@ are_few p = ((nat_le (length p.factions) last_faction && nat_le (length p.region
 abbrev pub people_in_range : Parts → Bool
 people_in_range p = ((list_all faction_in_range p.factions && list_all region_in_range p.regions) && list_all unit_in_range p.units) && list_all has_in_range p.has
 
--- whether each number of each row is in its range
+-- whether the campaign row and all rows of the other tables, but for mail and reports, are in their ranges
 abbrev pub numbers_in_range : WorldValue → Parts → Bool
 numbers_in_range w p = (((campaign_row_in_range (campaign_row_of p) && people_in_range p) && list_all (structure_in_range w) p.structures) && list_all (books_in_range (books_bound p)) p.books) && list_all (market_in_range w) p.markets
 

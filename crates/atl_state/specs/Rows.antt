@@ -36,31 +36,31 @@ flag false = pos 0
 
 -- ---- one row
 
--- the campaign row of a campaign in a format, with the id 1
+-- the campaign row of a campaign in a format, with the id 1 and without the world text
 abbrev pub campaign_row : Format → CampaignValue → StoredCampaignRow
 campaign_row f c = record { id = pos 1; format = pos (format_number f); month = pos c.month; next_faction = pos c.next_faction; next_unit = pos c.next_unit; next_structure = pos c.next_structure; pass = c.pass }
 
--- the row of faction n
+-- the row of `faction` for faction n: its names, its pass text, and whether it is gone
 abbrev pub faction_row : ℕ → Faction → StoredFaction
 faction_row n f = record { number = pos n; joined_as = f.joined_as; name = f.name; pass = f.pass; gone = flag f.gone }
 
--- the row of region n, without its stocks
+-- the row of `region` for region n: its peasants and money, without its stocks
 abbrev pub region_row : ℕ → Region → StoredRegion
 region_row n r = record { number = pos n; peasants = pos r.peasants; money = pos r.money }
 
--- the row of unit n, without its items and days of study
+-- the row of `unit` for unit n: all that it has but its items and days of study
 abbrev pub unit_row : ℕ → Unit → StoredUnit
 unit_row n u = record { number = pos n; faction = pos u.faction; name = u.holding.name; region = pos u.region; structure = pos u.structure; men = pos u.holding.men; money = pos u.holding.money; guard = flag u.holding.guard }
 
--- the row of structure n
+-- the row of `structure` for structure n: its kind, name, region, how much is done, and its owner
 abbrev pub structure_row : ℕ → Structure → StoredStructure
 structure_row n s = record { number = pos n; kind = pos s.kind; name = s.name; region = pos s.region; done = pos s.done; owner = pos s.owner }
 
--- the row of the mail of faction n
+-- the row of `mail` for the mailing of faction n
 abbrev pub mail_row : ℕ → List ℕ → StoredMail
 mail_row n text = record { faction = pos n; text = text }
 
--- the row of the report of faction n
+-- the row of `report` for the report of faction n
 abbrev pub report_row : ℕ → List ℕ → StoredReport
 report_row n text = record { faction = pos n; text = text }
 
@@ -72,7 +72,7 @@ has_row n sort thing amount = record { unit = pos n; sort = pos sort; thing = po
 abbrev pub books_row : Entry → Thing → ℤ → StoredBooks
 books_row entry thing amount = record { entry = pos (entry_index entry + 1); thing = pos (thing_index thing); amount = amount }
 
--- the row of `market` for a region and an item
+-- the row of `market` for the stock of an item in a region
 abbrev pub market_row : ℕ → ℕ → ℕ → StoredMarket
 market_row region item stock = record { region = pos region; item = pos item; stock = pos stock }
 
@@ -110,7 +110,7 @@ books_rows books = amounts_rows (entries books.amounts)
 abbrev pub stock_rows : ℕ → List (ℕ × ℕ) → List StoredMarket
 stock_rows n es = amount_rows (λ r. r.stock) (market_row n) es
 
--- the rows of `market` of the given regions; in the first format none
+-- the rows of `market` for the stocks of the given regions that are not 0; in the first format none
 abbrev pub market_rows : Format → List (ℕ × Region) → List StoredMarket
 market_rows First es = []
 market_rows Second es = flat_map (λ e. stock_rows e.0 (entries e.1.stocks)) es

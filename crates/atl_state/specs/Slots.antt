@@ -6,12 +6,12 @@ use Rattle.slab.specs.Slab as slab
 use Rattle.atl_records.specs.Every.{EachOf}
 
 module _ {V : Type 0} where
-  -- the entries `rest` with n and the value of its slot in front, where the slot has one
+  -- the entries `rest` with n and the given value in front; `rest` alone for None
   abbrev pub slot_entry_at : ℕ → Option V → List (ℕ × V) → List (ℕ × V)
   slot_entry_at n None rest = rest
   slot_entry_at n (Some v) rest = (n, v) ∷ rest
 
-  -- each number with the value in its slot, where the slot has one
+  -- for each listed pair of number and slot the number with the value in that slot, where the slot has one
   abbrev pub slot_entries : List (ℕ × ℕ) → slab.Slab V → List (ℕ × V)
   slot_entries [] s = []
   slot_entries (e ∷ es) s = slot_entry_at e.0 (slab.get s e.1) (slot_entries es s)

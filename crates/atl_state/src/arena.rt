@@ -21,6 +21,8 @@ impl<V: Drop> Drop for Arena<V> {
     }
 }
 
+/// Clauses see an arena as a map from numbers to values. Each number leads to a slot of its own
+/// that is in use, and no other slot is.
 impl<V> Model for Arena<V> {
     ghost use Rattle.std.specs.Ordering.{nat_cmp};
     ghost use Rattle.std.specs.Coded.{coded_ℕ};
@@ -51,7 +53,7 @@ impl<V: Drop> Arena<V> {
         }
     }
 
-    /// An empty map with room for this many values.
+    /// An empty map with room for this many values. AllocError without memory.
     pub(crate) fn with_room(alloc: Global, room: usize) -> Result<Self, AllocError>
         ensures { IfOk result (λ arena. arena ≡ map.empty) }
     {
@@ -150,13 +152,14 @@ impl<V: Drop> Arena<V> {
     }
 }
 
-/// An iterator over the numbers with their values, in rising order: those still to come.
+/// An iterator over the numbers of an `Arena` with their values, in rising order of the numbers.
 #[derive(Drop)]
 pub struct SlotEntries<'a, V> {
     places: Iter<'a, IndexEntry>,
     slots: &'a Slab<V>,
 }
 
+/// Clauses see the numbers and values that are still to come, as a list. Their slots are in use.
 impl<'a, V> Model for SlotEntries<'a, V> {
     ghost use Rattle.std.specs.Prelude.{List, ℕ};
     ghost use Rattle.std.specs.Slice.Iter.{iter_rest};
@@ -170,6 +173,7 @@ impl<'a, V> Model for SlotEntries<'a, V> {
     ghost invariant = { λ a. AreInUse (slots_of (iter_rest a.places)) a.slots.now };
 }
 
+/// Yields each number with the value in its slot, in rising order of the numbers.
 impl<'a, V> Iterator for SlotEntries<'a, V> {
     type Item = (u32, &'a V);
 

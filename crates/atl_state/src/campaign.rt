@@ -63,6 +63,8 @@ impl Drop for Campaign {
     }
 }
 
+/// Clauses see a campaign as its value and its marks. The lists are those of its units, and there
+/// is room to mark each amount of the books.
 impl Model for Campaign {
     ghost use Rattle.atl_state.specs.Campaign.{MarkedCampaign, marked_code};
     ghost use Rattle.atl_state.specs.KeptLists.{AreKept};
@@ -212,7 +214,7 @@ impl Campaign {
         self.units.iter()
     }
 
-    /// How many units there are, at most MOST_UNITS.
+    /// How many units there are, in a good campaign at most MOST_UNITS.
     pub fn unit_count(&self) -> usize
         ensures { result ≡ map.len self.now.value.units }
     {
@@ -233,7 +235,7 @@ impl Campaign {
         self.structures.iter()
     }
 
-    /// How many structures were ever begun, at most MOST_STRUCTURES.
+    /// How many structures were ever begun, in a good campaign at most MOST_STRUCTURES.
     pub fn structure_count(&self) -> usize
         ensures { result ≡ map.len self.now.value.structures }
     {

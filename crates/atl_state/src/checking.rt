@@ -59,7 +59,7 @@ pub enum Rule {
 }
 
 impl Rule {
-    /// The rule's number, from 1.
+    /// The rule's number, from 1 to 12.
     pub fn number(self) -> u8
         ensures { result ≡ rule_number self }
     {
@@ -98,7 +98,8 @@ fn keeps_one_row(format: Format, parts: &Parts) -> bool
         && are_of_format(format, parts.markets.as_slice())
 }
 
-/// Checks rules 1 to 3 on the rows, before a campaign is made of them.
+/// Checks rules 1 to 3 on the rows, before a campaign is made of them: Err is the first that they
+/// break, or Memory.
 fn check_rows(alloc: Global, world: &World, parts: &Parts, format: Format) -> Result<(), CheckFault>
     ensures { Passes format world.now parts.now 4 result }
 {
@@ -128,7 +129,7 @@ fn are_of_units(parts: &Parts, campaign: &Campaign) -> bool
         .all(|row| campaign.unit(as_u32(row.unit)).is_some())
 }
 
-/// How many entries the books of a format have.
+/// How many entries the books of a format have: in the first all but those of markets.
 fn entries_in(format: Format) -> usize
     ensures { result ≡ entries_in format }
 {
@@ -158,7 +159,8 @@ fn are_booked(format: Format, world: &World, parts: &Parts) -> bool
         .all(|row| is_booked(format, world, row))
 }
 
-/// Whether rows of `has` and `market` are of units that are there, and of the world's markets.
+/// Whether all rows of `has` are of units that are there, and all rows of `market` of markets of
+/// the world.
 fn are_goods_known(world: &World, parts: &Parts, campaign: &Campaign) -> bool
     ensures { IsTrue result ↔
         (IsTrue (list_all (is_of_unit campaign.now.value) parts.now.has)
@@ -198,7 +200,8 @@ fn keeps_mail(world: &World, parts: &Parts, campaign: &Campaign) -> bool
     are_mailings(campaign) && are_reported(campaign)
 }
 
-/// Checks rules 4 to 7: that what rows name exists, next numbers, days of study, and gone factions.
+/// Checks rules 4 to 7 (what rows name exists, next numbers, days of study, gone factions): Err is
+/// the first that is broken. The rows keep rules 1 to 3, and the campaign is read from them.
 fn check_places(
     world: &World,
     parts: &Parts,
@@ -224,7 +227,8 @@ fn check_places(
     Ok(())
 }
 
-/// Checks rules 8 to 12: owners, water, guards, books and mail.
+/// Checks rules 8 to 12 (owners, water, guards, books, mail): Err is the first that is broken. The
+/// rows keep rules 1 to 7, and the campaign is read from them.
 fn check_holders(
     world: &World,
     parts: &Parts,
@@ -253,7 +257,8 @@ fn check_holders(
     Ok(())
 }
 
-/// Checks rules 1 to 12 one after another, and returns the campaign that is read from the rows.
+/// Checks rules 1 to 12 one after another, and returns the campaign that is read from the rows, or
+/// the first rule that they break, or Memory.
 fn check_parts(
     alloc: Global,
     world: &World,
@@ -272,9 +277,9 @@ fn check_parts(
     Ok(campaign)
 }
 
-/// The campaign that rows of a format say, with nothing marked, or the first rule that they break.
-/// The rows may be in any order, each counts once, and the campaign is good. The rows of a good
-/// campaign break no rule, in the first format where it has no stocks and no amounts under the
+/// The campaign that rows of a format say, with nothing marked, or the first rule that they break,
+/// or Memory. The rows may be in any order, each counts once, and the campaign is good. Those of a
+/// good campaign break no rule, in the first format where it has no stocks and no amounts under the
 /// entries of markets.
 /// See docs/FORMATS.md, "Rules of the tables".
 pub fn check_as(
@@ -290,7 +295,8 @@ pub fn check_as(
     answer
 }
 
-/// The campaign that rows of the second format say, with nothing marked, or the first broken rule.
+/// The campaign that rows of the second format say, with nothing marked, or the first rule that
+/// they break, or Memory.
 pub fn check(alloc: Global, world: &World, parts: Parts) -> Result<Campaign, CheckFault>
     ensures rules { Checks Second world.now parts result }
     ensures whole { IsWorld world.now → GivesBack Second world.now parts result }

@@ -1,18 +1,20 @@
-//! A vector with free room at both ends: to insert or remove moves the nearer side only.
+//! A vector with free room at both ends: to insert or remove mostly moves the nearer side only.
 ghost use Rattle.std.specs.Prelude.{◌≡◌, ◌+◌, ◌-◌, ◌<◌, ◌≤◌, ◌^◌, OnOk, OnErr, IfOk, [], length, drop};
 ghost use Rattle.std.specs.List.{insert, remove};
 
 use std::alloc::{AllocError, Global};
 use std::marker::Model;
 
-/// A list in a vector whose first `free` items are unused, at most half of all. Inserting or
-/// removing an item moves only the items on its nearer side.
+/// A list in a vector whose first `free` elements are unused, at most half of all. To insert or
+/// remove an element moves those on its nearer side, and now and then, to make room or give it up,
+/// all.
 #[derive(Drop, Debug)]
 pub(crate) struct GapVec<T> {
     items: Vec<T>,
     free: usize,
 }
 
+/// Clauses see the list alone, without the unused elements, which are at most half of all.
 impl<T> Model for GapVec<T> {
     ghost use Rattle.std.specs.Prelude.{List, ◌+◌, ◌≤◌, length, drop};
 
@@ -23,8 +25,8 @@ impl<T> Model for GapVec<T> {
     ghost invariant = { λ a. a.free + a.free ≤ length a.items.items };
 }
 
-/// Adds unused items in front of a vector that has none and isn't empty. Returns how many it added:
-/// half as many as its items, and one. Without memory nothing changes.
+/// Adds unused elements in front of a vector that has none and isn't empty. Returns how many it
+/// added: half as many as its elements, and one. Without memory nothing changes.
 fn make_room<T: Copy + Drop>(items: &mut Vec<T>) -> Result<usize, AllocError>
     requires { 0 < length items.old.items }
     ensures some { IfOk result (λ free. 0 < free) }
@@ -39,8 +41,8 @@ fn make_room<T: Copy + Drop>(items: &mut Vec<T>) -> Result<usize, AllocError>
     Ok(free)
 }
 
-/// Inserts a thing at an index of the list, by moving the items before it one to the front. The
-/// last unused item is used for that.
+/// Inserts an element at an index of the list, by moving those before it one to the front. The last
+/// unused element is used for that.
 fn put_before<T: Copy + Drop>(items: &mut Vec<T>, free: usize, place: usize, thing: T)
     requires some { 0 < free }
     requires within { free + place ≤ length items.old.items }
@@ -53,8 +55,8 @@ fn put_before<T: Copy + Drop>(items: &mut Vec<T>, free: usize, place: usize, thi
     items[first + place] = thing;
 }
 
-/// Inserts a thing at an index of the list, and returns how many items are unused then. The items
-/// on the nearer side move. Without memory nothing changes.
+/// Inserts an element at an index of the list, and returns how many elements are unused then. Those
+/// on the nearer side move, and all if room is made. Without memory nothing changes.
 fn open<T: Copy + Drop>(
     items: &mut Vec<T>,
     free: usize,
@@ -77,8 +79,8 @@ fn open<T: Copy + Drop>(
     Ok(free - 1)
 }
 
-/// Removes the thing at an index of the list, and returns how many items are unused then. The items
-/// on the nearer side move.
+/// Removes the element at an index of the list, and returns how many elements are unused then.
+/// Those on the nearer side move.
 fn close<T: Copy + Drop>(items: &mut Vec<T>, free: usize, place: usize) -> usize
     requires { free + place < length items.old.items }
     ensures part { drop result items.new.items ≡ remove (drop free items.old.items) place }
@@ -93,8 +95,8 @@ fn close<T: Copy + Drop>(items: &mut Vec<T>, free: usize, place: usize) -> usize
     free
 }
 
-/// Moves the list to the front where more than half of the items are unused. Returns how many are
-/// unused then.
+/// Moves the list to the front where more than half of the elements are unused. Returns how many
+/// are unused then.
 fn compact<T: Copy + Drop>(items: &mut Vec<T>, free: usize) -> usize
     requires { free ≤ length items.old.items }
     ensures part { drop result items.new.items ≡ drop free items.old.items }
@@ -120,7 +122,7 @@ impl<T: Copy + Drop> GapVec<T> {
         }
     }
 
-    /// An empty vector with room for this many things.
+    /// An empty vector with room for this many elements. AllocError without memory.
     pub(crate) fn with_room(alloc: Global, room: usize) -> Result<Self, AllocError>
         ensures { IfOk result (λ shelf. shelf ≡ []) }
     {
@@ -130,7 +132,7 @@ impl<T: Copy + Drop> GapVec<T> {
         })
     }
 
-    /// Inserts a thing at an index. Without memory nothing changes.
+    /// Inserts an element at an index. Without memory nothing changes.
     pub(crate) fn insert(&mut self, place: usize, thing: T) -> Result<(), AllocError>
         requires { place ≤ length self.old }
         ensures ok { OnOk result (self.new ≡ insert self.old place thing) }
@@ -140,7 +142,7 @@ impl<T: Copy + Drop> GapVec<T> {
         Ok(())
     }
 
-    /// Removes the thing at an index. It takes no memory.
+    /// Removes the element at an index. It takes no memory.
     pub(crate) fn remove(&mut self, place: usize)
         requires { place < length self.old }
         ensures { self.new ≡ remove self.old place }
@@ -149,7 +151,7 @@ impl<T: Copy + Drop> GapVec<T> {
         self.free = compact(&mut self.items, free);
     }
 
-    /// How many things there are.
+    /// How many elements the list has, without the unused ones.
     pub(crate) fn len(&self) -> usize
         ensures value { result ≡ length self.now }
         ensures small { result < 2 ^ 63 }
@@ -157,7 +159,7 @@ impl<T: Copy + Drop> GapVec<T> {
         self.items.len() - self.free
     }
 
-    /// All things, in order.
+    /// The elements of the list in their order, without the unused ones.
     pub(crate) fn as_slice(&self) -> &[T]
         ensures { result.now ≡ self.now }
     {

@@ -26,6 +26,7 @@ pub(crate) struct Index {
     places: GapVec<IndexEntry>,
 }
 
+/// Clauses see an index as a map from numbers to slots. The entries' numbers rise strictly.
 impl Model for Index {
     ghost use Rattle.std.specs.Prelude.{ℕ};
     ghost use Rattle.std.specs.Ordering.{nat_cmp};
@@ -53,7 +54,7 @@ impl Index {
         }
     }
 
-    /// An empty index with room for this many numbers.
+    /// An empty index with room for this many numbers. AllocError without memory.
     pub(crate) fn with_room(alloc: Global, room: usize) -> Result<Index, AllocError>
         ensures { IfOk result (λ index. index ≡ map.empty) }
     {
@@ -119,7 +120,7 @@ impl Index {
 }
 
 /// The index of a number's entry, if no number between the first entry's and this one is missing;
-/// else None. The index is then the number less the first entry's.
+/// else, or if the number has no entry, None. The index is the number less the first entry's.
 fn guess_position(places: &[IndexEntry], number: u32) -> Option<usize>
     ensures { IfSome result (λ place. IsAt (index_numbers places.now) number place) }
 {
@@ -131,7 +132,7 @@ fn guess_position(places: &[IndexEntry], number: u32) -> Option<usize>
     }
 }
 
-/// Whether a number is above the numbers of all these sorted entries.
+/// Whether a number is above the numbers of all entries, which are sorted; true if there are none.
 fn is_above(places: &[IndexEntry], number: u32) -> bool
     requires { IsStrictlySortedBy nat_cmp (index_numbers places.now) }
     ensures { result ≡ true → BelongsAt (index_numbers places.now) number (length places.now) }

@@ -31,7 +31,7 @@ pub(crate) struct ListKeys {
     pub(crate) structure: u32,
 }
 
-/// The keys of the lists that a unit is in.
+/// The keys of the lists that a unit is in: its faction, region and structure.
 pub(crate) fn list_keys_of(unit: &Unit) -> ListKeys
     ensures { result ≡ list_keys_of unit.now }
 {

@@ -12,6 +12,7 @@ pub(crate) struct Numbers {
     items: GapVec<u32>,
 }
 
+/// Clauses see the numbers as a list, which is sorted.
 impl Model for Numbers {
     ghost use Rattle.std.specs.Prelude.{List, ℕ};
     ghost use Rattle.atl_state.specs.Ordered.{IsSorted};

@@ -35,7 +35,7 @@ impl Drop for Parts {
     }
 }
 
-/// A row of the table `campaign`, but for the world text: the campaign row.
+/// The campaign row without its world text: id, format, month, next numbers, moderator's pass text.
 #[derive(Debug)]
 pub struct StoredCampaignRow {
     /// Always 1.
@@ -61,7 +61,7 @@ impl Drop for StoredCampaignRow {
     }
 }
 
-/// A row of the table `faction`.
+/// A row of the table `faction`: a faction's number, names and pass text, and whether it is gone.
 #[derive(Debug)]
 pub struct StoredFaction {
     /// From 1 to atl_orders' LAST_FACTION.
@@ -82,7 +82,7 @@ impl Drop for StoredFaction {
     }
 }
 
-/// A row of the table `region`.
+/// A row of the table `region`: a region's number, peasants and money; stocks are rows of `market`.
 #[derive(Debug, Drop)]
 pub struct StoredRegion {
     /// The number that the world gives the region.
@@ -93,7 +93,8 @@ pub struct StoredRegion {
     pub money: i64,
 }
 
-/// A row of the table `unit`; its items and days of study are rows of `has`.
+/// A row of the table `unit`: its number, faction, name, region, structure, men, money and guard
+/// flag. Items and days of study are rows of `has`.
 #[derive(Debug)]
 pub struct StoredUnit {
     /// From 1 to LAST_UNIT.
@@ -120,7 +121,7 @@ impl Drop for StoredUnit {
     }
 }
 
-/// A row of the table `structure`.
+/// A row of the table `structure`: its number, kind, name, region, how much is done, and its owner.
 #[derive(Debug)]
 pub struct StoredStructure {
     /// From 1 to MOST_STRUCTURES.

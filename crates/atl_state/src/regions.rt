@@ -32,6 +32,8 @@ impl Drop for Regions {
     }
 }
 
+/// Clauses see the regions by number with their marks. There is room to mark the row and the stocks
+/// of each, and a region with a marked stock is in `markets`.
 impl Model for Regions {
     ghost use Rattle.atl_state.specs.Regions.{AreRegions, MarkedRegions, regions_code};
 
@@ -49,7 +51,7 @@ impl Regions {
     ghost use Rattle.std.specs.Borrow.{sem};
     ghost use Rattle.atl_state.specs.RegionLending.{LendsRegion};
 
-    /// No region. It takes no memory.
+    /// No regions, and nothing marked. It takes no memory.
     pub(crate) fn new(alloc: Global) -> Regions
         ensures { result ≡ unmarked_regions map.empty }
     {
@@ -150,7 +152,7 @@ impl Regions {
         }
     }
 
-    /// Marks a region's row. It takes no memory.
+    /// Marks a region's row, if there is such a region. It takes no memory.
     fn mark_row(&mut self, number: u32)
         ensures { self.new ≡ record self.old
             { rows = marked_with self.old.rows number (map.get self.old.values number) } }
@@ -158,7 +160,8 @@ impl Regions {
         self.rows.mark_present(&self.values, number);
     }
 
-    /// Marks one stock of a region, or all its stocks where there is no memory for that mark.
+    /// Marks one stock of a region, if there is such a region, or all its stocks where there is no
+    /// memory for that mark.
     fn mark_item(&mut self, alloc: Global, number: u32, item: u32)
         ensures { (self.new ≡ with_item_marked self.old number item) ⊎ (self.new
             ≡ with_stocks_marked self.old number) }
@@ -186,7 +189,7 @@ impl Regions {
         }
     }
 
-    /// Sets how many peasants a region has, and marks its row. It takes no memory.
+    /// Sets how many peasants a region has, if it is there, and marks its row. It takes no memory.
     pub(crate) fn set_peasants(&mut self, number: u32, peasants: u32)
         ensures { self.new ≡ with_region_row (λ r. record r { peasants = peasants }) self.old
             number }
@@ -197,7 +200,7 @@ impl Regions {
         }
     }
 
-    /// Sets how much money a region has, and marks its row. It takes no memory.
+    /// Sets how much money a region has, if it is there, and marks its row. It takes no memory.
     pub(crate) fn set_money(&mut self, number: u32, money: u32)
         ensures { self.new ≡ with_region_row (λ r. record r { money = money }) self.old number }
     {
@@ -222,7 +225,7 @@ impl Regions {
         put_amount(&mut lent.stocks, item, stock)
     }
 
-    /// Clears all marks. It takes no memory.
+    /// Clears all marks, and leaves the regions as they are. It takes no memory.
     pub(crate) fn unmark(&mut self)
         ensures { self.new ≡ unmarked_regions self.old.values }
     {

@@ -39,7 +39,7 @@ fn flag(set: bool) -> i64
     if set { 1 } else { 0 }
 }
 
-/// The campaign row of a campaign in a format.
+/// The campaign row of a campaign in a format, without the world text.
 fn campaign_row(
     alloc: Global,
     format: Format,
@@ -59,7 +59,7 @@ fn campaign_row(
     })
 }
 
-/// The row of a faction.
+/// The row of a faction: its number, both names, its pass text, and whether it is gone.
 fn faction_row(alloc: Global, number: u32, faction: &Faction) -> Result<StoredFaction, AllocError>
     ensures { IfOk result (λ row. row ≡ faction_row number faction.now) }
 {
@@ -92,7 +92,7 @@ fn unit_row(alloc: Global, number: u32, unit: &Unit) -> Result<StoredUnit, Alloc
     })
 }
 
-/// The row of a structure.
+/// The row of a structure: its number, kind, name, region, how much is done, and its owner.
 fn structure_row(
     alloc: Global,
     number: u32,
@@ -136,7 +136,7 @@ fn faction_rows(alloc: Global, campaign: &Campaign) -> Result<Sequence<StoredFac
     Ok(rows)
 }
 
-/// A row for each region, in the order of their numbers.
+/// A row for each region, without its stocks, in the order of their numbers.
 fn region_rows(alloc: Global, campaign: &Campaign) -> Result<Sequence<StoredRegion>, AllocError>
     ensures { IfOk result (λ rows. rows
         ≡ rows_by region_row (map.entries campaign.now.value.regions)) }
@@ -152,7 +152,7 @@ fn region_rows(alloc: Global, campaign: &Campaign) -> Result<Sequence<StoredRegi
     Ok(rows)
 }
 
-/// A row for each unit, in the order of their numbers.
+/// A row for each unit, without its items and days of study, in the order of their numbers.
 fn unit_rows(alloc: Global, campaign: &Campaign) -> Result<Sequence<StoredUnit>, AllocError>
     ensures { IfOk result (λ rows. rows ≡ rows_by unit_row (map.entries campaign.now.value.units)) }
 {
@@ -246,7 +246,7 @@ fn add_held(
     add_kind(rows, number, SKILL_SORT, holding.days())
 }
 
-/// The rows of the items and days of study of all units.
+/// The rows of `has` for the items and days of study of all units, unit by unit.
 fn has_rows(alloc: Global, campaign: &Campaign) -> Result<Sequence<StoredHas>, AllocError>
     ensures { IfOk result (λ rows. rows ≡ has_rows (map.entries campaign.now.value.units)) }
 {
@@ -284,7 +284,7 @@ fn add_stocks(
     Ok(())
 }
 
-/// The rows of the stocks of all regions.
+/// A row of `market` for each stock of each region that is not 0, region by region.
 fn stocks_rows(alloc: Global, campaign: &Campaign) -> Result<Sequence<StoredMarket>, AllocError>
     ensures { IfOk result (λ rows. rows
         ≡ market_rows Second (map.entries campaign.now.value.regions)) }

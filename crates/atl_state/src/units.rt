@@ -34,6 +34,8 @@ impl Drop for Units {
     }
 }
 
+/// Clauses see the units by number with their marks. A unit of which a part is marked is marked
+/// itself, and there is room to mark each unit, its row and its goods.
 impl Model for Units {
     ghost use Rattle.atl_state.specs.Roster.{Roster, roster_code};
     ghost use Rattle.atl_state.specs.UnitRoom.{AreUnits};
@@ -104,7 +106,7 @@ impl Units {
         self.units.len()
     }
 
-    /// How many units are marked.
+    /// How many units there are of which something is marked, with those that are gone.
     pub(crate) fn marked(&self) -> usize
         ensures value { result ≡ set.len self.now.marks }
         ensures small { result ≤ most_map_entries }
@@ -226,7 +228,7 @@ impl Units {
         }
     }
 
-    /// Puts a unit in a region and a structure, and marks its row. It takes no memory.
+    /// Sets a unit's region and structure, and marks its row; no owner changes. It takes no memory.
     pub(crate) fn set_place(&mut self, number: u32, region: u32, structure: u32)
         ensures { self.new ≡ with_unit_row
             (λ u. record u { region = region; structure = structure }) self.old number }
@@ -319,7 +321,7 @@ impl Units {
         }
     }
 
-    /// Clears all marks. It takes no memory.
+    /// Clears all marks, and leaves the units as they are. It takes no memory.
     pub(crate) fn unmark(&mut self)
         ensures { self.new ≡ unmarked_units self.old.values }
     {

@@ -22,7 +22,8 @@ fn put_row(books: &mut Books, row: &StoredBooks)
     }
 }
 
-/// The books that are read from rows, for this many things.
+/// The books of this many things that are read from rows; rows of other entries or things are left
+/// out. AllocError without memory.
 pub(crate) fn books_of(
     alloc: Global,
     things: usize,

@@ -47,7 +47,7 @@ fn bare_regions(alloc: Global, rows: &[StoredRegion]) -> Result<Numbered<Region>
     Ok(regions)
 }
 
-/// The regions of rows by number, with what the rows of markets have in stock there.
+/// The regions of rows by number, with the stocks that the rows of `market` give to them.
 pub(crate) fn regions_of(
     alloc: Global,
     rows: &[StoredRegion],
@@ -107,7 +107,7 @@ pub(crate) fn reports_of(alloc: Global, rows: &[StoredReport]) -> Result<Numbere
     Ok(reports)
 }
 
-/// The factions, regions, structures, mail and reports of a campaign, by number.
+/// The factions, regions, structures, mail and reports of a campaign, by number and with marks.
 pub(crate) struct CampaignMaps {
     pub(crate) factions: MarkedMap<Faction>,
     pub(crate) regions: Regions,

@@ -27,7 +27,7 @@ pub(crate) fn pass_of(alloc: Global, bytes: &Sequence<u8>) -> Result<Text, Alloc
     Text::from_utf8(alloc, bytes.as_slice())
 }
 
-/// The faction of a row whose names and pass text keep their rules.
+/// The faction that a row of `faction` says; its names and pass text keep their rules.
 pub(super) fn faction_of(alloc: Global, row: &StoredFaction) -> Result<Faction, AllocError>
     requires { faction_named row.now ≡ true }
     ensures { IfOk result (λ faction. faction ≡ faction_of row.now) }
@@ -44,7 +44,7 @@ pub(super) fn faction_of(alloc: Global, row: &StoredFaction) -> Result<Faction, 
     })
 }
 
-/// The region of a row, with nothing in stock.
+/// The region that a row of `region` says, with nothing in stock.
 pub(super) fn bare_region(alloc: Global, row: &StoredRegion) -> Region
     ensures { result ≡ bare_region row.now }
 {
@@ -55,7 +55,7 @@ pub(super) fn bare_region(alloc: Global, row: &StoredRegion) -> Region
     }
 }
 
-/// The structure of a row whose name keeps the name rule.
+/// The structure that a row of `structure` says; its name keeps the name rule.
 pub(super) fn structure_of(alloc: Global, row: &StoredStructure) -> Result<Structure, AllocError>
     requires { name_ok row.now.name ≡ true }
     ensures { IfOk result (λ structure. structure ≡ structure_of row.now) }

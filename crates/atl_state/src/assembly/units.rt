@@ -19,7 +19,8 @@ use atl_records::{Holding, Unit};
 use atl_tables::Numbered;
 use std::alloc::{AllocError, Global};
 
-/// The unit of a row, without items and days of study.
+/// The unit that a row of `unit` says, without items and days of study. Its name keeps the name
+/// rule, and its numbers are in their ranges.
 fn bare_unit(alloc: Global, row: &StoredUnit) -> Result<Unit, AllocError>
     requires named { name_ok row.now.name ≡ true }
     requires range { unit_in_range row.now ≡ true }

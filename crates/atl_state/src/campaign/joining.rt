@@ -36,7 +36,8 @@ fn is_taken(factions: &MarkedMap<Faction>, name: &[u8]) -> bool
     false
 }
 
-/// The number of the land region where a faction begins, as the word of the dice picks it.
+/// The number of the land region where a faction begins: of all land regions, counted from 0, the
+/// one at the word of the dice modulo their count.
 fn home(world: &World, word: u32) -> u32
     ensures { result ≡ home_of world.now word }
 {
@@ -113,7 +114,8 @@ impl Campaign {
         is_taken(&self.factions, name)
     }
 
-    /// Whether no faction can join: too many factions, too many units, or no unit number left.
+    /// Whether no faction can join: LAST_FACTION have joined, there are MOST_UNITS units, or the
+    /// next unit number is above LAST_UNIT.
     fn is_full(&self) -> bool
         ensures { result ≡ is_full self.now.value }
     {
@@ -154,7 +156,8 @@ impl Campaign {
         }
     }
 
-    /// Adds a faction with its unit, where there is room for both, and returns their numbers.
+    /// Adds a faction with its unit under the next numbers, books what they bring, and returns both
+    /// numbers. There must be room for both. AllocError without memory, and then nothing changes.
     fn enroll(
         &mut self,
         world: &World,

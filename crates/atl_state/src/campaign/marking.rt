@@ -11,9 +11,9 @@ use atl_records::{Entry, Thing, amount_number};
 use atl_tables::{Entries, MarkedNumbers, Numbered};
 
 impl Campaign {
-    /// How many factions, regions, units and other things are marked as to be written. A unit
-    /// counts once, whatever of it is marked; so do the stocks of a region, and so does the
-    /// campaign row. It takes no memory.
+    /// How much is marked as to be written: factions, rows of regions, structures, mail, reports,
+    /// amounts of the books and the campaign row count one each. A unit counts once, whatever of it
+    /// is marked, and so do the stocks of a region. It takes no memory.
     pub fn marks(&self) -> usize
         ensures value { result ≡ marks_in self.now.marks }
         ensures units { AreWithin self.now.marks.units self.now.marks.rows self.now.marks.goods
@@ -81,16 +81,16 @@ impl Campaign {
         self.units.marked_goods()
     }
 
-    /// The single items that are marked, by the numbers of their units, in rising order. Units that
-    /// are gone are among them. It takes no memory.
+    /// The single items that are marked, by the numbers of their units, in rising order. Items of
+    /// units that are gone are among them. It takes no memory.
     pub fn marked_items(&self) -> Entries<'_, Numbered<()>>
         ensures { result ≡ map.entries self.now.marks.items }
     {
         self.units.marked_items()
     }
 
-    /// The single skills that are marked, by the numbers of their units, in rising order. Units
-    /// that are gone are among them. It takes no memory.
+    /// The single skills that are marked, by the numbers of their units, in rising order. Skills of
+    /// units that are gone are among them. It takes no memory.
     pub fn marked_skills(&self) -> Entries<'_, Numbered<()>>
         ensures { result ≡ map.entries self.now.marks.skills }
     {

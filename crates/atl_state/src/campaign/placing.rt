@@ -62,8 +62,8 @@ impl Campaign {
         }
     }
 
-    /// Puts a unit in a region and a structure, and marks its row; no owner changes. Without memory
-    /// for it nothing changes.
+    /// Puts a unit in a region and a structure, and marks its row; no owner changes. Where there is
+    /// no such unit, or no memory, nothing changes.
     fn put(&mut self, number: u32, region: u32, structure: u32) -> Result<(), AllocError>
         ensures ok { OnOk result (self.new ≡ put_marked self.old number region structure) }
         ensures err { OnErr result (self.new ≡ self.old) }
@@ -106,7 +106,7 @@ impl Campaign {
         Ok(())
     }
 
-    /// Removes a unit, and marks it and its goods; no owner changes.
+    /// Removes a unit, if it is there, and marks it, its row and all its goods; no owner changes.
     fn take_unit(&mut self, number: u32)
         ensures { self.new ≡ taken_marked self.old number }
     {

@@ -17,11 +17,12 @@ use std::collections::BTreeSet;
 trait Keyed {
     ghost key_of: { Self → Key };
 
-    /// The key: numbers that the table's key doesn't have are 0.
+    /// The row's key as three numbers; those that its table's key doesn't have are 0.
     fn key(&self) -> (i64, i64, i64)
         ensures { result ≡ key_of self.now };
 }
 
+/// The key of a row of `faction`: its number.
 impl Keyed for StoredFaction {
     ghost key_of = { faction_key };
 
@@ -30,6 +31,7 @@ impl Keyed for StoredFaction {
     }
 }
 
+/// The key of a row of `region`: its number.
 impl Keyed for StoredRegion {
     ghost key_of = { region_key };
 
@@ -38,6 +40,7 @@ impl Keyed for StoredRegion {
     }
 }
 
+/// The key of a row of `unit`: its number.
 impl Keyed for StoredUnit {
     ghost key_of = { unit_key };
 
@@ -46,6 +49,7 @@ impl Keyed for StoredUnit {
     }
 }
 
+/// The key of a row of `has`: its unit, sort and thing.
 impl Keyed for StoredHas {
     ghost key_of = { has_key };
 
@@ -54,6 +58,7 @@ impl Keyed for StoredHas {
     }
 }
 
+/// The key of a row of `structure`: its number.
 impl Keyed for StoredStructure {
     ghost key_of = { structure_key };
 
@@ -62,6 +67,7 @@ impl Keyed for StoredStructure {
     }
 }
 
+/// The key of a row of `mail`: its faction.
 impl Keyed for StoredMail {
     ghost key_of = { mail_key };
 
@@ -70,6 +76,7 @@ impl Keyed for StoredMail {
     }
 }
 
+/// The key of a row of `report`: its faction.
 impl Keyed for StoredReport {
     ghost key_of = { report_key };
 
@@ -78,6 +85,7 @@ impl Keyed for StoredReport {
     }
 }
 
+/// The key of a row of `books`: its entry and thing.
 impl Keyed for StoredBooks {
     ghost key_of = { books_key };
 
@@ -86,6 +94,7 @@ impl Keyed for StoredBooks {
     }
 }
 
+/// The key of a row of `market`: its region and item.
 impl Keyed for StoredMarket {
     ghost key_of = { market_key };
 

@@ -10,7 +10,8 @@ use crate::parts::{Parts, StoredFaction, StoredStructure, StoredUnit};
 use atl_tables::{name_ok, pass_ok};
 use std::alloc::{AllocError, Global};
 
-/// Whether both names and the pass text of a faction keep their rules.
+/// Whether the joined name, the shown name and the pass text of a row of `faction` keep their
+/// rules.
 fn faction_named(row: &StoredFaction) -> bool
     ensures { result ≡ faction_named row.now }
 {
@@ -71,7 +72,8 @@ fn joined_names_differ(alloc: Global, rows: &[StoredFaction]) -> Result<bool, Al
     are_distinct(alloc, &names)
 }
 
-/// Whether names and pass texts keep their rules, and no two factions joined under the same name.
+/// Whether rows keep rule 3: names and pass texts keep their rules, and no two factions joined
+/// under the same name.
 pub(crate) fn rows_named(alloc: Global, parts: &Parts) -> Result<bool, AllocError>
     requires { length parts.now.campaign ≡ 1 }
     ensures { IfOk result (λ yes. IsTrue yes ↔ (AreRowsNamed parts.now)) }

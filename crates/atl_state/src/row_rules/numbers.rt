@@ -3,7 +3,7 @@ ghost use Rattle.std.specs.Prelude.{◌≡◌};
 ghost use Rattle.atl_state.specs.FromRows.{as_u32, as_u16, is_set};
 ghost use Rattle.atl_state.specs.RowRules.{is_from, is_within};
 
-/// A number as one of 32 bits; one that doesn't fit is read as the largest.
+/// A number of a row as one of 32 bits; a negative or larger one is read as the largest.
 pub(crate) fn as_u32(number: i64) -> u32
     ensures { result ≡ as_u32 number }
 {
@@ -13,7 +13,7 @@ pub(crate) fn as_u32(number: i64) -> u32
     }
 }
 
-/// A number as one of 16 bits; one that doesn't fit is read as the largest.
+/// A number of a row as one of 16 bits; a negative or larger one is read as the largest.
 pub(crate) fn as_u16(number: i64) -> u16
     ensures { result ≡ as_u16 number }
 {
@@ -37,7 +37,7 @@ pub(super) fn is_from(low: u32, high: u32, number: i64) -> bool
     i64::from(low) <= number && number <= i64::from(high)
 }
 
-/// Whether a number, without its sign, is at most the bound.
+/// Whether a number, without its sign, is at most `bound`.
 pub(super) fn is_within(bound: u128, number: i64) -> bool
     ensures { result ≡ is_within bound number }
 {

@@ -20,7 +20,8 @@ use atl_tables::World;
 use atl_tables::limits::{MOST_AMOUNT, MOST_REGIONS};
 use std::alloc::{AllocError, Global};
 
-/// Whether the month and the next numbers of the campaign row are in their ranges.
+/// Whether the campaign row's month is 0 to LAST_MONTH, and each next number 1 to one above the
+/// last that may be given.
 fn campaign_row_in_range(head: &StoredCampaignRow) -> bool
     ensures { result ≡ campaign_row_in_range head.now }
 {
@@ -30,21 +31,22 @@ fn campaign_row_in_range(head: &StoredCampaignRow) -> bool
         && is_from(1, MOST_STRUCTURES + 1, head.next_structure)
 }
 
-/// Whether the number and the flag `gone` of a faction are in their ranges.
+/// Whether the number of a row of `faction` is 1 to LAST_FACTION, and its flag `gone` 0 or 1.
 fn faction_in_range(row: &StoredFaction) -> bool
     ensures { result ≡ faction_in_range row.now }
 {
     is_from(1, LAST_FACTION, row.number) && is_from(0, 1, row.gone)
 }
 
-/// Whether the peasants and the money of a region are in their ranges.
+/// Whether the peasants and the money of a row of `region` are each 0 to MOST_AMOUNT.
 fn region_in_range(row: &StoredRegion) -> bool
     ensures { result ≡ region_in_range row.now }
 {
     is_from(0, MOST_AMOUNT, row.peasants) && is_from(0, MOST_AMOUNT, row.money)
 }
 
-/// Whether the number, men, money and guard flag of a unit are in their ranges.
+/// Whether the number of a row of `unit` is 1 to LAST_UNIT, its men 1 to MEN_LIMIT, its money 0 to
+/// HOLDING_LIMIT, and its guard flag 0 or 1.
 fn unit_in_range(row: &StoredUnit) -> bool
     ensures { result ≡ unit_in_range row.now }
 {
@@ -54,14 +56,15 @@ fn unit_in_range(row: &StoredUnit) -> bool
         && is_from(0, 1, row.guard)
 }
 
-/// Whether a row of `has` is of sort 0 or 1, and an item's amount is in range; days aren't checked.
+/// Whether a row of `has` is of sort 1, or of sort 0 with an amount of 1 to HOLDING_LIMIT; days
+/// (sort 1) aren't checked here.
 fn has_in_range(row: &StoredHas) -> bool
     ensures { result ≡ has_in_range row.now }
 {
     is_from(1, 1, row.sort) || is_from(0, 0, row.sort) && is_from(1, HOLDING_LIMIT, row.amount)
 }
 
-/// Whether a structure's number is in its range, and `done` is from 1 to the size of its kind.
+/// Whether a structure's number is 1 to MOST_STRUCTURES, and `done` is 1 to the size of its kind.
 fn structure_in_range(world: &World, row: &StoredStructure) -> bool
     ensures { result ≡ structure_in_range world.now row.now }
 {
@@ -69,7 +72,7 @@ fn structure_in_range(world: &World, row: &StoredStructure) -> bool
     is_from(1, MOST_STRUCTURES, row.number) && is_from(1, size, row.done)
 }
 
-/// Whether an amount of the books is not 0, and without its sign at most the bound.
+/// Whether an amount of the books is not 0, and without its sign at most `bound`.
 fn books_in_range(bound: u128, row: &StoredBooks) -> bool
     ensures { result ≡ books_in_range bound row.now }
 {
@@ -122,7 +125,7 @@ fn structures_in_range(world: &World, rows: &[StoredStructure]) -> bool
     rows.iter().all(|row| structure_in_range(world, row))
 }
 
-/// Whether no amount of these rows of `books` is 0, and all are within the bound.
+/// Whether no amount of the given rows of `books` is 0, or above `bound` without its sign.
 fn all_books_in_range(bound: u128, rows: &[StoredBooks]) -> bool
     ensures { result ≡ list_all (books_in_range bound) rows.now }
 {
@@ -136,7 +139,8 @@ fn markets_in_range(world: &World, rows: &[StoredMarket]) -> bool
     rows.iter().all(|row| market_in_range(world, row))
 }
 
-/// Whether there are not too many factions, regions, units and structures.
+/// Whether there are at most LAST_FACTION factions, MOST_REGIONS regions, MOST_UNITS units and
+/// MOST_STRUCTURES structures.
 fn are_few(parts: &Parts) -> bool
     ensures { result ≡ are_few parts.now }
 {
@@ -156,7 +160,8 @@ fn people_in_range(parts: &Parts) -> bool
         && all_has_in_range(parts.has.as_slice())
 }
 
-/// How large an amount of the books may be, without its sign, by the month and the factions.
+/// How large an amount of the books may be, without its sign: MOST_IN_MONTH * (month + 1), plus
+/// MOST_IN_JOINING for each faction.
 fn books_bound(parts: &Parts) -> u128
     requires { length parts.now.campaign ≡ 1 }
     ensures { result ≡ books_bound parts.now }
@@ -165,7 +170,8 @@ fn books_bound(parts: &Parts) -> u128
     MOST_IN_MONTH * months + MOST_IN_JOINING * parts.factions.len() as u128
 }
 
-/// Whether each number of each row is in its range.
+/// Whether the campaign row and all rows of the other tables, but for mail and reports, are in
+/// their ranges.
 fn numbers_in_range(world: &World, parts: &Parts) -> bool
     requires { length parts.now.campaign ≡ 1 }
     ensures { result ≡ numbers_in_range world.now parts.now }
@@ -177,7 +183,8 @@ fn numbers_in_range(world: &World, parts: &Parts) -> bool
         && markets_in_range(world, parts.markets.as_slice())
 }
 
-/// Whether rows keep the rule on keys, on ranges, and on how many rows there may be.
+/// Whether rows keep rule 2: keys differ, each number is in its range, and there are not too many
+/// rows.
 pub(crate) fn rows_in_range(alloc: Global, world: &World, parts: &Parts) -> Result<bool, AllocError>
     requires { length parts.now.campaign ≡ 1 }
     ensures { IfOk result (λ yes. IsTrue yes ↔ (AreRowsInRange world.now parts.now)) }

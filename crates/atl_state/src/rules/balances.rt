@@ -12,7 +12,7 @@ use crate::campaign::Campaign;
 use atl_records::Thing;
 use atl_tables::World;
 
-/// Whether the total of a thing is the sum of its entries.
+/// Whether the total of a thing equals the sum booked of it under all entries.
 fn is_balanced(campaign: &Campaign, thing: Thing) -> bool
     requires few { IsCountable campaign.now.value }
     requires there { thing_index thing < campaign.now.value.books.things }
@@ -22,7 +22,7 @@ fn is_balanced(campaign: &Campaign, thing: Thing) -> bool
     i128::from(campaign.total(thing)) == campaign.books().sum(thing)
 }
 
-/// Whether the total of each item of the world is the sum of its entries.
+/// Whether the total of each item of the world equals the sum booked of it under all entries.
 fn are_items_balanced(world: &World, campaign: &Campaign) -> bool
     requires few { IsCountable campaign.now.value }
     requires things { campaign.now.value.books.things ≡ things_of world.now }
@@ -39,7 +39,7 @@ fn are_items_balanced(world: &World, campaign: &Campaign) -> bool
     true
 }
 
-/// Whether the total of money, and that of people, is the sum of its entries.
+/// Whether the totals of money and of people equal the sums booked of them under all entries.
 fn are_people_balanced(campaign: &Campaign) -> bool
     requires few { IsCountable campaign.now.value }
     requires there { 1 < campaign.now.value.books.things }
@@ -50,8 +50,8 @@ fn are_people_balanced(campaign: &Campaign) -> bool
     is_balanced(campaign, Thing::Money) && is_balanced(campaign, Thing::People)
 }
 
-/// Whether the total of each thing over all units and regions is the sum of its entries. All items
-/// held must be the world's, and all stocks of its markets. It takes no memory.
+/// Whether the total of each thing over all units and regions equals the sum booked of it under all
+/// entries. All items held must be the world's, and all stocks of its markets. It takes no memory.
 pub(crate) fn are_balanced(world: &World, campaign: &Campaign) -> bool
     requires few { IsCountable campaign.now.value }
     requires books { AreBooks (things_of world.now) campaign.now.value.books }

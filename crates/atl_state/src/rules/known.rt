@@ -59,7 +59,7 @@ fn are_all_there(world: &World, campaign: &Campaign) -> bool
         .all(|(number, _)| is_region(campaign, number))
 }
 
-/// Whether the regions are exactly the world's.
+/// Whether the campaign's regions are exactly the world's.
 fn are_regions_known(world: &World, campaign: &Campaign) -> bool
     ensures { IsTrue result ↔
         ((n : ℕ) → IsThere campaign.now.value.regions n ↔ IsThere world.now.regions n) }
@@ -106,7 +106,7 @@ fn are_stocks_known(world: &World, campaign: &Campaign) -> bool
     are_regions_known(world, campaign) && are_of_markets(world, campaign)
 }
 
-/// Whether all numbers of the entries are below a count.
+/// Whether the numbers of all given entries are below `count`.
 fn are_below(mut entries: Entries<'_, u32>, count: usize) -> bool
     ensures { IsTrue result ↔ (EachOf (λ n amount. n < count) entries.entry) }
 {
@@ -123,7 +123,7 @@ fn holds_known(world: &World, holding: &Holding) -> bool
         && are_below(holding.days(), world.skills().len())
 }
 
-/// Whether a unit is inside nothing, or inside a structure of its region.
+/// Whether a unit is inside no structure (0), or inside one that is there and in its region.
 fn is_inside_here(campaign: &Campaign, unit: &Unit) -> bool
     ensures { IsTrue result ↔
         (unit.now.structure ≢ 0
@@ -162,14 +162,16 @@ fn has_known_goods(world: &World, campaign: &Campaign, unit: &Unit) -> bool
     is_inside_here(campaign, unit) && holds_known(world, &unit.holding)
 }
 
-/// Whether a unit's faction, region, structure, items and skills are there.
+/// Whether a unit's faction, region, items and skills are there, and its structure is 0 or one of
+/// its region.
 fn is_placed(world: &World, campaign: &Campaign, unit: &Unit) -> bool
     ensures { IsTrue result ↔ (IsPlaced world.now campaign.now.value unit.now) }
 {
     is_somewhere(campaign, unit) && has_known_goods(world, campaign, unit)
 }
 
-/// Whether each unit's faction, region, structure, items and skills are there.
+/// Whether each unit's faction, region, items and skills are there, and its structure is 0 or one
+/// of its region.
 fn are_placed(world: &World, campaign: &Campaign) -> bool
     ensures { IsTrue result ↔
         (Every (λ n u. IsPlaced world.now campaign.now.value u) campaign.now.value.units) }
@@ -188,7 +190,7 @@ fn is_standing(world: &World, campaign: &Campaign, structure: &Structure) -> boo
     usize::from(structure.kind) < world.kinds().len() && is_region(campaign, structure.region)
 }
 
-/// Whether a structure's owner is nobody, or a unit that is there.
+/// Whether a structure's owner is nobody (0), or a unit that is there.
 fn is_owner_there(campaign: &Campaign, structure: &Structure) -> bool
     ensures { IsTrue result ↔
         (structure.now.owner ≢ 0 → IsThere campaign.now.value.units structure.now.owner) }
@@ -196,14 +198,14 @@ fn is_owner_there(campaign: &Campaign, structure: &Structure) -> bool
     structure.owner == 0 || is_unit(campaign, structure.owner)
 }
 
-/// Whether a structure's kind, region and owner are there.
+/// Whether a structure's kind and region are there, and its owner is nobody or an existing unit.
 fn is_built(world: &World, campaign: &Campaign, structure: &Structure) -> bool
     ensures { IsTrue result ↔ (IsBuilt world.now campaign.now.value structure.now) }
 {
     is_standing(world, campaign, structure) && is_owner_there(campaign, structure)
 }
 
-/// Whether each structure's kind, region and owner are there.
+/// Whether each structure's kind and region are there, and its owner is nobody or an existing unit.
 fn are_built(world: &World, campaign: &Campaign) -> bool
     ensures { IsTrue result ↔
         (Every (λ n s. IsBuilt world.now campaign.now.value s) campaign.now.value.structures) }
@@ -233,7 +235,7 @@ fn are_reports_known(campaign: &Campaign) -> bool
         .all(|(number, _)| is_faction(campaign, number))
 }
 
-/// Whether the regions are the world's, and what they, units and structures name by number exists.
+/// Whether the regions are the world's, and all that stocks, units and structures name exists.
 fn are_things_known(world: &World, campaign: &Campaign) -> bool
     ensures { IsTrue result ↔
         ((((n : ℕ) → IsThere campaign.now.value.regions n ↔ IsThere world.now.regions n)
@@ -251,8 +253,8 @@ fn are_posts_known(campaign: &Campaign) -> bool
     are_mail_known(campaign) && are_reports_known(campaign)
 }
 
-/// Whether the regions are exactly the world's, with stocks of their markets alone. All that is
-/// named by its number must exist, and each unit's structure be in the unit's region. It takes no
+/// Whether all that the campaign names by number exists, its regions are exactly the world's, with
+/// stocks of their markets alone, and each unit's structure is in the unit's region. It takes no
 /// memory.
 pub(crate) fn are_known(world: &World, campaign: &Campaign) -> bool
     ensures { IsTrue result ↔ (AreKnown world.now campaign.now.value) }

@@ -7,7 +7,7 @@ ghost use Rattle.atl_state.specs.Good.{AreNumbered, IsNumbered};
 use crate::campaign::Campaign;
 use atl_tables::Entries;
 
-/// Whether all numbers of the entries are at least `least` and below `next`.
+/// Whether the numbers of all given entries are at least `least` and below `next`.
 fn are_between<V>(mut entries: Entries<'_, V>, least: u32, next: u32) -> bool
     ensures { IsTrue result ↔ (EachOf (λ n v. (least ≤ n) × (n < next)) entries.entry) }
 {
@@ -48,8 +48,8 @@ fn are_units_before(campaign: &Campaign) -> bool
     campaign.units().all(|(number, _)| number < next)
 }
 
-/// Whether factions and structures are numbered from 1 without a gap, and next numbers are free.
-/// It takes no memory.
+/// Whether factions and structures are numbered from 1 to one below their next number, without a
+/// gap, and units below the next unit number. It takes no memory.
 pub(crate) fn are_numbered(campaign: &Campaign) -> bool
     ensures { IsTrue result ↔ (AreNumbered campaign.now.value) }
 {

@@ -30,7 +30,7 @@ fn are_owners_inside(campaign: &Campaign) -> bool
     campaign.structures().all(|(number, structure)| is_owner_inside(campaign, number, structure))
 }
 
-/// Whether the structure that a unit is inside, where it is there, has an owner.
+/// Whether a unit is inside no structure that is there, or inside one that has an owner.
 fn is_with_owner(campaign: &Campaign, unit: &Unit) -> bool
     ensures { IsTrue result ↔
         ((s : builds.Structure) → map.get campaign.now.value.structures unit.now.structure ≡ Some s

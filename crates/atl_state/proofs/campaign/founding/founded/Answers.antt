@@ -20,6 +20,7 @@ invariant_of-campaign c =
     let things = 2 + length c.items.result.now in
     rw (c.in_ok-amounts_marked.ensures, c.in_ok-books.ensures.value) (AreKept-without_marks things c.campaign.inside.units.values c.campaign.inside.lists c.campaign.invariant.unit_lists)
 
+-- the campaign that `founded` returns is the one that founded_of defines
 is_founded : goal.returns-clause-definition
 unfolding founded_of
 is_founded c =
