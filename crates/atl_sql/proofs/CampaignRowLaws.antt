@@ -19,7 +19,7 @@ use Rattle.atl_sql.proofs.Terms.{cast_int}
 abbrev project : List Term
 project = col 1 0 ∷ lit Null ∷ col 1 2 ∷ col 0 0 ∷ col 0 1 ∷ col 0 2 ∷ col 0 3 ∷ col 0 4 ∷ col 1 8 ∷ []
 
--- the text of the upsert means an INSERT of the campaign row with this UPDATE
+-- the text `campaign_upsert` means an INSERT of the campaign row, with an UPDATE by the terms `project` (`MeansOwn`)
 means : MeansOwn campaign_upsert project
 unfolding understood everything
 means = record { is = λ more indexes. refl; plain = λ more indexes. (refl, refl) }
@@ -32,7 +32,7 @@ changed head before world text r shows =
     let kept : column r 8 ≡ Text text = ap (λ row. column row 7) shows in
     rw (kept, format, id, cast_int (pos 1), cast_int (pos 2), cast_int (pos head.month), cast_int (pos head.next_faction), cast_int (pos head.next_unit), cast_int (pos head.next_structure)) refl
 
--- the upsert that ran put the campaign row (`PutsCampaignRow`)
+-- the upsert that ran inserted the campaign row, or changed it and kept its world text (`PutsCampaignRow`)
 pub puts_campaign : (head : CampaignRowValue) (world : List ℕ) → DoneBy campaign_upsert (campaign_row_values head world) (PutsCampaignRow head world)
 puts_campaign head world = done_by campaign_upsert (campaign_row_values head world) (PutsCampaignRow head world) (λ old new count inside ran. (
   ran.1.mode ∙ sym inside,

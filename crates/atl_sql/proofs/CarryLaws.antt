@@ -52,11 +52,11 @@ module _ (t : Table) (old new : Database) (has : HasTables old) (ours : Has all_
   abbrev schema : Schema
   schema = all_and has.begins.tables has.begins.indexes
 
-  -- Every other table of the schema has the same rows.
+  -- Every table of the schema but `t` has the same rows before and after.
   abbrev OthersStay : Type 0
   OthersStay = (u : Table) → Has schema.tables u → u.tree ≢ t.tree → new.trees u.tree ≡ old.trees u.tree
 
-  -- if schema and soundness stay, the campaign's tables are still there
+  -- if the schema stays and the trees are sound under it, the campaign's tables are still there (`HasTables`)
   pub stays_there : new.schema ≡ schema → IsSoundDatabase schema new.trees → HasTables new
   stays_there is sound = record {
     begins = record { tables = has.begins.tables; indexes = has.begins.indexes; is = is; free = has.begins.free; plain = has.begins.plain };

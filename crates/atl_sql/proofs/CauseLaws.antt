@@ -67,7 +67,7 @@ module _ (old new : State) where
 -- ---- one statement after another
 
 module _ {S : Type 0} (g : Ghosts S) (own : Statements) where
-  -- running `count` statements, and then those that lead from there on, is running all of them
+  -- what `count` statements reach first, and further ones from there, is reached by all of them together (`IsReached`)
   pub reached_then : (count : ℕ) (a b c : Held S) → Leads g own count a b → IsReached g own b c → IsReached g own a c
   reached_then zero a b c same rest = subst (λ h. IsReached g own h c) (sym same) rest
   reached_then (suc count) a b c first rest = let whole = reached_then count first.0 b c first.2 rest in (suc whole.0, (first.0, first.1, whole.1))
@@ -111,7 +111,7 @@ module _ {S : Type 0} (g : Ghosts S) (own : Statements) (e : Error) where
   pub gives : (old new : Held S) → IsTrue (state g old).in_transaction → IsGiven own e (state g old) (state g new) → Gives g own e old new
   gives old new inside given = record { before = old; after = new; reached = (0, as_begun old inside); kept = record { was_open = λ up. up; committed = λ _. refl }; given = given; cause = by_call (state g old) (state g new) own e given }
 
-  -- an error given after some calls is given from the start of these calls
+  -- an error that a transaction gave after some of its calls is one given since the start of these calls (`Gives`)
   pub gives_after : (old mid new : Held S) → IsTrue (state g old).in_transaction → IsTrue (state g mid).in_transaction → IsReached g own old mid → HasCleanDisk (state g mid) → KeepsCommit (state g old) (state g mid) → Survives (state g old) (state g mid) (λ _. ⊥) → (state g mid).faults ≤ (state g new).faults → Gives g own e mid new → Gives g own e old new
   gives_after old mid new was is reached clean kept survives counts gave = record {
     before = gave.before;
@@ -131,7 +131,7 @@ module _ {S : Type 0} (g : Ghosts S) (own : Statements) (e : Error) where
     ];
   }
 
-  -- an error given before further calls is given up to the end of these calls too
+  -- an error that a transaction gave before further calls is still one that it gave after them (`Gives`)
   pub gives_until : (old mid new : Held S) → (state g mid).faults ≤ (state g new).faults → Gives g own e old mid → Gives g own e old new
   gives_until old mid new counts gave = record {
     before = gave.before;
@@ -142,7 +142,7 @@ module _ {S : Type 0} (g : Ghosts S) (own : Statements) (e : Error) where
     cause = λ other. elim (gave.cause other) [ inl (inl more) ↦ inl (inl (more_later _ _ _ counts more)) | inl (inr shut) ↦ inl (inr shut) | inr refused ↦ inr refused ];
   }
 
-  -- an error given by a transaction after BEGIN is given from the connection before BEGIN
+  -- an error given since BEGIN, from the connection after it, is one given from the connection before it (`Gives`)
   pub gives_begun : (old begun new : Held S) → begun ≡ record old { in_transaction = true } → Gives g own e begun new → Gives g own e old new
   gives_begun old begun new begins gave =
       let same : Gives g own e (record old { in_transaction = true }) new = subst (λ h. Gives g own e h new) begins gave in

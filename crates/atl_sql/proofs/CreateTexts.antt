@@ -48,7 +48,7 @@ makes_table before after table text is old new count has ran =
 
 -- ---- of each part
 
--- the index of a part in a list
+-- the index of a part in a list, or the length of the list if the part isn't in it
 abbrev place_among : Part → List Part → ℕ
 place_among part [] = 0
 place_among part (p ∷ parts) = cond (nat_eq (tree_of part) (tree_of p)) 0 (place_among part parts + 1)
@@ -92,7 +92,7 @@ module _ {X : Type 0} (text : X → List ℕ) (xs : List X) (all : map text xs �
   pub as_many : length xs ≡ table_count
   as_many = sym (length-map xs text) ∙ ap length all
 
-  -- the text of index `i` makes the table of index `i`
+  -- the text at index `i` of the list makes the table at index `i` of the ten (`Makes`)
   pub makes_next : (i : ℕ) (d : X) → i < length xs → Makes (schema_of_first i) (schema_of_first (i + 1)) (text (get_or xs i d))
   makes_next i d small =
       let part = get_or all_parts i Own in

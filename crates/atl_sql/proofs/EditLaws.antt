@@ -87,7 +87,7 @@ module _ (schema : Schema) (table : Table) (unlinked : (olds news : List Row) �
     abbrev task : Task
     task = record { limit = limit; keys = Enforced; schema = schema; table = table; params = params }
 
-    -- an INSERT OR REPLACE of one row replaces the rows with the same key by the row (`Swaps`)
+    -- putting one row (`Puts`) adds it to the table: no row goes, rowids stay different, and other tables stay
     pub puts : (new : Row) (db : Trees) (w : Written) → IsKeyed (db table.tree) → Puts task new db (Ok w)
         → Has (w.trees table.tree) (cast_row table new)
         × ((r : Row) → Has (w.trees table.tree) r → (r ≡ cast_row table new) ⊎ Has (db table.tree) r)

@@ -103,7 +103,7 @@ module _ (tree : ℕ) (name key_name : List ℕ) (columns : List Column) (unique
     of_parameters : (more : Row) (rows : List Row) → eval_all (map (col 0) (range_with_len 1 width)) ((int n ∷ (values ++ more)) ∷ rows) ≡ values
     of_parameters more rows = map-map (λ (t : Term). eval t ((int n ∷ (values ++ more)) ∷ rows)) (col 0) (range_with_len 1 width) ∙ each_behind (int n) values more
 
-    -- the terms of the INSERT make the row
+    -- the terms of the INSERT make the row of the number and the values
     source_is : value_rows ((int n ∷ values) ++ []) (width + 2) (length (given_row width) / (width + 2)) (given_row width) ≡ its_row ∷ []
     source_is =
         let counted : length (given_row width) ≡ width + 2 = omega (arith, length-map-range_with_len (col 0) 1 width) in
@@ -124,11 +124,11 @@ module _ (tree : ℕ) (name key_name : List ℕ) (columns : List Column) (unique
             let place : place_of t (k + 1) ≡ suc (suc k) = rw apart (omega arith) in
             ap (column its_row) place
 
-    -- SQL's casts leave the row unchanged
+    -- SQL's casts leave the row of the number and the values unchanged
     casted_is : cast_row t its_row ≡ its_row
     casted_is = rw (cast_int (pos n), cast_null, fits_cast columns values fits) refl
 
-    -- the terms of INSERT and UPDATE make the row of the number and the values (`MakesRow`)
+    -- the terms for as many columns as values make the row of the number and the values (`MakesRow`)
     made : MakesRow t width n values
     made = record {
       source = source_is;
@@ -138,6 +138,6 @@ module _ (tree : ℕ) (name key_name : List ℕ) (columns : List Column) (unique
       aimed = λ x more. next_column (int n) (values ++ x ∷ more) width ∙ column_behind values x more;
     }
 
-    -- values that are of their columns' types make the row of the number and these values
+    -- the terms for all columns make the row of the number and the values of their columns' types (`MakesRow`)
     pub makes_row : MakesRow t (length columns) n values
     makes_row = subst (λ w. MakesRow t w n values) (fits_length columns values fits) made

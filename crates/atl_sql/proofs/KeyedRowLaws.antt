@@ -109,7 +109,7 @@ pub record MakesValues (t : Table) (places : List ℕ) (width : ℕ) (terms : Li
 
 -- the table of index `at` among the tables of a campaign, with a key of whole numbers
 module _ (tree : ℕ) (name : List ℕ) (columns : List Column) (places : List ℕ) (at : ℕ) where
-  -- the table of index `at`
+  -- the table of this tree, name and columns, whose key is the columns at `places`
   abbrev t : Table
   t = table tree name columns None places (places ∷ []) []
 

@@ -95,7 +95,7 @@ record Statements (part : Part) : Type 0 where
   clears : IsTakeOut (table_of part).tree (place_in part) (deletion (table_of part) 1) (of_key 1)
   clears_plain : AlwaysPlain (deletion (table_of part) 1)
 
--- the statements of `has`, `books` and `market` mean their upsert and DELETEs, whatever other tables follow
+-- the texts for `has`, `books` and `market` mean their upsert and their two DELETEs, whatever other tables follow
 means : (k : Keyed) → Statements (part_of k)
 unfolding understood everything
 means InHas = record { puts = λ more indexes. refl; puts_plain = λ more indexes. (refl, refl); drops = λ more indexes. refl; drops_plain = λ more indexes. (refl, refl); clears = λ more indexes. refl; clears_plain = λ more indexes. (refl, refl) }

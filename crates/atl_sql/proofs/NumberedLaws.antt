@@ -39,7 +39,7 @@ use Rattle.atl_sql.proofs.FitLaws.{Fits, given_row, changed_row, makes_row}
 use Rattle.atl_sql.proofs.EditLaws.{delete_query, found_by}
 use Rattle.atl_sql.proofs.Terms.{head_is, by_number, one_number, at_number}
 
--- the filter: the row's number equals the parameter
+-- the filter of the DELETE: the row's number equals the parameter
 abbrev has_number : List Term
 has_number = op2 (Compare Eq Binary) (col 1 0) (col 0 0) ∷ []
 

@@ -46,11 +46,11 @@ own_terms = lit (Int (pos 1)) ∷ lit Null ∷ lit (Int (pos 2)) ∷ col 0 0 ∷
 abbrev src : CampaignRowValue → List ℕ → Row
 src head world = int 1 ∷ Null ∷ int 2 ∷ campaign_row_values head world
 
--- the row that the UPDATE with these terms makes of a row that is there
+-- what SQL shows of the row that the UPDATE by these terms makes of a row of `campaign` that is there
 abbrev pub changed_to : List Term → CampaignRowValue → List ℕ → Row → Row
 changed_to project head world r = visible campaign_table (cast_row campaign_table (eval_all project ((campaign_row_values head world ++ rowid r ∷ shown campaign_table (src head world)) ∷ r ∷ [])))
 
--- What an upsert whose UPDATE has these terms does: it inserts the first row, or changes the row that is there.
+-- An upsert of `campaign` inserts the first row, or changes the row that is there by these terms.
 pub record PutsOwn (project : List Term) (head : CampaignRowValue) (world : List ℕ) (old new : Database) : Type 0 where
   pub first : rows_in campaign_table old.trees ≡ [] → Puts campaign_table 1 (campaign_row head world) old new
   pub again : (before after : Row) → take 1 before ≡ int 1 ∷ [] → take 1 after ≡ int 1 ∷ [] → Is (rows_in campaign_table old.trees) (λ r. r ≡ before) → ((r : Row) → visible campaign_table r ≡ before → changed_to project head world r ≡ after) → Puts campaign_table 1 after old new

@@ -34,7 +34,7 @@ append_puts key [] ys S r h = h
 append_puts key (x ∷ xs) ys S r h = append_puts key xs ys (put key x S) r h
 
 module _ (table : Table) (key : ℕ) where
-  -- putting the first rows of the rest leaves the others to put
+  -- putting the first of the rows that are left to put leaves the others to put (`Towards`)
   towards_rows : (xs rest all : List Row) (old mid new : Database) → Towards table key (xs ++ rest) all old mid → PutsRows table key xs mid new → Towards table key rest all old new
   towards_rows xs rest all old mid new so_far more = record {
     rows = λ r.
@@ -49,7 +49,7 @@ module _ (table : Table) (key : ℕ) where
   puts_one : (x : Row) (old new : Database) → Puts table key x old new → PutsRows table key (x ∷ []) old new
   puts_one x old new one = record { rows = one.rows; others = one.others }
 
-  -- inside a transaction, putting the first rows of the rest leaves the others to put
+  -- inside a transaction, putting the first of the rows that are left to put leaves the others to put (`Towards`)
   pub inside_rows : (xs rest all : List Row) (old mid new : State) → Inside HasTables (Towards table key (xs ++ rest) all) old mid → Inside HasTables (PutsRows table key xs) mid new → Inside HasTables (Towards table key rest all) old new
   inside_rows xs rest all old mid new so_far more = (
     more.0 ∙ so_far.0,
@@ -59,7 +59,7 @@ module _ (table : Table) (key : ℕ) where
         record { does = towards_rows xs rest all old.now mid.now new.now was.does now.does; tables = now.tables; carries = carries_then old.now mid.now new.now was.carries now.carries },
   )
 
-  -- before any row is put, the whole list is left to put
+  -- before any row is put, the whole list is left to put (`Towards`)
   pub none_yet : (rest all : List Row) → rest ≡ all → (s : State) → Inside HasTables (Towards table key rest all) s s
   none_yet rest all same s = (
     refl,

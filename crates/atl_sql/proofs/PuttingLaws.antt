@@ -27,7 +27,7 @@ module _ {S : Type 0} (g : Ghosts S) (table : Table) (key : ℕ) where
   pub same_written : (xs ys : List Row) {A : Type 0} {r : Result A Error} {a b : MutBor (Held S)} → xs ≡ ys → WritesRows g table key xs r a b → WritesRows g table key ys r a b
   same_written xs ys {r = r} {a = a} {b = b} same done = subst (λ (rows : List Row). WritesRows g table key rows r a b) same done
 
-  -- writing no row does nothing
+  -- doing nothing writes a list without rows
   pub none_written : (rows : List Row) {A : Type 0} {x : A} {a : MutBor (Held S)} → rows ≡ [] → WritesRows g table key rows (Ok x) a a
   none_written rows none = begins g (none_put table key rows none)
 
@@ -37,7 +37,7 @@ module _ {S : Type 0} (g : Ghosts S) (table : Table) (key : ℕ) where
       among g (λ sql params only. (only.0, subst (λ (l : List Row). Has l params) (sym is) (inl only.1))) (weaker g (one_put table key row rows is) done)
 
   module _ (xs ys : List Row) where
-    -- a write of rows of the first list is one of rows of both lists joined
+    -- a write by upserts of the first list's rows is one by upserts of the rows of both lists joined
     first_part : {Does : State → State → Type 0} {A : Type 0} {r : Result A Error} {a b : MutBor (Held S)} → Writes g (Each (upsert table key) (Has xs)) Does r a b → Writes g (Each (upsert table key) (Has (xs ++ ys))) Does r a b
     first_part done = among_each g (upsert table key) (Has xs) (λ row there. (refl, has_left xs ys row there)) done
 
@@ -56,7 +56,7 @@ module _ {S : Type 0} (g : Ghosts S) (table : Table) (key : ℕ) where
   putting_begins rest all same = record { so_far = begins g (none_yet table key rest all same); left = λ row there. subst (λ (l : List Row). Has l row) same there }
 
   module _ (xs rest was all : List Row) (is : was ≡ xs ++ rest) where
-    -- a write of the next rows is one of rows of the whole list
+    -- a write by upserts of the next rows is one by upserts of the rows of the whole list
     next_part : {old now : MutBor (Held S)} {Does : State → State → Type 0} {A : Type 0} {r : Result A Error} {a b : MutBor (Held S)} → Putting g table key was all old now → Writes g (Each (upsert table key) (Has xs)) Does r a b → Writes g (Each (upsert table key) (Has all)) Does r a b
     next_part so_far more = among_each g (upsert table key) (Has xs) (λ row there. (refl, so_far.left row (subst (λ (l : List Row). Has l row) (sym is) (has_left xs rest row there)))) more
 

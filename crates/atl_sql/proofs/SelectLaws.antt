@@ -47,7 +47,7 @@ has_first Second schema has = begins_with_fewer 10 4 schema 9 3 (market_table �
 abbrev first : Table → ℕ → List Term
 first t count = map (λ at. col 1 (place_of t at)) (range_with_len 0 count)
 
--- the rowid of a stored row
+-- the term that reads the rowid of a stored row
 abbrev kept_at : Term
 kept_at = col 1 0
 

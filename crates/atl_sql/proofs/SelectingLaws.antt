@@ -126,7 +126,7 @@ if_both P Q (Ok a) p q = (p, q)
 if_both P Q (Err e) p q = tt
 
 module _ {S A Z : Type 0} (g : Ghosts S) (sql : List ℕ) (old new : Held S) (forms : List Form) (shown : A → Row) where
-  -- if the SELECT was refused, the read returns its fault
+  -- if the SELECT was refused, a read returns the fault of the refusal (`ReadsRows`)
   pub unasked : {Y : Type 0} (fault : ReadFault) (r : Result (Vec A Z) ReadFault) → Asks g sql old {Z = Y} (Err fault) new → IsErrAnd r (λ told. told ≡ fault) → ReadsRows g sql old forms shown r new
   unasked fault (Ok all) asks is = absurd is
   unasked fault (Err told) asks is = record {
@@ -139,7 +139,7 @@ module _ {S A Z : Type 0} (g : Ghosts S) (sql : List ℕ) (old new : Held S) (fo
     idle = asks.idle;
   }
 
-  -- if the SELECT was answered, the read returns its rows or the fault of one of them
+  -- if the SELECT was answered, a read returns its rows, or OtherType or Memory for one of them (`ReadsRows`)
   pub parsed : {Y : Type 0} (rows : Vec Row Y) (lent : List Row) (r : Result (Vec A Z) ReadFault) → Asks g sql old (Ok rows) new → lent ≡ rows.items
       → IfOk r (λ all. map shown all.items ≡ map (first_columns (length forms)) lent) → IfOk r (λ _. AreTyped forms lent) → IfErr r (λ fault. fault ≡ OtherType → ¬ AreTyped forms lent) → IfErr r (λ fault. fault ≢ OtherType → fault ≡ Memory) → ReadsRows g sql old forms shown r new
   parsed rows lent r asks same ok typed other which = record {

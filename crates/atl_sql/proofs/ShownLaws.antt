@@ -13,7 +13,7 @@ use Rattle.atl_sql.specs.Errors.{is_memory, value_fault}
 use Rattle.atl_sql.specs.Stored.{Form, IsTyped, AreTyped}
 use Rattle.atl_sql.specs.declared.fault.ReadFault.TheVariants.{Memory, OtherType}
 
--- if the SELECT's rows have just the first columns, cutting them to these changes nothing
+-- if a cut leaves each row as SQL shows it, rows that a SELECT showed are still all of them after the cut
 pub whole_shown : (shown first : Row → Row) → ((r : Row) → first (shown r) ≡ shown r) → (tree rows : List Row) → IsPermutation (map shown tree) rows → IsPermutation (map shown tree) (map first rows)
 whole_shown shown first whole tree rows same = subst (λ l. IsPermutation l (map first rows)) (kept tree) (IsPermutation-map first _ rows same)
   where
@@ -28,22 +28,22 @@ other_only e is = elim (is_memory e) as (λ b. (if b then Memory else OtherType)
   | false ↦ λ _. refl
 ] is
 
--- if the fault of reading one row of an answer is OtherType, not all rows of the answer are typed
+-- if reading one row of an answer fails with OtherType, not all its values are of their columns' forms (`AreTyped`)
 pub refuses_row : (forms : List Form) (rows : List Row) (at : ℕ) (row : Row) (e : Error) → at < length rows → row ≡ get_or rows at row → (IsTrue (not (is_memory e)) → ¬ IsTyped forms row) → value_fault e ≡ OtherType → ¬ AreTyped forms rows
 refuses_row forms rows at row e within is refused told typed = refused (other_only e told) (typed row (has_at rows at row within is))
 
--- if rows and one row after them are typed, all of them are
+-- rows whose values are of their columns' forms, and one such row more, are such rows together (`AreTyped`)
 typed_more : (forms : List Form) (rows more : List Row) (row : Row) → more ≡ rows ++ row ∷ [] → AreTyped forms rows → IsTyped forms row → AreTyped forms more
 typed_more forms rows more row is before typed r there = elim (has_either rows (row ∷ []) r (subst (λ l. Has l r) is there)) [
   | inl one ↦ before r one
   | inr last ↦ elim last [ inl same ↦ subst (IsTyped forms) (sym same) typed | inr none ↦ absurd none ]
 ]
 
--- the first `at + 1` rows of an answer are typed, if the first `at` are and the next row is
+-- the first `at + 1` rows have values of their columns' forms (`AreTyped`), if the first `at` and the next one do
 pub typed_next : (forms : List Form) (rows : List Row) (at : ℕ) (row : Row) → at < length rows → row ≡ get_or rows at row → AreTyped forms (take at rows) → IsTyped forms row → AreTyped forms (take (at + 1) rows)
 typed_next forms rows at row within is = typed_more forms (take at rows) (take (at + 1) rows) row (take_more rows at row within ∙ ap (λ r. take at rows ++ r ∷ []) (sym is))
 
--- if the values read are those of the first `at` rows, one value more makes them those of the first `at + 1`
+-- values read of the first `at` rows, and then that of the next row, are those of the first `at + 1` rows
 pub mapped_next : {A : Type 0} (shown : A → Row) (cut : Row → Row) (all more : List A) (a : A) (rows : List Row) (at : ℕ) (row : Row) → at < length rows → row ≡ get_or rows at row → more ≡ all ++ a ∷ [] → map shown all ≡ map cut (take at rows) → shown a ≡ cut row
     → map shown more ≡ map cut (take (at + 1) rows)
 mapped_next shown cut all more a rows at row within is more_is same one =
@@ -52,10 +52,10 @@ mapped_next shown cut all more a rows at row within is more_is same one =
 
 -- ---- rows with a text of UTF-8
 
--- a row of an integer and a text in UTF-8 is typed as a row of `report`
+-- a row of an integer and a text in UTF-8 has values of the forms of `report`'s columns (`IsTyped`)
 pub report_typed : (row : Row) (n : ℤ) (text : List ℕ) → column row 0 ≡ Int n → column row 1 ≡ Text text → IsUtf8 text → IsTyped report_forms row
 report_typed row n text first second utf8 = ((n, first), ((text, second, utf8), tt))
 
--- a campaign row is typed, if its world text is UTF-8 and its other columns are typed
+-- a campaign row has values of its columns' forms, if the world text is UTF-8 and the others are such (`IsTyped`)
 pub campaign_typed : (row : Row) (text : List ℕ) → IsTyped campaign_row_forms row → column row 7 ≡ Text text → IsUtf8 text → IsTyped campaign_forms row
 campaign_typed row text head last utf8 = (head.0, (head.1.0, (head.1.1.0, (head.1.1.1.0, (head.1.1.1.1.0, (head.1.1.1.1.1.0, (head.1.1.1.1.1.1.0, ((text, last, utf8), tt))))))))

@@ -140,19 +140,19 @@ module _ (schema : Schema) (tree : ℕ) (name : List ℕ) (columns : List Column
 abbrev pub AlwaysPlain : List ℕ → Type 0
 AlwaysPlain sql = (more : List Table) (indexes : List Index) → IsPlain (understood (all_and more indexes) sql)
 
--- Inside a transaction the statement of this text with these parameters does this.
+-- Inside a transaction the statement of this text with these parameters does `What` to the database.
 abbrev pub DoneBy : List ℕ → Row → (Database → Database → Type 0) → Type 1
 DoneBy sql values What = (old new : State) (count : ℕ) (params : Row) → IsTrue old.in_transaction → ExecutesInside 0 sql params old new (Ok count) → params ≡ values → Inside HasTables What old new
 
--- The upsert of a table with a key of this many columns puts this row.
+-- Inside a transaction the upsert of a table, whose key is its first `key` columns, puts this row.
 abbrev pub PutsRow : Table → ℕ → Row → Type 1
 PutsRow t key row = DoneBy (upsert t key) row (Puts t key row)
 
--- The deletion of a table removes the rows whose first columns are these.
+-- Inside a transaction the DELETE by the first `key` columns removes the rows whose first columns are `k`.
 abbrev pub DropsKey : Table → ℕ → Row → Type 1
 DropsKey t key k = DoneBy (deletion t key) k (Drops t key k)
 
--- a text does this if each run of it inside a transaction, with these values as parameters, does it
+-- a text does `What` (`DoneBy`), if each run of it inside a transaction, with these values as parameters, does `What`
 pub done_by : (sql : List ℕ) (values : Row) (What : Database → Database → Type 0)
     → ((old new : State) (count : ℕ) → IsTrue old.in_transaction → ExecutesInside 0 sql values old new (Ok count) → Inside HasTables What old new)
     → DoneBy sql values What

@@ -57,6 +57,6 @@ at_number a n integer = (
     whole true = refl
     whole false = refl
 
--- two rows with the same number as their key have the same rowid
+-- keys of one value that are the same compare as equal: rows with the same number as their key have the same rowid
 pub one_number : (a b : Value) → ◌≡◌ {A = Row} (a ∷ []) (b ∷ []) → is_eq (value_cmp a b) ≡ true
 one_number a b same = ap (λ v. is_eq (value_cmp v b)) (head_is _ _ _ _ same) ∙ ap is_eq (tied_itself value_cmp_total b)

@@ -20,7 +20,7 @@ use Rattle.atl_sql.proofs.Terms.{cast_int}
 abbrev project : List Term
 project = col 1 0 ∷ lit Null ∷ lit (Int (pos 2)) ∷ col 1 3 ∷ col 1 4 ∷ col 1 5 ∷ col 1 6 ∷ col 1 7 ∷ col 0 5 ∷ []
 
--- the text of the statement means an upsert of the campaign row with this UPDATE
+-- the text `upgrading_upsert` means an INSERT of the campaign row, with an UPDATE by the terms `project` (`MeansOwn`)
 upgrades_own : MeansOwn upgrading_upsert project
 unfolding understood everything
 upgrades_own = record { is = λ more indexes. refl; plain = λ more indexes. (refl, refl) }

@@ -16,7 +16,7 @@ use Rattle.atl_sql.specs.Statements.{Statements, Only, Each}
 use Rattle.atl_sql.proofs.CauseLaws.{gives, gives_after, gives_among, reached_then, reached_among, errs_as}
 use Rattle.atl_sql.proofs.KeepLaws.{survives_more, keeps_more, on_ok, if_err}
 
--- whatever is said of Ok holds of a result that is an error
+-- whatever `OnOk` says of a result is true of one that is an error
 pub not_ok : {A E : Type 0} (r : Result A E) (P : Type 0) → IsErr r → OnOk r P
 not_ok (Ok a) P failed = absurd cc
 not_ok (Err e) P failed = tt
@@ -56,7 +56,7 @@ module _ {S : Type 0} (g : Ghosts S) where
       | inr outside ↦ subst (λ (h : Held S). KeepsCommit (state g old.now) (state g h)) (sym (ended outside).1) (record { was_open = λ up. up; committed = λ _. refl })
     ]
 
-    -- a statement that fails is a write with its error
+    -- a statement that fails is a write (`Writes`) that hands on its error and commits nothing
     pub fails : {A : Type 0} (Does : State → State → Type 0) (e : Error) (result : Result A Error) → Ended (Err e) → Ran (Err e) → HandsOn e result → Writes g (Only sql params) Does result old new
     fails Does e result ended ran failed = record {
       same_reference = same;
@@ -68,7 +68,7 @@ module _ {S : Type 0} (g : Ghosts S) where
       survives = survives;
     }
 
-    -- a statement that ran is a write that did what it means
+    -- a statement that ran without an error is a write (`Writes`) of this statement alone (`RunsStatement`)
     pub runs : {A : Type 0} (count : ℕ) (a : A) → Ended (Ok count) → Ran (Ok count) → Writes g (Only sql params) (RunsStatement sql params) (Ok a) old new
     runs count a ended ran = record {
       same_reference = same;
@@ -88,7 +88,7 @@ module _ {S : Type 0} (g : Ghosts S) where
 
   -- ---- one step after another
 
-  -- a write that does `First` does `Does`, if `Does` follows from `First`
+  -- a write that does `First` is one that does `Does`, if `Does` follows from `First`
   pub weaker : {own : Statements} {First Does : State → State → Type 0} {A : Type 0} {r : Result A Error} {a b : MutBor (Held S)} → ((old new : State) → First old new → Does old new) → Writes g own First r a b → Writes g own Does r a b
   weaker {r = r} less one = record { same_reference = one.same_reference; does = λ clean. on_ok r (less _ _) (one.does clean); goes_on = one.goes_on; reaches = one.reaches; told = one.told; kept = one.kept; survives = one.survives }
 

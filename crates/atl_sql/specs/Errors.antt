@@ -22,10 +22,10 @@ is_failure (SqliteFailure code.TooBig) = true
 is_failure (SqliteFailure code.OperationInterrupted) = true
 is_failure _ = false
 
--- the fault of a SELECT: Memory, Store if the database could not go on (`is_failure`), else Refused
+-- the fault of a SELECT's error: Memory if memory ran out, Store if the database failed (`is_failure`), else Refused
 abbrev pub read_fault : Error → ReadFault
 read_fault e = if is_memory e then read.Memory else (if is_failure e then read.Store else read.Refused)
 
--- the fault of a value in a row that was shown: Memory, else OtherType
+-- the fault of a value that could not be read: Memory if memory ran out, else OtherType
 abbrev pub value_fault : Error → ReadFault
 value_fault e = if is_memory e then read.Memory else read.OtherType

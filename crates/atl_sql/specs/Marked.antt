@@ -59,8 +59,8 @@ is_marked_amount marks entry thing = nat_le (suc entry) entry_count && contains 
 abbrev pub amount_marked : FinSet nat_cmp → Row → Bool
 amount_marked marks r = accounts (is_marked_amount marks) r
 
--- whether a row of a part's table has a marked key
--- The campaign row always counts as marked, since `own_after` looks at its mark.
+-- whether a row of a part's table is marked, by its key; the campaign row always counts as marked,
+-- since `own_after` of atl_store looks at its mark
 abbrev pub is_marked : Marks → Part → Row → Bool
 is_marked marks Own = λ r. true
 is_marked marks Factions = begins_marked marks.factions

@@ -23,8 +23,8 @@ pub record Rests (old new : State) : Type 0 where
   pub was_open : IsTrue new.is_open → IsTrue old.is_open
   pub same : IsTrue new.is_open → ((new.now ≡ old.committed) ⊎ (new.now ≡ old.now)) × (new.committed ≡ old.committed)
 
--- `before` is the connection as the SELECT finds it: with the tables and the step limit of `old`
--- It is open where `old` is, and its disk has failed no less often.
+-- `before` is the connection as the SELECT finds it: with the tables and the step limit of `old`.
+-- It is open exactly if `old` is, and its disk has failed no less often.
 pub record IsAsked (old before : State) : Type 0 where
   pub was_open : IsTrue before.is_open → IsTrue old.is_open
   pub is_open : IsTrue old.is_open → IsTrue before.is_open
@@ -80,8 +80,8 @@ module _ {S : Type 0} (g : Ghosts S) (sql : List ℕ) (old : Held S) where
 abbrev pub AddsRow : {A : Type 0} → List Form → (A → Row) → List A → Row → List A → Type 0
 AddsRow forms shown old row new = (one : _) × (new ≡ old ++ one ∷ []) × (shown one ≡ first_columns (length forms) row) × IsTyped forms row
 
--- Ok has all rows of a table, each as often as it is there.
--- The premises: the disk is clean, and the schema begins with the tables of the format `since`.
+-- If the disk is clean and the schema begins with the tables of the format `since`, Ok has all rows of a table,
+-- each as often as it is there.
 abbrev pub GivesTable : {S A Z : Type 0} → Ghosts S → Format → (Trees → List Row) → (A → Row) → Result (Vec A Z) ReadFault → Held S → Held S → Type 0
 GivesTable g since in_table shown result old new = HasCleanDisk (state g new) → HasTablesOf since old.schema → IfOk result (λ all. IsPermutation (in_table (state g old).now.trees) (map shown all.items))
 

@@ -23,11 +23,11 @@ use Rattle.sqlite_rules.specs.Lists.{Has}
 use Rattle.atl_sql.specs.Shown.{CampaignRowValue, campaign_row, campaign_row_in, faction_row, region_row, unit_row, has_row, structure_row, mail_row, report_row, books_row, market_row}
 use Rattle.atl_sql.specs.Written.{sort_number}
 
--- what the campaign row says of this campaign
+-- the month, the next numbers and the pass text of this campaign, for its campaign row
 abbrev pub campaign_row_of : CampaignValue → CampaignRowValue
 campaign_row_of c = record { month = c.month; next_faction = c.next_faction; next_unit = c.next_unit; next_structure = c.next_structure; pass = c.pass }
 
--- the campaign row of this world text and campaign
+-- the campaign row, in the second format, of this world text and campaign
 abbrev pub campaign_line : List ℕ → CampaignValue → Row
 campaign_line text c = campaign_row (campaign_row_of c) text
 
@@ -47,11 +47,11 @@ unit_line n u = unit_row n u.faction u.holding.name u.region u.structure u.holdi
 abbrev pub structure_line : ℕ → Structure → Row
 structure_line n s = structure_row n s.kind s.name s.region s.done s.owner
 
--- the set with one row for each entry of a map
+-- the set of the rows that `line` makes, one for each number and value of a map
 abbrev pub RowsOf : {V : Type 0} → (ℕ → V → Row) → FinMap nat_cmp V → Row → Type 0
 RowsOf {V} line m r = (n : ℕ) × (v : V) × (get m n ≡ Some v) × (r ≡ line n v)
 
--- one row for each entry, as a list in the order of the entries
+-- the list of the rows that `line` makes, one for each number and value, in their order
 abbrev pub lines_of : {V : Type 0} → (ℕ → V → Row) → List (ℕ × V) → List Row
 lines_of line entries = map (λ e. line e.0 e.1) entries
 

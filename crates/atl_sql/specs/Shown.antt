@@ -28,7 +28,7 @@ int n = Int (pos n)
 abbrev pub flag : Bool → Value
 flag b = Int (if b then pos 1 else pos 0)
 
--- what the campaign row says besides its id, its format and its world text
+-- the month, the next numbers and the pass text: the campaign row without its id, its format and its world text
 pub record CampaignRowValue : Type 0 where
   pub month : ℕ
   pub next_faction : ℕ
@@ -36,7 +36,7 @@ pub record CampaignRowValue : Type 0 where
   pub next_structure : ℕ
   pub pass : List ℕ
 
--- the campaign row in this format: its id is 1
+-- the campaign row in this format: id 1, the format's number, month, next numbers, pass text, world text
 abbrev pub campaign_row_in : Format → CampaignRowValue → List ℕ → Row
 campaign_row_in f head world = int 1 ∷ int (format_number f) ∷ int head.month ∷ int head.next_faction ∷ int head.next_unit ∷ int head.next_structure ∷ Text head.pass ∷ Text world ∷ []
 
@@ -44,7 +44,7 @@ campaign_row_in f head world = int 1 ∷ int (format_number f) ∷ int head.mont
 abbrev pub campaign_row : CampaignRowValue → List ℕ → Row
 campaign_row = campaign_row_in Second
 
--- the parameters of the statement that puts the campaign row, in their order
+-- the parameters of the statement that puts the campaign row: month, next numbers, pass text, world text
 abbrev pub campaign_row_values : CampaignRowValue → List ℕ → Row
 campaign_row_values head world = int head.month ∷ int head.next_faction ∷ int head.next_unit ∷ int head.next_structure ∷ Text head.pass ∷ Text world ∷ []
 
@@ -98,90 +98,90 @@ market_row region item stock = int region ∷ int item ∷ int stock ∷ []
 
 -- ---- rows that are read
 
--- the campaign row that was read, without its world text
+-- the campaign row that was read, as SQL shows it, without its world text
 abbrev pub campaign_row_stored : StoredCampaignRow → Row
 campaign_row_stored s = Int s.id ∷ Int s.format ∷ Int s.month ∷ Int s.next_faction ∷ Int s.next_unit ∷ Int s.next_structure ∷ Text s.pass ∷ []
 
--- the forms of the columns of `campaign`, without the world text
+-- the forms in which the columns of `campaign` but the world text are read: numbers, and the pass text as bytes
 abbrev pub campaign_row_forms : List Form
 campaign_row_forms = Number ∷ Number ∷ Number ∷ Number ∷ Number ∷ Number ∷ TextBytes ∷ []
 
--- the campaign row that was read, with its world text
+-- the campaign row that was read, as SQL shows it, with its world text
 abbrev pub campaign_stored : StoredCampaign → Row
 campaign_stored s = campaign_row_stored s.head ++ Text (string_bytes s.world) ∷ []
 
--- the forms of the columns of `campaign`, with the world text
+-- the forms in which all columns of `campaign` are read: numbers, the pass text as bytes, and the world text as UTF-8
 abbrev pub campaign_forms : List Form
 campaign_forms = campaign_row_forms ++ Utf8Text ∷ []
 
--- a row of `faction` that was read
+-- a row of `faction` that was read, as SQL shows it
 abbrev pub faction_stored : StoredFaction → Row
 faction_stored s = Int s.number ∷ Text s.joined_as ∷ Text s.name ∷ Text s.pass ∷ Int s.gone ∷ []
 
--- the forms of the columns of `faction`
+-- the forms in which the columns of `faction` are read: numbers, and texts as bytes
 abbrev pub faction_forms : List Form
 faction_forms = Number ∷ TextBytes ∷ TextBytes ∷ TextBytes ∷ Number ∷ []
 
--- a row of `region` that was read
+-- a row of `region` that was read, as SQL shows it
 abbrev pub region_stored : StoredRegion → Row
 region_stored s = Int s.number ∷ Int s.peasants ∷ Int s.money ∷ []
 
--- the forms of the columns of `region`
+-- the forms in which the columns of `region` are read: numbers
 abbrev pub region_forms : List Form
 region_forms = Number ∷ Number ∷ Number ∷ []
 
--- a row of `unit` that was read
+-- a row of `unit` that was read, as SQL shows it
 abbrev pub unit_stored : StoredUnit → Row
 unit_stored s = Int s.number ∷ Int s.faction ∷ Text s.name ∷ Int s.region ∷ Int s.structure ∷ Int s.men ∷ Int s.money ∷ Int s.guard ∷ []
 
--- the forms of the columns of `unit`
+-- the forms in which the columns of `unit` are read: numbers, and the name as bytes
 abbrev pub unit_forms : List Form
 unit_forms = Number ∷ Number ∷ TextBytes ∷ Number ∷ Number ∷ Number ∷ Number ∷ Number ∷ []
 
--- a row of `structure` that was read
+-- a row of `structure` that was read, as SQL shows it
 abbrev pub structure_stored : StoredStructure → Row
 structure_stored s = Int s.number ∷ Int s.kind ∷ Text s.name ∷ Int s.region ∷ Int s.done ∷ Int s.owner ∷ []
 
--- the forms of the columns of `structure`
+-- the forms in which the columns of `structure` are read: numbers, and the name as bytes
 abbrev pub structure_forms : List Form
 structure_forms = Number ∷ Number ∷ TextBytes ∷ Number ∷ Number ∷ Number ∷ []
 
--- a row of `mail` that was read
+-- a row of `mail` that was read, as SQL shows it
 abbrev pub mail_stored : StoredMail → Row
 mail_stored s = Int s.faction ∷ Blob s.text ∷ []
 
--- the forms of the columns of `mail`
+-- the forms in which the columns of `mail` are read: a number, and the bytes of a blob
 abbrev pub mail_forms : List Form
 mail_forms = Number ∷ Bytes ∷ []
 
--- a row of `report` that was read
+-- a row of `report` that was read, as SQL shows it
 abbrev pub report_stored : StoredReport → Row
 report_stored s = Int s.faction ∷ Text s.text ∷ []
 
--- the forms of the columns of `report`
+-- the forms in which the columns of `report` are read: a number, and a text of UTF-8
 abbrev pub report_forms : List Form
 report_forms = Number ∷ Utf8Text ∷ []
 
--- a row of `has` that was read, with its rowid as a last column
+-- a row of `has` that was read, as SQL shows it, with its rowid as a last column
 abbrev pub has_stored : RowWithId StoredHas → Row
 has_stored s = Int s.row.unit ∷ Int s.row.sort ∷ Int s.row.thing ∷ Int s.row.amount ∷ Int s.rowid ∷ []
 
--- the forms of the columns of `has`, and of the rowid after them
+-- the forms in which the columns of `has`, and the rowid after them, are read: numbers
 abbrev pub has_forms : List Form
 has_forms = Number ∷ Number ∷ Number ∷ Number ∷ Number ∷ []
 
--- a row of `books` that was read, with its rowid as a last column
+-- a row of `books` that was read, as SQL shows it, with its rowid as a last column
 abbrev pub books_stored : RowWithId StoredBooks → Row
 books_stored s = Int s.row.entry ∷ Int s.row.thing ∷ Int s.row.amount ∷ Int s.rowid ∷ []
 
--- the forms of the columns of `books`, and of the rowid after them
+-- the forms in which the columns of `books`, and the rowid after them, are read: numbers
 abbrev pub books_forms : List Form
 books_forms = Number ∷ Number ∷ Number ∷ Number ∷ []
 
--- a row of `market` that was read, with its rowid as a last column
+-- a row of `market` that was read, as SQL shows it, with its rowid as a last column
 abbrev pub market_stored : RowWithId StoredMarket → Row
 market_stored s = Int s.row.region ∷ Int s.row.item ∷ Int s.row.stock ∷ Int s.rowid ∷ []
 
--- the forms of the columns of `market`, and of the rowid after them
+-- the forms in which the columns of `market`, and the rowid after them, are read: numbers
 abbrev pub market_forms : List Form
 market_forms = Number ∷ Number ∷ Number ∷ Number ∷ []

@@ -26,7 +26,7 @@ comma_list = separated (codes ", ")
 abbrev pub parameter : ℕ → List ℕ
 parameter n = codes "?" ++ (48 + n) ∷ []
 
--- for each column `NAME = ?N`, with `N` counted upwards from `n`
+-- for each column name the text `NAME = ?N`, with `N` counted upwards from `n`
 abbrev pub equations : ℕ → List (List ℕ) → List (List ℕ)
 equations n [] = []
 equations n (name ∷ more) = (name ++ codes " = " ++ parameter n) ∷ equations (n + 1) more

@@ -186,21 +186,21 @@ first_and count keys tables indexes = record { tables = take count all_tables ++
 abbrev pub IsHarmless : ℕ → Index → Type 0
 IsHarmless count i = (t : Table) → Has (take count all_tables) t → guards i t ≡ false
 
--- The list `all` is the first `count` tables and then others, of which none has a foreign key.
+-- The list `all` is the first `count` of the ten tables and then others, of which none has a foreign key.
 pub record AreTables (count : ℕ) (all : List Table) : Type 0 where
   pub others : List Table
   pub is : all ≡ take count all_tables ++ others
   pub free : AllByRecursion (λ t. t.references ≡ []) others
 
--- The list `all` is the first `keys` indexes and then others.
--- None of the others makes anything unique in the first `count` tables.
+-- The list `all` is the first `keys` of the four indexes, and then others,
+-- none of which makes anything unique in the first `count` of the ten tables.
 pub record AreIndexes (count keys : ℕ) (all : List Index) : Type 0 where
   pub others : List Index
   pub is : all ≡ take keys all_indexes ++ others
   pub plain : AllByRecursion (IsHarmless count) others
 
--- The schema begins with the first `count` tables and the first `keys` indexes; and there is no view.
--- No other table has a foreign key, and no other index makes anything unique in the first `count` tables.
+-- The schema is the first `count` tables and `keys` indexes, then tables without a foreign key and indexes that make
+-- nothing unique in the first `count` tables; and there is no view.
 pub record Begins (count keys : ℕ) (schema : Schema) : Type 0 where
   pub tables : List Table
   pub indexes : List Index
@@ -223,12 +223,12 @@ abbrev pub parts_in : Format → List Part
 parts_in First = take 9 all_parts
 parts_in Second = all_parts
 
--- how many tables a format has
+-- how many tables a format has: the first has nine, the second ten
 abbrev pub table_count_in : Format → ℕ
 table_count_in First = 9
 table_count_in Second = table_count
 
--- how many indexes the keys of a format's tables have
+-- how many indexes the keys of a format's tables have: those of the first have three, those of the second four
 abbrev pub index_count_in : Format → ℕ
 index_count_in First = 3
 index_count_in Second = index_count

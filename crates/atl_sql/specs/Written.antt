@@ -8,7 +8,7 @@ use Rattle.atl_sql.specs.declared.rows.has.ThingKind.TheVariants.{Item, Skill}
 use Rattle.atl_sql.specs.declared.rows.books.BooksRow.{BooksRow}
 use Rattle.atl_sql.specs.Shown.{has_row, books_row, CampaignRowValue}
 
--- what a campaign row that is handed in says
+-- the month, the next numbers and the pass text of a campaign row that is handed in
 abbrev pub head_shown : CampaignRow → CampaignRowValue
 head_shown row = record { month = row.month; next_faction = row.next_faction; next_unit = row.next_unit; next_structure = row.next_structure; pass = row.pass.now }
 

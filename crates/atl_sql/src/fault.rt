@@ -28,6 +28,7 @@ impl fmt::Display for ReadFault {
     }
 }
 
+/// As an `Error`, a `ReadFault` is shown by its name.
 impl std::error::Error for ReadFault {}
 
 /// The fault `memory` for an error that is lack of memory, else the fault `other`.
@@ -40,6 +41,8 @@ pub fn by_cause<F: Drop>(error: Error, memory: F, other: F) -> F
     }
 }
 
+/// An error of a SELECT becomes Memory for lack of memory; Store if the disk, the connection, a
+/// size or the step limit stopped it; and else Refused.
 impl From<Error> for ReadFault {
     ghost from_gives = { λ error fault. fault ≡ read_fault error };
 
@@ -59,6 +62,7 @@ impl From<Error> for ReadFault {
     }
 }
 
+/// A value that could not be stored for lack of memory becomes Memory.
 impl<T: Drop> From<AllocFailed<T>> for ReadFault {
     ghost use Rattle.atl_sql.specs.declared.fault.ReadFault.TheVariants.{Memory};
 
@@ -69,6 +73,7 @@ impl<T: Drop> From<AllocFailed<T>> for ReadFault {
     }
 }
 
+/// A failed allocation becomes Memory.
 impl From<AllocError> for ReadFault {
     ghost use Rattle.atl_sql.specs.declared.fault.ReadFault.TheVariants.{Memory};
 

@@ -46,15 +46,15 @@ pub trait NumberedRow: Sized {
     // A row of the part is marked exactly if its number is.
     ghost are_marked: { (m : Marks) (r : SqlRow) → is_marked m part r ≡ begins_marked (marks m) r };
 
-    /// The thing of a campaign that has this number.
+    /// The thing of the kind that has this number in a campaign, if any.
     fn of(campaign: &Campaign, number: u32) -> Option<&Self>
         ensures { option_copied result ≡ get (values campaign.now.value) number };
 
-    /// The numbers that are marked in a campaign, in rising order.
+    /// The numbers of the kind that are marked in a campaign, in rising order.
     fn marked(campaign: &Campaign) -> MarkedNumbers<'_>
         ensures { Lists (marks campaign.now.marks) result };
 
-    /// The text of the DELETE of the row of a number.
+    /// The text of the DELETE of the row that has a number.
     fn removal() -> &'static str
         ensures { result.now ≡ deletion (table_of part) 1 };
 
@@ -71,7 +71,7 @@ pub trait Mapped: NumberedRow {
         ensures { result ≡ entries (Self.values campaign.now.value) };
 }
 
-/// Puts the rows of all things of a map.
+/// Inserts the row of each of these things into its table, or changes the row that has its number.
 pub fn put_each<V: NumberedRow + Drop, S: Alter>(
     tx: &mut Transaction<'_, S>,
     values: Entries<'_, V>,
@@ -85,7 +85,7 @@ pub fn put_each<V: NumberedRow + Drop, S: Alter>(
     Ok(())
 }
 
-/// Deletes the row that has the number, if there is one.
+/// Deletes the row that has the number from the table of the kind `V`, if there is one.
 pub fn take_out<V: NumberedRow, S: Alter>(
     tx: &mut Transaction<'_, S>,
     number: u32,

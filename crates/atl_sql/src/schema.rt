@@ -41,9 +41,9 @@ fn are_tables(tables: &[Table], count: usize) -> bool
     tables.len() >= count && are_first_tables(tables, count) && are_free(&tables[count..])
 }
 
-/// Whether the schema begins with the first `tables` tables and `keys` indexes of a campaign and
-/// has no view. Only other tables without a foreign key, and indexes that make nothing unique in
-/// the first, may come after them.
+/// Whether the schema begins with the first `tables` tables and `keys` indexes of a campaign, has
+/// after them only tables without a foreign key and indexes that make nothing unique in the first
+/// tables, and has no view.
 fn begins(schema: &Schema, tables: usize, keys: usize) -> bool
     requires tables { tables ≤ length all_tables }
     requires keys { keys ≤ length all_indexes }
@@ -58,8 +58,8 @@ fn begins(schema: &Schema, tables: usize, keys: usize) -> bool
     schema.views.is_empty()
 }
 
-/// Whether the schema begins with a format's tables and has no view. Only other tables without a
-/// foreign key, and indexes that make nothing unique in the first, may come after them.
+/// Whether the schema begins with a format's tables and their indexes, has after them only tables
+/// without a foreign key and indexes that make nothing unique in the format's, and has no view.
 pub fn has_tables_of(schema: &Schema, format: Format) -> bool
     ensures { IsTrue result ↔ (HasTablesOf format schema.now) }
 {
@@ -78,9 +78,9 @@ pub fn is_just_old(schema: &Schema) -> bool
         && has_tables_of(schema, Format::First)
 }
 
-/// Whether the schema begins with the tables of a campaign, made as `create` makes them: after
-/// `create` it does. Other tables without a foreign key, and indexes that make nothing unique in
-/// these, may come after them; with a view or a trigger it does not. See docs/FORMATS.md, "Tables".
+/// Whether the schema begins with the ten tables of a campaign and their indexes, has after them
+/// only tables without a foreign key and indexes that make nothing unique in the ten, and has no
+/// view or trigger. After `create` of atl_store it does. See docs/FORMATS.md, "Tables".
 pub fn has_all_tables(schema: &Schema) -> bool
     ensures { IsTrue result ↔ (HasAll schema.now) }
 {

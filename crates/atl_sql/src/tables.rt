@@ -33,7 +33,7 @@ macro_rules! columns {
 
 // ---- the tables, and of each unique key its indexes in a stored row (0 is the rowid)
 
-/// The campaign row, of which there is one.
+/// The table of the campaign row: id 1, format, month, next numbers, pass text and world text.
 const CAMPAIGN: TableDefinition = TableDefinition {
     text: "CREATE TABLE campaign (id INTEGER NOT NULL PRIMARY KEY CHECK (id = 1), format INTEGER NOT NULL, month INTEGER NOT NULL, next_faction INTEGER NOT NULL, next_unit INTEGER NOT NULL, next_structure INTEGER NOT NULL, pass TEXT NOT NULL, world TEXT NOT NULL) STRICT",
     tree: 0,
@@ -236,7 +236,7 @@ pub fn create_tables<S: Alter>(tx: &mut Transaction<'_, S>) -> Result<(), Error>
     create_each(tx, &ALL)
 }
 
-/// Makes the table `market`.
+/// Makes the table `market`, which the first format doesn't have.
 pub fn create_market<S: Alter>(tx: &mut Transaction<'_, S>) -> Result<(), Error>
     ensures { Writes S.Store (Only (creation_of Markets) [])
         (RunsStatement (creation_of Markets) []) result tx.old.conn tx.new.conn }

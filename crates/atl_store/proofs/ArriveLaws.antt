@@ -142,15 +142,15 @@ module _ (c : CampaignValue) (e : Entry) (t : Thing) where
 
 -- the statements that write an amount of the books (`OfAmount`)
 module _ (c : CampaignValue) (e : Entry) (t : Thing) (n k : ℕ) (entry : n ≡ entry_index e + 1) (thing : k ≡ thing_index t) where
-  -- the upsert of an amount that is not 0 is a statement of the amount (`OfAmount`)
+  -- the upsert of the row of an amount other than 0 is the statement that writes the amount (`OfAmount`)
   pub amount_put : (z : ℤ) → z ≡ amount_in c.books e t → z ≢ pos 0 → OfAmount c e t (upsert books_table 2) (books_row n k z)
   amount_put z amount some = rw (entry, thing, amount) (puts_amount (λ zero. some (amount ∙ zero)))
 
-  -- the DELETE of an amount that is 0 is a statement of the amount (`OfAmount`)
+  -- the DELETE of the row of an amount that is 0 is the statement that writes the amount (`OfAmount`)
   pub amount_taken : amount_in c.books e t ≡ pos 0 → OfAmount c e t (deletion books_table 2) (books_key n k)
   amount_taken zero = rw (entry, thing) (drops_amount zero)
 
--- the statements of an amount are among those of a change
+-- the statements that write an amount of the books (`OfAmount`) are among those of a change (`OfChange`)
 pub amount_changes : (c : CampaignValue) (e : Entry) (t : Thing) (sql : List ℕ) (params : Row) → OfAmount c e t sql params → OfChange c sql params
 amount_changes c e t sql params (puts_amount some) = changes_row (puts_row Books (λ own. (e, t, some, refl)))
 amount_changes c e t sql params (drops_amount zero) = drops_row Books (

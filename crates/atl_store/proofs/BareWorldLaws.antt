@@ -24,7 +24,7 @@ module _ (v : WorldValue) (regions : FinMap nat_cmp RegionPlan) (c : CampaignVal
   abbrev w : WorldValue
   w = record v { regions = regions }
 
-  -- a campaign good in `v` is good in `w`, if the other regions have the same numbers and the same land
+  -- a campaign with nothing in stock that is good in `v` is good in `w`, if the regions have the same numbers and land
   good_with : ((n : ℕ) → is_land_at w n ≡ is_land_at v n) → ((n : ℕ) → IsThere v.regions n → IsThere regions n) → ((n : ℕ) → IsThere regions n → IsThere v.regions n) → IsGood v c → IsGood w c
   good_with land ahead back good =
       let steady = good.sound.steady in
@@ -76,7 +76,7 @@ module _ (v : WorldValue) (regions : FinMap nat_cmp RegionPlan) (c : CampaignVal
 -- ---- in a world without markets
 
 module _ (w : WorldValue) where
-  -- removing the markets of a world leaves which regions are land
+  -- a world without its markets has the same land regions as the world
   land_same : (n : ℕ) → is_land_at (without_markets w) n ≡ is_land_at w n
   land_same n = ap (λ o. option_map_or (is_land w.terrains) o false) (get-mapped without_market w.regions n) ∙ by_plan (get w.regions n)
     where
@@ -97,11 +97,11 @@ module _ (w : WorldValue) where
       by_plan (Some q) is e = (q, is)
 
   module _ (c : CampaignValue) (bare : HasNoStocks c) where
-    -- a campaign good in a world is good in that world without its markets
+    -- a campaign with nothing in stock that is good in a world is good in that world without its markets
     without_good : IsGood w c → IsGood (without_markets w) c
     without_good good = good_with w (without_markets w).regions c bare land_same bared was_there good
 
-    -- a campaign good in the world without markets is good in the world with them
+    -- a campaign with nothing in stock that is good in the world without its markets is good in the world with them
     with_good : IsGood (without_markets w) c → IsGood w c
     with_good good = good_with (without_markets w) w.regions c bare (λ n. sym (land_same n)) was_there bared good
 

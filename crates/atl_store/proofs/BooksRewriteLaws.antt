@@ -58,7 +58,7 @@ module _ (marks : FinSet nat_cmp) where
   abbrev marked : ℕ → ℕ → Bool
   marked e t = contains marks (entry_count * t + e)
 
-  -- a row is of the remaining entries exactly if it is of the next entry or of the rest
+  -- a row of a dirty amount is of one of the entries `e ∷ es` exactly if it is of `e` or of one of `es`
   pub next_entry : (e : ℕ) (es : List ℕ) (things : ℕ → Bool) (r : Row)
       → of_amounts marks (is_among (e ∷ es)) things r ≡ (of_amounts marks (is_number e) things r || of_amounts marks (is_among es) things r)
   next_entry e es things r =
@@ -66,7 +66,7 @@ module _ (marks : FinSet nat_cmp) where
       let rest : ℕ → ℕ → Bool = λ k t. is_among es k && (things t && marked k t) in
       accounts_same (λ k t. is_among (e ∷ es) k && (things t && marked k t)) (λ k t. one k t || rest k t) (λ k t. and-or_distrib_right (is_number e k) (is_among es k) (things t && marked k t)) r ∙ accounts_either one rest r
 
-  -- a row is of the remaining things exactly if it is of the next thing or of the rest
+  -- a row of a dirty amount is of one of the things `t ∷ ts` exactly if it is of `t` or of one of `ts`
   pub next_thing : (entries : ℕ → Bool) (t : ℕ) (ts : List ℕ) (r : Row)
       → of_amounts marks entries (is_among (t ∷ ts)) r ≡ (of_amounts marks entries (is_number t) r || of_amounts marks entries (is_among ts) r)
   next_thing entries t ts r =
@@ -74,11 +74,11 @@ module _ (marks : FinSet nat_cmp) where
       let rest : ℕ → ℕ → Bool = λ e k. entries e && (is_among ts k && marked e k) in
       accounts_same (λ e k. entries e && (is_among (t ∷ ts) k && marked e k)) (λ e k. one e k || rest e k) (λ e k. and_or (entries e) (is_number t k) (is_among ts k) (marked e k)) r ∙ accounts_either one rest r
 
-  -- a test for no entry chooses no row
+  -- no row of a dirty amount is of one of these entries, if there are none
   pub no_entry : (es : List ℕ) (things : ℕ → Bool) → es ≡ [] → (r : Row) → of_amounts marks (is_among es) things r ≡ false
   no_entry es things none r = ap (λ l. of_amounts marks (is_among l) things r) none ∙ accounts_none (λ e t. false) (λ e t. refl) r
 
-  -- a test for no thing chooses no row
+  -- no row of a dirty amount is of one of these things, if there are none
   pub no_thing : (entries : ℕ → Bool) (ts : List ℕ) → ts ≡ [] → (r : Row) → of_amounts marks entries (is_among ts) r ≡ false
   no_thing entries ts none r = ap (λ l. of_amounts marks entries (is_among l) r) none ∙ accounts_none (λ e t. entries e && false) (λ e t. and-false (entries e)) r
 
@@ -148,7 +148,7 @@ module _ (c : MarkedCampaign) (e : Entry) (t : Thing) where
   abbrev row : Row
   row = books_row (entry_index e + 1) (thing_index t) (amount_in c.value.books e t)
 
-  -- two amounts that are not 0, with equal indexes of entry and thing, have equal rows
+  -- the row of an amount other than 0 is the row of `e` and `t`, if its entry and thing have the indexes of these
   same_place : (f : Entry) (u : Thing) → amount_in c.value.books f u ≢ pos 0 → entry_index f ≡ entry_index e → thing_index u ≡ thing_index t
       → (r : Row) → r ≡ books_row (entry_index f + 1) (thing_index u) (amount_in c.value.books f u) → Has (amount_lines c.value e t) r
   same_place f u some entries things r is =
@@ -157,14 +157,14 @@ module _ (c : MarkedCampaign) (e : Entry) (t : Thing) where
       let row_is : r ≡ row = is ∙ ap (λ k. books_row (k + 1) (thing_index u) (amount_in books f u)) entries ∙ ap (λ k. books_row (entry_index e + 1) k (amount_in books f u)) things ∙ ap (books_row (entry_index e + 1) (thing_index t)) same in
       subst (Has (amount_lines c.value e t)) (sym row_is) (has_optional (int_eq (amount_in books e t) (pos 0)) row (is_differing (amount_in books e t) (λ none. some (same ∙ none))))
 
-  -- if the amount isn't dirty, no row passes the test `is_here`
+  -- if the amount of this entry and thing isn't dirty, no row of `books` is to be written for it (`is_here`)
   pub unmarked_none : contains c.marks.books (amount_number e t) ≡ false → (r : Row) → is_here r ≡ false
   unmarked_none unmarked r = accounts_none _ (λ k j. false_from_ne_true _ (λ is.
       let one = and_parts _ _ is in
       let two = and_parts _ _ one.1 in
       true≢false (sym two.1 ∙ ap (λ x. contains c.marks.books (entry_count * x + k)) (tied j (thing_index t) two.0) ∙ ap (λ x. contains c.marks.books (entry_count * thing_index t + x)) (tied k (entry_index e) one.0) ∙ unmarked))) r
 
-  -- a row that passes the test `is_here` has the key of the amount of this entry and thing
+  -- a row of this entry and thing, whose amount is dirty (`is_here`), has their key
   key_of : (r : Row) → is_here r ≡ true → take 2 r ≡ books_key (entry_index e + 1) (thing_index t)
   key_of (Int (pos (suc place)) ∷ Int (pos thing) ∷ row) is =
       let one = and_parts _ _ is in
@@ -176,7 +176,7 @@ module _ (c : MarkedCampaign) (e : Entry) (t : Thing) where
   key_of row is = absurd (true≢false (sym is))
 
   module _ (marked : contains c.marks.books (amount_number e t) ≡ true) where
-    -- if the amount is dirty, a row with its key passes the test `is_here`
+    -- if the amount of this entry and thing is dirty, a row with their key is to be written (`is_here`)
     of_key : (r : Row) → take 2 r ≡ books_key (entry_index e + 1) (thing_index t) → is_here r ≡ true
     of_key [] key = absurd cc
     of_key (v ∷ []) key = absurd cc
@@ -187,7 +187,7 @@ module _ (c : MarkedCampaign) (e : Entry) (t : Thing) where
         ap (λ x. is_here (x ∷ w ∷ row)) (first ∙ ap int place) ∙ ap (λ x. is_here (int (suc (entry_index e)) ∷ x ∷ row)) second
         ∙ ap (λ b. b && (is_number (thing_index t) (thing_index t) && contains c.marks.books (amount_number e t))) (is_itself (entry_index e)) ∙ ap (λ b. b && contains c.marks.books (amount_number e t)) (is_itself (thing_index t)) ∙ marked
 
-    -- writing the amount (`WritesAmount`) rewrites the rows of this entry and thing and no other
+    -- writing a dirty amount (`WritesAmount`) rewrites the row of its entry and thing and no other (`RewritesAmounts`)
     settle_rewrite : (old new : Database) → WritesAmount c.value e t old new
         → RewritesAmounts c (is_number (entry_index e)) (is_number (thing_index t)) old new
     settle_rewrite old new did = rewrites_key is_here (λ r. take 2 r ≡ books_key (entry_index e + 1) (thing_index t)) (Has (amount_lines c.value e t)) (BooksRowsOf c.value.books) key_of of_key
@@ -197,7 +197,7 @@ module _ (c : MarkedCampaign) (e : Entry) (t : Thing) where
         same_place of.0 of.1 of.2 (omega (arith, keys.0)) keys.1 r of.3)
         books_table old new did.rows did.others
 
-    -- inside a transaction, writing a dirty amount (`WritesAmount`) rewrites the amount
+    -- inside a transaction, writing a dirty amount (`WritesAmount`) rewrites the row of its entry and thing alone
     pub settle_done : (old new : State) → Inside HasTables (WritesAmount c.value e t) old new
         → Inside HasTables (RewritesAmounts c (is_number (entry_index e)) (is_number (thing_index t))) old new
     settle_done old new did = inside_weaker HasTables (WritesAmount c.value e t) (RewritesAmounts c (is_number (entry_index e)) (is_number (thing_index t))) old new (λ has settles. settle_rewrite old.now new.now settles) did

@@ -56,7 +56,7 @@ rest_of is_marked Before After old ahead back was r is = (λ there. ahead r is (
 -- ---- one row for each number
 
 module _ {V : Type 0} (line : ℕ → V → Row) (marks : FinSet nat_cmp) (heads : (n : ℕ) (v : V) → begins_marked marks (line n v) ≡ contains marks n) where
-  -- What has a row under a number that is not dirty has the same row in the other map.
+  -- Under each clean number under which the first map has a value, the second has one with the same row.
   abbrev pub Follows : FinMap nat_cmp V → FinMap nat_cmp V → Type 0
   Follows one other = (n : ℕ) (v : V) → contains marks n ≡ false → get one n ≡ Some v → (w : V) × (get other n ≡ Some w) × (line n w ≡ line n v)
 
@@ -68,7 +68,7 @@ module _ {V : Type 0} (line : ℕ → V → Row) (marks : FinSet nat_cmp) (heads
   follow : (one other : FinMap nat_cmp V) (r : Row) → begins_marked marks r ≡ false → Follows one other → RowsOf line one r → RowsOf line other r
   follow one other r not_marked follows of = let found = follows of.0 of.1 (unmarked of.0 of.1 r of.3 not_marked) of.2 in (of.0, found.0, found.1, of.3 ∙ sym found.2)
 
-  -- a table of the map before has the clean rows of the map after
+  -- a table of one map's rows has the clean rows of another, if both have the same under clean numbers (`Follows`)
   rest_numbered : (before after : FinMap nat_cmp V) (old : List Row) → Follows before after → Follows after before → Is old (RowsOf line before) → (r : Row) → begins_marked marks r ≡ false → Has old r ↔ RowsOf line after r
   rest_numbered before after old ahead back = rest_of (begins_marked marks) (RowsOf line before) (RowsOf line after) old (λ r is. follow before after r is ahead) (λ r is. follow after before r is back)
 
@@ -80,7 +80,7 @@ module _ {V : Type 0} (line : ℕ → V → Row) (marks : FinSet nat_cmp) (heads
   same_followed : (before after : FinMap nat_cmp V) → SameBut marks before after → Follows after before
   same_followed before after same n v not_marked there = (v, sym (same n not_marked) ∙ there, refl)
 
-  -- a table of the map before has the clean rows of the map after, if the maps differ only under dirty numbers
+  -- a table of one map's rows has the clean rows of another, if the maps differ only under dirty numbers
   rest_same : (before after : FinMap nat_cmp V) (old : List Row) → SameBut marks before after → Is old (RowsOf line before) → (r : Row) → begins_marked marks r ≡ false → Has old r ↔ RowsOf line after r
   rest_same before after old same = rest_numbered before after old (same_follows before after same) (same_followed before after same)
 
@@ -148,11 +148,11 @@ amounts_follow one other marks r same not_marked of =
 
 -- ---- the campaign's own row
 
--- the campaign row of these four numbers and this pass text
+-- the content of a campaign row: the month, the pass text, and the next numbers of factions, units and structures
 abbrev head_in : ℕ × (List ℕ × (ℕ × (ℕ × ℕ))) → CampaignRowValue
 head_in row = record { month = row.0; pass = row.1.0; next_faction = row.1.1.0; next_unit = row.1.1.1.0; next_structure = row.1.1.1.1 }
 
--- the campaign row after the write is that of the campaign after, if the row was dirty or unchanged
+-- a campaign row written over the one before is that of the campaign after, if the row is dirty or unchanged
 head_held : (b : Bool) (before after : CampaignValue) → (b ≡ false → own_row after ≡ own_row before) → campaign_row_after b after (campaign_row_of before) ≡ campaign_row_of after
 head_held true before after same = refl
 head_held false before after same = ap head_in (sym (same refl))

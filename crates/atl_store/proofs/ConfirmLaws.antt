@@ -50,12 +50,12 @@ module _ (sql : List ℕ) (old new : State) (plain : IsPlain (understood old.now
 
 -- the SELECT of the campaign row is refused when it is asked a second time
 module _ (f : Format) {S : Type 0} (g : Ghosts S) (old during : Held S) (begins : HasTablesOf f old.schema) (e : Error) (failed : FailsToQuery (selection campaign_table 1) [] (state g old) (state g during) e) where
-  -- the fault of confirming is Memory or Store, by the error
+  -- the fault of confirming is Memory if the SELECT was refused for lack of memory, else Store
   told_by : (memory : Bool) → is_memory e ≡ memory → FailsToConfirm g old f (cond memory load.Memory load.Store)
   told_by true is = (begins, (during, e, failed, is))
   told_by false is = inr (begins, (during, e, failed, is))
 
-  -- if the campaign row can't be read a second time, confirming fails with that fault
+  -- if the campaign row can't be read a second time, confirming fails with the fault of the SELECT's error
   pub unconfirmed : {A : Type 0} (r : Result A LoadFault) → IsErrAnd r (λ told. told ≡ load_fault e) → IfErr r (FailsToConfirm g old f)
   unconfirmed (Ok a) told = tt
   unconfirmed (Err fault) told = subst (FailsToConfirm g old f) (sym told) (told_by (is_memory e) refl)

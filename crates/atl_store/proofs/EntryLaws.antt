@@ -36,7 +36,7 @@ module _ {V : Type 0} where
   nothing_there : (v : V) → None ≡ Some v → ⊥
   nothing_there v e = cc
 
-  -- if all entries of a list are above a number, each entry is
+  -- a number that is less than all numbers of a list (`below_all`) is less than that of each entry
   pub below_has : (k : ℕ) (es : List (ℕ × V)) (x : ℕ × V) → below_all nat_cmp k es ≡ true → Has es x → is_lt (nat_cmp k x.0) ≡ true
   below_has k [] x below there = absurd there
   below_has k (e ∷ es) x below (inl same) = ap (λ (y : ℕ × V). is_lt (nat_cmp k y.0)) same ∙ (and_parts _ _ below).0

@@ -39,7 +39,7 @@ module _ (c : CampaignValue) where
   pub own_filled : (text : List ℕ) (old new : Database) → PutsCampaignRow (campaign_row_of c) text old new → FillsWithOwn text c (Own ∷ []) old new
   own_filled text old new did none = one_changed (Fills c (campaign_line text c)) Own _ old new (did.first none) (λ rows empty. one_row _ _ (campaign_line text c) empty rows)
 
-  -- putting the rows of all entries fills a table with one row for each number
+  -- putting the rows of all entries of a map fills a table that has one row for each number, if it was empty
   pub numbered_filled : {V : Type 0} (part : Part) (line : ℕ → V → Row) → ((n : ℕ) (v : V) → take 1 (line n v) ≡ int n ∷ []) → (m : FinMap nat_cmp V) → ((own : Row) (rows : List Row) → Is rows (RowsOf line m) → Is rows (rows_for own c part)) → (es : List (ℕ × V))
       → es ≡ entries m → (old new : Database) → PutsRows (table_of part) 1 (lines_of line es) old new → FillsParts c (part ∷ []) old new
   numbered_filled {V} part line numbered m are es same old new did own = one_changed (Fills c own) part _ old new did (λ made none.
@@ -47,7 +47,7 @@ module _ (c : CampaignValue) where
       let now = rows_in (table_of part) new.trees in
       are own now (rows_filled line numbered now was m none (subst (λ (l : List (ℕ × V)). Is now (puts 1 (lines_of line l) (Has was))) same made)))
 
-  -- putting the rows of all units or regions fills a table with groups of rows
+  -- putting the groups of rows of all units, or of all regions, fills the part's table, if it was empty
   pub groups_fill : {V : Type 0} (part : Part) (lines : ℕ → V → List Row) (more : ℕ) (m : FinMap nat_cmp V) → ((own : Row) → AreGroups lines (suc more) m (rows_for own c part)) → (es : List (ℕ × V)) → es ≡ entries m → (old new : Database)
       → PutsRows (table_of part) (suc more) (groups_of lines es) old new → FillsParts c (part ∷ []) old new
   groups_fill {V} part lines more m are es same old new did own = one_changed (Fills c own) part _ old new did (λ made none.
@@ -55,13 +55,13 @@ module _ (c : CampaignValue) where
       let now = rows_in (table_of part) new.trees in
       groups_filled lines more m (rows_for own c part) (are own) now was none (subst (λ (l : List (ℕ × V)). Is now (puts (suc more) (groups_of lines l) (Has was))) same made))
 
-  -- putting the rows of all amounts fills the table `books`
+  -- putting the rows of all amounts of the books fills the table `books`, if it was empty
   pub books_fill : AreBooks c.books.things c.books → (old new : Database) → PutsRows books_table 2 (things_lines c (range_with_len 0 c.books.things)) old new → FillsParts c (Books ∷ []) old new
   books_fill are old new did own = one_changed (Fills c own) Books _ old new did (λ made none. books_filled c are (rows_in books_table new.trees) (rows_in books_table old.trees) none made)
 
   -- ---- one after the other
 
-  -- filling some parts and then others fills both
+  -- filling some parts, the campaign row among them, and then others fills all of them
   pub own_then_filled : (text : List ℕ) (ps qs : List Part) → are_apart ps qs ≡ true → (old mid new : Database) → FillsWithOwn text c ps old mid → FillsParts c qs mid new → FillsWithOwn text c (ps ++ qs) old new
   own_then_filled text ps qs apart old mid new first second none = both_changed (Fills c (campaign_line text c)) ps qs apart old mid new (first none) (second (campaign_line text c))
 

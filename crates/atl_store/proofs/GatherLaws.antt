@@ -156,7 +156,7 @@ module _ {S : Type 0} (g : Ghosts S) where
     wants (inl refused) = inl (refuses read.Memory refused)
     wants (inr told) = inr (record { select = (sql, forms); one = inl refl; before = old; leaves = leaves_none old idle; rows = told.0; answered = told.1 })
 
-    -- a fault of reading one table is one that the list of its SELECT may return
+    -- a fault of reading one table is one that reading by its SELECT alone may return (`FailsToRead`)
     fails_one : {Z : Type 0} (r : Result (Vec A Z) ReadFault) → ReadsRows g sql old forms shown r new → HasCleanDisk (state g new) → IfErr (rows_or_none r) (FailsToRead g old this_select)
     fails_one (Ok all) reads clean = tt
     fails_one (Err read.OtherType) reads clean = tt
@@ -255,7 +255,7 @@ module _ {S : Type 0} (g : Ghosts S) where
     other_within : AllSelectsShow g old more → HasOtherType g old few → HasOtherType g old more
     other_within all other = record { all = all; select = other.select; one = within other.select other.one; rows = other.rows; told = other.told; other = other.other }
 
-  -- SELECTs that gave typed rows gave rows
+  -- SELECTs that each showed rows with values of their columns' forms each showed rows (`AllSelectsShow`)
   told_of : (old : Held S) (selects : List (List ℕ × List Form)) → AllSelectsShowTyped g old selects → AllSelectsShow g old selects
   told_of old selects typed select one = let told = typed select one in (told.0, told.1)
 
@@ -283,7 +283,7 @@ module _ {S : Type 0} (g : Ghosts S) where
       found (Ok None) h = h
       found (Err fault) h = tt
 
-  -- a fault of the first stage is a fault of both
+  -- a fault of reading the tables of the first stage is a fault of reading those of both stages
   pub first_fails : {A B : Type 0} (xs ys : List (List ℕ × List Form)) (P : A → Type 0) (Q : B → Type 0) (old new : Held S) (fault : LoadFault) (one : Result (Option A) LoadFault) (r : Result (Option B) LoadFault)
       → ReadsSome g old xs P one new → one ≡ Err fault → IsErrAnd r (λ told. told ≡ fault) → ReadsSome g old (xs ++ ys) Q r new
   first_fails xs ys P Q old new fault one (Ok o) first was told = absurd told
@@ -297,7 +297,7 @@ module _ {S : Type 0} (g : Ghosts S) where
   -- the second stage begins at `mid`, where the first ended
   module _ {A B : Type 0} (xs ys : List (List ℕ × List Form)) (P : A → Type 0) (Q : B → Type 0) (old mid new : Held S) (one : Result (Option A) LoadFault) (two : Result (Option B) LoadFault)
       (first : ReadsSome g old xs P one mid) (second : ReadsSome g mid ys Q two new) (a : Option A) (was_first : one ≡ Ok a) where
-    -- a fault of the second stage is a fault of both
+    -- a fault of reading the tables of the second stage is a fault of reading those of both stages
     pub second_fails : {C : Type 0} (R : C → Type 0) (fault : LoadFault) (r : Result (Option C) LoadFault) → two ≡ Err fault → IsErrAnd r (λ told. told ≡ fault) → ReadsSome g old (xs ++ ys) R r new
     second_fails R fault (Ok o) was told = absurd told
     second_fails R fault (Err f) was told = record {
@@ -335,7 +335,7 @@ module _ {S : Type 0} (g : Ghosts S) where
 
   -- ---- by the format
 
-  -- rows that were found, paired with given rows, are found
+  -- what reading by some SELECTs found, paired with a given value, is found by the same SELECTs (`Found`)
   found_with : {A B : Type 0} (old : Held S) (selects : List (List ℕ × List Form)) (P : A → Type 0) (Q : A × B → Type 0) (b : B) → ((a : A) → P a → Q (a, b)) → (o : Option A) → Found g old selects P o → Found g old selects Q (option_zip o (Some b))
   found_with old selects P Q b weaker (Some a) found = (found.0, weaker a found.1)
   found_with old selects P Q b weaker None found = found

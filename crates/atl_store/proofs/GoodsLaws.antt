@@ -123,7 +123,7 @@ goods_rows units n u got r there =
     let row = goods_has n u.holding r there in
     (n, u, got, row.0, row.1.0, row.1.1, entry_got (things_of row.0 u.holding) row.1.0 row.1.1 row.2, row.3, row.4)
 
--- the rows of `has` belong to the units by the first column
+-- the rows of `has` come in groups, one for each unit, whose rows begin with its number (`AreGroups`)
 pub goods_grouped : (units : FinMap nat_cmp Unit) → AreGroups unit_lines 3 units (HasRowsOf units)
 goods_grouped units = record {
   numbered = λ n u. goods_begin n u.holding;

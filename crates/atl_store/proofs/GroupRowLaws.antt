@@ -45,7 +45,7 @@ module _ {V : Type 0} (lines : ℕ → V → List Row) (more : ℕ) (values : Fi
       let number = same_number e.0 found.0.0 (sym (are.numbered e.0 e.1 x early) ∙ first_of more x y same ∙ are.numbered found.0.0 found.0.1 y found.2) in
       less_apart e.0 found.0.0 (below_has e.0 es found.0 (and_parts _ _ sorted).0 found.1) number)
 
-  -- each row made of the entries is a wanted row
+  -- each row that `lines` gives for an entry of the map is a wanted row
   pub groups_rows : (es : List (ℕ × V)) → es ≡ entries values → (r : Row) → Has (groups_of lines es) r → Wanted r
   groups_rows es same r there =
       let found = flat_has (λ (v : ℕ × V). lines v.0 v.1) es r there in
@@ -103,7 +103,7 @@ module _ {V : Type 0} (lines : ℕ → V → List Row) (more : ℕ) (values : Fi
         → Inside HasTables (RewritesGroup table Wanted n) old new
     bare_done none old new did = inside_weaker HasTables (Drops table 1 (int n ∷ [])) (RewritesGroup table Wanted n) old new (λ has drops. bare_rewrite old.now new.now drops none) did
 
--- the upsert of a wanted row is one of the part's statements
+-- the upsert of a wanted row is one of the statements that put a row of the campaign (`OfRow`)
 pub puts_wanted : (part : Part) (more : ℕ) → key_of part ≡ suc more → (Wanted : CampaignValue → Row → Type 0) → ((own : Row) (c : CampaignValue) (r : Row) → Wanted c r → rows_for own c part r) → (c : CampaignValue) (r : Row) → Wanted c r
     → OfRow c (upsert (table_of part) (suc more)) r
 puts_wanted part more key Wanted are c r is = subst (λ k. OfRow c (upsert (table_of part) k) r) key (puts_row part (λ own. are own c r is))

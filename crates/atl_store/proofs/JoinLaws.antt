@@ -99,7 +99,7 @@ arrives n f m u report before after found joining =
 
 -- ---- the statements of a joining
 
--- a table with one campaign row has only the new campaign row after this is put
+-- a table `campaign` with one row has only the new campaign row once the new one is put
 put_campaign_row : (rows news : List Row) (text : List ℕ) (before after : CampaignRowValue) → Is rows (λ r. r ≡ campaign_row before text) → Is news (put 1 (campaign_row after text) (Has rows)) → Is news (λ r. r ≡ campaign_row after text)
 put_campaign_row rows news text before after was made r = (
   λ there. elim ((made r).0 there) [ inl same ↦ same | inr kept ↦ absurd (kept.1 (ap (take 1) ((was r).0 kept.0))) ],
@@ -126,7 +126,7 @@ settled_on c e t rows news S was is r = (
 )
 
 module _ (n : ℕ) (f : Faction) (m : ℕ) (u : Unit) (report : List ℕ) (after : CampaignValue) (found : IsFound after n f m u report) where
-  -- enrolling and then welcoming a faction are together the write of a join (`WritesJoin`)
+  -- putting campaign row, faction and unit (`Enrolls`), then report and amounts (`Welcomes`), is the write of a join
   joins : (world : List ℕ) (a b d : Database) → Enrolls n f m u after world a b → Welcomes n report after b d → WritesJoin n after a d
   joins world a b d enrolls reports before text was =
       let x = enrolls.0 in
@@ -194,7 +194,7 @@ module _ (n : ℕ) (f : Faction) (m : ℕ) (u : Unit) (report : List ℕ) (after
           (λ there. people.0 ((enters.books r).0 there), λ of. (enters.books r).1 (people.1 of))
       rows part = subst (λ (c : CampaignValue). Is (rows_in (table_of part) d.trees) (rows_for (campaign_line text c) c part)) (sym joining.7) (stays part refl)
 
--- putting the rows of campaign, faction and unit enrolls the faction (`Enrolls`)
+-- inside a transaction, the rows of campaign, faction and unit, put one after another, are all put (`Enrolls`)
 pub enrolling_done : (n : ℕ) (f : Faction) (m : ℕ) (u : Unit) (after : CampaignValue) (world : List ℕ) (start one two three : State) → Inside HasTables (PutsCampaignRow (campaign_row_of after) world) start one → Inside HasTables (Puts faction_table 1 (faction_line n f)) one two
     → Inside HasTables (Puts unit_table 1 (unit_line m u)) two three → Inside HasTables (Both (PutsCampaignRow (campaign_row_of after) world) (Both (Puts faction_table 1 (faction_line n f)) (Puts unit_table 1 (unit_line m u)))) start three
 enrolling_done n f m u after world start one two three first second third =
@@ -202,7 +202,7 @@ enrolling_done n f m u after world start one two three first second third =
     let units = Puts unit_table 1 (unit_line m u) in
     inside_then HasTables (PutsCampaignRow (campaign_row_of after) world) (Both factions units) start one three first (inside_then HasTables factions units one two three second third)
 
--- putting the report and writing the two amounts welcomes the faction (`Welcomes`)
+-- inside a transaction, the report's row and the two amounts, one after another, are all written (`Welcomes`)
 pub reporting_done : (n : ℕ) (report : List ℕ) (after : CampaignValue) (start one two three : State) → Inside HasTables (Puts report_table 1 (report_row n report)) start one → Inside HasTables (WritesAmount after Joining Money) one two
     → Inside HasTables (WritesAmount after Joining People) two three → Inside HasTables (Both (Puts report_table 1 (report_row n report)) (Both (WritesAmount after Joining Money) (WritesAmount after Joining People))) start three
 reporting_done n report after start one two three first second third =
@@ -210,7 +210,7 @@ reporting_done n report after start one two three first second third =
     let people = WritesAmount after Joining People in
     inside_then HasTables (Puts report_table 1 (report_row n report)) (Both money people) start one three first (inside_then HasTables money people one two three second third)
 
--- enrolling and then welcoming a faction writes the join, inside a transaction
+-- inside a transaction, putting campaign row, faction and unit, then report and amounts, is the write of a join
 pub joining_done : (n : ℕ) (f : Faction) (m : ℕ) (u : Unit) (report : List ℕ) (after : CampaignValue) (world : List ℕ) (start one two : State) → IsFound after n f m u report
     → Inside HasTables (Both (PutsCampaignRow (campaign_row_of after) world) (Both (Puts faction_table 1 (faction_line n f)) (Puts unit_table 1 (unit_line m u)))) start one
     → Inside HasTables (Both (Puts report_table 1 (report_row n report)) (Both (WritesAmount after Joining Money) (WritesAmount after Joining People))) one two → Inside HasTables (WritesJoin n after) start two

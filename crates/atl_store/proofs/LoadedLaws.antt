@@ -46,7 +46,7 @@ use Rattle.atl_sql.proofs.SelectLaws.{has_first}
 use Rattle.atl_store.proofs.WorldTextLaws.{standing_text_is}
 
 module _ (f : Format) {S : Type 0} (g : Ghosts S) where
-  -- a campaign row that was read fulfils the first rule
+  -- a campaign row that was read (`OwnRead`) keeps the first rule (`KeepsOneRow`)
   pub own_kept : (old : Held S) (own : StoredCampaign) (w : WorldValue) → OwnRead g old f own w → KeepsOneRow f g old
   own_kept old own w read = record {
     rows = read.rows;
@@ -151,7 +151,7 @@ module _ (f : Format) {S : Type 0} (g : Ghosts S) (old : Held S) (reads : ReadRo
     have_rows text begins own = record { rows = rows_of_part text begins own; none = none_read text }
 
 module _ (f : Format) {S : Type 0} (g : Ghosts S) where
-  -- a campaign row that was read, typed reads of all other tables, and the rows made of both are gathered (`Gathered`)
+  -- a campaign row, and rows of all other tables without a value of another type, make what is gathered (`Gathered`)
   gathered_of : (old : Held S) (own : StoredCampaign) (w : WorldValue) (reads : ReadRows) (p : Parts) → OwnRead g old f own w → AllSelectsShowTyped g old (other_selects f) → AreOfFormat f (state g old).now reads → (head : StoredCampaignRow) → head ≡ own.head → IsMadeOf head reads p → Gathered f g old w p
   gathered_of old own w reads p row typed are head same made = record {
     one = own_kept f g old own w row;
@@ -220,7 +220,7 @@ module _ (f : Format) {S : Type 0} (g : Ghosts S) where
       failed = elim (first.survives.closes clean was_open) [ inl up ↦ absurd (let k = sym up ∙ shut in cc) | inr more ↦ more ];
     }
 
-    -- if the schema is another one, the tables are not those of a campaign or the connection was shut
+    -- if the schema after the reads isn't the format's, the tables aren't made as it has them, or the disk failed
     other_schema : ¬ HasTablesOf f mid.schema → (¬ AreMade f g old) ⊎ (FailedMeanwhile g old ⊎ RefusesAgain g old false)
     other_schema other = elim (cases_Bool (state g mid).is_open) [
       | inl up ↦ inl (λ made. other (subst (λ (d : Database). HasTablesOf f d.schema) (sym ((first.stays clean).same up).0) made.begins))
@@ -248,7 +248,7 @@ module _ (f : Format) {S : Type 0} (g : Ghosts S) {A : Type 0} (rows : A → Rea
   pub gathered_with : (a : A) → o ≡ Some a → (p : Parts) (head : StoredCampaignRow) → head ≡ own.head → IsMadeOf head (rows a) p → Gathered f g old w p
   gathered_with a is p head same made = let all = found (Some a) is in gathered_of f g old own w (rows a) p row all.0 all.1 head same made
 
-  -- a value of another type than its column refuses the load with Damaged, rule Ranges
+  -- a value of another type than its column in a table but `campaign` refuses the load with Damaged, rule Ranges
   pub mistyped_refuses : o ≡ None → RefusesToLoadIn f g old (Damaged Ranges)
   mistyped_refuses is = inl (own_kept f g old own w row, found None is)
 
@@ -322,7 +322,7 @@ module _ (f : Format) {S : Type 0} (g : Ghosts S) (old new : Held S) (w : WorldV
         rows = subst (λ (d : Database). HoldsIn f d.trees all.text c.value) (sym same.0) (rows_hold f db all.text loaded.parts c.value rows loaded.checked.rows _ loaded.checked.good.sound.steady.numbers.books);
       }
 
-  -- a loaded campaign fulfils `LoadsIn`
+  -- a campaign loaded in a format is good and unmarked, and the tables hold it with a text of its world (`LoadsIn`)
   pub loads_in : LoadsIn f g old new w c
   loads_in = record {
     world = λ clean. subst (λ t. world_by f t ≡ Ok w) (sym (standing_text_is f (state g new) (loaded.gathered clean).text c.value (new_stands clean))) (loaded.gathered clean).world;
@@ -347,7 +347,7 @@ module _ {S : Type 0} (g : Ghosts S) (old new : Held S) where
         crash = λ db may. subst (λ t. Stores t text c) (sym (store db stands.is_open may ∙ ap (λ (d : Database). d.trees) stands.settled)) (record { schema = (state g new).now.schema; begins = stands.begins; sound = sound; rows = rows });
       }
 
-  -- a loaded campaign of the second format fulfils `Loads`
+  -- a campaign loaded in the second format is good, and the connection keeps it with a text of its world (`Loads`)
   pub loads : ((db : Trees) → IsTrue (state g new).is_open → (state g new).may_leave db → db ≡ (state g new).committed.trees) → (w : WorldValue) (c : MarkedCampaign) → LoadsIn Second g old new w c → Loads g old new w c
   loads store w c loaded = record {
     world = loaded.world;

@@ -28,7 +28,7 @@ use Rattle.sqlite.specs.Order.{Row}
 one_item : (region m a n b : ℕ) → ◌≡◌ {A = Row} (take 2 (market_row region m a)) (take 2 (market_row region n b)) → m ≡ n
 one_item region m a n b same = cc
 
--- the rows of `market` belong to the regions by the first column
+-- the rows of `market` come in groups, one for each region, whose rows begin with its number (`AreGroups`)
 pub stocks_grouped : (regions : FinMap nat_cmp Region) → AreGroups region_lines 2 regions (MarketRowsOf regions)
 stocks_grouped regions = record {
   numbered = λ n region r there. ap (take 1) (amounts_have (market_row n) (entries region.stocks) r there).3;
@@ -71,7 +71,7 @@ module _ (regions : FinMap nat_cmp Region) where
 
 -- ---- the row of one stock
 
--- `of_stock` finds rows by their region and item
+-- `of_stock` finds by "`f` or `g`" what it finds by `f` and by `g`, and nothing by a false test (`FindsByNumbers`)
 pub finds_stocks : FindsByNumbers of_stock
 finds_stocks = record { either = either; none = none }
   where

@@ -55,7 +55,7 @@ module _ (c : MarkedCampaign) where
 -- ---- one table after another
 
 module _ (c : MarkedCampaign) where
-  -- rewriting the campaign row rewrites the part `Own`
+  -- writing the campaign row (`RewritesCampaignRow`) rewrites the part `Own` and leaves every other table
   pub own_rewritten : (old new : Database) → RewritesCampaignRow c old new → RewritesWithOwn c (Own ∷ []) old new
   own_rewritten old new did before text was = one_changed (Becomes c (own_after c before text)) Own _ old new (did before text was) (λ rows. rows)
 

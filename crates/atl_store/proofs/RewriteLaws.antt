@@ -132,7 +132,7 @@ begins_either : (f g : ℕ → Bool) (r : Row) → begins (λ n. f n || g n) r �
 begins_either f g (Int (pos n) ∷ row) = refl
 begins_either f g row = refl
 
--- a test that is always false chooses no row
+-- no row passes a test of its number that is always false
 begins_none : (r : Row) → begins (λ n. false) r ≡ false
 begins_none (Int (pos n) ∷ row) = refl
 begins_none row = refl
@@ -149,15 +149,15 @@ key_begins n (v ∷ row) key =
     let value : v ≡ int n = cc in
     ap (λ x. begins (is_number n) (x ∷ row)) value ∙ is_itself n
 
--- a row is of the remaining numbers exactly if it is of the next number or of the rest
+-- a row begins with one of the numbers `n ∷ ns` exactly if it begins with `n` or with one of `ns`
 next_number : (n : ℕ) (ns : List ℕ) (r : Row) → begins (is_among (n ∷ ns)) r ≡ (begins (is_number n) r || begins (is_among ns) r)
 next_number n ns r = begins_either (is_number n) (is_among ns) r
 
--- a test for no number chooses no row
+-- no row begins with one of these numbers, if there are none
 no_number : (ns : List ℕ) → ns ≡ [] → (r : Row) → begins (is_among ns) r ≡ false
 no_number ns none r = ap (λ l. begins (is_among l) r) none ∙ begins_none r
 
--- a row is of the listed numbers of a set exactly if its number is in the set
+-- a row begins with one of the listed numbers of a set exactly if it begins with a number of the set
 of_set : (marks : FinSet nat_cmp) (ns : List ℕ) → from_list ns ≡ marks → (r : Row) → begins (is_among ns) r ≡ begins_marked marks r
 of_set marks ns all r = ap (λ (f : ℕ → Bool). begins f r) (λ i n. (sym (contains-from_list nat_cmp_total ns n) ∙ ap (λ s. contains s n) all) i)
 

@@ -101,7 +101,7 @@ module _ {S : Type 0} (g : Ghosts S) (text : List ℕ) (c : CampaignValue) (old 
   refused_with e (Ok a) told gave = tt
   refused_with e (Err f) told gave = refused_as f (λ none. tells_more e (sym told ∙ none)) (record { ready = ready; told = λ clean. (e, told, gave clean) })
 
--- the fault of a write is that of the error with which the database ended the write
+-- the fault of a write is that of the error with which the database ended the write (`IsFaultOfError`)
 pub told_by : {S F A : Type 0} (g : Ghosts S) (own : Statements) (fault_of : Error → F) (old new : Held S) (e : Error) (r : Result A F) → IsErrAnd r (λ f. f ≡ fault_of e) → Gives g own e old new → IfErr r (IsFaultOfError g own fault_of old new)
 told_by g own fault_of old new e (Ok a) told gave = tt
 told_by g own fault_of old new e (Err f) told gave = (e, told, gave)
@@ -114,7 +114,7 @@ not_there g conn schema found shown is none = ap has_campaign (sym shown) ∙ sy
 pub spares_itself : (s : State) → ChangesNothing s s
 spares_itself s = record { same = λ up. (refl, refl, refl); shuts = λ up. inl up }
 
--- a connection that survives a call is a later state of it
+-- after a call (`Survives`) no failure of the disk is forgotten, and a shielded connection stays so (`IsLater`)
 pub later : (old new : State) (Commits : Trees → Type 0) → Survives old new Commits → IsLater old new
 later old new Commits survives = record { clean = λ clean. omega (arith, survives.clean); counts = survives.counts; shield = survives.shield }
 

@@ -20,7 +20,7 @@ use Rattle.atl_store.proofs.GoodsLaws.{three_same, had_of, of_had}
 use Rattle.atl_store.proofs.RewriteLaws.{tied, is_itself, rewrites_key, kept_only}
 use Rattle.atl_store.proofs.WholeLaws.{inside_weaker}
 
--- `of_kind` finds the rows of one kind by their unit and their thing
+-- `of_kind` finds by "`f` or `g`" what it finds by `f` and by `g`, and nothing by a false test (`FindsByNumbers`)
 pub finds_things : (sort : ThingKind) → FindsByNumbers (of_kind sort)
 finds_things sort = record { either = either; none = none }
   where

@@ -124,7 +124,7 @@ module _ (text : List ℕ) (c : CampaignValue) (old mid new : Database) (first :
       rows Markets = λ r. (λ there. absurd (subst (λ l. Has l r) (rest Markets (λ e. absurd cc) ∙ ap (map (visible market_table)) first.empty) there), λ of. absurd (no_stocks c bare r of))
       rows part = kept part (λ e. absurd cc) (in_first part (λ e. absurd cc))
 
--- changing the campaign row after adding the table completes the upgrade
+-- adding the table `market`, and then changing the campaign row, writes the upgrade (`WritesUpgrade`)
 pub upgrade_done : (text : List ℕ) (c : CampaignValue) (start mid end : State) → Inside IsFirstFormat AddsMarkets start mid → Inside HasTables (UpgradesCampaignRow (campaign_row_of c) text) mid end → Inside IsFirstFormat (WritesUpgrade text c) start end
 upgrade_done text c start mid end first second =
     inside_weaker IsFirstFormat (Both AddsMarkets (UpgradesCampaignRow (campaign_row_of c) text)) (WritesUpgrade text c) start end

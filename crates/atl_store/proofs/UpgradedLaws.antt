@@ -66,7 +66,7 @@ module _ {S : Type 0} (g : Ghosts S) (text : List ℕ) (old mid : Held S) (alone
   bare_before : (w : WorldValue) (c : MarkedCampaign) → LoadsIn First g old mid w c → without_markets w ≡ w
   bare_before w c loads = old_has_no_markets (world_text (state g mid)) w (loads.world clean)
 
-  -- the new world differs from the old one in markets alone
+  -- the tables hold the loaded campaign in the first format, and the new text differs in markets alone (`Matches`)
   pub matched : (w : WorldValue) (c : MarkedCampaign) → IsReadyToUpgrade g text old mid w c → Matches (state g old) text w c.value
   matched w c ready = record {
     world = ready.world;
@@ -97,7 +97,7 @@ module _ {S : Type 0} (g : Ghosts S) (text : List ℕ) (old mid : Held S) (alone
         more = λ just. more (ap (λ (d : Database). d.schema) same.0 ∙ just);
       }
 
--- a state after two calls is later than the one before them
+-- the connection after two calls is a later state of the one before them (`IsLater`)
 pub later_both : (old mid new : State) (FirstFormatRows SecondFormatRows : Trees → Type 0) → Survives old mid FirstFormatRows → Survives mid new SecondFormatRows → IsLater old new
 later_both old mid new FirstFormatRows SecondFormatRows one two = record { clean = λ clean. omega (arith, one.clean, two.clean, clean); counts = omega (arith, one.counts, two.counts); shield = λ shielded. two.shield (one.shield shielded) }
 
@@ -143,7 +143,7 @@ module _ {S : Type 0} (g : Ghosts S) (text : List ℕ) (old mid new : Held S) (w
   is_old : IsJustOld mid.schema → HasCleanDisk (state g mid) → IsFirstFormat (state g mid).now
   is_old just clean = let stands = ready.loads.stands clean in record { just = just; keyed = stands.keyed; listed = stands.listed }
 
-  -- a database that the upgrade wrote holds the campaign
+  -- a database that the upgrade wrote holds the loaded campaign with the new text
   did : (db : Database) → HasCleanDisk (state g mid) → WritesUpgrade text c.value (state g mid).now db → Holds db.trees text c.value
   did db clean wrote = wrote (world_text (state g mid)) (ready.loads.stands clean).rows ready.loads.fits.stocks
 
@@ -151,7 +151,7 @@ module _ {S : Type 0} (g : Ghosts S) (text : List ℕ) (old mid new : Held S) (w
   before : Survives (state g mid) (state g new) (MayLeave IsFirstFormat (WritesUpgrade text c.value) (state g mid)) → HasCleanDisk (state g new) → HasCleanDisk (state g mid)
   before survives clean = omega (arith, survives.clean, clean)
 
-  -- a transaction that committed fulfils `Upgrades`
+  -- after the commit the connection keeps the loaded campaign with the new text, good and unmarked (`Upgrades`)
   pub upgrades : (settled : (db : Trees) → IsTrue (state g new).is_open → (state g new).may_leave db → db ≡ (state g new).committed.trees) → IsJustOld mid.schema → (HasCleanDisk (state g new) → Commits IsFirstFormat (WritesUpgrade text c.value) (state g mid) (state g new)) → Survives (state g mid) (state g new) (MayLeave IsFirstFormat (WritesUpgrade text c.value) (state g mid)) → new.in_transaction ≡ false
       → Upgrades g text old new w c
   upgrades settled just done survives over = record {

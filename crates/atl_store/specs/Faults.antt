@@ -23,25 +23,25 @@ use Rattle.atl_store.specs.declared.fault.CreateFault.TheVariants as create
 abbrev pub write_fault : Error → WriteFault
 write_fault e = if is_memory e then write.Memory else write.Store
 
--- the fault of `load` for an error of the database
+-- the `StoreFault` for an error of the database: Memory if it ran out of memory, else Store
 abbrev pub store_fault : Error → StoreFault
 store_fault e = if is_memory e then store.Memory else store.Store
 
--- the fault of `reopen_connection` for an error of the file
+-- the fault of `reopen_connection` for an error of opening the file: Memory for lack of memory, else Store
 abbrev pub reopening_fault : StoreError → StoreFault
 reopening_fault error.OutOfMemory = store.Memory
 reopening_fault _ = store.Store
 
--- the fault of loading in either format for an error of the database
+-- the fault of loading in either format for an error of the database: Memory if it ran out of memory, else Store
 abbrev pub load_fault : Error → LoadFault
 load_fault e = if is_memory e then load.Memory else load.Store
 
--- the fault of loading if the rows fail the check, or there was no memory for it
+-- the fault of loading for a fault of the rows' check: Damaged with the rule that they break, or Memory
 abbrev pub fault_of_check : CheckFault → LoadFault
 fault_of_check (check.Damaged rule) = load.Damaged rule
 fault_of_check check.Memory = load.Memory
 
--- the fault of `load` for a fault of loading in the second format
+-- the fault of `load` for a fault of loading in the second format: the same, but OldFormat for OtherFormat
 abbrev pub second_fault : LoadFault → StoreFault
 second_fault load.Store = store.Store
 second_fault (load.Damaged rule) = store.Damaged rule
@@ -59,11 +59,11 @@ fault_number store.Memory = None
 
 -- ---- the faults of an upgrade
 
--- the fault of `upgrade` for an error of the database
+-- the fault of `upgrade` for an error of the database: Memory if it ran out of memory, else Store
 abbrev pub upgrade_fault : Error → UpgradeFault
 upgrade_fault e = if is_memory e then upgrade.Memory else upgrade.Store
 
--- the fault of `upgrade` for a fault of loading in the first format
+-- the fault of `upgrade` for a fault of loading in the first format: the same, but NotOld for OtherFormat
 abbrev pub first_fault : LoadFault → UpgradeFault
 first_fault load.Store = upgrade.Store
 first_fault (load.Damaged rule) = upgrade.Damaged rule
@@ -71,7 +71,7 @@ first_fault load.NotACampaign = upgrade.NotACampaign
 first_fault load.OtherFormat = upgrade.NotOld
 first_fault load.Memory = upgrade.Memory
 
--- the fault of `upgrade` for a fault of the new world text
+-- the fault of `upgrade` for a fault of the new world text: Memory if memory ran out, else World with this fault
 abbrev pub new_world_fault : WorldFault → UpgradeFault
 new_world_fault world.Memory = upgrade.Memory
 new_world_fault fault = upgrade.World fault
@@ -88,6 +88,6 @@ upgrade_number upgrade.Memory = None
 
 -- ---- the faults of creating tables
 
--- the fault of `create` for an error of the database
+-- the fault of `create` for an error of the database: Memory if it ran out of memory, else Store
 abbrev pub create_fault : Error → CreateFault
 create_fault e = if is_memory e then create.Memory else create.Store

@@ -46,7 +46,7 @@ IsSettled s = HasCleanDisk s → IsTrue s.is_open → s.now ≡ s.committed
 
 -- ---- which fault is returned
 
--- the fault of loading when the campaign row can't be read
+-- the fault of loading for a fault of reading `campaign`: Refused is NotACampaign, OtherType breaks the first rule
 abbrev pub own_fault : ReadFault → LoadFault
 own_fault read.Store = Store
 own_fault read.Refused = NotACampaign
@@ -149,8 +149,8 @@ module _ {S : Type 0} (g : Ghosts S) (old : Held S) where
 
   -- ---- the other tables
 
-  -- What reading by these SELECTs gives. Some: each value is of its column's form, and `P` holds of what was read.
-  -- None: a value in the rows of one of them is of another form than its column.
+  -- Reading by these SELECTs gave Some, where each value is of its column's form and `P` holds of what was read,
+  -- or None, where a value in the rows of one of them is of another form than its column.
   abbrev pub Found : {A : Type 0} → List (List ℕ × List Form) → (A → Type 0) → Option A → Type 0
   Found selects P None = HasOtherType g old selects
   Found selects P (Some a) = AllSelectsShowTyped g old selects × P a
@@ -164,8 +164,8 @@ module _ {S : Type 0} (g : Ghosts S) (old : Held S) where
     pub rows : List Row
     pub answered : Selects g select.0 before rows
 
-  -- when reading these tables may return each fault
-  -- Store: a SELECT is refused for another cause than memory. Memory: one is refused for lack of it, or shows rows.
+  -- Reading these tables may return Store, if a SELECT is refused for another cause than memory, and Memory,
+  -- if one is refused for lack of memory or shows rows; it returns no other fault.
   abbrev pub FailsToRead : List (List ℕ × List Form) → LoadFault → Type 0
   FailsToRead selects Store = RefusesOne g old selects read.Store ⊎ RefusesOne g old selects read.Refused
   FailsToRead selects (Damaged rule) = ⊥
@@ -187,8 +187,8 @@ module _ {S : Type 0} (g : Ghosts S) (old : Held S) where
   abbrev pub IsRefusedAgain : Bool → Type 0
   IsRefusedAgain memory = (during : Held S) × (e : Error) × FailsToQuery (selection campaign_table 1) [] (state g old) (state g during) e × (is_memory e ≡ memory)
 
-  -- when the test of the schema may return each fault
-  -- Store: the schema isn't the format's. Store or Memory: what the SELECT of the campaign row is refused for.
+  -- The test of the schema may return Store, if the schema isn't the format's; if it is, Store or Memory, by what the
+  -- SELECT of the campaign row is refused for; it returns no other fault.
   abbrev pub FailsToConfirm : Format → LoadFault → Type 0
   FailsToConfirm f Store = (¬ HasTablesOf f old.schema) ⊎ (HasTablesOf f old.schema × IsRefusedAgain false)
   FailsToConfirm f (Damaged rule) = ⊥

@@ -49,7 +49,7 @@ amount_rows row amounts = flat_map (λ e. thing_rows row e.0 e.1) amounts
 
 -- ---- what units have
 
--- the rows of `has` for a unit's things of one kind
+-- the rows of `has` for a unit's things of one kind whose amount isn't 0
 abbrev pub kind_lines : ℕ → ThingKind → List (ℕ × ℕ) → List Row
 kind_lines unit sort things = amount_rows (has_row unit (sort_number sort)) things
 
@@ -57,21 +57,21 @@ kind_lines unit sort things = amount_rows (has_row unit (sort_number sort)) thin
 abbrev pub goods_lines : ℕ → HoldingValue → List Row
 goods_lines unit held = kind_lines unit Item (entries held.items) ++ kind_lines unit Skill (entries held.days)
 
--- the rows of `has` for one unit
+-- the rows of `has` for the items and skills of one unit that aren't 0
 abbrev pub unit_lines : ℕ → Unit → List Row
 unit_lines n unit = goods_lines n unit.holding
 
--- the rows of `has` for all units
+-- the rows of `has` for all units, one unit after another
 abbrev pub all_goods_lines : List (ℕ × Unit) → List Row
 all_goods_lines units = groups_of unit_lines units
 
 -- ---- the stocks of markets
 
--- the rows of `market` for one region
+-- the rows of `market` for the stocks of one region that aren't 0
 abbrev pub region_lines : ℕ → Region → List Row
 region_lines n region = amount_rows (market_row n) (entries region.stocks)
 
--- the rows of `market` for all regions
+-- the rows of `market` for all regions, one region after another
 abbrev pub all_stocks_lines : List (ℕ × Region) → List Row
 all_stocks_lines regions = groups_of region_lines regions
 
@@ -81,10 +81,10 @@ all_stocks_lines regions = groups_of region_lines regions
 abbrev pub amount_lines : CampaignValue → Entry → Thing → List Row
 amount_lines c entry thing = if int_eq (amount_in c.books entry thing) (pos 0) then [] else books_row (entry_index entry + 1) (thing_index thing) (amount_in c.books entry thing) ∷ []
 
--- the rows of `books` for one thing under these entries
+-- the rows of `books` for the amounts of one thing under these entries that aren't 0
 abbrev pub entries_lines : CampaignValue → Thing → List Entry → List Row
 entries_lines c thing entries = flat_map (λ entry. amount_lines c entry thing) entries
 
--- the rows of `books` for these things, by their numbers, under all entries
+-- the rows of `books` for the amounts of these things, by their numbers, under all entries, that aren't 0
 abbrev pub things_lines : CampaignValue → List ℕ → List Row
 things_lines c places = flat_map (λ place. entries_lines c (thing_at place) all_entries) places

@@ -50,15 +50,15 @@ use Rattle.atl_store.specs.declared.fault.StoreFault.TheVariants as store
 abbrev pub own_stored : List ℕ → StoredCampaignRow → Row
 own_stored text h = campaign_row_stored h ++ Text text ∷ []
 
--- a row of `has` that was read, as SQL shows it
+-- a row of `has` that was read, as SQL shows it, without its rowid
 abbrev pub has_values : StoredHas → Row
 has_values s = Int s.unit ∷ Int s.sort ∷ Int s.thing ∷ Int s.amount ∷ []
 
--- a row of `books` that was read, as SQL shows it
+-- a row of `books` that was read, as SQL shows it, without its rowid
 abbrev pub books_values : StoredBooks → Row
 books_values s = Int s.entry ∷ Int s.thing ∷ Int s.amount ∷ []
 
--- a row of `market` that was read, as SQL shows it
+-- a row of `market` that was read, as SQL shows it, without its rowid
 abbrev pub market_values : StoredMarket → Row
 market_values s = Int s.region ∷ Int s.item ∷ Int s.stock ∷ []
 
@@ -202,8 +202,8 @@ module _ {S : Type 0} (g : Ghosts S) (old : Held S) where
 -- ---- by format
 
 module _ (f : Format) {S : Type 0} (g : Ghosts S) (old : Held S) where
-  -- The schema begins with the tables of the format.
-  -- In its tables without an INTEGER PRIMARY KEY the rowids are integers, no two alike.
+  -- The schema begins with the tables of the format, and in those without an INTEGER PRIMARY KEY
+  -- the rowids are integers, no two alike.
   pub record AreMade : Type 0 where
     pub begins : HasTablesOf f old.schema
     pub keyed : (table : Table) → Has (tables_with_rowids f) table → IsKeyed ((state g old).now.trees table.tree)

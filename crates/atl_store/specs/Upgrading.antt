@@ -101,7 +101,7 @@ module _ {S : Type 0} (g : Ghosts S) (text : List ℕ) (old new : Held S) where
   FailsInTransaction Memory = BreaksOffUpgrade true
   FailsInTransaction fault = ⊥
 
-  -- What a refused upgrade leaves, if the disk is clean.
+  -- Why an upgrade is refused with this fault, and what it leaves, if the disk is clean.
   -- A check failed and nothing is changed, or the transaction broke off.
   -- While the connection is open its tables are as they were.
   -- A crash leaves what it could have left before, or the upgraded campaign.

@@ -14,7 +14,7 @@ use atl_sql::rows::campaign::{CampaignRow, put_campaign, put_upgraded};
 use atl_state::Campaign;
 use sqlite::{Alter, Error, Transaction};
 
-/// The content of the campaign row for a campaign, without the world text.
+/// The month, the next numbers and the pass text of a campaign, for its campaign row.
 fn own_row(campaign: &Campaign) -> CampaignRow<'_>
     ensures { head_shown result ≡ campaign_row_of campaign.now.value }
 {
@@ -27,7 +27,7 @@ fn own_row(campaign: &Campaign) -> CampaignRow<'_>
     }
 }
 
-/// Puts the campaign row with this world text. A row that is there keeps its own world text.
+/// Puts the campaign row with this world text; a row that is there keeps its own world text.
 pub(crate) fn put_campaign_row<S: Alter>(
     tx: &mut Transaction<'_, S>,
     campaign: &Campaign,

@@ -94,6 +94,7 @@ impl fmt::Display for WriteFault {
     }
 }
 
+/// As an `Error`, a `WriteFault` is shown by its name.
 impl std::error::Error for WriteFault {}
 
 /// Shows the name of the fault.
@@ -103,6 +104,7 @@ impl fmt::Display for CreateFault {
     }
 }
 
+/// As an `Error`, a `CreateFault` is shown by its name.
 impl std::error::Error for CreateFault {}
 
 /// Shows the name of the fault; of `Damaged` the rule's number, too, as `Damaged 11`.
@@ -115,6 +117,7 @@ impl fmt::Display for StoreFault {
     }
 }
 
+/// As an `Error`, a `StoreFault` is shown by its name, and `Damaged` also by the rule's number.
 impl std::error::Error for StoreFault {}
 
 /// Shows the fault's name; of `Damaged` the rule's number, too; of `World` the text's fault.
@@ -128,8 +131,11 @@ impl fmt::Display for UpgradeFault {
     }
 }
 
+/// As an `Error`, an `UpgradeFault` is shown by its name, with the rule's number after `Damaged`
+/// and the text's fault after `World`.
 impl std::error::Error for UpgradeFault {}
 
+/// An error of the database becomes Memory for lack of memory, else Store.
 impl From<Error> for WriteFault {
     ghost from_gives = { λ error fault. fault ≡ write_fault error };
 
@@ -138,6 +144,7 @@ impl From<Error> for WriteFault {
     }
 }
 
+/// An error of the database becomes Memory for lack of memory, else Store.
 impl From<Error> for CreateFault {
     ghost from_gives = { λ error fault. fault ≡ create_fault error };
 
@@ -146,6 +153,7 @@ impl From<Error> for CreateFault {
     }
 }
 
+/// An error of the database becomes Memory for lack of memory, else Store.
 impl From<Error> for StoreFault {
     ghost from_gives = { λ error fault. fault ≡ store_fault error };
 
@@ -154,6 +162,7 @@ impl From<Error> for StoreFault {
     }
 }
 
+/// An error of the database becomes Memory for lack of memory, else Store.
 impl From<Error> for LoadFault {
     ghost from_gives = { λ error fault. fault ≡ load_fault error };
 
@@ -162,6 +171,7 @@ impl From<Error> for LoadFault {
     }
 }
 
+/// An error of the database becomes Memory for lack of memory, else Store.
 impl From<Error> for UpgradeFault {
     ghost from_gives = { λ error fault. fault ≡ upgrade_fault error };
 
@@ -170,6 +180,7 @@ impl From<Error> for UpgradeFault {
     }
 }
 
+/// A failed allocation becomes Memory.
 impl From<AllocError> for WriteFault {
     ghost use Rattle.atl_store.specs.declared.fault.WriteFault.TheVariants.{Memory};
 
@@ -180,6 +191,7 @@ impl From<AllocError> for WriteFault {
     }
 }
 
+/// A failed allocation becomes Memory.
 impl From<AllocError> for LoadFault {
     ghost use Rattle.atl_store.specs.declared.fault.LoadFault.TheVariants.{Memory};
 
@@ -190,6 +202,7 @@ impl From<AllocError> for LoadFault {
     }
 }
 
+/// A failed allocation becomes Memory.
 impl From<AllocError> for UpgradeFault {
     ghost use Rattle.atl_store.specs.declared.fault.UpgradeFault.TheVariants.{Memory};
 
@@ -200,6 +213,7 @@ impl From<AllocError> for UpgradeFault {
     }
 }
 
+/// An error of opening the file again becomes Memory for lack of memory, else Store.
 impl From<StoreError> for StoreFault {
     ghost from_gives = { λ error fault. fault ≡ reopening_fault error };
 
@@ -211,6 +225,7 @@ impl From<StoreError> for StoreFault {
     }
 }
 
+/// A fault of loading in the second format keeps its name, but OtherFormat becomes OldFormat.
 impl From<LoadFault> for StoreFault {
     ghost from_gives = { λ fault told. told ≡ second_fault fault };
 
@@ -225,6 +240,7 @@ impl From<LoadFault> for StoreFault {
     }
 }
 
+/// A fault of the check of the rows keeps its name: Damaged, with its rule, or Memory.
 impl From<CheckFault> for LoadFault {
     ghost from_gives = { λ fault told. told ≡ fault_of_check fault };
 
@@ -236,6 +252,7 @@ impl From<CheckFault> for LoadFault {
     }
 }
 
+/// A fault of loading in the first format keeps its name, but OtherFormat becomes NotOld.
 impl From<LoadFault> for UpgradeFault {
     ghost from_gives = { λ fault told. told ≡ first_fault fault };
 
@@ -250,6 +267,7 @@ impl From<LoadFault> for UpgradeFault {
     }
 }
 
+/// A fault of the new world text becomes Memory if memory ran out, else World with this fault.
 impl From<WorldFault> for UpgradeFault {
     ghost from_gives = { λ fault told. told ≡ new_world_fault fault };
 

@@ -18,13 +18,14 @@ use atl_state::{Campaign, Holding, SlotEntries, Unit};
 use atl_tables::MarkedNumbers;
 use sqlite::{Alter, Error, Transaction};
 
-/// A unit's things of one kind: the owner of these amounts.
+/// A unit and a kind (items or skills), as the owner of the amounts that are written.
 #[derive(Clone, Copy)]
 struct UnitThings {
     unit: u32,
     sort: ThingKind,
 }
 
+/// An amount of an item, or days of a skill, has a row of `has`, by unit, kind and thing.
 impl AmountWriter for UnitThings {
     ghost table = { has_table };
 
@@ -32,6 +33,7 @@ impl AmountWriter for UnitThings {
 
     ghost line = { λ t. has_row t.unit (sort_number t.sort) };
 
+    /// Inserts the row of an item or skill of the unit into `has`, or changes the row with its key.
     fn put<S: Alter>(
         self,
         tx: &mut Transaction<'_, S>,
@@ -48,7 +50,7 @@ impl AmountWriter for UnitThings {
     }
 }
 
-/// Puts the rows of a unit's items and skills.
+/// Puts the rows of a unit's items and skills that are not 0.
 fn put_goods<S: Alter>(
     tx: &mut Transaction<'_, S>,
     unit: u32,
@@ -69,7 +71,7 @@ fn put_goods<S: Alter>(
     put_amounts(tx, skills, holding.days())
 }
 
-/// Puts the rows of all units' items and skills.
+/// Puts the rows of all units' items and skills that are not 0.
 pub(crate) fn put_all_goods<S: Alter>(
     tx: &mut Transaction<'_, S>,
     units: SlotEntries<'_, Unit>,
@@ -101,20 +103,24 @@ impl Grouped for Unit {
 
     ghost are_rows = { λ own c r is. is };
 
+    /// The numbers of the units whose goods are all marked.
     fn marked_groups(campaign: &Campaign) -> MarkedNumbers<'_> {
         campaign.marked_goods()
     }
 
+    /// Puts the rows of the unit's items and skills that are not 0 into `has`.
     fn put_rows<S: Alter>(&self, tx: &mut Transaction<'_, S>, number: u32) -> Result<(), Error> {
         put_goods(tx, number, &self.holding)
     }
 
+    /// Deletes all rows of the unit from `has`.
     fn drop_rows<S: Alter>(tx: &mut Transaction<'_, S>, number: u32) -> Result<(), Error> {
         drop_goods(tx, number)
     }
 }
 
-/// Writes the marked rows of `has`: first all goods of units, then single items and skills.
+/// Writes the marked rows of `has`: first those of units whose goods are all marked, then those of
+/// items, and then of skills, that are marked alone.
 pub(crate) fn rewrite_goods<S: Alter>(
     tx: &mut Transaction<'_, S>,
     campaign: &Campaign,

@@ -61,7 +61,8 @@ pub(crate) trait Grouped: NumberedRow {
             tx.new.conn };
 }
 
-/// Deletes the rows of a number, and puts those of the thing that has the number, if there is one.
+/// Deletes the rows whose key begins with a number, and puts those of the thing that has the
+/// number, if there is one.
 fn rewrite_group<V: Grouped + Drop, S: Alter>(
     tx: &mut Transaction<'_, S>,
     campaign: &Campaign,
@@ -80,7 +81,8 @@ fn rewrite_group<V: Grouped + Drop, S: Alter>(
     }
 }
 
-/// Deletes the rows of all marked numbers, and puts the rows of those that have a thing.
+/// Deletes the rows whose key begins with a marked number, and puts those of the things that have
+/// such numbers.
 pub(crate) fn rewrite_marked_groups<V: Grouped + Drop, S: Alter>(
     tx: &mut Transaction<'_, S>,
     campaign: &Campaign,

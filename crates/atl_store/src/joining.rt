@@ -52,7 +52,7 @@ fn arrival_of(campaign: &Campaign, number: u32) -> Arrival<'_>
     }
 }
 
-/// Puts the campaign row, the faction and its unit.
+/// Puts the campaign row, and the rows of the faction and of its unit.
 fn put_newcomer<S: Alter>(
     tx: &mut Transaction<'_, S>,
     campaign: &Campaign,
@@ -71,7 +71,8 @@ fn put_newcomer<S: Alter>(
     arrival.unit.put(tx, arrival.place)
 }
 
-/// Puts the faction's report and the two amounts booked under joining.
+/// Puts the row of the faction's report, and writes the two amounts that are booked under joining:
+/// money and people.
 fn put_welcome<S: Alter>(
     tx: &mut Transaction<'_, S>,
     campaign: &Campaign,

@@ -38,7 +38,7 @@ fn put_amount<S: Alter>(
     put_books(tx, &row)
 }
 
-/// Puts the row of an amount of the books, or deletes it if the amount is 0.
+/// Puts the row of an amount of the books, or deletes the row if the amount is 0.
 pub(crate) fn settle_amount<S: Alter>(
     tx: &mut Transaction<'_, S>,
     campaign: &Campaign,
@@ -113,7 +113,8 @@ fn rewrite_amount<S: Alter>(
     Ok(())
 }
 
-/// Puts the rows of a thing's marked amounts under these entries, and deletes those of amounts 0.
+/// Puts the rows of a thing's marked amounts under these entries, and deletes the rows of those
+/// that are 0.
 fn rewrite_entries<S: Alter>(
     tx: &mut Transaction<'_, S>,
     campaign: &Campaign,
@@ -131,7 +132,7 @@ fn rewrite_entries<S: Alter>(
     Ok(())
 }
 
-/// Puts the rows of all marked amounts of the books, and deletes the rows of amounts that are 0.
+/// Puts the rows of all marked amounts of the books, and deletes the rows of those that are 0.
 pub(crate) fn rewrite_books<S: Alter>(
     tx: &mut Transaction<'_, S>,
     campaign: &Campaign,

@@ -20,7 +20,7 @@ use own::read_own;
 use sqlite::{Alter, Connection};
 use std::alloc::Global;
 
-/// Reads the world, and the rows of all tables of the format.
+/// Reads the world and the rows of all tables of the format, or gives the first fault of reading.
 fn gather<S: Alter>(
     alloc: Global,
     conn: &mut Connection<S>,
@@ -42,7 +42,7 @@ fn gather<S: Alter>(
     Ok((world, parts))
 }
 
-/// Loads the campaign of a connection that is in no transaction, in a format.
+/// Reads, confirms and checks the campaign of a connection that is in no transaction, in a format.
 fn load_idle<S: Alter>(
     alloc: Global,
     conn: &mut Connection<S>,

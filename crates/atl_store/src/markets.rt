@@ -18,12 +18,13 @@ use atl_state::{Campaign, Region};
 use atl_tables::{Entries, MarkedNumbers, Numbered};
 use sqlite::{Alter, Error, Transaction};
 
-/// The markets of a region: the owner of its stocks.
+/// A region, by its number, as the owner of the stocks that are written.
 #[derive(Clone, Copy)]
 struct RegionMarkets {
     region: u32,
 }
 
+/// The stock of an item has a row of `market`, whose key is the region and the item.
 impl AmountWriter for RegionMarkets {
     ghost table = { market_table };
 
@@ -31,6 +32,7 @@ impl AmountWriter for RegionMarkets {
 
     ghost line = { λ m. market_row m.region };
 
+    /// Inserts the row of an item of the region into `market`, or changes the row with its key.
     fn put<S: Alter>(
         self,
         tx: &mut Transaction<'_, S>,
@@ -85,14 +87,17 @@ impl Grouped for Region {
 
     ghost are_rows = { λ own c r is. is };
 
+    /// The numbers of the regions whose stocks are all marked.
     fn marked_groups(campaign: &Campaign) -> MarkedNumbers<'_> {
         campaign.marked_stocks()
     }
 
+    /// Puts the rows of the region's stocks that are not 0 into `market`.
     fn put_rows<S: Alter>(&self, tx: &mut Transaction<'_, S>, number: u32) -> Result<(), Error> {
         put_stocks(tx, number, self)
     }
 
+    /// Deletes all rows of the region from `market`.
     fn drop_rows<S: Alter>(tx: &mut Transaction<'_, S>, number: u32) -> Result<(), Error> {
         drop_stocks(tx, number)
     }
@@ -102,6 +107,7 @@ impl Grouped for Region {
 #[derive(Clone, Copy)]
 struct SingleStocks;
 
+/// A stock that is marked alone has a row of `market`, by its region and item.
 impl SingleAmounts for SingleStocks {
     ghost table = { market_table };
 
@@ -111,10 +117,12 @@ impl SingleAmounts for SingleStocks {
 
     ghost marks = { λ s m. m.stock_items };
 
+    /// The stocks that are marked alone, by region and item.
     fn marked_singles(self, campaign: &Campaign) -> Entries<'_, Numbered<()>> {
         campaign.marked_stock_items()
     }
 
+    /// Puts the row of a stock into `market`, or deletes the row if the stock is 0.
     fn rewrite_single<S: Alter>(
         self,
         tx: &mut Transaction<'_, S>,
@@ -130,7 +138,8 @@ impl SingleAmounts for SingleStocks {
     }
 }
 
-/// Writes the marked rows of `market`: first all stocks of regions, then single stocks.
+/// Writes the marked rows of `market`: first those of regions whose stocks are all marked, then
+/// those of stocks that are marked alone.
 pub(crate) fn rewrite_stocks<S: Alter>(
     tx: &mut Transaction<'_, S>,
     campaign: &Campaign,

@@ -11,9 +11,10 @@ use sqlite::{Alter, Connection};
 use sqlite_trees::store::Reopen;
 use std::alloc::Global;
 
-/// Opens what a crash left of the connection's database. What the connection held of a campaign is
-/// there again, its tables and the rows in them; if a write was stopped by a fault, it is the
-/// campaign before or the one after. Memory: there is no memory to open it. Store: the disk fails.
+/// Ends the connection as a crash does, and opens again what this leaves of its database. What the
+/// connection held of a campaign is there again, its tables and the rows in them; if a write was
+/// stopped by a fault, it is the campaign before or the one after. Memory: there is no memory to
+/// open it. Store: the disk fails.
 /// The database is then given up, and its files stay as they are.
 pub fn reopen_connection<S: Alter + Reopen + Drop>(
     alloc: Global,

@@ -9,7 +9,7 @@ use atl_sql::numbered_rows::{NumberedRow, take_out};
 use atl_state::Campaign;
 use sqlite::{Alter, Error, Transaction};
 
-/// Puts the row of the thing with this number, or deletes it if there is no such thing.
+/// Puts the row of the thing with this number, or deletes the number's row if there is no thing.
 fn rewrite<V: NumberedRow + Drop, S: Alter>(
     tx: &mut Transaction<'_, S>,
     campaign: &Campaign,
@@ -25,7 +25,8 @@ fn rewrite<V: NumberedRow + Drop, S: Alter>(
     }
 }
 
-/// Puts the rows of all marked numbers, and deletes those of numbers that have no thing.
+/// Puts the row of each marked number that has a thing in the campaign, and deletes the rows of the
+/// other marked numbers.
 pub(crate) fn rewrite_marked<V: NumberedRow + Drop, S: Alter>(
     tx: &mut Transaction<'_, S>,
     campaign: &Campaign,

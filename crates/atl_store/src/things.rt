@@ -27,7 +27,7 @@ fn amount_of(campaign: &Campaign, unit: u32, sort: ThingKind, thing: u32) -> u32
     }
 }
 
-/// Puts the row of a unit's item or skill, or deletes it if the unit has none of it.
+/// Puts the row of a unit's item or skill, or deletes the row if the unit has none of the thing.
 fn rewrite_thing<S: Alter>(
     tx: &mut Transaction<'_, S>,
     campaign: &Campaign,
@@ -52,6 +52,7 @@ fn rewrite_thing<S: Alter>(
     put_has(tx, &row)
 }
 
+/// An item, or a skill, that is marked alone has a row of `has`, by its unit and its number.
 impl SingleAmounts for ThingKind {
     ghost table = { has_table };
 
@@ -61,6 +62,7 @@ impl SingleAmounts for ThingKind {
 
     ghost marks = { λ sort m. marked_things m sort };
 
+    /// The items, or the skills, that are marked alone, by unit and number.
     fn marked_singles(self, campaign: &Campaign) -> Entries<'_, Numbered<()>> {
         match self {
             ThingKind::Item => campaign.marked_items(),
@@ -68,6 +70,7 @@ impl SingleAmounts for ThingKind {
         }
     }
 
+    /// Puts the row of a unit's item or skill, or deletes the row if the unit has none of it.
     fn rewrite_single<S: Alter>(
         self,
         tx: &mut Transaction<'_, S>,

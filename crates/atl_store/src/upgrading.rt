@@ -20,7 +20,7 @@ use atl_tables::{Format, World, read_world};
 use sqlite::{Alter, Connection, Error, Transaction};
 use std::alloc::Global;
 
-/// Makes the table `market`, and sets the campaign row's format and world text.
+/// Makes the table `market`, and gives the campaign row the second format and this world text.
 fn put_upgrade<S: Alter>(
     tx: &mut Transaction<'_, S>,
     text: &str,
@@ -34,7 +34,8 @@ fn put_upgrade<S: Alter>(
     upgrade_campaign_row(tx, campaign, text)
 }
 
-/// Makes the table `market` and sets the campaign row in one transaction.
+/// Makes the table `market`, and gives the campaign row the second format and this world text, in
+/// one transaction.
 fn write_upgrade<S: Alter>(
     conn: &mut Connection<S>,
     text: &str,
@@ -49,7 +50,8 @@ fn write_upgrade<S: Alter>(
     tx.commit()
 }
 
-/// The world of the new text, and the campaign that the tables hold, if only markets differ.
+/// The world of the new text, and the campaign of the first format that the tables hold; Differs if
+/// the new world differs from the old one in more than markets, or the fault of reading either.
 fn world_and_campaign<S: Alter>(
     alloc: Global,
     conn: &mut Connection<S>,

@@ -51,6 +51,7 @@ pub fn drop_books<S: Alter>(
     )
 }
 
+/// Reads the entry, the thing and the amount of a row of `books`, and its rowid, as integers.
 impl Stored for RowWithId<StoredBooks> {
     ghost forms = { books_forms };
 
@@ -68,6 +69,7 @@ impl Stored for RowWithId<StoredBooks> {
     }
 }
 
+/// Reads `books`, with the rowids, in the order of entry and thing.
 impl HasSelect for RowWithId<StoredBooks> {
     ghost part = { Books };
 

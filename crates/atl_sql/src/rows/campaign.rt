@@ -20,7 +20,8 @@ use atl_tables::Format;
 use sqlite::{Alter, Connection, Error, Row, Transaction, params};
 use std::alloc::Global;
 
-/// What the campaign row says besides its id (1), its format (2) and its world text.
+/// The month, the next numbers and the pass text: the campaign row without its id (1), its format
+/// (2) and its world text.
 #[derive(Clone, Copy, Debug)]
 pub struct CampaignRow<'a> {
     /// The month last closed, 0 before the first.
@@ -35,7 +36,8 @@ pub struct CampaignRow<'a> {
     pub pass: &'a str,
 }
 
-/// Inserts the campaign row with this world text; a row that is there keeps its format and text.
+/// Inserts the campaign row with this world text; a row that is there is changed, but keeps its
+/// format and its world text.
 pub fn put_campaign<S: Alter>(
     tx: &mut Transaction<'_, S>,
     row: &CampaignRow<'_>,
@@ -60,7 +62,8 @@ pub fn put_campaign<S: Alter>(
     )
 }
 
-/// Sets the format, to 2, and the world text of a campaign row that is there.
+/// Sets the format of the campaign row to 2, and its world text to `world`; inserts the row if
+/// there is none.
 pub fn put_upgraded<S: Alter>(
     tx: &mut Transaction<'_, S>,
     row: &CampaignRow<'_>,
@@ -94,6 +97,7 @@ pub struct StoredCampaign {
     pub world: String,
 }
 
+/// Drops the columns of the row and its world text in one call.
 impl Drop for StoredCampaign {
     fn drop(self) {
         let StoredCampaign { head: _, world: _ } = self;
@@ -101,7 +105,7 @@ impl Drop for StoredCampaign {
 }
 
 impl StoredCampaign {
-    /// The row without its world text.
+    /// All columns of the row but the world text, which is dropped.
     pub fn into_campaign_row(self) -> StoredCampaignRow
         ensures { result ≡ self.head }
     {
@@ -130,6 +134,7 @@ fn head(alloc: Global, row: &Row) -> Result<StoredCampaignRow, Error>
     })
 }
 
+/// Reads the world text as UTF-8, the pass text as bytes, and the other columns as integers.
 impl Stored for StoredCampaign {
     ghost forms = { campaign_forms };
 
@@ -155,6 +160,7 @@ pub fn select_campaign<S: Alter>(conn: &mut Connection<S>) -> Result<Vec<Row>, R
     select(conn, ALL)
 }
 
+/// Reads `campaign` in the order of `id`.
 impl HasSelect for StoredCampaign {
     ghost part = { Own };
 

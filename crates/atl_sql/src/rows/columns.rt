@@ -10,7 +10,7 @@ use sqlite::types::{Type, ValueRef};
 use sqlite::{Error, ErrorCode, Row};
 use std::alloc::Global;
 
-/// The whole number in a column.
+/// The whole number in a column; an error if the value is of another type.
 pub(crate) fn integer(row: &Row, at: usize) -> Result<i64, Error>
     ensures ok { IfOk result (λ n. column row.now at ≡ Int n) }
     ensures other { IfErr result
@@ -20,7 +20,7 @@ pub(crate) fn integer(row: &Row, at: usize) -> Result<i64, Error>
     Ok(number)
 }
 
-/// The text in a column, which has to be UTF-8.
+/// The text in a column; an error if the value is no text, or is not UTF-8.
 pub(crate) fn utf8_text(row: &Row, at: usize) -> Result<String, Error>
     ensures ok { IfOk result (λ s. column row.now at ≡ Text (string_bytes s)) }
     ensures other { IfErr result
@@ -30,7 +30,7 @@ pub(crate) fn utf8_text(row: &Row, at: usize) -> Result<String, Error>
     Ok(text)
 }
 
-/// The bytes of the text in a column, UTF-8 or not.
+/// The bytes of the text in a column, UTF-8 or not; an error if the value is no text.
 pub(crate) fn text_bytes(alloc: Global, row: &Row, at: usize) -> Result<Sequence<u8>, Error>
     ensures ok { IfOk result (λ b. column row.now at ≡ Text b) }
     ensures other { IfErr result
@@ -45,7 +45,7 @@ pub(crate) fn text_bytes(alloc: Global, row: &Row, at: usize) -> Result<Sequence
     }
 }
 
-/// The bytes of the blob in a column.
+/// The bytes of the blob in a column; an error if the value is no blob.
 pub(crate) fn bytes(row: &Row, at: usize) -> Result<Sequence<u8>, Error>
     ensures ok { IfOk result (λ b. column row.now at ≡ Blob b) }
     ensures other { IfErr result
@@ -55,7 +55,7 @@ pub(crate) fn bytes(row: &Row, at: usize) -> Result<Sequence<u8>, Error>
     Ok(Sequence::from_vec(bytes))
 }
 
-/// The whole numbers in the column `first` and in the next one.
+/// The whole numbers in the column `first` and in the next one; an error if one is no integer.
 pub(crate) fn two_integers(row: &Row, first: usize) -> Result<(i64, i64), Error>
     requires { first ≤ 8 }
     ensures ok { IfOk result
@@ -69,7 +69,7 @@ pub(crate) fn two_integers(row: &Row, first: usize) -> Result<(i64, i64), Error>
     Ok((one, two))
 }
 
-/// The whole numbers in the column `first` and in the next two.
+/// The whole numbers in the column `first` and in the next two; an error if one is no integer.
 pub(crate) fn three_integers(row: &Row, first: usize) -> Result<(i64, i64, i64), Error>
     requires { first ≤ 8 }
     ensures ok { IfOk result

@@ -14,6 +14,7 @@ use atl_tables::{Entries, Format, MarkedNumbers};
 use sqlite::{Alter, Error, Row, Transaction, params};
 use std::alloc::Global;
 
+/// A faction's row has its number, `joined_as`, `name`, `pass` and `gone`.
 impl NumberedRow for Faction {
     ghost part = { Factions };
 
@@ -39,10 +40,12 @@ impl NumberedRow for Faction {
         campaign.marked_factions()
     }
 
+    /// The DELETE of the row of `faction` with a number.
     fn removal() -> &'static str {
         "DELETE FROM faction WHERE number = ?1"
     }
 
+    /// Inserts the faction's row into `faction`, or changes the row that has its number.
     fn put<S: Alter>(&self, tx: &mut Transaction<'_, S>, number: u32) -> Result<(), Error> {
         run(
             tx,
@@ -58,12 +61,14 @@ impl NumberedRow for Faction {
     }
 }
 
+/// All factions of a campaign, gone or not.
 impl Mapped for Faction {
     fn all(campaign: &Campaign) -> Entries<'_, Faction> {
         campaign.factions()
     }
 }
 
+/// Reads the names and the pass text as bytes, the number and `gone` as integers.
 impl Stored for StoredFaction {
     ghost forms = { faction_forms };
 
@@ -85,6 +90,7 @@ impl Stored for StoredFaction {
     }
 }
 
+/// Reads `faction` in the order of the numbers.
 impl HasSelect for StoredFaction {
     ghost part = { Factions };
 

@@ -84,6 +84,7 @@ pub fn drop_goods<S: Alter>(tx: &mut Transaction<'_, S>, unit: u32) -> Result<()
     run(tx, "DELETE FROM has WHERE unit = ?1", params![unit])
 }
 
+/// Reads unit, sort, thing and amount of a row of `has`, and its rowid, as integers.
 impl Stored for RowWithId<StoredHas> {
     ghost forms = { has_forms };
 
@@ -102,6 +103,7 @@ impl Stored for RowWithId<StoredHas> {
     }
 }
 
+/// Reads `has`, with the rowids, in the order of unit, sort and thing.
 impl HasSelect for RowWithId<StoredHas> {
     ghost part = { Goods };
 

@@ -14,7 +14,7 @@ use atl_tables::{Entries, Format, MarkedNumbers, Sequence};
 use sqlite::{Alter, Error, Row, Transaction, params};
 use std::alloc::Global;
 
-/// Inserts the row of a faction's mail, or replaces the one that the faction has.
+/// Inserts the row of a faction's mailing into `mail`, or replaces the text of the faction's row.
 pub fn put_mail<S: Alter>(
     tx: &mut Transaction<'_, S>,
     faction: u32,
@@ -30,7 +30,7 @@ pub fn put_mail<S: Alter>(
     )
 }
 
-/// The mailing of a faction, byte for byte.
+/// The row of a mailing has the number of its faction, and its text byte for byte.
 impl NumberedRow for Sequence<u8> {
     ghost part = { Mail };
 
@@ -56,21 +56,25 @@ impl NumberedRow for Sequence<u8> {
         campaign.marked_mail()
     }
 
+    /// The DELETE of the row of `mail` with a faction's number.
     fn removal() -> &'static str {
         "DELETE FROM mail WHERE faction = ?1"
     }
 
+    /// Inserts the text into `mail` under a faction's number, or replaces the one that is there.
     fn put<S: Alter>(&self, tx: &mut Transaction<'_, S>, number: u32) -> Result<(), Error> {
         put_mail(tx, number, self.as_slice())
     }
 }
 
+/// All mailings of a campaign, by the numbers of their factions.
 impl Mapped for Sequence<u8> {
     fn all(campaign: &Campaign) -> Entries<'_, Sequence<u8>> {
         campaign.mail()
     }
 }
 
+/// Reads the faction's number as an integer, and the text as the bytes of a blob.
 impl Stored for StoredMail {
     ghost forms = { mail_forms };
 
@@ -83,6 +87,7 @@ impl Stored for StoredMail {
     }
 }
 
+/// Reads `mail` in the order of the factions' numbers.
 impl HasSelect for StoredMail {
     ghost part = { Mail };
 

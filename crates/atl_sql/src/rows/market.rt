@@ -52,6 +52,7 @@ pub fn drop_stocks<S: Alter>(tx: &mut Transaction<'_, S>, region: u32) -> Result
     run(tx, "DELETE FROM market WHERE region = ?1", params![region])
 }
 
+/// Reads region, item and stock of a row of `market`, and its rowid, as integers.
 impl Stored for RowWithId<StoredMarket> {
     ghost forms = { market_forms };
 
@@ -69,6 +70,7 @@ impl Stored for RowWithId<StoredMarket> {
     }
 }
 
+/// Reads `market`, with the rowids, in the order of region and item; the second format has it.
 impl HasSelect for RowWithId<StoredMarket> {
     ghost part = { Markets };
 

@@ -14,6 +14,7 @@ use atl_tables::{Entries, Format, MarkedNumbers};
 use sqlite::{Alter, Error, Row, Transaction, params};
 use std::alloc::Global;
 
+/// A region's row has its number, peasants and money.
 impl NumberedRow for Region {
     ghost part = { Regions };
 
@@ -39,10 +40,12 @@ impl NumberedRow for Region {
         campaign.marked_regions()
     }
 
+    /// The DELETE of the row of `region` with a number.
     fn removal() -> &'static str {
         "DELETE FROM region WHERE number = ?1"
     }
 
+    /// Inserts the region's row into `region`, or changes the row that has its number.
     fn put<S: Alter>(&self, tx: &mut Transaction<'_, S>, number: u32) -> Result<(), Error> {
         run(
             tx,
@@ -52,12 +55,14 @@ impl NumberedRow for Region {
     }
 }
 
+/// All regions of a campaign.
 impl Mapped for Region {
     fn all(campaign: &Campaign) -> Entries<'_, Region> {
         campaign.regions()
     }
 }
 
+/// Reads number, peasants and money of a row of `region` as integers.
 impl Stored for StoredRegion {
     ghost forms = { region_forms };
 
@@ -73,6 +78,7 @@ impl Stored for StoredRegion {
     }
 }
 
+/// Reads `region` in the order of the numbers.
 impl HasSelect for StoredRegion {
     ghost part = { Regions };
 

@@ -13,7 +13,7 @@ use atl_tables::{Entries, Format, MarkedNumbers, Text};
 use sqlite::{Alter, Error, Row, Transaction, params};
 use std::alloc::Global;
 
-/// The text of a faction's report.
+/// The row of a report has the number of its faction, and its text.
 impl NumberedRow for Text {
     ghost part = { Reports };
 
@@ -39,10 +39,12 @@ impl NumberedRow for Text {
         campaign.marked_reports()
     }
 
+    /// The DELETE of the row of `report` with a faction's number.
     fn removal() -> &'static str {
         "DELETE FROM report WHERE faction = ?1"
     }
 
+    /// Inserts the text into `report` under a faction's number, or replaces the one that is there.
     fn put<S: Alter>(&self, tx: &mut Transaction<'_, S>, number: u32) -> Result<(), Error> {
         run(
             tx,
@@ -52,12 +54,14 @@ impl NumberedRow for Text {
     }
 }
 
+/// All reports of a campaign, by the numbers of their factions.
 impl Mapped for Text {
     fn all(campaign: &Campaign) -> Entries<'_, Text> {
         campaign.reports()
     }
 }
 
+/// Reads the faction's number as an integer, and the report as UTF-8.
 impl Stored for StoredReport {
     ghost forms = { report_forms };
 
@@ -73,6 +77,7 @@ impl Stored for StoredReport {
     }
 }
 
+/// Reads `report` in the order of the factions' numbers.
 impl HasSelect for StoredReport {
     ghost part = { Reports };
 

@@ -22,14 +22,14 @@ pub trait Stored: Drop + Sized {
 
     ghost shown: { Self → SqlRow };
 
-    /// Parses a row that SQL shows. The error is lack of memory, or a value is of another type.
+    /// Parses a row that SQL shows; an error if a value is of another type, or if memory runs out.
     fn from_row(alloc: Global, row: &Row) -> Result<Self, Error>
         ensures ok { IfOk result (λ stored. shown stored ≡ first_columns (length forms) row.now) }
         ensures typed { IfOk result (λ _. IsTyped forms row.now) }
         ensures other { IfErr result (λ e. IsTrue (not (is_memory e)) → ¬ IsTyped forms row.now) };
 }
 
-/// A row of a table that has a SELECT of all its rows.
+/// A row of a table, with the SELECT that shows all rows of the table.
 pub trait HasSelect: Stored {
     // The part of a campaign that the table is of.
     ghost part: { Part };
@@ -66,7 +66,8 @@ pub struct RowWithId<T> {
     pub rowid: i64,
 }
 
-/// Parses all rows that a SELECT showed.
+/// Parses all rows that a SELECT showed; the fault is OtherType for a value of another type, or
+/// Memory.
 pub fn parse_rows<T: Stored>(alloc: Global, rows: &[Row]) -> Result<Vec<T>, ReadFault>
     ensures ok { IfOk result
         (λ all. map T.shown all.items ≡ map (first_columns (length T.forms)) rows.now) }
@@ -84,8 +85,8 @@ pub fn parse_rows<T: Stored>(alloc: Global, rows: &[Row]) -> Result<Vec<T>, Read
     Ok(all)
 }
 
-/// The rows that a SELECT shows. The SELECT runs in a transaction of its own, which is rolled back,
-/// so that nothing is changed, whatever the schema is.
+/// The rows that a SELECT shows in a transaction of its own, which is rolled back, so that nothing
+/// is changed, whatever the schema is.
 pub(crate) fn select<S: Alter>(conn: &mut Connection<S>, sql: &str) -> Result<Vec<Row>, ReadFault>
     requires { conn.old.in_transaction ≡ false }
     ensures { Asks S.Store sql.now conn.old result conn.new }
@@ -143,10 +144,9 @@ fn read_inside<T: Stored, S: Alter>(
     parse_rows(alloc, rows.as_slice())
 }
 
-/// All rows that a SELECT shows, parsed.
-/// If the tables are those of the format `since`, each is parsed as it comes. Otherwise, or if one
-/// couldn't be parsed or kept, all are parsed after they have come, so that the first fault is
-/// reported.
+/// All rows that a SELECT shows, each parsed as it comes if the tables are those of the format
+/// `since`. Otherwise, or if one couldn't be parsed or kept, all are parsed after they have come,
+/// so that the first fault is reported.
 pub(crate) fn read_all<T: Stored, S: Alter>(
     alloc: Global,
     conn: &mut Connection<S>,

@@ -14,6 +14,7 @@ use atl_tables::{Entries, Format, MarkedNumbers};
 use sqlite::{Alter, Error, Row, Transaction, params};
 use std::alloc::Global;
 
+/// A structure's row has its number, kind, name, region, how much is done of it, and its owner.
 impl NumberedRow for Structure {
     ghost part = { Structures };
 
@@ -39,10 +40,12 @@ impl NumberedRow for Structure {
         campaign.marked_structures()
     }
 
+    /// The DELETE of the row of `structure` with a number.
     fn removal() -> &'static str {
         "DELETE FROM structure WHERE number = ?1"
     }
 
+    /// Inserts the structure's row into `structure`, or changes the row that has its number.
     fn put<S: Alter>(&self, tx: &mut Transaction<'_, S>, number: u32) -> Result<(), Error> {
         run(
             tx,
@@ -59,12 +62,14 @@ impl NumberedRow for Structure {
     }
 }
 
+/// All structures of a campaign.
 impl Mapped for Structure {
     fn all(campaign: &Campaign) -> Entries<'_, Structure> {
         campaign.structures()
     }
 }
 
+/// Reads the name as bytes, and the other columns of a row of `structure` as integers.
 impl Stored for StoredStructure {
     ghost forms = { structure_forms };
 
@@ -84,6 +89,7 @@ impl Stored for StoredStructure {
     }
 }
 
+/// Reads `structure` in the order of the numbers.
 impl HasSelect for StoredStructure {
     ghost part = { Structures };
 

@@ -15,6 +15,7 @@ use atl_tables::{Format, MarkedNumbers};
 use sqlite::{Alter, Error, Row, Transaction, params};
 use std::alloc::Global;
 
+/// A unit's row has its number, faction, name, region, structure, men, money and guard flag.
 impl NumberedRow for Unit {
     ghost part = { Units };
 
@@ -40,10 +41,12 @@ impl NumberedRow for Unit {
         campaign.marked_rows()
     }
 
+    /// The DELETE of the row of `unit` with a number.
     fn removal() -> &'static str {
         "DELETE FROM unit WHERE number = ?1"
     }
 
+    /// Inserts the unit's row into `unit`, or changes the row that has its number.
     fn put<S: Alter>(&self, tx: &mut Transaction<'_, S>, number: u32) -> Result<(), Error> {
         run(
             tx,
@@ -62,7 +65,7 @@ impl NumberedRow for Unit {
     }
 }
 
-/// Puts the rows of all units.
+/// Inserts the row of each of these units into `unit`, or changes the row that has its number.
 pub fn put_units<S: Alter>(
     tx: &mut Transaction<'_, S>,
     units: SlotEntries<'_, Unit>,
@@ -76,6 +79,7 @@ pub fn put_units<S: Alter>(
     Ok(())
 }
 
+/// Reads the name as bytes, and the other columns of a row of `unit` as integers.
 impl Stored for StoredUnit {
     ghost forms = { unit_forms };
 
@@ -98,6 +102,7 @@ impl Stored for StoredUnit {
     }
 }
 
+/// Reads `unit` in the order of the numbers.
 impl HasSelect for StoredUnit {
     ghost part = { Units };
 

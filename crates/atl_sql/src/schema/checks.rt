@@ -15,7 +15,8 @@ use sqlite_sql::ops::{BinaryOp, CompareOp};
 use sqlite_value::keys::Collation;
 use sqlite_value::value::Value;
 
-/// The indexes, among the nodes, of the two sides of an equation; None if the node is no equation.
+/// The two sides of an equation in a CHECK, as indexes of its nodes; None if the node is no
+/// equation.
 fn sides(node: Option<&Op>) -> Option<(usize, usize)>
     ensures equal { IfSome result
         (λ two. option_copied node.entry ≡ Some (variant.Binary (Compare Eq Binary) two.0 two.1)) }
@@ -30,21 +31,21 @@ fn sides(node: Option<&Op>) -> Option<(usize, usize)>
     }
 }
 
-/// Whether the node reads the number of the row that is checked, which is its column `id`.
+/// Whether the node of a CHECK reads the number of the row, which is the column `id`.
 fn is_number(node: Option<&Op>) -> bool
     ensures { IsTrue result ↔ (option_copied node.entry ≡ Some (variant.Column 1 0)) }
 {
     matches!(node, Some(Op::Column(1, 0)))
 }
 
-/// Whether the node is the number 1.
+/// Whether the node of a CHECK is the number 1.
 fn is_one(node: Option<&Op>) -> bool
     ensures { IsTrue result ↔ (option_copied node.entry ≡ Some (variant.Literal (Int (pos 1)))) }
 {
     matches!(node, Some(Op::Literal(Value::Int(1))))
 }
 
-/// Whether the expression with this root, among the nodes, says that the row has the number 1.
+/// Whether the expression whose root is the node at index `root` is `id = 1`.
 fn has_number_one(nodes: &[Op], root: usize) -> bool
     ensures { IsTrue result ↔
         (term_in nodes.now root ≡ op2 (Compare Eq Binary) (col 1 0) (lit (Int (pos 1)))) }
@@ -55,7 +56,7 @@ fn has_number_one(nodes: &[Op], root: usize) -> bool
     }
 }
 
-/// Whether a table has one CHECK, which says that the row's number is 1.
+/// Whether a table has exactly one CHECK, and this is `id = 1`.
 pub(crate) fn is_own_row(checks: &Terms) -> bool
     ensures { IsTrue result ↔
         (checks.now ≡ op2 (Compare Eq Binary) (col 1 0) (lit (Int (pos 1))) ∷ []) }

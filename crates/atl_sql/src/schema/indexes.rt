@@ -12,7 +12,7 @@ use crate::tables::{
 };
 use sqlite_schema::schema::Index;
 
-/// Whether this is a unique index of this name, tree, table and columns.
+/// Whether this is a unique index of this name, tree, table and columns, which all ascend by bytes.
 fn is_index(found: &Index, name: &[u8], tree: u32, table: u32, columns: &[usize]) -> bool
     ensures { IsTrue result ↔
         (found.now ≡ record {
@@ -93,7 +93,8 @@ fn is_key_index(found: &Index, place: usize) -> bool
     }
 }
 
-/// Whether the first `count` indexes are the first `count` of the tables' keys.
+/// Whether the first `count` indexes are the first `count` of the four that the database makes for
+/// unique keys.
 fn are_first_indexes(indexes: &[Index], count: usize) -> bool
     requires { count ≤ length indexes.now }
     ensures { IsTrue result ↔ (take count indexes.now ≡ take count all_indexes) }

@@ -12,22 +12,22 @@ const NUMBER_COLUMN: usize = 0;
 /// The index of the row's number in a stored row. The columns have the indexes from 1 on.
 const ROW_NUMBER: usize = 0;
 
-/// Whether the key is the row's number.
+/// Whether the table's key is its first column, which is the row's number (INTEGER PRIMARY KEY).
 pub(crate) fn is_numbered(found: &Table) -> bool
     ensures { IsTrue result ↔ ((found.now.key ≡ Some 0) × (found.now.primary ≡ 0 ∷ [])) }
 {
     found.key == Some(NUMBER_COLUMN) && found.primary.as_slice() == [ROW_NUMBER].as_slice()
 }
 
-/// Whether no column is the row's number, and the key has the columns at these indexes of a
-/// stored row.
+/// Whether the table has no INTEGER PRIMARY KEY, and its primary key has the columns at these
+/// indexes of a stored row.
 pub(crate) fn is_under(found: &Table, places: &[usize]) -> bool
     ensures { IsTrue result ↔ ((found.now.key ≡ None) × (found.now.primary ≡ places.now)) }
 {
     found.key.is_none() && found.primary.as_slice() == places
 }
 
-/// Whether nothing is unique besides the row's number.
+/// Whether the table has no unique key besides the row's number.
 pub(crate) fn has_no_unique(found: &Table) -> bool
     ensures { IsTrue result ↔ ((found.now.uniques ≡ []) × (found.now.orders ≡ [])) }
 {
@@ -41,7 +41,7 @@ pub(crate) fn is_plain(order: &Order) -> bool
     order.digits == 0
 }
 
-/// Whether there is one key, of the columns at these indexes of a stored row.
+/// Whether the list has exactly one key, with the columns at these indexes of a stored row.
 fn is_one_key(keys: &[Items<usize>], places: &[usize]) -> bool
     ensures { IsTrue result ↔ (keys.now ≡ places.now ∷ []) }
 {
@@ -51,7 +51,7 @@ fn is_one_key(keys: &[Items<usize>], places: &[usize]) -> bool
     }
 }
 
-/// Whether there is one sort order, in which all columns ascend by their bytes.
+/// Whether the list has exactly one sort order, in which all columns ascend by their bytes.
 fn is_one_order(orders: &[Order]) -> bool
     ensures { IsTrue result ↔ (orders.now ≡ plain ∷ []) }
 {

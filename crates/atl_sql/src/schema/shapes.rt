@@ -64,7 +64,8 @@ pub(crate) fn is_simple(found: &Table, made: &TableDefinition) -> bool
     is_unchecked(found, made) && is_numbered(found) && has_no_unique(found)
 }
 
-/// Whether the table is as defined, with a key of several columns and without a check.
+/// Whether the table is as defined, with the columns at the indexes `key` of a stored row as its
+/// only key, and without a check.
 pub(crate) fn is_keyed(found: &Table, made: &TableDefinition, key: &[usize]) -> bool
     ensures { IsTrue result ↔
         (found.now ≡ table made.now.tree made.now.name.now

@@ -10,8 +10,9 @@ use atl_sql::schema::has_tables_of;
 use atl_tables::Format;
 use sqlite::{Alter, Connection};
 
-/// Tests that the schema begins with the tables of the format, and that the connection is open.
-/// A disk that failed while a read was rolled back has shut it; only the next statement shows it.
+/// Tests that the schema begins with the tables of the format and that the connection is open; the
+/// fault is Store if not, or Memory if memory runs out. A disk that failed while a read was rolled
+/// back has shut the connection, which only the next statement shows.
 pub(crate) fn confirm<S: Alter>(conn: &mut Connection<S>, format: Format) -> Result<(), LoadFault>
     requires idle { conn.old.in_transaction ≡ false }
     requires settled { IsSettled (state S.Store conn.old) }

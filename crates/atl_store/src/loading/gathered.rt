@@ -61,6 +61,7 @@ fn kept<T: Drop>(rows: Result<Vec<T>, ReadFault>) -> Result<Option<Vec<T>>, Load
     }
 }
 
+/// All rows of one table, as its SELECT shows them.
 impl<A: HasSelect> AllRows for Vec<A> {
     ghost parts = { A.HasSelect.part ∷ [] };
 
@@ -70,6 +71,7 @@ impl<A: HasSelect> AllRows for Vec<A> {
 
     ghost of_parts = { λ all. refl };
 
+    /// Reads all rows of the table; None if a value is of another type than its column.
     fn read_all<S: Alter>(
         alloc: Global,
         conn: &mut Connection<S>,
@@ -77,11 +79,13 @@ impl<A: HasSelect> AllRows for Vec<A> {
         kept(A::read(alloc, conn))
     }
 
+    /// An empty list of rows.
     fn none(alloc: Global) -> Vec<A> {
         Vec::new(alloc)
     }
 }
 
+/// All rows of the tables of `X`, and then of those of `Y`.
 impl<X: AllRows, Y: AllRows> AllRows for (X, Y) {
     ghost parts = { X.AllRows.parts ++ Y.AllRows.parts };
 
@@ -91,6 +95,8 @@ impl<X: AllRows, Y: AllRows> AllRows for (X, Y) {
 
     ghost of_parts = { λ both. map-append (λ (read : Part × List SqlRow). read.0) (X.AllRows.rows both.0) (Y.AllRows.rows both.1) ∙ ap (λ parts. parts ++ map (λ read. read.0) (Y.AllRows.rows both.1)) (X.AllRows.of_parts both.0) ∙ ap (λ parts. X.AllRows.parts ++ parts) (Y.AllRows.of_parts both.1) };
 
+    /// Reads all rows of `X`, and then of `Y`; None if a value of either is of another type than
+    /// its column.
     fn read_all<S: Alter>(
         alloc: Global,
         conn: &mut Connection<S>,
@@ -100,13 +106,14 @@ impl<X: AllRows, Y: AllRows> AllRows for (X, Y) {
         Ok(some.zip(others))
     }
 
+    /// No rows of `X` and none of `Y`.
     fn none(alloc: Global) -> (X, Y) {
         (X::none(alloc), Y::none(alloc))
     }
 }
 
-/// Reads all rows of the tables `X` and, in the second format, of `Y`, which the first lacks. The
-/// result is None if a value is of another type than its column.
+/// Reads all rows of the tables `X` and, in the second format, of `Y`, which the first lacks; None
+/// if a value is of another type than its column.
 pub(crate) fn read_by<X: AllRows, Y: AllRows, S: Alter>(
     alloc: Global,
     conn: &mut Connection<S>,
@@ -159,7 +166,7 @@ fn without_ids<T: Drop>(alloc: Global, placed: Vec<RowWithId<T>>) -> Result<Sequ
     Ok(Sequence::from_vec(rows))
 }
 
-/// The fault Store if two rows of a table have the same rowid, so that `are_apart` is false.
+/// Ok if no two rows of a table have the same rowid (`are_apart`), else the fault Store.
 fn check_apart(are_apart: bool) -> Result<(), LoadFault>
     ensures { result ≡ (if are_apart then Ok tt else Err Store) }
 {
@@ -170,7 +177,8 @@ fn check_apart(are_apart: bool) -> Result<(), LoadFault>
     }
 }
 
-/// The rows without their rowids, or the fault Store if two of them have the same rowid.
+/// The rows without their rowids; the fault Store if two of them have the same rowid, or Memory if
+/// memory runs out.
 pub(crate) fn rows_apart<T: Drop>(
     alloc: Global,
     placed: Vec<RowWithId<T>>,

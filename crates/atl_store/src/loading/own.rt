@@ -20,7 +20,8 @@ use sqlite::types::ValueRef;
 use sqlite::{Alter, Connection, Row};
 use std::alloc::Global;
 
-/// The fault of loading if the campaign row can't be read.
+/// The fault of loading for a fault of reading `campaign`: Refused becomes NotACampaign, OtherType
+/// becomes Damaged by the first rule, and Store and Memory stay.
 fn own_fault(fault: ReadFault) -> LoadFault
     ensures { result ≡ own_fault fault }
 {
@@ -48,7 +49,7 @@ fn is_own(head: &StoredCampaignRow, format: Format) -> bool
     head.id == 1 && head.format == i64::from(format.number())
 }
 
-/// The world that a world text of this format describes.
+/// The world that a world text of this format describes, or why the text is none.
 fn world_by(alloc: Global, text: &str, format: Format) -> Result<World, WorldFault>
     ensures { Reads (λ w. w) result (world_by format text.now) }
 {
@@ -58,7 +59,7 @@ fn world_by(alloc: Global, text: &str, format: Format) -> Result<World, WorldFau
     }
 }
 
-/// The world of a campaign row's text; Damaged if it reads as none.
+/// The world of a campaign row's text; Damaged by the first rule if it reads as none, or Memory.
 fn world_from(alloc: Global, text: &str, format: Format) -> Result<World, LoadFault>
     ensures { ReadsWorld format text.now result }
 {
@@ -69,8 +70,8 @@ fn world_from(alloc: Global, text: &str, format: Format) -> Result<World, LoadFa
     }
 }
 
-/// The only row of `campaign`, with its world. Damaged by the first rule if there isn't just one
-/// row, with id 1, this format and the text of a world.
+/// The only row of `campaign`, with its world; Damaged by the first rule if there isn't just one
+/// row, with id 1, this format and the text of a world; or Memory.
 fn check_own_rows(
     alloc: Global,
     rows: Vec<StoredCampaign>,
@@ -126,7 +127,7 @@ fn is_other(rows: &[Row], format: Format) -> bool
     rows.len() == 1 && says(&rows[0], other(format))
 }
 
-/// The campaign row and its world, from the rows that SQL shows of `campaign`. OtherFormat if there
+/// The campaign row and its world, from the rows that SQL shows of `campaign`; OtherFormat if there
 /// is just one row, and of the other format; else Damaged by the first rule if the rows break it.
 fn own_in(alloc: Global, rows: &[Row], format: Format) -> Result<(StoredCampaign, World), LoadFault>
     ensures { JudgesFormat format rows.now result }
@@ -137,8 +138,8 @@ fn own_in(alloc: Global, rows: &[Row], format: Format) -> Result<(StoredCampaign
     own_of(alloc, rows, format)
 }
 
-/// Reads the campaign row and its world. Whether it is of the other format is tested before the
-/// types of its values.
+/// Reads the campaign row and its world, or gives the fault of the row. Whether the row is of the
+/// other format is tested before the types of its values.
 pub(crate) fn read_own<S: Alter>(
     alloc: Global,
     conn: &mut Connection<S>,
