@@ -21,12 +21,12 @@ near_by x y z n small h = elim h [
   | inr is ↦ record { above = omega (arith, ints, is); below = omega (arith, ints, is) }
 ]
 
--- an amount that stays moves by 0
+-- an amount of the books that stays the same moves by at most 0 (`IsNear`)
 near_same : (x y : ℤ) → y ≡ x → IsNear 0 x y
 near_same x y is = record { above = omega (arith, ints, is); below = omega (arith, ints, is) }
 
 module _ (books : BooksValue) (e : Entry) (t : Thing) (z : ℤ) (n : ℕ) (small : IsWithin n z) where
-  -- a booking of at most n under e and t moves that amount by at most n, and no other
+  -- a booking of at most n in size moves the amount of entry e and thing t by at most n, and no other amount
   pub booked-near : (f : Entry) (u : Thing) → IsNear (moves_only n e t f u) (amount_in books f u) (amount_in (after_booking books e t z) f u)
   booked-near f u = by_number (amount_number f u == amount_number e t) refl
     where

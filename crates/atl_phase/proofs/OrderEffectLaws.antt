@@ -33,7 +33,7 @@ use Rattle.atl_phase.proofs.PhaseOrderLaws.{orders_are_in_mailings}
 
 -- ---- amounts
 
--- an unchanged amount uses nothing of its remaining bound
+-- an unchanged amount of the books uses nothing of its remaining bound (`UsesBound`)
 pub drawn_same : (r : ℕ) (a : ℤ) → UsesBound r r a a
 drawn_same r a = record { above = omega (arith, ints); below = omega (arith, ints) }
 
@@ -41,15 +41,15 @@ drawn_same r a = record { above = omega (arith, ints); below = omega (arith, int
 pub not_drawn : (r s : ℕ) (a b : ℤ) → s ≡ r → b ≡ a → UsesBound r s a b
 not_drawn r s a b e f = record { above = omega (arith, ints, e, f); below = omega (arith, ints, e, f) }
 
--- two moves within `UsesBound` in turn are one
+-- two moves of an amount in turn, each by at most what its remaining bound falls, are one such move (`UsesBound`)
 pub drawn_twice : (r s t : ℕ) (a b c : ℤ) → UsesBound r s a b → UsesBound s t b c → UsesBound r t a c
 drawn_twice r s t a b c one two = record { above = omega (arith, ints, one.above, two.above); below = omega (arith, ints, one.below, two.below) }
 
--- an amount that moves by at most x uses x of its remaining bound
+-- an amount that moves by at most x, while its remaining bound falls by x, moves by no more than this falls (`UsesBound`)
 pub drawn_near : (x reserve left : ℕ) (a b : ℤ) → left + x ≡ reserve → IsNear x a b → UsesBound reserve left a b
 drawn_near x reserve left a b e near = record { above = omega (arith, ints, e, near.above); below = omega (arith, ints, e, near.below) }
 
--- an amount that moves within its remaining bound moves by at most that bound
+-- an amount that moves by at most what its remaining bound r falls moves by at most `most`, if r is at most `most`
 near_drawn : (r s most : ℕ) (a b : ℤ) → r ≤ most → UsesBound r s a b → IsNear most a b
 near_drawn r s most a b l h = record { above = omega (arith, ints, h.above); below = omega (arith, ints, h.below) }
 
@@ -81,7 +81,7 @@ well_twice {holds} {reserve} w a b c one two = record {
 pub room_left : {holds : Condition} {reserve : RemainingBound} (w : WorldValue) (a b : CampaignValue) → StepsWell holds reserve w a b → HaveRoom (reserve a) a → HaveRoom (reserve b) b
 room_left {holds} {reserve} w a b well room e t = room_drawn (reserve a e t) (reserve b e t) (amount_in a.books e t) (amount_in b.books e t) (well.drawn e t) (room e t)
 
--- steps within their remaining bound (`StepsWell`) are within a bound of the phase that is as large (`LeavesWell`)
+-- a step within the remaining bound (`StepsWell`) is within the bound of the phase, if that is as large (`LeavesWell`)
 pub leaves_well : {holds : Condition} {reserve : RemainingBound} {moving : BookBound} (w : WorldValue) (a b : CampaignValue) → ((e : Entry) (t : Thing) → reserve a e t ≤ moving e t) → StepsWell holds reserve w a b → LeavesWell holds moving w a b
 leaves_well {holds} {reserve} {moving} w a b l h = record {
   leaves_it = h.holds_still;
@@ -102,7 +102,7 @@ no_worse_spares = record { same = no_worse; again = no_worse_twice; faction = λ
 
 -- ---- orders
 
--- P holds of the result of a faction's order, if it holds of no change with NotYours, and of the effect on its own unit
+-- P holds of a faction's order's result, if it holds of NotYours without a change, and of the effect on an own unit
 pub carried_cases : (P : CampaignValue × Outcome → Type 0) (deed : OrderEffect) (c : CampaignValue) (faction n : ℕ) → P (c, Fault 1) → ((u : Unit) → get c.units n ≡ Some u → u.faction ≡ faction → P (deed c u)) → P (faction_effect deed c faction n)
 carried_cases P deed c faction n other own = by_unit (get c.units n) refl
   where
@@ -114,16 +114,16 @@ carried_cases P deed c faction n other own = by_unit (get c.units n) refl
     by_unit None there = other
     by_unit (Some u) there = by_faction u there (u.faction == faction) refl
 
--- P holds of the campaign after an order, if it holds without a change and after the effect on the order's unit
+-- P holds of the campaign after an order, if it holds of the campaign before and after the effect on the order's unit
 pub ordered_cases : (P : CampaignValue → Type 0) (step : Option OrderEffect) (c : CampaignValue) (t : Task) → P c → ((x : Unit) → IsUnitOf c t x → IfSome step (λ deed. P (deed c x).0)) → P (order_result step c t.faction t.unit).0
 ordered_cases P None c t same done = same
 ordered_cases P (Some deed) c t same done = carried_cases (λ p. P p.0) deed c t.faction t.unit same (λ x there faction. done x (record { there = there; faction = faction }))
 
--- a result, with its outcome as one that is there (`Some`)
+-- a campaign and an outcome, with the outcome in `Some`
 abbrev with_some : CampaignValue × Outcome → CampaignValue × Option Outcome
 with_some p = (p.0, Some p.1)
 
--- an order that isn't passed over has the campaign of its effect, and the outcome of its effect
+-- a campaign and an outcome that are the effect of an order are its result, if the phase doesn't pass it over
 pub told_some : (deed : OrderEffect) (c d : CampaignValue) (faction n : ℕ) (o : Outcome) → (d, o) ≡ faction_effect deed c faction n → (d, Some o) ≡ order_result (Some deed) c faction n
 told_some deed c d faction n o is = ap with_some is
 

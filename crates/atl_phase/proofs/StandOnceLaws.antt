@@ -52,7 +52,7 @@ same_place n (x ∷ es) (suc i) (suc j) d e rise one two line = ap suc (same_pla
 
 -- ---- slots
 
--- slots with one number are one slot
+-- two slots with the same number are the same slot
 slots_are : (s o : Slot) → (slot_number s == slot_number o) ≡ true → s ≡ o
 slots_are MonthLong MonthLong same = refl
 slots_are Selling Selling same = refl
@@ -118,7 +118,7 @@ module _ (w : WorldValue) (is_of : Verb → Bool) (a : Arrangement) (aliases : A
     there : IsInMailing aliases readings t
     kept : Stands t
 
-  -- orders that are in their mailings and count there are `IsKept` under their keys
+  -- orders that are in their mailings and count there are so under their keys, too (`IsKept`)
   both : (ts : List Task) → AllByRecursion (IsInMailing aliases readings) ts → AllByRecursion Stands ts → AllByRecursion (λ t. IsKept (key_of a t) t) ts
   both [] there kept = tt
   both (t ∷ ts) there kept = (record { keyed = refl; there = there.0; kept = kept.0 }, both ts there.1 kept.1)

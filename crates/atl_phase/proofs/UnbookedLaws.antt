@@ -44,8 +44,8 @@ same_total_of c d units regions t =
 
 -- ---- the unit of an order
 
--- a unit for which its own faction didn't write the order isn't the order's unit,
--- if the order is for a unit of its faction
+-- if an order is for a unit of the faction that wrote it, a unit for which its own faction didn't write the order
+-- is another one
 pub other_unit : (c : CampaignValue) (t : Task) (x : Unit) (k : ℕ) (v : Unit) → IsUnitOf c t x → get c.units k ≡ Some v → (IsOwnOrder t k v.faction → ⊥) → k ≢ t.unit
 other_unit c t x k v own there apart same =
     let unit : x ≡ v = same_Some _ _ (sym own.there ∙ ap (get c.units) (sym same) ∙ there) in

@@ -29,7 +29,7 @@ Condition = WorldValue → CampaignValue → Type 0
 abbrev pub Follows : Condition → Condition → Type 0
 Follows leaves needs = (w : WorldValue) (c : CampaignValue) → leaves w c → needs w c
 
--- what two phases in turn need: what the first one needs, and that the first leaves what the second needs
+-- what two phases in turn need: what the first one needs, and that what the first leaves is what the second needs
 abbrev pub both_need : Condition → Condition → Condition → Condition
 both_need needs between follows w c = needs w c × Follows between follows
 
