@@ -45,7 +45,7 @@ not_drawn r s a b e f = record { above = omega (arith, ints, e, f); below = omeg
 pub drawn_twice : (r s t : ℕ) (a b c : ℤ) → UsesBound r s a b → UsesBound s t b c → UsesBound r t a c
 drawn_twice r s t a b c one two = record { above = omega (arith, ints, one.above, two.above); below = omega (arith, ints, one.below, two.below) }
 
--- an amount that moves by at most x, while its remaining bound falls by x, moves by no more than this falls (`UsesBound`)
+-- an amount that moves by at most x moves by no more than its remaining bound falls (`UsesBound`), if that falls by x
 pub drawn_near : (x reserve left : ℕ) (a b : ℤ) → left + x ≡ reserve → IsNear x a b → UsesBound reserve left a b
 drawn_near x reserve left a b e near = record { above = omega (arith, ints, e, near.above); below = omega (arith, ints, e, near.below) }
 
