@@ -105,7 +105,7 @@ days_go_with_men n other h s = record {
 
 -- ---- what the code sets one by one
 
--- a map in which no skill has 0 days lists none with 0 days after days are set one by one
+-- a map that lists no skill with 0 days lists none with 0 days after the days of some skills are set one by one
 every_set : (f : ℕ → ℕ → ℕ) (es : List (ℕ × ℕ)) (left : FinMap nat_cmp ℕ) → Every (λ s d. 1 ≤ d) left → Every (λ s d. 1 ≤ d) (fold (λ (m : FinMap nat_cmp ℕ) (e : ℕ × ℕ). with_amount_of m e.0 (f e.0 e.1)) left es)
 every_set f [] left old = old
 every_set f (e ∷ es) left old = every_set f es (with_amount_of left e.0 (f e.0 e.1)) (every_amount (λ s d. 1 ≤ d) left e.0 (f e.0 e.1) (λ some. some) old)
@@ -121,8 +121,8 @@ set_as_said days had said f some some_said others each =
     (subst (Every (λ s d. 1 ≤ d)) (sym set) (every_set f (entries days) had some)) some_said
     (λ s. ap (λ (m : FinMap nat_cmp ℕ). amount_of m s) set ∙ set_each days f s had (others s) ∙ each s)
 
--- Setting each skill of `days` gives the same map over `days` as over the empty map.
--- For this f must keep 0 at 0, and no listed days may be 0.
+-- Setting each skill of `days` to f of its days gives the same map over `days` as over the empty map,
+-- if f gives 0 for 0 days, and no skill of `days` has 0.
 pub set_again : (days : FinMap nat_cmp ℕ) (f : ℕ → ℕ → ℕ) → ((s : ℕ) → f s 0 ≡ 0) → Every (λ s d. 1 ≤ d) days
     → with_days days (map (λ e. (e.0, f e.0 e.1)) (entries days)) ≡ fold (λ (m : FinMap nat_cmp ℕ) (e : ℕ × ℕ). with_amount_of m e.0 (f e.0 e.1)) empty (entries days)
 set_again days f none some =

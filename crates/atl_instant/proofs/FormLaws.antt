@@ -31,7 +31,7 @@ module _ (w : WorldValue) (c : CampaignValue) (early : IsEarly w c) where
   free_number = early.steady.next.units c.next_unit (omega arith)
 
   module _ (f n : ℕ) where
-    -- if unit n is of faction f, the campaign after FORM has a new unit of its faction, in its region and structure
+    -- if unit n is of faction f, `with_formed_unit` adds a new unit with the faction, region and structure of unit n
     formed_is : (u : Unit) → get c.units n ≡ Some u → u.faction ≡ f → with_formed_unit c f n ≡ with_unit_begun c (new_unit c.next_unit u.faction u.region u.structure)
     formed_is u is own =
         ap (λ g. with_unit_begun c (new_unit c.next_unit g (region_of c n) (inside c n))) (sym own)

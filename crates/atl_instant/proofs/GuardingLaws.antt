@@ -40,7 +40,7 @@ use Rattle.atl_instant.specs.Guard.{guard, guard_concerns, guard_effect, guard_f
 
 -- ---- other guards of the region
 
--- if no element of a list passes a test, an element of the list doesn't
+-- if the test whether any number of a list passes a test (`list_any`) is false, each number of the list fails the test
 none_of : (p : ℕ → Bool) (ns : List ℕ) → list_any p ns ≡ false → (k : ℕ) → IsListed k ns → p k ≡ false
 none_of p [] is k listed = absurd listed
 none_of p (n ∷ ns) is k listed = by_test (p n) refl is (λ e h. none_of p ns e k h) listed

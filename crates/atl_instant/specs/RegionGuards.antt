@@ -15,7 +15,7 @@ GuardMap = FinMap nat_cmp ℕ
 abbrev pub with_guard_of : GuardMap → Unit → GuardMap
 with_guard_of m u = if guards u then insert m u.region u.faction else m
 
--- the map with the factions of those of these units that guard, one after another
+-- the map with the faction of each of these units that guards under its region, entered one after another
 abbrev pub with_guards_of : GuardMap → List (ℕ × Unit) → GuardMap
 with_guards_of m es = fold (λ held e. with_guard_of held e.1) m es
 

@@ -41,7 +41,7 @@ going_of n h s = days_going n h.men (amount_of h.days s)
 abbrev pub staying_of : (n : ℕ) → HoldingValue → (skill : ℕ) → ℕ
 staying_of n h s = amount_of h.days s - going_of n h s
 
--- the days of a skill that a unit has as n men of the other one come
+-- the days of a skill that a unit has as n men of another unit come
 abbrev pub raised_of : (n : ℕ) → (other h : HoldingValue) → (skill : ℕ) → ℕ
 raised_of n other h s = amount_of h.days s + going_of n other s
 
@@ -49,7 +49,7 @@ raised_of n other h s = amount_of h.days s + going_of n other s
 abbrev pub with_fewer : (n : ℕ) → HoldingValue → HoldingValue
 with_fewer n h = record h { men = h.men - n; days = amounts_for (staying_of n h) (keys h.days) }
 
--- what a unit holds as n men of the other one come with their days
+-- what a unit holds as n men of another unit come with their days
 abbrev pub with_more : (n : ℕ) → (other h : HoldingValue) → HoldingValue
 with_more n other h = record h { men = h.men + n; days = amounts_for (raised_of n other h) (keys h.days ++ keys other.days) }
 

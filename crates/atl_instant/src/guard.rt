@@ -23,7 +23,8 @@ use std::alloc::{AllocError, Global};
 #[derive(Drop, Clone, Copy)]
 pub struct GuardPhase;
 
-/// Why a unit can't begin to guard its region, by the map of guards; None where it can.
+/// Why a unit can't begin to guard its region, by the map of guards: NoMen or Guarded; None where
+/// it can.
 fn guard_fault(holders: &RegionGuards, unit: &Unit) -> Option<EventFault>
     ensures { (c : CampaignValue) → AreRegionGuards c holders.now
         → result ≡ guard_fault c unit.now }
@@ -104,6 +105,7 @@ fn guard_one(
     Ok(())
 }
 
+/// Has the verb GUARD; an order of GUARD 0 is passed over when it is carried out.
 impl PhaseVerbs for GuardPhase {
     ghost is_of = { is_guarding };
 
@@ -112,6 +114,8 @@ impl PhaseVerbs for GuardPhase {
     }
 }
 
+/// Makes the map of which faction guards each region, carries out the orders of GUARD one by one by
+/// it, and then adds their events.
 impl Phase for GuardPhase {
     ghost meaning = { guard_spec.meaning };
 
