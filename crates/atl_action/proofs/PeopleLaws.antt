@@ -36,13 +36,13 @@ people_same m = record { count = refl; of_factions = λ k. refl; hold = λ t. re
 pub people_twice : (a b c : FinMap nat_cmp Unit) → AreSamePeople a b → AreSamePeople b c → AreSamePeople a c
 people_twice a b c one two = record { count = two.count ∙ one.count; of_factions = λ k. two.of_factions k ∙ one.of_factions k; hold = λ t. two.hold t ∙ one.hold t }
 
--- a unit that is the same but for its location and flag holds as much of each thing
+-- a unit that is the same but for its region, structure and guard flag holds as much of each thing
 held_same : (u v : Unit) → IsSameUnit u v → (t : Thing) → unit_amount t v.holding ≡ unit_amount t u.holding
 held_same u v same Money = same.money
 held_same u v same People = same.men
 held_same u v same (Item i) = ap (λ items. amount_of items i) same.items
 
--- if a sum stays the same while one of its addends does, the other addend stays the same
+-- if a + p is b + q, and q is p, a is b
 cancelled : (a b p q : ℕ) → a + p ≡ b + q → q ≡ p → a ≡ b
 cancelled a b p q e f = omega arith
 
@@ -129,8 +129,8 @@ module _ (structure to : ℕ) where
 
 -- ---- the totals
 
--- the totals of the campaign stay the same, if the units are the same people
--- (`AreSamePeople`) and the regions are unchanged
+-- the campaign's total of each thing stays the same, if the units are the same people (`AreSamePeople`) and the regions
+-- are unchanged
 pub total_people : (c d : CampaignValue) → AreSamePeople c.units d.units → d.regions ≡ c.regions → (t : Thing) → total d t ≡ total c t
 unfolding total
 total_people c d people regions t =

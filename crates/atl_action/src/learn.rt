@@ -16,6 +16,8 @@ use std::alloc::Global;
 #[derive(Drop, Clone, Copy)]
 pub struct LearnPhase;
 
+/// Finds who is learning, carries out all orders of TEACH, and then all orders of STUDY, with how
+/// many men of each unit were taught.
 impl Phase for LearnPhase {
     ghost meaning = { learn_meaning };
 

@@ -59,7 +59,8 @@ fn learns(world: &World, campaign: &Campaign, skill: u16, faction: u32, unit: u3
     }
 }
 
-/// Adds the unit of an order of STUDY, with its skill, if it learns by the order.
+/// Adds the unit of an order of STUDY, with its skill, to those that are learning, if it learns by
+/// the order.
 fn add_learner(
     world: &World,
     campaign: &Campaign,
