@@ -14,7 +14,7 @@ use Rattle.atl_phase.specs.Meaning.{BookBound, IsNear, moves_only}
 use Rattle.atl_phase.specs.Bounds.{HasRoom, amount_limit}
 use Rattle.atl_phase.proofs.MeaningLaws.{near_room}
 
--- an amount that z was added to, or that stayed, differs from the old one by at most n, if z is at most n in size
+-- if y is x + z, or is x, and z is at most n in size, x and y differ by at most n (`IsNear`)
 near_by : (x y z : ℤ) (n : ℕ) → IsWithin n z → (y ≡ x +ℤ z) ⊎ (y ≡ x) → IsNear n x y
 near_by x y z n small h = elim h [
   | inl is ↦ record { above = omega (arith, ints, small.most, is); below = omega (arith, ints, small.least, is) }
@@ -47,10 +47,10 @@ by_sign (negsuc n) most less = record { sfits = omega (arith, ints, less) }
 pub booking_fits : (x z : ℤ) (n : ℕ) → IsWithin n z → HasRoom n x → FitsSigned w64 (x +ℤ z)
 booking_fits x z n small room = by_sign (x +ℤ z) (omega (arith, ints, room.above, small.most)) (omega (arith, ints, room.below, small.least))
 
--- a number of at most n is at most n in size
+-- a natural number k of at most n is, as an integer, at most n in size (`IsWithin`)
 pub within-pos : (k n : ℕ) → k ≤ n → IsWithin n (pos k)
 within-pos k n l = record { most = omega (arith, ints); least = omega (arith, ints) }
 
--- the negative of a number of at most n is at most n in size
+-- the negative of a natural number k of at most n is at most n in size (`IsWithin`)
 pub within-neg : (k n : ℕ) → k ≤ n → IsWithin n (neg_ℤ (pos k))
 within-neg k n l = record { most = omega (arith, ints); least = omega (arith, ints) }

@@ -105,7 +105,7 @@ module _ {K X : Type 0} {R : K → K → Ordering} (o : IsTotalOrder R) (exact :
   all_below x [] h = refl
   all_below x (e ∷ es) h = λ i. is_lt (h.0 i) && all_below x es h.1 i
 
-  -- strictly sorted keys pass the test for sorted entries
+  -- entries whose keys are strictly sorted pass the test for sorted entries (`is_sorted`)
   in_order : (es : List (K × X)) → IsStrictlySortedBy R (keys_of es) → is_sorted R es ≡ true
   in_order [] h = refl
   in_order (e ∷ es) h = λ i. all_below e.0 es (sorted_head R e.0 (keys_of es) h) i && in_order es (sorted_tail R e.0 (keys_of es) h) i
@@ -122,7 +122,7 @@ module _ {K X : Type 0} {R : K → K → Ordering} (o : IsTotalOrder R) (exact :
   all_less x [] h = tt
   all_less x (e ∷ es) h = let parts = and_parts _ _ h in (less _ parts.0, all_less x es parts.1)
 
-  -- entries that pass the test for sorted ones have strictly sorted keys
+  -- entries that pass the test for sorted entries (`is_sorted`) have strictly sorted keys
   rising : (es : List (K × X)) → is_sorted R es ≡ true → IsStrictlySortedBy R (keys_of es)
   unfolding IsStrictlySortedBy
   rising [] h = tt
@@ -178,7 +178,7 @@ module _ {K X : Type 0} {R : K → K → Ordering} (o : IsTotalOrder R) (exact :
 
 -- elements sorted by a key, each listed with its key
 module _ {K X : Type 0} (R : K → K → Ordering) (key : X → K) where
-  -- an element, after its key
+  -- the pair of an element's key and the element
   abbrev keyed : X → K × X
   keyed x = (key x, x)
 

@@ -17,7 +17,7 @@ use Rattle.atl_phase.specs.Month.{MonthValue}
 use Rattle.atl_phase.specs.Meaning.{BookBound, Condition, Frame, IsNear, IsSameMonth, LeavesWell, Meaning, both_keep, both_move}
 use Rattle.atl_phase.specs.Bounds.{HasRoom, HaveRoom, moved_times}
 
--- two moves, of at most j and at most k, are together one of at most j + k
+-- two moves of an amount in turn, by at most j and at most k, are together one by at most j + k
 pub near_twice : (j k : ℕ) (a b c : ℤ) → IsNear j a b → IsNear k b c → IsNear (j + k) a c
 near_twice j k a b c g h = record { above = omega (arith, ints, g.above, h.above); below = omega (arith, ints, g.below, h.below) }
 

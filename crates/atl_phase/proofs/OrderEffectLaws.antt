@@ -96,13 +96,14 @@ room_reserved reserve moving c l room e t = less_room (reserve c e t) (moving e 
 
 -- ---- what stays
 
--- `IsNoWorse` is reflexive and transitive, and keeps the faction
+-- to be no worse off (`IsNoWorse`) is reflexive and transitive, and keeps the faction
 pub no_worse_spares : IsUnaffectedRelation IsNoWorse
 no_worse_spares = record { same = no_worse; again = no_worse_twice; faction = λ u v h. h.faction }
 
 -- ---- orders
 
--- P holds of a faction's order's result, if it holds of NotYours without a change, and of the effect on an own unit
+-- P holds of the result of a faction's order, if it holds of NotYours with the campaign as it was, and of the order's
+-- effect on a unit of the faction
 pub carried_cases : (P : CampaignValue × Outcome → Type 0) (deed : OrderEffect) (c : CampaignValue) (faction n : ℕ) → P (c, Fault 1) → ((u : Unit) → get c.units n ≡ Some u → u.faction ≡ faction → P (deed c u)) → P (faction_effect deed c faction n)
 carried_cases P deed c faction n other own = by_unit (get c.units n) refl
   where
@@ -132,12 +133,14 @@ module _ (step : OrderMeaning) {holds : Condition} {reserve : RemainingBound} {m
   pub order_well : (a : Aliases) (c : CampaignValue) (t : Task) → holds w c → IsOrderOf w t.order_value → StepsWell holds reserve w c (order_result (step w a t) c t.faction t.unit).0
   order_well a c t h fit = ordered_cases (StepsWell holds reserve w c) (step w a t) c t (well_same w c h) (λ x own. orderly.well w a c t x h fit own)
 
-  -- an order spares each unit that it doesn't concern, if its phase is `IsOrderly`
+  -- each unit that an order doesn't concern is there after it, and `spares` relates what it was to what it is then,
+  -- if the order's phase is `IsOrderly`
   order_spares : (a : Aliases) (c : CampaignValue) (t : Task) → holds w c → (n : ℕ) (u : Unit) → get c.units n ≡ Some u → (concerns t n u.faction → ⊥) → IsUnaffected spares (order_result (step w a t) c t.faction t.unit).0 n u
   order_spares a c t h n u there other =
       ordered_cases (λ d. IsUnaffected spares d n u) (step w a t) c t (record { unit = u; there = there; spared = orderly.sparing.same u }) (λ x own. orderly.spared w a c t x h own n u there other)
 
-  -- orders spare a unit that none of them concerns, if their phase is `IsOrderly`
+  -- a unit that none of some orders concerns is there after them, and `spares` relates what it was to what it is then,
+  -- if their phase is `IsOrderly`
   orders_spare_one : (c : CampaignValue) (m : MonthValue) (ts : List Task) → holds w c → AllByRecursion (λ t. IsOrderOf w t.order_value) ts → (n : ℕ) (u : Unit) → get c.units n ≡ Some u → AllByRecursion (λ t. concerns t n u.faction → ⊥) ts
       → IsUnaffected spares (fold (one_order step w) (c, m) ts).0 n u
   orders_spare_one c m [] h fit n u there others = record { unit = u; there = there; spared = orderly.sparing.same u }
@@ -148,7 +151,8 @@ module _ (step : OrderMeaning) {holds : Condition} {reserve : RemainingBound} {m
       let rest = orders_spare_one next.0 next.1 ts (order_well m.aliases c t h fit.0).holds_still fit.1 n one.unit one.there (subst (λ f. AllByRecursion (λ t. concerns t n f → ⊥) ts) (sym same_faction) others.1) in
       record { unit = rest.unit; there = rest.there; spared = orderly.sparing.again u one.unit rest.unit one.spared rest.spared }
 
-  -- orders spare each unit that none of them concerns, if their phase is `IsOrderly`
+  -- each unit that none of some orders concerns is there after them, and `spares` relates what it was to what it is
+  -- then, if their phase is `IsOrderly`
   pub orders_spare : (c : CampaignValue) (m : MonthValue) (ts : List Task) → holds w c → All (λ t. IsOrderOf w t.order_value) ts → AreUnaffected concerns spares ts c (fold (one_order step w) (c, m) ts).0
   orders_spare c m ts h fit n u there others =
       orders_spare_one c m ts h (recursion_from_All (λ t. IsOrderOf w t.order_value) ts fit) n u there (recursion_from_All (λ t. concerns t n u.faction → ⊥) ts others)

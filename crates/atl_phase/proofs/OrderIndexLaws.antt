@@ -18,7 +18,7 @@ by_lines ts lines t last None = refl
 by_lines ts lines t last (Some slot) = ap (λ n. t.line == n) (last slot t.unit)
 
 module _ (aliases : Aliases) (ms : List Mailing) (at : ℕ) where
-  -- the mailing whose orders are gone over
+  -- the mailing at index `at`, whose orders the code goes over
   abbrev read : Mailing
   read = mailing_at ms at
 
@@ -48,14 +48,14 @@ module _ (aliases : Aliases) (ms : List Mailing) (at : ℕ) where
     pub tasks : map (task_at ms) list ++ rest_from i ≡ map (task_at ms) old ++ rest_from 0
 
   module _ (old list : List OrderIndex) (i : ℕ) (h : i < length read.entries) (before : Added old i list) where
-    -- if the order at i doesn't count, the list as it is has what it needs before i + 1 (`Added`)
+    -- if the order at i doesn't count, the list as it is has the indices of those that count before i + 1 (`Added`)
     pub passed : counts i ≡ false → Added old (i + 1) list
     passed skipped = record {
       there = before.there;
       tasks = ap (λ ts. map (task_at ms) list ++ ts) (sym (opened i h ∙ ap (λ b. cond b (task_at ms (place_of i) ∷ rest_from (i + 1)) (rest_from (i + 1))) skipped)) ∙ before.tasks;
     }
 
-    -- if the order at i counts, the list with its index has what it needs before i + 1 (`Added`)
+    -- if the order at i counts, the list with its index has the indices of those that count before i + 1 (`Added`)
     pub pushed : at < length ms → counts i ≡ true → Added old (i + 1) (list ++ place_of i ∷ [])
     pushed within counted = record {
       there = λ all. All-push (IsThere ms) list (place_of i) (before.there all) (record { mailing = within; entry = h });
@@ -87,7 +87,8 @@ module _ (aliases : Aliases) (ms : List Mailing) (at : ℕ) where
         let t = task_at ms (place_of i) in
         sym (is ∙ (λ k. stands_by lines (found_is k).unit (found_is k).line (row_of (entry k).order.verb).slot) ∙ by_lines (tasks_at aliases ms at) lines t last (row_of t.order_value.verb).slot)
 
-    -- if the order at i counts, the list with the index that the code makes has what it needs before i + 1 (`Added`)
+    -- if the order at i counts, the list with the index that the code makes has the indices of those that count
+    -- before i + 1 (`Added`)
     pub added : (old list new : List OrderIndex) → i < length read.entries → Added old i list → at < length ms → counts i ≡ true → new ≡ list ++ found ∷ [] → Added old (i + 1) new
     added old list new h before within counted is = subst (Added old (i + 1)) (sym (is ∙ ap (λ p. list ++ p ∷ []) found_is)) (pushed old list i h before within counted)
 

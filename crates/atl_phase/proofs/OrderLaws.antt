@@ -49,7 +49,7 @@ refuted : (b : Bool) → (b ≡ true → ⊥) → b ≡ false
 refuted true h = absurd (h refl)
 refuted false h = refl
 
--- orders for which `same_key` holds have equal keys
+-- orders that pass the test for the same key (`same_key`) have equal keys
 keys_tie : (a : Arrangement) (t u : Task) → same_key a t u ≡ true → key_of a t ≡ key_of a u
 keys_tie a t u h = slice_cmp-IsAntisymmetric nat_cmp-IsAntisymmetric (key_of a t) (key_of a u) ((Equal-is (slice_cmp nat_cmp (key_of a t) (key_of a u))).0 h)
 
@@ -83,7 +83,7 @@ module _ (aliases : Aliases) (a : Arrangement) where
   apart_behind t faction [] h = tt
   apart_behind t faction (u ∷ ts) h = (other_place a t u (omega (arith, h.0.1)), apart_behind t faction ts h.1)
 
-  -- no two orders of one mailing have one key
+  -- no two orders of one mailing have the same key
   pub apart_within : (p : Task → Bool) (faction : ℕ) (place : ℕ) (es : List EntryValue) → IsDistinct (same_key a) (filter p (tasks_from aliases faction place es))
   unfolding IsDistinct
   apart_within p faction place [] = tt
@@ -126,7 +126,7 @@ module _ (aliases : Aliases) (a : Arrangement) where
     all_before n [] us e h = tt
     all_before n (t ∷ ts) us e h = (before n t us e.0 h, all_before n ts us e.1 h)
 
-    -- no two orders of a phase have one key, in mailings sorted by faction
+    -- no two orders of a phase have the same key, in mailings sorted by faction
     pub all_apart : (rs : List Reading) → IsStrictlySortedBy nat_cmp (map (λ r. r.faction) rs) → IsDistinct (same_key a) (all_tasks is_of aliases rs)
     unfolding IsDistinct
     all_apart [] h = tt
@@ -148,25 +148,25 @@ module _ {X : Type 0} (as_task : X → Task) where
   values-tasks (e ∷ es) = ap (λ ts. as_task e.1 ∷ ts) (values-tasks es)
 
   module _ (key : Task → List ℕ) where
-    -- an element, after the key of its order
+    -- the pair of the key of an element's order and the element
     abbrev keyed : X → List ℕ × X
     keyed o = (key (as_task o), o)
 
-    -- an order, after its key
+    -- the pair of an order's key and the order
     abbrev paired : Task → List ℕ × Task
     paired t = (key t, t)
 
-    -- the keys of elements after their keys are the keys of their orders
+    -- the keys of elements that are paired with the keys of their orders are the keys of these orders
     keys-keyed : (os : List X) → keys_of (map keyed os) ≡ map key (map as_task os)
     keys-keyed [] = refl
     keys-keyed (o ∷ os) = ap (λ ks. key (as_task o) ∷ ks) (keys-keyed os)
 
-    -- elements after their keys, each mapped to its order, are the orders after their keys
+    -- elements that are paired with keys, each mapped to its order, are the orders paired with their keys
     pairs-keyed : (os : List X) → map (with_value (slice_cmp nat_cmp) as_task) (map keyed os) ≡ map paired (map as_task os)
     pairs-keyed [] = refl
     pairs-keyed (o ∷ os) = ap (λ es. paired (as_task o) ∷ es) (pairs-keyed os)
 
-    -- elements after their keys, without the keys, are the elements
+    -- elements that are paired with keys, without the keys, are the elements
     unkeyed : (os : List X) → map (λ e. e.1) (map keyed os) ≡ os
     unkeyed [] = refl
     unkeyed (o ∷ os) = ap (λ ps. o ∷ ps) (unkeyed os)
@@ -207,7 +207,8 @@ by_key : (a : Arrangement) (ms : List Mailing) (list : List OrderIndex) → IsSo
 by_key ByUnit ms list up = up
 by_key ByFaction ms list up = up
 
--- the indices of all orders that count, sorted by their keys, are the order indices of the arrangement
+-- the indices of all orders that count, mailing by mailing, name them as the arrangement sorts them once they are
+-- sorted by their keys (`AreOrderIndices`)
 pub sorted_places : (a : Arrangement) (aliases : Aliases) (ms : List Mailing) (os list : List OrderIndex) → AreByFaction ms → AreIndicesByMailing aliases ms os → IsPermutation os list → IsSortedByKey (key_by a) (slice_cmp nat_cmp) list
     → AreOrderIndices a aliases ms list
 sorted_places a aliases ms os list h are p up =

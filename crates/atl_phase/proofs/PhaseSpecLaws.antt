@@ -8,7 +8,7 @@ use Rattle.atl_phase.specs.PhaseSpecs.{EachPhase, MovesItsOwn, PhaseSpec, keeps_
 use Rattle.atl_phase.specs.Unmailed.{starved_in}
 use Rattle.atl_phase.proofs.UnmailedLaws.{ClosesUnmailed, LeavesUnmailed, both_leave, then_closes}
 
--- if P implies Q for every phase, and P holds of each phase of a list, Q does
+-- if P implies Q for every phase, and P holds of each phase of a list, Q holds of each
 pub each_also : {P Q : PhaseSpec → Type 0} → ((phase : PhaseSpec) → P phase → Q phase) → (phases : List PhaseSpec) → EachPhase P phases → EachPhase Q phases
 each_also also [] each = tt
 each_also also (phase ∷ rest) each = (also phase each.0, each_also also rest each.1)
@@ -33,7 +33,7 @@ moved_within (phase ∷ next ∷ rest) each e t = counted (may_move phase.moved 
 
 -- ---- a faction without a mailing
 
--- the phase, by its effect and what it keeps, leaves the units of factions without a mailing (`LeavesUnmailed`)
+-- the phase leaves units of factions without a mailing what is theirs (`LeavesUnmailed`)
 abbrev pub PhaseLeavesUnmailed : PhaseSpec → Type 0
 PhaseLeavesUnmailed phase = LeavesUnmailed phase.meaning phase.keeps
 

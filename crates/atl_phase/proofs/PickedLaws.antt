@@ -44,7 +44,7 @@ filter-map p f (x ∷ xs) =
     ]
 
 module _ (a : Arrangement) where
-  -- an order, after its key
+  -- the pair of an order's key and the order
   abbrev paired : Task → List ℕ × Task
   paired t = (key_of a t, t)
 

@@ -30,7 +30,7 @@ pub record IsRelabelled (before after : Structure) : Type 0 where
   pub done : after.done ≡ before.done
   pub name : IsTrue (name_ok before.name) → IsTrue (name_ok after.name)
 
--- if a look-up o, mapped by f, finds x, then o finds a value v of which f makes x
+-- if what a look-up o found, mapped by f, is x, then o found a value v of which f makes x
 pub under : {A B : Type 0} (f : A → B) (o : Option A) (x : B) → option_map f o ≡ Some x → (v : A) × (o ≡ Some v) × (f v ≡ x)
 under f None x is = none_some x is
 under f (Some v) x is = let same : f v ≡ x = cc in (v, refl, same)
@@ -64,8 +64,8 @@ module _ (c : CampaignValue) (units : FinMap nat_cmp Unit) (structures : FinMap 
   pub named_replaced : Every (λ k x. IsTrue (name_ok x.holding.name)) units → Every (λ k x. IsTrue (name_ok x.name)) structures → AreNamed c → AreNamed replaced
   named_replaced new_units new_structures old = record { pass = old.pass; factions = old.factions; joined = old.joined; units = new_units; structures = new_structures }
 
-  -- Factions, units and structures stay numbered as the rule says (`AreNumbered`).
-  -- Each number that had no unit or no structure must still have none.
+  -- factions, units and structures stay numbered as the rule says (`AreNumbered`), if each number that had no unit or
+  -- no structure still has none, and there are as many structures
   pub numbered_replaced : len structures ≡ len c.structures → ((k : ℕ) → get c.units k ≡ None → get units k ≡ None) → ((k : ℕ) → get c.structures k ≡ None → get structures k ≡ None)
       → AreNumbered c → AreNumbered replaced
   numbered_replaced count no_unit no_structure old = record {
@@ -87,8 +87,8 @@ module _ (w : WorldValue) (c : CampaignValue) (n : ℕ) (u : Unit) (s : ℕ) (is
   abbrev pub refitted : CampaignValue
   refitted = record c { units = units; structures = structures }
 
-  -- A refit: g gives the structures, each relabelled and with its right owner.
-  -- The unit is inside a structure of its region, or none, and on water inside a ship.
+  -- A refit: unit n is inside structure s of its region, which on water is a ship, or inside none (0), and g gives the
+  -- structures, each changed in owner and name at most, and with its right owner.
   pub record IsRefit : Type 0 where
     pub at : (k : ℕ) → get structures k ≡ option_map (g k) (get c.structures k)
     pub count : len structures ≡ len c.structures

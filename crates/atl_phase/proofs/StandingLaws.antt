@@ -44,8 +44,8 @@ module _ (lines : Lines) (k u line : ℕ) where
       two : (a n : ℕ) → max a n ≡ max a (max 0 n)
       two a n = omega arith
 
-  -- After a line is noted, the greatest line in its slot for its unit is the greater of it and the old one.
-  -- For other slots and units it stays.
+  -- after a line of slot k and unit u is noted, the greatest line of a slot for a unit is the greater of it and the old
+  -- one, if both are k and u, and otherwise the old one
   noted_at : (j unit n : ℕ) → max (line_in (with_line lines k u line) j unit) n ≡ max (line_in lines j unit) (max (if (u == unit) && (j == k) then line else 0) n)
   noted_at j unit n =
       ap (λ g. max (unwrap_or (get g unit) 0) n) (group_at j)

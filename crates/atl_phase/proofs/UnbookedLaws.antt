@@ -21,7 +21,8 @@ use Rattle.atl_phase.specs.Bounds.{IsUnitOf, StepsWell, books_nothing}
 use Rattle.atl_phase.proofs.NoWorseLaws.{no_worse}
 use Rattle.atl_phase.proofs.OrderEffectLaws.{not_drawn}
 
--- a step satisfies `StepsWell` if `holds` is true of the campaign after it, and month, books and totals stay the same
+-- a step that leaves month, books and totals as they are keeps the books in balance within a remaining bound of 0
+-- (`StepsWell`), if `holds` is true of the campaign after it
 pub stays_well : (holds : Condition) (w : WorldValue) (c d : CampaignValue) → holds w d → IsSameMonth c d → d.books ≡ c.books → ((t : Thing) → total d t ≡ total c t) → StepsWell holds books_nothing w c d
 stays_well holds w c d still same books totals = record {
   holds_still = still;
@@ -30,7 +31,8 @@ stays_well holds w c d still same books totals = record {
   drawn = λ e t. not_drawn 0 0 (amount_in c.books e t) (amount_in d.books e t) refl (ap (λ b. amount_in b e t) books);
 }
 
--- a step satisfies `StepsWell` if the campaign is early after it, and month, books and totals stay the same
+-- a step that leaves month, books and totals as they are keeps the books in balance within a remaining bound of 0
+-- (`StepsWell`), if the campaign is early after it
 pub unbooked_well : (w : WorldValue) (c d : CampaignValue) → IsEarly w d → IsSameMonth c d → d.books ≡ c.books → ((t : Thing) → total d t ≡ total c t) → StepsWell IsEarly books_nothing w c d
 unbooked_well = stays_well IsEarly
 

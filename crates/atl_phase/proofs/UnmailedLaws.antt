@@ -88,7 +88,8 @@ module _ {first second : Meaning} {early late : Frame} where
         record { unit = b.unit; there = b.there; spared = less_twice _ _ _ u a.unit b.unit (one.told w c m n) (two.told w between.0 between.1 n) a.spared b.spared };
   }
 
-  -- a phase that `LeavesUnmailed` and then one that `ClosesUnmailed` are in turn one that `ClosesUnmailed`
+  -- a phase that leaves units of factions without a mailing what is theirs (`LeavesUnmailed`), and then one that does
+  -- so but may let a unit starve out (`ClosesUnmailed`), are together one of the second kind
   pub then_closes : LeavesUnmailed first early → ClosesUnmailed second late → ClosesUnmailed (then_also first second) (both_keep first early late)
   then_closes one two = record {
     told = λ w c m n. omega (arith, one.told w c m n, two.told w (first w c m).0 (first w c m).1 n);

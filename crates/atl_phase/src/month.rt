@@ -232,8 +232,8 @@ pub(crate) fn unit_under(aliases: &Numbered<Numbered<u32>>, faction: u32, alias:
     aliases.get_under(faction, alias).copied()
 }
 
-/// Does nothing. Its clause is a law: mailings of different factions, listed in another order, give
-/// the same map of readings.
+/// The law that mailings of different factions, listed in another order, give the same map of
+/// readings. Does nothing.
 pub fn mailings_have_no_order()
     ensures { HaveNoOrder }
 {}

@@ -65,8 +65,8 @@ pub trait OrderPhase: PhaseVerbs {
             campaign.old.value order.entry.faction order.entry.unit) }
         ensures marks { OnOk result (MarksChanges campaign.old campaign.new) };
 
-    /// Does nothing. Its clause is the law that the phase's orders satisfy `IsOrderly`: what each
-    /// order keeps, and which units it spares.
+    /// The law of what each order of the phase keeps, how far it moves the books, and that each
+    /// unit which it doesn't concern is left as `spares` says (`IsOrderly`). Does nothing.
     fn is_orderly(&self)
         ensures { IsOrderly (step self.now) holds reserve moving concerns spares };
 }
@@ -161,7 +161,7 @@ pub trait PlainPhase: OrderPhase {
     // order over.
     ghost makes: { OrderMeaning };
 
-    /// Does nothing. Its clause says that the step of each value is `makes`.
+    /// The law that the step of each value of the type is `makes`. Does nothing.
     fn is_plain(&self)
         ensures { Self.step self.now ≡ makes };
 }

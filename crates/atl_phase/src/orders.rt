@@ -102,14 +102,14 @@ pub(crate) fn orders_of<'m, P: PhaseVerbs>(
     }
 }
 
-/// Does nothing. Its clause is a law: each order of a phase is an entry of the mailing of its
-/// faction, at its index there.
+/// The law that each order of a phase is an entry of the mailing of its faction, at its index
+/// there. Does nothing.
 pub fn orders_are_in_mailings()
     ensures { OrdersAreInMailings }
 {}
 
-/// Does nothing. Its clause is a law: of the verbs that share a slot, at most one order counts for
-/// a unit in a faction's mailing. See docs/RULES.md, "Orders of a month".
+/// The law that of the verbs that share a slot, at most one order counts for a unit in a faction's
+/// mailing. Does nothing. See docs/RULES.md, "Orders of a month".
 pub fn one_order_stands()
     ensures { OneOrderStands }
 {}
