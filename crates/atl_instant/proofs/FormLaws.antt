@@ -76,12 +76,12 @@ module _ (w : WorldValue) (c : CampaignValue) (early : IsEarly w c) where
 
 -- ---- orders apart from the month
 
--- the copied orders together make what the orders themselves make
+-- copies of orders of FORM, carried out one after another, make what the orders themselves make
 pub formed_apart : (p : CampaignValue × MonthValue) (ts : List Task) → fold form_apart p (map forming_of ts) ≡ fold form_order p ts
 formed_apart p [] = refl
 formed_apart p (t ∷ ts) = formed_apart (form_order p t) ts
 
--- the copied orders of a month make what the phase makes
+-- the copies of all orders of FORM of a month, carried out one after another, make what the phase makes
 pub all_formed : (w : WorldValue) (c : CampaignValue) (m : MonthValue) → fold form_apart (c, m) (map forming_of (values (orders_of is_forming ByFaction m.aliases m.readings))) ≡ form_meaning w c m
 unfolding form_meaning
 all_formed w c m = formed_apart (c, m) (values (orders_of is_forming ByFaction m.aliases m.readings))

@@ -110,7 +110,7 @@ module _ (c : CampaignValue) (n : ℕ) (u : Unit) (is : get c.units n ≡ Some u
     held_same People = refl
     held_same (Item i) = refl
 
-    -- the totals stay the same when the guard flag of the unit is set
+    -- the campaign's total of each thing stays the same when the guard flag of the unit is set
     total_same : (t : Thing) → total flagged t ≡ total c t
     total_same t = same (total flagged t) (total c t) (unit_amount t u.holding) (unit_amount t (record u.holding { guard = true })) (total-unit_amount w c n u (record u.holding { guard = true }) is t) (held_same t)
       where

@@ -60,7 +60,7 @@ module _ (w : WorldValue) (c : CampaignValue) (n : ℕ) (u : Unit) (is : get c.u
   left_place : (u.structure == 0) ≡ false → is_land_at w u.region ≡ true → Well (with_place c n u.region 0)
   left_place some dry = place_well w c n u 0 is early (λ none. is_unequal u.structure 0 some none) (λ not_none. absurd (not_none refl)) (λ wet. absurd (true≢false (sym dry ∙ wet)))
 
-  -- LEAVE keeps the campaign early and in balance (`StepsWell`), whether the unit is inside a structure, and on land
+  -- LEAVE keeps the campaign early and in balance (`StepsWell`), whether it has the fault NotInside, AtSea or none
   without_leaver : (a b : Bool) → (u.structure == 0) ≡ a → is_land_at w u.region ≡ b → Well (unless c (first_fault ((a, NotInside) ∷ (not b, AtSea) ∷ [])) (with_place c n u.region 0, Done 0)).0
   without_leaver true b some dry = unchanged
   without_leaver false false some dry = unchanged

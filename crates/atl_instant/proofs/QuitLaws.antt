@@ -67,7 +67,7 @@ part_of s t amount = cond (thing_index s == thing_index t) amount 0
 abbrev under : Entry → Thing → ℕ → ℕ
 under e t n = if entry_index e == entry_index (loss_entry t) then n else 0
 
--- things with one number are one thing
+-- things with the same number (`thing_index`) are the same thing
 same_thing : (s t : Thing) → thing_index s ≡ thing_index t → s ≡ t
 same_thing Money Money e = refl
 same_thing Money People e = absurd (omega (arith, e))

@@ -71,7 +71,8 @@ abbrev OwnSince : CampaignValue → Condition
 OwnSince begun w c = IsSteady w c × ((t : Task) → is_own c t ≡ true → is_own begun t ≡ true)
 
 module _ (begun : CampaignValue) where
-  -- an order of QUIT keeps the condition `OwnSince`, the month and the balance of the books (`StepsWell`)
+  -- an order of QUIT keeps the campaign steady, the month and the balance of the books (`StepsWell`), and lets no order
+  -- come to be for a unit of its own faction (`OwnSince`)
   since_well : (w : WorldValue) (c : CampaignValue) (x : Unit) → OwnSince begun w c → (s : OperandsValue) → IfSome (quit_effect s) (λ deed. StepsWell (OwnSince begun) quit_reserve w c (deed c x).0)
   since_well w c x since (operands.Number number) =
       let well = quit_well w c number x since.0 in
@@ -83,7 +84,8 @@ module _ (begun : CampaignValue) where
       }
   since_well w c x since other = tt
 
-  -- QUIT keeps `OwnSince`, and a unit that it doesn't concern by `QuitsFrom` is no worse off (`IsOrderly`)
+  -- QUIT keeps what `OwnSince` says, and a unit is no worse off, unless its faction quits by an order for a unit that
+  -- was its own as the phase began (`IsOrderly`, `QuitsFrom`)
   since_orderly : IsOrderly quit_step (OwnSince begun) quit_reserve quit_moves (QuitsFrom begun) IsNoWorse
   since_orderly = record {
     well = λ w a c t x since fit own. since_well w c x since t.order_value.operands;

@@ -115,7 +115,7 @@ loss_under e t h = if entry_index e == entry_index (loss_entry t) then unit_amou
 abbrev pub quit_reserve : RemainingBound
 quit_reserve c e t = sum_over (λ u. loss_under e t u.holding) c.units
 
--- the specification of the phase of QUIT
+-- the specification of the phase of QUIT, which books all that the leaving units had as left and lost
 abbrev pub quit_spec : PhaseSpec
 quit_spec = record {
   meaning = quit_meaning;

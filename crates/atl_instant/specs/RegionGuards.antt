@@ -34,8 +34,8 @@ pub record IsGuardOf (region faction : ℕ) (u : Unit) : Type 0 where
   pub stands : u.region ≡ region
   pub belongs : u.faction ≡ faction
 
--- For each unit that guards, the map has its faction under its region.
--- Each region in the map is guarded by a unit of the faction that the map has for it.
+-- The map has the faction of each unit that guards under its region, and nothing else: each region in the map is
+-- guarded by a unit of the faction that the map has for it.
 pub record AreRegionGuards (c : CampaignValue) (m : GuardMap) : Type 0 where
   pub noted : Every (λ n u. guards u ≡ true → get m u.region ≡ Some u.faction) c.units
   pub held : (region faction : ℕ) → get m region ≡ Some faction → (n : ℕ) × (u : Unit) × (get c.units n ≡ Some u) × IsGuardOf region faction u

@@ -55,12 +55,12 @@ with_more n other h = record h { men = h.men + n; days = amounts_for (raised_of 
 
 -- ---- a law: the days that both units have of each skill after n men went
 
--- after n men went, both units have the days of a skill that `staying_of` and `raised_of` give
+-- after n men went, one unit has the days of a skill that stay, and the other those that it had and those that came
 pub record HaveDaysOf (n : ℕ) (other h : HoldingValue) (skill : ℕ) : Type 0 where
   pub stay : amount_of (with_fewer n other).days skill ≡ staying_of n other skill
   pub come : amount_of (with_more n other h).days skill ≡ raised_of n other h skill
 
--- A law: after any number of men went, both units have the days of each skill that `staying_of` and `raised_of` give.
+-- A law: however many men went, one unit has the days of each skill that stay, the other its own and those that came.
 abbrev pub DaysGoWithMen : Type 0
 DaysGoWithMen = (n : ℕ) (other h : HoldingValue) (skill : ℕ) → HaveDaysOf n other h skill
 

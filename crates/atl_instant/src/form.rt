@@ -26,7 +26,8 @@ use std::alloc::{AllocError, Global};
 #[derive(Drop, Clone, Copy)]
 pub struct FormPhase;
 
-/// Whether no further unit can be formed: there are 100,000 units, or the last number is taken.
+/// Whether no further unit can be formed: there are 100,000 units, or the next unit's number would
+/// be above 999,999,999.
 fn is_unit_limit(campaign: &Campaign) -> bool
     ensures { result ≡ is_unit_limit campaign.now.value }
 {
@@ -194,6 +195,7 @@ fn form_one(
     })
 }
 
+/// Has the verb FORM.
 impl PhaseVerbs for FormPhase {
     ghost is_of = { is_forming };
 

@@ -146,6 +146,7 @@ fn give(
     Ok(Outcome::Done(u64::from(amount)))
 }
 
+/// Has the verbs GIVE and PAY.
 impl PhaseVerbs for GivePhase {
     ghost is_of = { is_giving };
 

@@ -64,7 +64,8 @@ fn guard(
     Ok(Outcome::Done(0))
 }
 
-/// Carries out an order of GUARD. Returns its outcome, or None for GUARD 0, which is passed over.
+/// Carries out an order of GUARD 1, and returns its outcome, or None for GUARD 0, which is passed
+/// over.
 fn carry_out(
     campaign: &mut Campaign,
     holders: &mut RegionGuards,

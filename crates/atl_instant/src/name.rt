@@ -107,7 +107,8 @@ fn clear_guard(campaign: &mut Campaign, unit: u32)
     campaign.set_guard(unit, false);
 }
 
-/// Carries out GUARD 0: clears the guard flag of the order's unit, if that is the faction's own.
+/// Carries out GUARD 0: clears the guard flag of the order's unit, if that is the faction's own, or
+/// changes nothing, with NotYours.
 fn leave_guard(campaign: &mut Campaign, order: PhaseOrder<'_>) -> Outcome
     ensures what { (campaign.new.value, result)
         ≡ faction_effect (leave_guard order.entry.unit) campaign.old.value order.entry.faction
@@ -145,7 +146,8 @@ fn name(
     Outcome::Done(0)
 }
 
-/// Carries out NAME for the order's unit, if that is the faction's own.
+/// Carries out NAME: the order's unit gives the name, if it is the faction's own, or nothing
+/// changes, with NotYours.
 fn give_name(
     alloc: Global,
     world: &World,

@@ -182,6 +182,7 @@ fn promote(campaign: &mut Campaign, order: PhaseOrder<'_>, to: u32) -> Outcome
     Outcome::Done(0)
 }
 
+/// Has the verbs LEAVE, ENTER and PROMOTE.
 impl PhaseVerbs for PlacePhase {
     ghost is_of = { is_placing };
 

@@ -158,6 +158,7 @@ fn quit(
     Ok(Outcome::Done(0))
 }
 
+/// Has the verb QUIT.
 impl PhaseVerbs for QuitPhase {
     ghost is_of = { is_quitting };
 

@@ -161,6 +161,7 @@ fn transfer(
     Ok(Outcome::Done(u64::from(going)))
 }
 
+/// Has the verb TRANSFER.
 impl PhaseVerbs for TransferPhase {
     ghost is_of = { is_transferring };
 
@@ -201,8 +202,8 @@ impl PlainPhase for TransferPhase {
     fn is_plain(&self) {}
 }
 
-/// Does nothing. Its clause is a law: each skill's days leave the one unit and come to the other as
-/// the definitions of TRANSFER say.
+/// The law that, as men go, the days of each skill that go with them leave the one unit and come to
+/// the other. Does nothing.
 pub fn days_go_with_men()
     ensures { DaysGoWithMen }
 {}
