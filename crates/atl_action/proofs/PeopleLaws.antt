@@ -1,4 +1,4 @@
--- Laws of units that change only location and guard flag:
+-- Laws of units that change only region, structure and guard flag:
 -- their number, their factions and what they hold together stay the same.
 use Rattle.std.proofs.Common.{◌≡◌, ◌==◌, ℕ, ◌+◌, Bool, true, false, Option, Some, None, refl, sym, ap, ◌∙◌, arith}
 use Rattle.std.specs.Prelude.{option_map, if◌then◌else◌}
@@ -47,8 +47,8 @@ cancelled : (a b p q : ℕ) → a + p ≡ b + q → q ≡ p → a ≡ b
 cancelled a b p q e f = omega arith
 
 module _ (f : Unit → Unit) (same : (u : Unit) → IsSameUnit u (f u)) (m : FinMap nat_cmp Unit) (k : ℕ) where
-  -- a change of unit k, which may be there or not, keeps the people (`AreSamePeople`),
-  -- if f changes only location and flag
+  -- a change of unit k by f, whether it is there or not, keeps the people (`AreSamePeople`), if f changes only region,
+  -- structure and guard flag
   changed_by : (o : Option Unit) → get m k ≡ o → AreSamePeople m (changed_at f m k o)
   changed_by None is = people_same m
   changed_by (Some u) is = record {
@@ -59,7 +59,7 @@ module _ (f : Unit → Unit) (same : (u : Unit) → IsSameUnit u (f u)) (m : Fin
         cancelled (sum_over stock (insert m k (f u))) (sum_over stock m) (stock u) (stock (f u)) (sum_over-insert_known stock m k u (f u) is) (held_same u (f u) (same u) t);
   }
 
-  -- a change of one unit that keeps all but its location and flag keeps the people (`AreSamePeople`)
+  -- a change of one unit that keeps all but its region, structure and guard flag keeps the people (`AreSamePeople`)
   pub people_changed : AreSamePeople m (changed f m k)
   people_changed = changed_by (get m k) refl
 
@@ -93,14 +93,14 @@ module _ (structure to : ℕ) where
       (people_changed put_there (λ x. record { faction = refl; name = refl; men = refl; money = refl; items = refl; days = refl }) m n)
       (people_changed flag_off (λ x. record { faction = refl; name = refl; men = refl; money = refl; items = refl; days = refl }) (changed put_there m n) n)
 
-  -- changing the location and then the flag of unit n changes unit k by `gone` if k is n, and otherwise not at all
+  -- to put unit n elsewhere and then clear its flag changes what a look-up of k found by `gone` if k is n, and else not
   elsewhere_by : (m : FinMap nat_cmp Unit) (n k : ℕ) (b : Bool) → (k == n) ≡ b → (o : Option Unit) → option_map (at_number flag_off (changed put_there m n) n k) (option_map (at_number put_there m n k) o) ≡ option_map (gone_if (k == n)) o
   elsewhere_by m n k b t None = refl
   elsewhere_by m n k true t (Some x) = rw t refl
   elsewhere_by m n k false t (Some x) = rw t refl
 
-  -- a look-up of unit k after unit n went elsewhere:
-  -- the unit as it was, but if k is n, in its new location with its flag cleared
+  -- after unit n went elsewhere, a look-up finds unit n in its new region and structure with its flag cleared, and
+  -- every other unit as it was
   pub elsewhere_at : (m : FinMap nat_cmp Unit) (n k : ℕ) → get (elsewhere m n) k ≡ option_map (gone_if (k == n)) (get m k)
   elsewhere_at m n k =
       get-changed flag_off (changed put_there m n) n k ∙ ap (option_map (at_number flag_off (changed put_there m n) n k)) (get-changed put_there m n k)
@@ -117,7 +117,7 @@ module _ (structure to : ℕ) where
       inside_changed flag_off (changed put_there m n) n q (at_number put_there m n n v) (get-changed put_there m n n ∙ ap (option_map (at_number put_there m n n)) is) refl
       ∙ inside_changed put_there m n q v is (ap (λ s. s == q) here)
 
-  -- a unit that went elsewhere, or didn't, is the same but for its location and flag
+  -- a unit that went elsewhere, or didn't, is the same but for its region, structure and guard flag
   pub gone_same : (b : Bool) (x : Unit) → IsSameUnit x (gone_if b x)
   gone_same true x = record { faction = refl; name = refl; men = refl; money = refl; items = refl; days = refl }
   gone_same false x = record { faction = refl; name = refl; men = refl; money = refl; items = refl; days = refl }

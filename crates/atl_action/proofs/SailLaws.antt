@@ -229,7 +229,7 @@ module _ (w : WorldValue) (c : CampaignValue) (ship to : ℕ) (steady : IsSteady
   at_ship : get structures ship ≡ Some (shifted x)
   at_ship = get-changed shifted c.structures ship ship ∙ ap (option_map (g ship)) is ∙ ap (λ b. Some (if b then shifted x else x)) (equal_passes ship ship refl)
 
-  -- every structure but the ship stays as it was
+  -- after the ship went, every other structure is as it was
   at_other : (q : ℕ) → q ≢ ship → get structures q ≡ get c.structures q
   at_other q apart = changed_else shifted c.structures ship q apart (get c.structures ship)
 
@@ -386,11 +386,11 @@ carried_twice u v x one two = record {
   days = λ s. omega (arith, one.days s, two.days s);
 }
 
--- `IsAtMostMoved` is reflexive and transitive, and keeps the faction
+-- to go along at most with one's structure (`IsAtMostMoved`) is reflexive and transitive, and keeps the faction
 carried_spares : IsUnaffectedRelation IsAtMostMoved
 carried_spares = record { same = carried_same; again = carried_twice; faction = λ u v h. h.faction }
 
--- a region of which the world has a plan by `is_region` is found in the world (`IsThere`)
+-- if `is_region` is true of a number, the world has a region of this number (`IsThere`)
 region_there : (w : WorldValue) (r : ℕ) → is_region w r ≡ true → IsThere w.regions r
 region_there w r is = by_plan (get w.regions r) refl is
   where
@@ -546,7 +546,8 @@ module _ (w : WorldValue) (begun : CampaignValue) (number faction : ℕ) where
         by_unit None here = refl
         by_unit (Some u) here = by_faction u here (u.faction == f)
 
-    -- if another ship than the structure of unit `number` sails, `IsAsBegun` still holds
+    -- if another ship than the structure of unit `number` sails, this structure and all inside are still as the phase
+    -- began (`IsAsBegun`)
     sailed_else : (ship to : ℕ) (x : Structure) → get c.structures ship ≡ Some x → is_ship w x ≡ true → x.done ≡ size_of w x.kind → IsThere w.regions to → s ≢ ship → IsAsBegun (after_sailing c ship to)
     sailed_else ship to x at floats whole there apart = record {
       steady = (sailed_well w c ship to same.steady x at floats whole ((same.steady.known.regions to).1 there)).holds_still;
@@ -556,7 +557,8 @@ module _ (w : WorldValue) (begun : CampaignValue) (number faction : ℕ) where
       list = sailed_list w c ship to same.steady x at s ∙ same.list;
     }
 
-    -- an order for unit n with these operands keeps `IsAsBegun`, if by it the structure of unit `number` doesn't sail
+    -- after a faction's order for unit n with these operands, by which the structure of unit `number` doesn't sail,
+    -- this structure and all inside are still as the phase began (`IsAsBegun`)
     order_stays : (f n : ℕ) (o : OperandsValue) → (inside begun n ≡ s → (order_result (sail_effect w n o) begun f n).1 ≡ Some (Done 0) → ⊥) → IsAsBegun (order_result (sail_effect w n o) c f n).0
     order_stays f n (operands.Direction direction) apart =
         carried_cases (λ p. (inside begun n ≡ s → p.1 ≡ Done 0 → ⊥) → IsAsBegun p.0) (sail w n direction) c f n (λ apart. same)
@@ -565,11 +567,13 @@ module _ (w : WorldValue) (begun : CampaignValue) (number faction : ℕ) where
         (λ in_it done. apart in_it (ap (λ outcome. Some outcome) (sym (carried_same_told f n direction in_it) ∙ done)))
     order_stays f n other apart = same
 
-    -- after an order by which the structure of unit `number` doesn't sail, `IsAsBegun` still holds
+    -- after an order of the phase by which the structure of unit `number` doesn't sail, this structure and all inside
+    -- are still as the phase began (`IsAsBegun`)
     task_stays : (m : MonthValue) (t : Task) → (SailsWith w begun t number faction → ⊥) → IsAsBegun (one_order sail_step w (c, m) t).0
     task_stays m t apart = order_stays t.faction t.unit t.order_value.operands (λ in_it done. apart (record { together = in_it; done = done }))
 
-  -- after orders of SAIL by none of which the structure of unit `number` sails, `IsAsBegun` still holds
+  -- after orders of SAIL by none of which the structure of unit `number` sails, this structure and all inside are still
+  -- as the phase began (`IsAsBegun`)
   tasks_stay : (c : CampaignValue) (m : MonthValue) (ts : List Task) → IsAsBegun c → AllByRecursion (λ t. SailsWith w begun t number faction → ⊥) ts → IsAsBegun (fold (one_order sail_step w) (c, m) ts).0
   tasks_stay c m [] same others = same
   tasks_stay c m (t ∷ ts) same others =

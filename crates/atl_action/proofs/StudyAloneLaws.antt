@@ -74,7 +74,7 @@ module _ (w : WorldValue) (taught n s : ℕ) (c d : CampaignValue) (u : Unit) (i
 abbrev Studies : Task → Type 0
 Studies t = is_studying t.order_value.verb ≡ true
 
--- a verb of the phase of STUDY is STUDY
+-- a verb that passes the test `is_studying` is STUDY
 is_study : (verb : Verb) → is_studying verb ≡ true → verb ≡ verbs.Study
 is_study verbs.Study is = refl
 is_study verb is = cc

@@ -98,7 +98,7 @@ module _ (w : WorldValue) (c : CampaignValue) (n : ℕ) (u : Unit) (s cost days 
       owed t (total behind t) (total c t) sum ∙ ap (λ z. z +ℤ cond (thing_index t == 0) (neg_ℤ (pos cost)) (pos 0)) (old t)
       ∙ sym (booked-after_booking c.books Study Money (neg_ℤ (pos cost)) t)
 
-  -- the money of all units falls by the cost
+  -- the money of all units together falls by the cost as the unit pays
   less : sum_over (λ (x : Unit). x.holding.money) behind.units + cost ≡ sum_over (λ (x : Unit). x.holding.money) c.units
   less =
       let money = λ (x : Unit). x.holding.money in
@@ -177,7 +177,7 @@ study_stays w taught c n s u k apart =
 
 -- ---- the phase
 
--- `IsUnchanged` is reflexive and transitive, and keeps the faction
+-- to be unchanged (`IsUnchanged`) is reflexive and transitive, and keeps the faction
 unchanged : IsUnaffectedRelation IsUnchanged
 unchanged = record { same = λ u. refl; again = λ u v x one two. two ∙ one; faction = λ u v same. ap (λ (x : Unit). x.faction) same }
 

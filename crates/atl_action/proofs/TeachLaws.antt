@@ -56,8 +56,8 @@ not_listed : (n : ℕ) (ns : List ℕ) → AreOthers n ns → list_any (λ k. n 
 not_listed n [] all = refl
 not_listed n (k ∷ ns) all = ap (λ b. b || list_any (λ k. n == k) ns) all.0 ∙ not_listed n ns all.1
 
--- in a list that begins with n, no number is before the first that passes a test if that is n; else n is, and what is
--- before the first in the rest
+-- before the first number that passes a test, a list of n and others has none if n passes, and else n and what the
+-- others have before it
 before_cons : (p : ℕ → Bool) (n : ℕ) (ns : List ℕ) → before_first p (n ∷ ns) ≡ if p n then [] else n ∷ before_first p ns
 before_cons p n ns = by_test (p n)
   where
@@ -80,8 +80,8 @@ before_others n p (k ∷ ns) all = subst (AreOthers n) (sym (before_cons p k ns)
 first_is_dealt : (had given want places : ℕ) → given ≡ min places want → (had + given) + 0 ≡ had + (min (0 + want) places - min 0 places)
 first_is_dealt had given want places is = grind (arith, is)
 
--- in a lesson a later unit has as many men taught with the first unit in the list as without it and for fewer places,
--- by what the first unit was given
+-- a later unit of a lesson has as many men taught with the first unit in the list as without it, if there are then as
+-- many places fewer as the first unit was given
 rest_is_dealt : (places given first before want : ℕ) → given ≡ min places first →
     min (before + want) (places - given) - min before (places - given) ≡ min ((first + before) + want) places - min (first + before) places
 rest_is_dealt places given first before want is = grind (arith, is)

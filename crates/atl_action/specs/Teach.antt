@@ -88,7 +88,7 @@ teach_fault c t pupils below = first_fault (
     ∷ (length below == 0, CannotTeach)
     ∷ [])
 
--- how many men of each unit were taught so far after an order of TEACH, none of them by it with a fault; its outcome
+-- how many men of each unit were taught so far after an order of TEACH, which teaches none with a fault; its outcome
 unfoldable pub teach : CampaignValue → Aliases → Learning → TaughtMen → Task → TaughtMen × Outcome
 teach c aliases learning taught t =
     let pupils = filter (is_pupil c learning (region_of c t.unit)) (map (unit_of aliases t.faction) (listed_units t.order_value.operands)) in

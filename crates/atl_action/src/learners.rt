@@ -16,6 +16,7 @@ use std::alloc::{AllocError, Global};
 /// The verb STUDY, whose orders say which units are learning.
 pub(crate) struct StudyVerbs;
 
+/// Has the verb STUDY.
 impl PhaseVerbs for StudyVerbs {
     ghost is_of = { is_studying };
 
@@ -95,9 +96,9 @@ pub(crate) fn learners(
     Ok(learning)
 }
 
-/// Does nothing. Its clause is a law: exactly the units learn for which an order of STUDY of their
-/// own faction counts, and which have men and the fee for all of them. Each learns the skill of
-/// such an order. See docs/RULES.md, "Learning".
+/// The law that exactly those units learn for which an order of STUDY of their own faction counts,
+/// and which have men and the fee for all of them; each learns the skill of such an order. Does
+/// nothing. See docs/RULES.md, "Learning".
 pub fn units_learn_by_orders()
     ensures { UnitsLearnByOrders }
 {}

@@ -249,6 +249,7 @@ fn sail(
     Ok(Outcome::Done(0))
 }
 
+/// Has the verb SAIL.
 impl PhaseVerbs for SailPhase {
     ghost is_of = { is_sailing };
 

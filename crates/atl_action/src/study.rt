@@ -76,7 +76,7 @@ fn study_fault(holding: &Holding, cost: u64) -> Option<EventFault>
     }
 }
 
-/// Takes the cost from a unit's money and sets its days of a skill, if it is there.
+/// Takes the cost from a unit's money and sets its days of a skill, if the unit is there.
 fn learn(
     campaign: &mut Campaign,
     unit: u32,
@@ -152,6 +152,7 @@ fn study(
     Ok(Outcome::Done(u64::from(days - old)))
 }
 
+/// Has the verb STUDY.
 impl PhaseVerbs for StudyPhase {
     ghost is_of = { is_studying };
 

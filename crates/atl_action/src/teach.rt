@@ -20,6 +20,7 @@ use std::alloc::{AllocError, Global};
 /// The verb TEACH, whose orders the phase of TEACH and STUDY carries out first.
 struct TeachVerbs;
 
+/// Has the verb TEACH.
 impl PhaseVerbs for TeachVerbs {
     ghost is_of = { is_teaching };
 
@@ -316,8 +317,8 @@ pub(crate) fn teach_all(
     Ok(taught)
 }
 
-/// Does nothing. Its clause is a law: of no unit more men are taught in a month than it has,
-/// however many units teach it.
+/// The law that of no unit more men are taught in a month than it has, however many units teach it.
+/// Does nothing.
 pub fn nobody_is_taught_twice()
     ensures { NobodyIsTaughtTwice }
 {}

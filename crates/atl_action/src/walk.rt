@@ -79,6 +79,7 @@ fn walk(
     Ok(Outcome::Done(0))
 }
 
+/// Has the verb MOVE.
 impl PhaseVerbs for MovePhase {
     ghost is_of = { is_walking };
 
