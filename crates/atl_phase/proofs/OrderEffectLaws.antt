@@ -81,7 +81,7 @@ well_twice {holds} {reserve} w a b c one two = record {
 pub room_left : {holds : Condition} {reserve : RemainingBound} (w : WorldValue) (a b : CampaignValue) → StepsWell holds reserve w a b → HaveRoom (reserve a) a → HaveRoom (reserve b) b
 room_left {holds} {reserve} w a b well room e t = room_drawn (reserve a e t) (reserve b e t) (amount_in a.books e t) (amount_in b.books e t) (well.drawn e t) (room e t)
 
--- a step within the remaining bound (`StepsWell`) is within the bound of the phase, if that is as large (`LeavesWell`)
+-- a step within a remaining bound (`StepsWell`) is within a bound of the phase that is at least as large (`LeavesWell`)
 pub leaves_well : {holds : Condition} {reserve : RemainingBound} {moving : BookBound} (w : WorldValue) (a b : CampaignValue) → ((e : Entry) (t : Thing) → reserve a e t ≤ moving e t) → StepsWell holds reserve w a b → LeavesWell holds moving w a b
 leaves_well {holds} {reserve} {moving} w a b l h = record {
   leaves_it = h.holds_still;
