@@ -21,8 +21,8 @@ use atl_state::{
 use atl_tables::{Numbered, Text, World};
 use std::alloc::{AllocError, Global};
 
-/// The phase of FORM: units form new units, which have a name and nothing else.
-/// See docs/RULES.md, "Form".
+/// The phase of FORM: units form new units of their faction, in their region and structure, without
+/// men or goods. See docs/RULES.md, "Form".
 #[derive(Drop, Clone, Copy)]
 pub struct FormPhase;
 
