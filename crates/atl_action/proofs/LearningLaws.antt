@@ -26,7 +26,7 @@ module _ (w : WorldValue) (c : CampaignValue) where
   abbrev with_skill : Learning → Task → Option ℕ → Learning
   with_skill learning t skill = option_map_or (λ s. if learns w s t.faction (get c.units t.unit) then insert learning t.unit s else learning) skill learning
 
-  -- if P holds of all that are learning, and of the unit that learns by an order, it holds of all after the order
+  -- if P holds of all units that are learning, and of the one that learns by an order, it holds of all with that added
   only_one : (P : ℕ → ℕ → Type 0) (t : Task) (learning : Learning) → IfLearns P t → Every P learning → Every P (with_learner w c learning t)
   only_one P t learning so old = by_skill (skill_of t.order_value.operands) refl
     where
@@ -38,12 +38,13 @@ module _ (w : WorldValue) (c : CampaignValue) where
       by_skill None says = old
       by_skill (Some s) says = by_test s says (learns w s t.faction (get c.units t.unit)) refl
 
-  -- if P holds of all that are learning, and of each unit that learns by some orders, it holds of all after the orders
+  -- if P holds of all units that are learning, and of each that learns by one of some orders, it holds of all with
+  -- these added
   only_all : (P : ℕ → ℕ → Type 0) (ts : List Task) (learning : Learning) → AllByRecursion (IfLearns P) ts → Every P learning → Every P (fold (with_learner w c) learning ts)
   only_all P [] learning so old = old
   only_all P (t ∷ ts) learning so old = only_all P ts (with_learner w c learning t) so.1 (only_one P t learning so.0 old)
 
-  -- a unit that is learning still is when another one is added
+  -- a unit that is in the map of those that learn is still in it once a unit is added
   there-insert : (learning : Learning) (k s n : ℕ) → IsThere learning n → IsThere (insert learning k s) n
   there-insert learning k s n (x, there) = by_test (eq_by_cmp nat_cmp n k) refl
     where
@@ -51,7 +52,7 @@ module _ (w : WorldValue) (c : CampaignValue) where
       by_test true is = (s, get-insert nat_cmp_total learning k s n ∙ ap (λ b. cond b (Some s) (get learning n)) is)
       by_test false is = (x, get-insert nat_cmp_total learning k s n ∙ ap (λ b. cond b (Some s) (get learning n)) is ∙ there)
 
-  -- a unit that is learning still is after an order of STUDY
+  -- a unit that is in the map of those that learn is still in it once the unit of an order of STUDY is added
   kept_one : (t : Task) (learning : Learning) (n : ℕ) → IsThere learning n → IsThere (with_learner w c learning t) n
   kept_one t learning n there = by_skill (skill_of t.order_value.operands)
     where
@@ -63,7 +64,7 @@ module _ (w : WorldValue) (c : CampaignValue) where
       by_skill None = there
       by_skill (Some s) = by_test s (learns w s t.faction (get c.units t.unit))
 
-  -- a unit that is learning still is after some orders of STUDY
+  -- a unit that is in the map of those that learn is still in it once the units of some orders of STUDY are added
   kept : (ts : List Task) (learning : Learning) (n : ℕ) → IsThere learning n → IsThere (fold (with_learner w c) learning ts) n
   kept [] learning n there = there
   kept (t ∷ ts) learning n there = kept ts (with_learner w c learning t) n (kept_one t learning n there)

@@ -11,7 +11,7 @@ use Rattle.atl_action.specs.Teach.{first_mentions}
 abbrev pub is_new : FinMap nat_cmp ℕ → ℕ → Bool
 is_new seen k = not (is_some (get seen k))
 
--- two filters in turn are one filter by the test that both tests make
+-- two filters in turn are one filter by a test that is true exactly where both of their tests are
 both_filters : (p q r : ℕ → Bool) → ((k : ℕ) → (q k && p k) ≡ r k) → (ns : List ℕ) → filter p (filter q ns) ≡ filter r ns
 both_filters p q r same [] = refl
 both_filters p q r same (n ∷ ns) = by_test (q n) (same n) (both_filters p q r same ns)
@@ -20,7 +20,7 @@ both_filters p q r same (n ∷ ns) = by_test (q n) (same n) (both_filters p q r 
     by_test true is rest = ap (λ l. cond (p n) (n ∷ l) l) rest ∙ ap (λ b. cond b (n ∷ filter r ns) (filter r ns)) is
     by_test false is rest = rest ∙ ap (λ b. cond b (n ∷ filter r ns) (filter r ns)) is
 
--- a number is new once n is noted exactly if it isn't n, and was new before
+-- once n is among the numbers seen, a number is new exactly if it isn't n, and was new before
 new_behind : (seen : FinMap nat_cmp ℕ) (n k : ℕ) → (not (k == n) && is_new seen k) ≡ is_new (insert seen n n) k
 new_behind seen n k = by_test (k == n) ∙ sym (ap (λ o. not (is_some o)) (get-insert nat_cmp_total seen n n k ∙ ap (λ b. cond b (Some n) (get seen k)) (sym (unsigned_ties k n))))
   where

@@ -1,4 +1,4 @@
--- Laws of units that change only location and guard flag:
+-- Laws of units that change only region, structure and guard flag:
 -- their number, their factions and what they hold together stay the same.
 use Rattle.std.proofs.Common.{◌≡◌, ◌==◌, ℕ, ◌+◌, Bool, true, false, Option, Some, None, refl, sym, ap, ◌∙◌, arith}
 use Rattle.std.specs.Prelude.{option_map, if◌then◌else◌}
@@ -36,19 +36,19 @@ people_same m = record { count = refl; of_factions = λ k. refl; hold = λ t. re
 pub people_twice : (a b c : FinMap nat_cmp Unit) → AreSamePeople a b → AreSamePeople b c → AreSamePeople a c
 people_twice a b c one two = record { count = two.count ∙ one.count; of_factions = λ k. two.of_factions k ∙ one.of_factions k; hold = λ t. two.hold t ∙ one.hold t }
 
--- a unit that is the same but for its location and flag holds as much of each thing
+-- a unit that is the same but for its region, structure and guard flag holds as much of each thing
 held_same : (u v : Unit) → IsSameUnit u v → (t : Thing) → unit_amount t v.holding ≡ unit_amount t u.holding
 held_same u v same Money = same.money
 held_same u v same People = same.men
 held_same u v same (Item i) = ap (λ items. amount_of items i) same.items
 
--- if a sum stays the same while one of its addends does, the other addend stays the same
+-- if a + p is b + q, and q is p, a is b
 cancelled : (a b p q : ℕ) → a + p ≡ b + q → q ≡ p → a ≡ b
 cancelled a b p q e f = omega arith
 
 module _ (f : Unit → Unit) (same : (u : Unit) → IsSameUnit u (f u)) (m : FinMap nat_cmp Unit) (k : ℕ) where
-  -- a change of unit k, which may be there or not, keeps the people (`AreSamePeople`),
-  -- if f changes only location and flag
+  -- a change of unit k by f, whether it is there or not, keeps the people (`AreSamePeople`), if f changes only region,
+  -- structure and guard flag
   changed_by : (o : Option Unit) → get m k ≡ o → AreSamePeople m (changed_at f m k o)
   changed_by None is = people_same m
   changed_by (Some u) is = record {
@@ -59,7 +59,7 @@ module _ (f : Unit → Unit) (same : (u : Unit) → IsSameUnit u (f u)) (m : Fin
         cancelled (sum_over stock (insert m k (f u))) (sum_over stock m) (stock u) (stock (f u)) (sum_over-insert_known stock m k u (f u) is) (held_same u (f u) (same u) t);
   }
 
-  -- a change of one unit that keeps all but its location and flag keeps the people (`AreSamePeople`)
+  -- a change of one unit that keeps all but its region, structure and guard flag keeps the people (`AreSamePeople`)
   pub people_changed : AreSamePeople m (changed f m k)
   people_changed = changed_by (get m k) refl
 
@@ -93,14 +93,14 @@ module _ (structure to : ℕ) where
       (people_changed put_there (λ x. record { faction = refl; name = refl; men = refl; money = refl; items = refl; days = refl }) m n)
       (people_changed flag_off (λ x. record { faction = refl; name = refl; men = refl; money = refl; items = refl; days = refl }) (changed put_there m n) n)
 
-  -- changing the location and then the flag of unit n changes unit k by `gone` if k is n, and otherwise not at all
+  -- to put unit n elsewhere and then clear its flag changes what a look-up of k found by `gone` if k is n, and else not
   elsewhere_by : (m : FinMap nat_cmp Unit) (n k : ℕ) (b : Bool) → (k == n) ≡ b → (o : Option Unit) → option_map (at_number flag_off (changed put_there m n) n k) (option_map (at_number put_there m n k) o) ≡ option_map (gone_if (k == n)) o
   elsewhere_by m n k b t None = refl
   elsewhere_by m n k true t (Some x) = rw t refl
   elsewhere_by m n k false t (Some x) = rw t refl
 
-  -- a look-up of unit k after unit n went elsewhere:
-  -- the unit as it was, but if k is n, in its new location with its flag cleared
+  -- after unit n went elsewhere, a look-up finds unit n in its new region and structure with its flag cleared, and
+  -- every other unit as it was
   pub elsewhere_at : (m : FinMap nat_cmp Unit) (n k : ℕ) → get (elsewhere m n) k ≡ option_map (gone_if (k == n)) (get m k)
   elsewhere_at m n k =
       get-changed flag_off (changed put_there m n) n k ∙ ap (option_map (at_number flag_off (changed put_there m n) n k)) (get-changed put_there m n k)
@@ -117,7 +117,7 @@ module _ (structure to : ℕ) where
       inside_changed flag_off (changed put_there m n) n q (at_number put_there m n n v) (get-changed put_there m n n ∙ ap (option_map (at_number put_there m n n)) is) refl
       ∙ inside_changed put_there m n q v is (ap (λ s. s == q) here)
 
-  -- a unit that went elsewhere, or didn't, is the same but for its location and flag
+  -- a unit that went elsewhere, or didn't, is the same but for its region, structure and guard flag
   pub gone_same : (b : Bool) (x : Unit) → IsSameUnit x (gone_if b x)
   gone_same true x = record { faction = refl; name = refl; men = refl; money = refl; items = refl; days = refl }
   gone_same false x = record { faction = refl; name = refl; men = refl; money = refl; items = refl; days = refl }
@@ -129,8 +129,8 @@ module _ (structure to : ℕ) where
 
 -- ---- the totals
 
--- the totals of the campaign stay the same, if the units are the same people
--- (`AreSamePeople`) and the regions are unchanged
+-- the campaign's total of each thing stays the same, if the units are the same people (`AreSamePeople`) and the regions
+-- are unchanged
 pub total_people : (c d : CampaignValue) → AreSamePeople c.units d.units → d.regions ≡ c.regions → (t : Thing) → total d t ≡ total c t
 unfolding total
 total_people c d people regions t =

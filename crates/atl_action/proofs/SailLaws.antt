@@ -62,7 +62,7 @@ of_unit f o = option_map_or (λ (x : Unit). f x.holding) o 0
 
 -- ---- lists of units
 
--- a test for a number passes in a list that has the number
+-- the test whether a list has a number (`list_any`) is true, if the number is listed
 any_listed : (k : ℕ) (ns : List ℕ) → IsListed k ns → list_any (λ n. k == n) ns ≡ true
 any_listed k [] listed = absurd listed
 any_listed k (n ∷ ns) (inl same) = ap (λ b. b || list_any (λ n. k == n) ns) (equal_passes k n same)
@@ -72,7 +72,7 @@ any_listed k (n ∷ ns) (inr listed) = ap (λ b. (k == n) || b) (any_listed k ns
     or_true true = refl
     or_true false = refl
 
--- if a test for a number passes in a list, the list has the number
+-- if the test whether a list has a number (`list_any`) is true, the number is listed
 listed_any : (k : ℕ) (ns : List ℕ) → list_any (λ n. k == n) ns ≡ true → IsListed k ns
 listed_any k [] e = false_true e
 listed_any k (n ∷ ns) e = by_test (k == n) refl e (λ rest. listed_any k ns rest)
@@ -81,7 +81,7 @@ listed_any k (n ∷ ns) e = by_test (k == n) refl e (λ rest. listed_any k ns re
     by_test true t e rest = inl (is_equal k n t)
     by_test false t e rest = inr (rest e)
 
--- P holds of all elements of a list, if it holds of each
+-- P holds of all numbers of a list (`AllByRecursion`), if it holds of each number that is listed (`IsListed`)
 all_listed : (P : ℕ → Type 0) (ns : List ℕ) → ((k : ℕ) → IsListed k ns → P k) → AllByRecursion P ns
 all_listed P [] h = tt
 all_listed P (n ∷ ns) h = (h n (inl refl), all_listed P ns (λ k l. h k (inr l)))
@@ -106,7 +106,8 @@ module _ (ship to : ℕ) where
   mapped_none None = refl
   mapped_none (Some x) = refl
 
-  -- a look-up after the units of a list went along with the ship: gone with it, if listed, and unchanged otherwise
+  -- after the units of a list went along with the ship, a look-up finds a unit gone with it if it is listed, and else
+  -- unchanged
   all_at : (m : FinMap nat_cmp Unit) (ns : List ℕ) (k : ℕ) → get (fold (elsewhere ship to) m ns) k ≡ option_map (gone_if ship to (list_any (λ n. k == n) ns)) (get m k)
   all_at m [] k = mapped_none (get m k)
   all_at m (n ∷ ns) k =
@@ -124,7 +125,7 @@ module _ (ship to : ℕ) where
       ap (λ o. with_guard (with_place_at d n to ship o) n false) is
       ∙ ap (λ b. with_guard (if b then placed d n to ship else after_handover (after_handover (placed d n to ship) v.structure n (heir d v.structure n)) ship 0 n) n false) (equal_passes v.structure ship here)
 
-  -- a unit inside the ship still is when another one went along
+  -- a unit inside the ship is still inside after a unit went along with the ship
   still_inside : (m : FinMap nat_cmp Unit) (n k : ℕ) → IsInside m k → IsInside (elsewhere ship to m n) k
   still_inside m n k (v, there, here) = (gone_if ship to (k == n) v, elsewhere_at ship to m n k ∙ ap (option_map (gone_if ship to (k == n))) there, by_test (k == n))
     where
@@ -132,7 +133,7 @@ module _ (ship to : ℕ) where
       by_test true = refl
       by_test false = here
 
-  -- all units inside the ship still are when another one went along
+  -- all units of a list that are inside the ship are still inside after a unit went along with the ship
   still_all : (m : FinMap nat_cmp Unit) (n : ℕ) (ns : List ℕ) → AllByRecursion (IsInside m) ns → AllByRecursion (IsInside (elsewhere ship to m n)) ns
   still_all m n [] all = tt
   still_all m n (k ∷ ns) all = (still_inside m n k all.0, still_all m n ns all.1)
@@ -162,7 +163,7 @@ module _ (w : WorldValue) (c : CampaignValue) (ship to : ℕ) (steady : IsSteady
   abbrev units : FinMap nat_cmp Unit
   units = fold (elsewhere ship to) c.units ns
 
-  -- a structure in region `to`
+  -- the structure, put into region `to`
   abbrev shifted : Structure → Structure
   shifted y = record y { region = to }
 
@@ -170,11 +171,11 @@ module _ (w : WorldValue) (c : CampaignValue) (ship to : ℕ) (steady : IsSteady
   abbrev structures : FinMap nat_cmp Structure
   structures = changed shifted c.structures ship
 
-  -- the unit of number k after the ship went
+  -- the unit after the ship went: gone along with it, if it was inside, and otherwise as it was
   abbrev f : ℕ → Unit → Unit
   f k v = gone_if ship to (v.structure == ship) v
 
-  -- the structure of number k after the ship went
+  -- the structure of a number after the ship went: in region `to` if it is the ship, and otherwise as it was
   abbrev g : ℕ → Structure → Structure
   g = at_number shifted c.structures ship
 
@@ -211,11 +212,11 @@ module _ (w : WorldValue) (c : CampaignValue) (ship to : ℕ) (steady : IsSteady
   units_by k None there = refl
   units_by k (Some v) there = ap (λ b. Some (gone_if ship to b v)) (member_by k v there (v.structure == ship) (list_any (λ n. k == n) ns) refl refl)
 
-  -- a look-up of a unit after the ship went
+  -- after the ship went, a look-up finds a unit gone along with it, if it was inside, and otherwise as it was
   units_at : (k : ℕ) → get units k ≡ option_map (f k) (get c.units k)
   units_at k = all_at ship to c.units ns k ∙ units_by k (get c.units k) refl
 
-  -- a unit that goes along exactly if it is inside the ship stays inside its structure
+  -- a unit that goes along with the ship exactly if it is inside is inside the same structure as before
   inside_by : (v : Unit) (b : Bool) → (v.structure == ship) ≡ b → (gone_if ship to b v).structure ≡ v.structure
   inside_by v true t = sym (is_equal v.structure ship t)
   inside_by v false t = refl
@@ -224,11 +225,11 @@ module _ (w : WorldValue) (c : CampaignValue) (ship to : ℕ) (steady : IsSteady
   inside_same : (k : ℕ) (v : Unit) → (f k v).structure ≡ v.structure
   inside_same k v = inside_by v (v.structure == ship) refl
 
-  -- the ship is in region `to`
+  -- after the ship went, it is found in region `to`, and is otherwise as it was
   at_ship : get structures ship ≡ Some (shifted x)
   at_ship = get-changed shifted c.structures ship ship ∙ ap (option_map (g ship)) is ∙ ap (λ b. Some (if b then shifted x else x)) (equal_passes ship ship refl)
 
-  -- every structure but the ship stays as it was
+  -- after the ship went, every other structure is as it was
   at_other : (q : ℕ) → q ≢ ship → get structures q ≡ get c.structures q
   at_other q apart = changed_else shifted c.structures ship q apart (get c.structures ship)
 
@@ -385,11 +386,11 @@ carried_twice u v x one two = record {
   days = λ s. omega (arith, one.days s, two.days s);
 }
 
--- `IsAtMostMoved` is reflexive and transitive, and keeps the faction
+-- to go along at most with one's structure (`IsAtMostMoved`) is reflexive and transitive, and keeps the faction
 carried_spares : IsUnaffectedRelation IsAtMostMoved
 carried_spares = record { same = carried_same; again = carried_twice; faction = λ u v h. h.faction }
 
--- a region of the world is there
+-- if `is_region` is true of a number, the world has a region of this number (`IsThere`)
 region_there : (w : WorldValue) (r : ℕ) → is_region w r ≡ true → IsThere w.regions r
 region_there w r is = by_plan (get w.regions r) refl is
   where
@@ -397,7 +398,7 @@ region_there w r is = by_plan (get w.regions r) refl is
     by_plan None there t = false_true t
     by_plan (Some p) there t = (p, there)
 
--- the region that a ship sails to, if it isn't refused as no way, is one of the world
+-- if a way to a region isn't refused (`is_way`), that region is one of the world
 way_there : (w : WorldValue) (from : ℕ) (to : Option ℕ) → not (is_way w from to) ≡ false → IsThere w.regions (unwrap_or to 0)
 way_there w from None t = false_true (sym t)
 way_there w from (Some r) t = region_there w r (and_parts (is_region w r) (not (is_land_at w from && is_land_at w r)) (not-false (is_way w from (Some r)) t)).0
@@ -467,7 +468,7 @@ all_carried w m c d keeps n u there = keeps n u there (λ k d l nobody. nobody)
 
 -- ---- units that stay: those whose structure doesn't sail
 
--- the sums by g and by h over a list are equal, if g and h are equal for each element
+-- the sum of g over a list of numbers is that of h, if g and h are equal for each number listed
 sum_same : (g h : ℕ → ℕ) (ns : List ℕ) → ((k : ℕ) → IsListed k ns → g k ≡ h k) → sum_by g ns ≡ sum_by h ns
 sum_same g h [] same = refl
 sum_same g h (n ∷ ns) same =
@@ -486,7 +487,7 @@ fault_with w n u to ship crew load = first_fault (
     ∷ (nat_lt (capacity w ship) load, TooHeavy)
     ∷ [])
 
--- an order has the same outcome in two campaigns, if it has the same fault there
+-- an order has the same outcome in two campaigns, whatever it makes of them, if it has the same fault, or none, in both
 unless_told : (c d x y : CampaignValue) (o : Option EventFault) → (unless c o (x, Done 0)).1 ≡ (unless d o (y, Done 0)).1
 unless_told c d x y None = refl
 unless_told c d x y (Some fault) = refl
@@ -545,7 +546,8 @@ module _ (w : WorldValue) (begun : CampaignValue) (number faction : ℕ) where
         by_unit None here = refl
         by_unit (Some u) here = by_faction u here (u.faction == f)
 
-    -- if another ship than the structure of unit `number` sails, `IsAsBegun` still holds
+    -- if another ship than the structure of unit `number` sails, this structure and all inside are still as the phase
+    -- began (`IsAsBegun`)
     sailed_else : (ship to : ℕ) (x : Structure) → get c.structures ship ≡ Some x → is_ship w x ≡ true → x.done ≡ size_of w x.kind → IsThere w.regions to → s ≢ ship → IsAsBegun (after_sailing c ship to)
     sailed_else ship to x at floats whole there apart = record {
       steady = (sailed_well w c ship to same.steady x at floats whole ((same.steady.known.regions to).1 there)).holds_still;
@@ -555,7 +557,8 @@ module _ (w : WorldValue) (begun : CampaignValue) (number faction : ℕ) where
       list = sailed_list w c ship to same.steady x at s ∙ same.list;
     }
 
-    -- an order for unit n with these operands keeps `IsAsBegun`, if by it the structure of unit `number` doesn't sail
+    -- after a faction's order for unit n with these operands, by which the structure of unit `number` doesn't sail,
+    -- this structure and all inside are still as the phase began (`IsAsBegun`)
     order_stays : (f n : ℕ) (o : OperandsValue) → (inside begun n ≡ s → (order_result (sail_effect w n o) begun f n).1 ≡ Some (Done 0) → ⊥) → IsAsBegun (order_result (sail_effect w n o) c f n).0
     order_stays f n (operands.Direction direction) apart =
         carried_cases (λ p. (inside begun n ≡ s → p.1 ≡ Done 0 → ⊥) → IsAsBegun p.0) (sail w n direction) c f n (λ apart. same)
@@ -564,11 +567,13 @@ module _ (w : WorldValue) (begun : CampaignValue) (number faction : ℕ) where
         (λ in_it done. apart in_it (ap (λ outcome. Some outcome) (sym (carried_same_told f n direction in_it) ∙ done)))
     order_stays f n other apart = same
 
-    -- after an order by which the structure of unit `number` doesn't sail, `IsAsBegun` still holds
+    -- after an order of the phase by which the structure of unit `number` doesn't sail, this structure and all inside
+    -- are still as the phase began (`IsAsBegun`)
     task_stays : (m : MonthValue) (t : Task) → (SailsWith w begun t number faction → ⊥) → IsAsBegun (one_order sail_step w (c, m) t).0
     task_stays m t apart = order_stays t.faction t.unit t.order_value.operands (λ in_it done. apart (record { together = in_it; done = done }))
 
-  -- after orders of SAIL by none of which the structure of unit `number` sails, `IsAsBegun` still holds
+  -- after orders of SAIL by none of which the structure of unit `number` sails, this structure and all inside are still
+  -- as the phase began (`IsAsBegun`)
   tasks_stay : (c : CampaignValue) (m : MonthValue) (ts : List Task) → IsAsBegun c → AllByRecursion (λ t. SailsWith w begun t number faction → ⊥) ts → IsAsBegun (fold (one_order sail_step w) (c, m) ts).0
   tasks_stay c m [] same others = same
   tasks_stay c m (t ∷ ts) same others =

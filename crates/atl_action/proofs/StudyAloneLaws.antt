@@ -42,7 +42,7 @@ use Rattle.atl_action.proofs.UnmailedLearnLaws.{taught_told}
 -- ---- an order reads its own unit and the structures
 
 module _ (w : WorldValue) (taught n s : ℕ) (c d : CampaignValue) (u : Unit) (in_c : get c.units n ≡ Some u) (in_d : get d.units n ≡ Some u) (structures : d.structures ≡ c.structures) where
-  -- the fee of the unit's men
+  -- the fee of the skill, in money, for all men of unit n
   abbrev cost : ℕ
   cost = fee_of w s * u.holding.men
 
@@ -50,7 +50,7 @@ module _ (w : WorldValue) (taught n s : ℕ) (c d : CampaignValue) (u : Unit) (i
   abbrev days_in : CampaignValue → ℕ
   days_in b = days_after u.holding.men (amount_of u.holding.days s) taught (is_helpful w s (get b.structures u.structure))
 
-  -- unit n reaches the same days in two campaigns with the same structures
+  -- unit n has the same days of the skill after a month of study in two campaigns with the same structures
   same_days : days_in d ≡ days_in c
   same_days = ap (λ (o : Option Structure). days_after u.holding.men (amount_of u.holding.days s) taught (is_helpful w s o)) (ap (λ m. get m u.structure) structures)
 
@@ -74,12 +74,12 @@ module _ (w : WorldValue) (taught n s : ℕ) (c d : CampaignValue) (u : Unit) (i
 abbrev Studies : Task → Type 0
 Studies t = is_studying t.order_value.verb ≡ true
 
--- a verb of the phase of STUDY is STUDY
+-- a verb that passes the test `is_studying` is STUDY
 is_study : (verb : Verb) → is_studying verb ≡ true → verb ≡ verbs.Study
 is_study verbs.Study is = refl
 is_study verb is = cc
 
--- two orders of STUDY for one unit from one faction share a slot
+-- it can't be that two orders of STUDY for one unit from one faction share no slot
 both_own : (t o : Task) → share_slot t o ≡ false → Studies t → Studies o → t.unit ≡ o.unit → t.faction ≡ o.faction → ⊥
 both_own t o never t_studies o_studies unit faction =
     all_three (t.unit == o.unit) (t.faction == o.faction) (are_of_slot (row_of t.order_value.verb).slot (row_of o.order_value.verb).slot)
@@ -97,7 +97,7 @@ module _ (w : WorldValue) (taught : TaughtMen) (n : ℕ) (u : Unit) where
   abbrev step : CampaignValue × MonthValue → Task → CampaignValue × MonthValue
   step = one_order (study_step taught) w
 
-  -- the order isn't an order for unit n that the faction of unit n wrote
+  -- the order isn't for unit n, or the faction of unit n didn't write it
   abbrev IsOther : Task → Type 0
   IsOther t = t.unit ≡ n → t.faction ≡ u.faction → ⊥
 

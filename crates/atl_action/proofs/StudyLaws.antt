@@ -76,7 +76,7 @@ module _ (w : WorldValue) (c : CampaignValue) (n : ℕ) (u : Unit) (s cost days 
         guard = λ g. g;
       }
 
-  -- a steady campaign stays steady after a unit reached at most 450 days for each man in a skill of the world
+  -- a steady campaign is steady after a unit paid and reached at most 450 days for each man in a skill of the world
   steady_behind : s < length w.skills → days ≤ most_days * u.holding.men → IsSteady w behind
   steady_behind known most = steady-amount w paid Study Money (neg_ℤ (pos cost)) (omega arith) (steady-unit_amount w c n u learned is (may known most) steady)
 
@@ -98,7 +98,7 @@ module _ (w : WorldValue) (c : CampaignValue) (n : ℕ) (u : Unit) (s cost days 
       owed t (total behind t) (total c t) sum ∙ ap (λ z. z +ℤ cond (thing_index t == 0) (neg_ℤ (pos cost)) (pos 0)) (old t)
       ∙ sym (booked-after_booking c.books Study Money (neg_ℤ (pos cost)) t)
 
-  -- the money of all units falls by the cost
+  -- the money of all units together falls by the cost as the unit pays
   less : sum_over (λ (x : Unit). x.holding.money) behind.units + cost ≡ sum_over (λ (x : Unit). x.holding.money) c.units
   less =
       let money = λ (x : Unit). x.holding.money in
@@ -140,7 +140,7 @@ module _ (w : WorldValue) (c : CampaignValue) (n : ℕ) (u : Unit) (s cost days 
 pub days_most : (men old taught : ℕ) (helped : Bool) → days_after men old taught helped ≤ most_days * men
 days_most men old taught helped = omega arith
 
--- a unit without a fault has the money for the fee
+-- if an order of STUDY has no fault for a unit, the unit has the money for the fee
 pub payable_fee : (h : HoldingValue) (cost : ℕ) → study_fault h cost ≡ None → cost ≤ h.money
 payable_fee h cost e =
     let poor = (nat_lt h.money cost, NoFee) ∷ [] in
@@ -177,11 +177,11 @@ study_stays w taught c n s u k apart =
 
 -- ---- the phase
 
--- `IsUnchanged` is reflexive and transitive, and keeps the faction
+-- to be unchanged (`IsUnchanged`) is reflexive and transitive, and keeps the faction
 unchanged : IsUnaffectedRelation IsUnchanged
 unchanged = record { same = λ u. refl; again = λ u v x one two. two ∙ one; faction = λ u v same. ap (λ (x : Unit). x.faction) same }
 
--- the money of all units is within the bound of the phase
+-- in a steady campaign all money of the units (`study_reserve`) is within the bound of the phase (`study_moves`)
 money_most : (w : WorldValue) (c : CampaignValue) → IsSteady w c → (e : Entry) (t : Thing) → study_reserve c e t ≤ study_moves e t
 money_most w c steady e t = by_amount (amount_number e t == amount_number Study Money) _ _ (all_held_within w c steady Money)
   where

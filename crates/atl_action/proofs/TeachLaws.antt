@@ -25,7 +25,7 @@ filtered_others n p (k ∷ ns) all = by_test (p k) (filtered_others n p ns all.1
     by_test true rest = (all.0, rest)
     by_test false rest = rest
 
--- numbers that pass a test are without repetitions, if all of a list are
+-- those numbers of a list that pass a test are without repetitions, if the list is
 filtered_distinct : (p : ℕ → Bool) (ns : List ℕ) → IsDistinct nat_eq ns → IsDistinct nat_eq (filter p ns)
 unfolding IsDistinct
 filtered_distinct p [] all = tt
@@ -51,12 +51,13 @@ unfolding IsDistinct
 mentions_distinct [] = tt
 mentions_distinct (n ∷ ns) = (without n (first_mentions ns), filtered_distinct (λ k. not (k == n)) (first_mentions ns) (mentions_distinct ns))
 
--- if no number of a list is n, a test for n fails in the list
+-- if no number of a list is n, the test whether the list has n is false
 not_listed : (n : ℕ) (ns : List ℕ) → AreOthers n ns → list_any (λ k. n == k) ns ≡ false
 not_listed n [] all = refl
 not_listed n (k ∷ ns) all = ap (λ b. b || list_any (λ k. n == k) ns) all.0 ∙ not_listed n ns all.1
 
--- before the first element that passes a test: nothing if that is n, else n and what is before it in the rest
+-- before the first number that passes a test, a list of n and others has none if n passes, and else n and what the
+-- others have before it
 before_cons : (p : ℕ → Bool) (n : ℕ) (ns : List ℕ) → before_first p (n ∷ ns) ≡ if p n then [] else n ∷ before_first p ns
 before_cons p n ns = by_test (p n)
   where
@@ -75,17 +76,18 @@ before_others n p (k ∷ ns) all = subst (AreOthers n) (sym (before_cons p k ns)
 
 -- ---- men of the first unit are taught, and then men of the others
 
--- the first unit of a lesson gets as many of its men taught as `given`, the lesser of `want` and `places`
+-- by its turn in a lesson the first unit has `given` more men taught, if that is the lesser of `want` and `places`
 first_is_dealt : (had given want places : ℕ) → given ≡ min places want → (had + given) + 0 ≡ had + (min (0 + want) places - min 0 places)
 first_is_dealt had given want places is = grind (arith, is)
 
--- a later unit gets the same whether the first unit is still in the list, or is left out with what it was given
+-- a later unit of a lesson has as many men taught with the first unit in the list as without it, if there are then as
+-- many places fewer as the first unit was given
 rest_is_dealt : (places given first before want : ℕ) → given ≡ min places first →
     min (before + want) (places - given) - min before (places - given) ≡ min ((first + before) + want) places - min (first + before) places
 rest_is_dealt places given first before want is = grind (arith, is)
 
 module _ (c : CampaignValue) (taught after : TaughtMen) (n given : ℕ) (here : after n ≡ taught n + given) (away : (k : ℕ) → k ≢ n → after k ≡ taught k) where
-  -- units other than n have as many untaught men as before unit n got its part of the lesson
+  -- units other than n have together as many untaught men as before unit n got its part of the lesson
   pub same_sum : (ns : List ℕ) → AreOthers n ns → sum_by (untaught_men c after) ns ≡ sum_by (untaught_men c taught) ns
   same_sum [] all = refl
   same_sum (k ∷ ns) all =

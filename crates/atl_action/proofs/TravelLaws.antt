@@ -72,15 +72,15 @@ module _ (w : WorldValue) (c : CampaignValue) (units : FinMap nat_cmp Unit) (str
         let (y, was, same) = under (g k) (get c.structures k) x (sym (are.structures_at k) ∙ there) in
         subst (P k) same (h k y was)
 
-    -- a number without a unit stays without
+    -- a number that has no unit in c has none in the travelled campaign
     no_unit : (k : ℕ) → get c.units k ≡ None → get units k ≡ None
     no_unit k none = are.units_at k ∙ ap (option_map (f k)) none
 
-    -- a number without a structure stays without
+    -- a number that has no structure in c has none in the travelled campaign
     no_structure : (k : ℕ) → get c.structures k ≡ None → get structures k ≡ None
     no_structure k none = are.structures_at k ∙ ap (option_map (g k)) none
 
-    -- the campaign stays within the ranges of its numbers
+    -- in the travelled campaign numbers and amounts are in their ranges (`AreInRange`), if they are in c
     numbers_kept : AreInRange w c → AreInRange w travelled
     numbers_kept old =
         in_range_replaced c units structures w are.unit_count are.structure_count
@@ -90,7 +90,8 @@ module _ (w : WorldValue) (c : CampaignValue) (units : FinMap nat_cmp Unit) (str
         (h.0, record { men = rw s.men h.1.men; money = rw s.money h.1.money; items = rw s.items h.1.items })))
         (every_structure (λ k x. (1 ≤ x.done) × (x.done ≤ size_of w x.kind)) (λ k y was. let s = are.same_structures k y was in rw (s.done, s.kind) (old.structures k y was))) old
 
-    -- each unit is of the world and in a region and a structure that are there
+    -- in the travelled campaign each unit's faction, region and structure are there, and its items and skills are of
+    -- the world (`IsPlaced`)
     placed_kept : AreKnown w c → Every (λ k x. IsPlaced w travelled x) units
     placed_kept old = every_unit (λ k x. IsPlaced w travelled x) (λ k u was.
         let s = are.same_units k u was in
@@ -98,7 +99,7 @@ module _ (w : WorldValue) (c : CampaignValue) (units : FinMap nat_cmp Unit) (str
         let q = are.put k u was in
         record { faction = rw s.faction p.faction; region = q.region; structure = q.structure; items = rw s.items p.items; skills = rw s.days p.skills })
 
-    -- each structure is of the world and in a region that is there
+    -- in the travelled campaign each structure's kind is of the world, and its region and owner are there (`IsBuilt`)
     built_kept : AreKnown w c → Every (λ k x. IsBuilt w travelled x) structures
     built_kept old = every_structure (λ k x. IsBuilt w travelled x) (λ k y was.
         let s = are.same_structures k y was in
@@ -108,11 +109,11 @@ module _ (w : WorldValue) (c : CampaignValue) (units : FinMap nat_cmp Unit) (str
           owner = λ some. let (v, here, inside) = (are.owned k y was).owned some in (v, here);
         })
 
-    -- factions, units and structures stay numbered as the rule says (`AreNumbered`)
+    -- in the travelled campaign factions, units and structures are numbered as the rule says (`AreNumbered`)
     next_kept : AreNumbered c → AreNumbered travelled
     next_kept = numbered_replaced c units structures are.structure_count no_unit no_structure
 
-    -- on water each unit is inside a ship, and each structure is a ship
+    -- in the travelled campaign each unit on water is inside a ship, and each structure there is a complete ship
     water_kept : AreAfloat w travelled
     water_kept = record {
       units = every_unit (λ k x. is_land_at w x.region ≡ false → IsAboard w travelled x) are.aboard;
@@ -126,7 +127,7 @@ module _ (w : WorldValue) (c : CampaignValue) (units : FinMap nat_cmp Unit) (str
     abbrev Agree : Unit → Unit → Type 0
     Agree x y = guards x ≡ true → guards y ≡ true → x.region ≡ y.region → x.faction ≡ y.faction
 
-    -- the units that guard are still of one faction in each region
+    -- in the travelled campaign all units that guard a region are of one faction
     guards_kept : AreOfOneFaction guards c → AreOfOneFaction guards travelled
     guards_kept old =
         every_unit (λ k x. Every (λ m y. Agree x y) units) (λ k u here.

@@ -67,15 +67,15 @@ studied_men : (w : WorldValue) (taught : TaughtMen) (c : CampaignValue) (f n : �
 studied_men w taught c f n x is (operands.Skill s) = others_men f c (study w (taught n) n s c x).0 (study_men w (taught n) c n s x is)
 studied_men w taught c f n x is other = tt
 
--- the step of STUDY leaves all units their men
+-- each step of STUDY leaves units of other factions than the order's their men
 study_spares : (taught : TaughtMen) → SparesMen (study_step taught)
 study_spares taught w a c t x own = studied_men w taught c t.faction t.unit x own.there t.order_value.operands
 
--- a unit that is unchanged keeps its name and its items
+-- a unit that is unchanged has its name, and no less of any item (`HasItsItems`)
 items_of_unchanged : (u v : Unit) → IsUnchanged u v → HasItsItems u v
 items_of_unchanged u v same = record { name = ap (λ (x : Unit). x.holding.name) same; items = λ i. omega (arith, ap (λ (x : Unit). amount_of x.holding.items i) same) }
 
--- the phase of STUDY leaves units of factions without a mailing what is theirs (`LeavesUnmailed`)
+-- the orders of STUDY together leave units of factions without a mailing what is theirs (`LeavesUnmailed`)
 all_study : (taught : TaughtMen) → LeavesUnmailed (meaning_by_orders (study_step taught) is_studying) learn_keeps
 all_study taught = carried_leaves (study_step taught) is_studying (study_spares taught) (unmailed_spared is_studying own_faction items_of_unchanged)
 

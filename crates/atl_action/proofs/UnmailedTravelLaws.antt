@@ -34,7 +34,7 @@ walked_men : (w : WorldValue) (c : CampaignValue) (f n : ℕ) (x : Unit) (o : Op
 walked_men w c f n x (operands.Direction direction) = others_men f c (walk w n direction c x).0 (walk_men w c n x direction)
 walked_men w c f n x other = tt
 
--- the step of MOVE leaves all units their men
+-- each step of MOVE leaves units of other factions than the order's their men
 walk_spares : SparesMen walk_step
 walk_spares w a c t x own = walked_men w c t.faction t.unit x t.order_value.operands
 
@@ -64,11 +64,11 @@ sailing_men : (w : WorldValue) (c : CampaignValue) (f n : ℕ) (x : Unit) (o : O
 sailing_men w c f n x (operands.Direction direction) = others_men f c (sail w n direction c x).0 (sail_men w c n x direction)
 sailing_men w c f n x other = tt
 
--- the step of SAIL leaves all units their men
+-- each step of SAIL leaves units of other factions than the order's their men
 sail_spares : SparesMen sail_step
 sail_spares w a c t x own = sailing_men w c t.faction t.unit x t.order_value.operands
 
--- a unit that at most went along with its structure (`IsAtMostMoved`) keeps its name and its items
+-- a unit that at most went along with its structure (`IsAtMostMoved`) has its name, and no less of any item
 items_of_carried : (u v : Unit) → IsAtMostMoved u v → HasItsItems u v
 items_of_carried u v h = record { name = h.name; items = h.items }
 

@@ -41,7 +41,7 @@ use Rattle.atl_action.specs.Walk.{after_walk, is_land_there, walk, walk_effect, 
 use Rattle.atl_action.proofs.PeopleLaws.{AreSamePeople, elsewhere, elsewhere_at, elsewhere_people, gone, gone_if, gone_same, guards_stay, total_people}
 use Rattle.atl_action.proofs.TravelLaws.{AreTravelled, IsPut, IsSameStructure, steady-travelled, travelled}
 
--- a looked-up value stays the same when each value is mapped to itself
+-- what a look-up found stays the same when it is mapped by the function that changes nothing
 mapped_itself : {A : Type 0} (o : Option A) → o ≡ option_map (λ y. y) o
 mapped_itself None = refl
 mapped_itself (Some y) = refl
@@ -59,7 +59,7 @@ module _ (w : WorldValue) (c : CampaignValue) (n : ℕ) (u : Unit) (to : ℕ) (i
   abbrev old_place : ℕ
   old_place = u.structure
 
-  -- the unit that owns that structure next
+  -- the next owner of the structure that unit n leaves; 0 where no other unit is inside
   abbrev next : ℕ
   next = heir c old_place n
 
@@ -67,7 +67,7 @@ module _ (w : WorldValue) (c : CampaignValue) (n : ℕ) (u : Unit) (to : ℕ) (i
   abbrev units : FinMap nat_cmp Unit
   units = elsewhere 0 to c.units n
 
-  -- the unit of number k after unit n walked
+  -- unit k after unit n walked: if k is n, in region `to`, outside structures, with its flag cleared; else as it was
   abbrev f : ℕ → Unit → Unit
   f k = gone_if 0 to (k == n)
 
@@ -77,7 +77,7 @@ module _ (w : WorldValue) (c : CampaignValue) (n : ℕ) (u : Unit) (to : ℕ) (i
   same_people : AreSamePeople c.units units
   same_people = elsewhere_people 0 to c.units n
 
-  -- a look-up of a unit after unit n walked
+  -- after unit n walked, a look-up finds unit n where it went with its flag cleared, and every other unit as it was
   units_at : (k : ℕ) → get units k ≡ option_map (f k) (get c.units k)
   units_at = elsewhere_at 0 to c.units n
 
@@ -85,11 +85,11 @@ module _ (w : WorldValue) (c : CampaignValue) (n : ℕ) (u : Unit) (to : ℕ) (i
   here : get units n ≡ Some (gone 0 to u)
   here = units_at n ∙ ap (option_map (f n)) is ∙ ap (λ b. Some (gone_if 0 to b u)) (equal_passes n n refl)
 
-  -- every unit but n stays as it was
+  -- after the walk every unit but n is as it was
   away : (k : ℕ) → k ≢ n → get units k ≡ get c.units k
   away k apart = units_at k ∙ ap (λ b. option_map (gone_if 0 to b) (get c.units k)) (other_number k n apart) ∙ sym (mapped_itself (get c.units k))
 
-  -- unit n is inside no structure
+  -- after the walk unit n is inside no structure
   outside : (v : Unit) → get units n ≡ Some v → v.structure ≡ 0
   outside v there = sym (ap (λ (x : Unit). x.structure) (same_Some (gone 0 to u) v (sym here ∙ there)))
 
@@ -99,7 +99,7 @@ module _ (w : WorldValue) (c : CampaignValue) (n : ℕ) (u : Unit) (to : ℕ) (i
   low : Every (λ k v. 1 ≤ k) c.units
   low k v there = (steady.numbers.units k v there).0
 
-  -- structure numbers aren't 0
+  -- no structure has the number 0
   not_first : (q : ℕ) (y : Structure) → get c.structures q ≡ Some y → q ≢ 0
   not_first q y there zero = none_some y (sym steady.next.structures.first ∙ ap (get c.structures) (sym zero) ∙ there)
 
@@ -112,7 +112,7 @@ module _ (w : WorldValue) (c : CampaignValue) (n : ℕ) (u : Unit) (to : ℕ) (i
     still_owned : (q : ℕ) (y : Structure) → get c.structures q ≡ Some y → y.owner ≢ n → IsOwned behind q y
     still_owned q y there other = owner_stays c behind n away q y (steady.owners q y there) other (λ none v at inside. not_first q y there (sym inside ∙ outside v at))
 
-    -- the structure that unit n left is rightly owned by its next owner
+    -- the structure that unit n left has its right owner after the walk: the lowest of the other units inside, or none
     left_owned : old_place ≢ 0 → (y : Structure) → IsOwned behind old_place (owned_by next y)
     left_owned some = heir_owns c behind n away old_place some low (λ v at inside. some (sym inside ∙ outside v at))
 
@@ -204,7 +204,7 @@ module _ (w : WorldValue) (c : CampaignValue) (n : ℕ) (u : Unit) (to : ℕ) (i
   given_owned some q y there true false b p r high = rw high (still_owned gone_off.structures q y there (is_unequal y.owner n r))
   given_owned some q y there false e b p r high = rw high (still_owned gone_off.structures q y there (owns_no_other w c n u is steady q y there (is_unequal q old_place p)))
 
-  -- a look-up of a structure after both handovers
+  -- a look-up of a structure after both handovers finds what was there before, with its owner after both
   given_at : (q : ℕ) → get gone_off.structures q ≡ option_map (λ y. handed_on 0 0 n q (handed_on old_place n next q y)) (get c.structures q)
   given_at q =
       get-after_handover gone_out 0 0 n q ∙ ap (option_map (handed_on 0 0 n q)) (get-after_handover begun old_place n next q)
@@ -238,7 +238,7 @@ module _ (w : WorldValue) (c : CampaignValue) (n : ℕ) (u : Unit) (to : ℕ) (i
 
 -- ---- an order
 
--- if the neighbour isn't refused as no land, the region that the unit walks to has land
+-- if the test for a neighbour with land (`is_land_there`) holds, the region that the unit walks to has land
 land_to : (w : WorldValue) (to : Option ℕ) → not (is_land_there w to) ≡ false → is_land_at w (unwrap_or to 0) ≡ true
 land_to w None dry = false_true (sym dry)
 land_to w (Some r) dry = not-false (is_land_at w r) dry

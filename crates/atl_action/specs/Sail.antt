@@ -48,11 +48,11 @@ is_complete_ship w structure = option_map_or (λ s. is_ship w s && s.done == siz
 abbrev pub of_kind : (Kind → ℕ) → WorldValue → Option Structure → ℕ
 of_kind number w structure = option_map_or (λ s. option_map_or number (slice_get w.kinds s.kind) 0) structure 0
 
--- the crew that a ship's kind needs
+-- the crew that a ship's kind needs; 0 where the structure or its kind isn't there
 abbrev pub crew_needed : WorldValue → Option Structure → ℕ
 crew_needed = of_kind (λ k. k.crew)
 
--- the load that a ship's kind can take
+-- the load that a ship's kind can take; 0 where the structure or its kind isn't there
 abbrev pub capacity : WorldValue → Option Structure → ℕ
 capacity = of_kind (λ k. k.capacity)
 
@@ -83,7 +83,7 @@ sail_fault w c n u ship to = first_fault (
     ∷ (nat_lt (capacity w ship) (sum_inside (load_of w) c u.structure), TooHeavy)
     ∷ [])
 
--- the campaign with unit n inside the ship in region `to`, and its guard flag cleared
+-- the campaign with unit n in region `to` and inside the ship, and its guard flag cleared
 abbrev pub with_unit_aboard : (ship to : ℕ) → CampaignValue → (n : ℕ) → CampaignValue
 with_unit_aboard ship to c n = with_guard (with_place c n to ship) n false
 

@@ -93,6 +93,6 @@ learn_keeps = spares_others IsOwnOrder IsUnchanged is_studying
 abbrev pub study_moves : BookBound
 study_moves = moves_only most_moved Study Money
 
--- the specification of the phase of TEACH and STUDY
+-- the specification of the phase of TEACH and STUDY, which books the fees under study
 abbrev pub learn_spec : PhaseSpec
 learn_spec = books_money Study learn_meaning learn_keeps

@@ -63,7 +63,7 @@ first_mentions (n ∷ ns) = n ∷ filter (λ k. not (k == n)) (first_mentions ns
 abbrev pub men_at : CampaignValue → (n : ℕ) → ℕ
 men_at c n = option_map_or (λ u. u.holding.men) (get c.units n) 0
 
--- how many men of unit n weren't taught yet
+-- how many men of unit n weren't taught yet in this month
 abbrev pub untaught_men : CampaignValue → TaughtMen → (n : ℕ) → ℕ
 untaught_men c taught n = men_at c n - taught n
 
@@ -73,7 +73,7 @@ abbrev pub taught_in_lesson : CampaignValue → TaughtMen → (places : ℕ) →
 taught_in_lesson c taught places ns n =
     if list_any (λ k. n == k) ns then amount_in_turn places (sum_by (untaught_men c taught) (before_first (λ k. n == k) ns)) (untaught_men c taught n) else 0
 
--- how many men of each unit are taught after a lesson for `places` men, and its outcome: how many were taught in it
+-- how many men of each unit were taught so far once a lesson for `places` men is over, and its outcome: how many in it
 abbrev pub lesson : CampaignValue → TaughtMen → (places : ℕ) → List ℕ → TaughtMen × Outcome
 lesson c taught places ns = ((λ n. taught n + taught_in_lesson c taught places ns n), Done (min (sum_by (untaught_men c taught) ns) places))
 
@@ -88,7 +88,7 @@ teach_fault c t pupils below = first_fault (
     ∷ (length below == 0, CannotTeach)
     ∷ [])
 
--- how many men of each unit are taught after an order of TEACH, and its outcome; with a fault nobody is taught
+-- how many men of each unit were taught so far after an order of TEACH, which teaches none with a fault; its outcome
 unfoldable pub teach : CampaignValue → Aliases → Learning → TaughtMen → Task → TaughtMen × Outcome
 teach c aliases learning taught t =
     let pupils = filter (is_pupil c learning (region_of c t.unit)) (map (unit_of aliases t.faction) (listed_units t.order_value.operands)) in
@@ -98,11 +98,11 @@ teach c aliases learning taught t =
 
 -- ---- all orders of TEACH
 
--- how many men of each unit are taught after an order of TEACH, and the month with its event
+-- how many men of each unit were taught so far after an order of TEACH, and the month with its event
 abbrev pub teach_order : CampaignValue → Learning → TaughtMen × MonthValue → Task → TaughtMen × MonthValue
 teach_order c learning (taught, m) t = let after = teach c m.aliases learning taught t in (after.0, with_event_of m t (Some after.1))
 
--- how many men of each unit are taught after all orders of TEACH, and the month with their events
+-- how many men of each unit were taught by all orders of TEACH together, and the month with their events
 unfoldable pub after_lessons : CampaignValue → Learning → MonthValue → TaughtMen × MonthValue
 after_lessons c learning m = fold (teach_order c learning) ((λ n. 0), m) (orders_by_unit is_teaching m)
 

@@ -29,11 +29,11 @@ is_walking verb = false
 
 -- ---- MOVE
 
--- whether there is a neighbour, and it is land
+-- whether there is a neighbouring region (`Some`), and it is land
 abbrev pub is_land_there : WorldValue → (to : Option ℕ) → Bool
 is_land_there w to = option_map_or (is_land_at w) to false
 
--- why a unit can't walk to a neighbour: NoMen, AtSea, NoWay or TooHeavy; None where it can
+-- why a unit can't walk to a neighbouring region: NoMen, AtSea, NoWay or TooHeavy; None where it can
 abbrev pub walk_fault : WorldValue → Unit → (to : Option ℕ) → Option EventFault
 walk_fault w u to = first_fault (
     (u.holding.men == 0, NoMen)

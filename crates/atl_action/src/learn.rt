@@ -16,6 +16,8 @@ use std::alloc::Global;
 #[derive(Drop, Clone, Copy)]
 pub struct LearnPhase;
 
+/// Finds who is learning, carries out all orders of TEACH, and then all orders of STUDY, with how
+/// many men of each unit were taught.
 impl Phase for LearnPhase {
     ghost meaning = { learn_meaning };
 
@@ -38,8 +40,8 @@ impl Phase for LearnPhase {
     }
 }
 
-/// Does nothing. Its clause is the law of STUDY: after the phase a unit is as its own order alone
-/// makes it, of the campaign as the phase began. See docs/RULES.md, "Learning".
+/// The law that after the phase a unit that studies is as its own order of STUDY alone makes it, of
+/// the campaign as the phase began. Does nothing. See docs/RULES.md, "Learning".
 pub fn units_study_as_begun()
     ensures { UnitsStudyAsBegun }
 {}

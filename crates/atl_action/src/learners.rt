@@ -16,6 +16,7 @@ use std::alloc::{AllocError, Global};
 /// The verb STUDY, whose orders say which units are learning.
 pub(crate) struct StudyVerbs;
 
+/// Has the verb STUDY.
 impl PhaseVerbs for StudyVerbs {
     ghost is_of = { is_studying };
 
@@ -59,7 +60,8 @@ fn learns(world: &World, campaign: &Campaign, skill: u16, faction: u32, unit: u3
     }
 }
 
-/// Adds the unit of an order of STUDY, with its skill, if it learns by the order.
+/// Adds the unit of an order of STUDY, with its skill, to those that are learning, if it learns by
+/// the order.
 fn add_learner(
     world: &World,
     campaign: &Campaign,
@@ -94,9 +96,9 @@ pub(crate) fn learners(
     Ok(learning)
 }
 
-/// Does nothing. Its clause is a law: exactly the units learn for which an order of STUDY of their
-/// own faction counts, and which have men and the fee for all of them. Each learns the skill of
-/// such an order. See docs/RULES.md, "Learning".
+/// The law that exactly those units learn for which an order of STUDY of their own faction counts,
+/// and which have men and the fee for all of them; each learns the skill of such an order. Does
+/// nothing. See docs/RULES.md, "Learning".
 pub fn units_learn_by_orders()
     ensures { UnitsLearnByOrders }
 {}

@@ -82,7 +82,8 @@ fn is_owned_by(structure: Option<&Structure>, unit: u32) -> bool
     }
 }
 
-/// What the men of a unit are worth as a crew: their number times the unit's level of sailing.
+/// What the men of a unit are worth as a crew: their number times the unit's level in the world's
+/// skill of sailing; 0 where the world names no such skill.
 fn crew_of(world: &World, holding: &Holding) -> u64
     ensures { result ≡ crew_of world.now holding.now }
 {
@@ -145,7 +146,8 @@ fn is_way(world: &World, from: u32, to: Option<u32>) -> bool
     }
 }
 
-/// Why a unit can't sail what it is inside to a neighbouring region; None where it can.
+/// Why a unit can't sail what it is inside to a neighbouring region: the first that fits of NoMen,
+/// NotInside, NotOwner, NotComplete, NoWay, NoCrew and TooHeavy; None where it can.
 fn sail_fault(
     world: &World,
     campaign: &Campaign,
@@ -176,7 +178,7 @@ fn sail_fault(
     }
 }
 
-/// Puts a unit inside the ship into the ship's new region, and clears its guard flag.
+/// Puts a unit that is inside a ship into the ship's new region, and clears its guard flag.
 fn take_along(campaign: &mut Campaign, unit: u32, ship: u32, to: u32) -> Result<(), AllocError>
     ensures what { OnOk result
         (campaign.new.value ≡ with_unit_aboard ship to campaign.old.value unit) }
@@ -187,7 +189,7 @@ fn take_along(campaign: &mut Campaign, unit: u32, ship: u32, to: u32) -> Result<
     Ok(())
 }
 
-/// Puts these units inside the ship into its new region, and clears their guard flags.
+/// Puts these units, which are inside a ship, into its new region, and clears their guard flags.
 fn take_all(campaign: &mut Campaign, units: &[u32], ship: u32, to: u32) -> Result<(), AllocError>
     ensures what { OnOk result
         (campaign.new.value ≡ fold (with_unit_aboard ship to) campaign.old.value units.now) }
@@ -219,7 +221,8 @@ fn put_there(alloc: Global, campaign: &mut Campaign, ship: u32, to: u32) -> Resu
     Ok(())
 }
 
-/// Carries out SAIL: the ship goes in the direction, or nothing changes where a fault applies.
+/// Carries out SAIL: the ship goes in the direction with all units inside, or nothing changes where
+/// a fault applies.
 #[tactic(auto, unfolding(crate::specs::Sail::sail))]
 fn sail(
     alloc: Global,
@@ -246,6 +249,7 @@ fn sail(
     Ok(Outcome::Done(0))
 }
 
+/// Has the verb SAIL.
 impl PhaseVerbs for SailPhase {
     ghost is_of = { is_sailing };
 
@@ -254,6 +258,8 @@ impl PhaseVerbs for SailPhase {
     }
 }
 
+/// Sails a ship in a direction by SAIL. An order with other operands is passed over. No order
+/// concerns a unit: each may go along with its ship, and loses nothing.
 impl OrderPhase for SailPhase {
     ghost step = { λ _. sail_step };
 
@@ -282,6 +288,8 @@ impl OrderPhase for SailPhase {
     fn is_orderly(&self) {}
 }
 
+/// Carries out the orders of SAIL (`carry_out_orders`), and does nothing else. It isn't a
+/// `PlainPhase`, since it keeps more than its steps say one by one.
 impl Phase for SailPhase {
     ghost meaning = { sail_spec.meaning };
 

@@ -51,7 +51,8 @@ fn is_helpful(world: &World, skill: u16, structure: Option<&Structure>) -> bool
     }
 }
 
-/// The days of a skill that a unit has after a month of study, at most 450 for each man.
+/// The days of a skill that a unit has after a month of study, those of before (`old`) and those
+/// that it gained, at most 450 for each man.
 fn days_after(men: u32, old: u32, taught: u32, helped: bool) -> u32
     requires { men ≤ men_limit }
     ensures { result ≡ days_after men old taught helped }
@@ -62,7 +63,7 @@ fn days_after(men: u32, old: u32, taught: u32, helped: bool) -> u32
     days.min(u64::from(MOST_DAYS) * men) as u32
 }
 
-/// Why a unit can't study; None where it can.
+/// Why a unit can't study: NoMen or NoFee; None where it can.
 fn study_fault(holding: &Holding, cost: u64) -> Option<EventFault>
     ensures { result ≡ study_fault holding.now cost }
 {
@@ -75,7 +76,7 @@ fn study_fault(holding: &Holding, cost: u64) -> Option<EventFault>
     }
 }
 
-/// Takes the cost from a unit's money and sets its days of a skill, if it is there.
+/// Takes the cost from a unit's money and sets its days of a skill, if the unit is there.
 fn learn(
     campaign: &mut Campaign,
     unit: u32,
@@ -151,6 +152,7 @@ fn study(
     Ok(Outcome::Done(u64::from(days - old)))
 }
 
+/// Has the verb STUDY.
 impl PhaseVerbs for StudyPhase {
     ghost is_of = { is_studying };
 
@@ -159,6 +161,8 @@ impl PhaseVerbs for StudyPhase {
     }
 }
 
+/// Takes the fee and adds the days of a skill by STUDY; an order with other operands is passed
+/// over. What a step does depends on how many men were taught, which the phase's value holds.
 impl OrderPhase for StudyPhase {
     ghost step = { λ s. study_step (amount_of s.taught) };
 

@@ -20,6 +20,7 @@ use std::alloc::{AllocError, Global};
 /// The verb TEACH, whose orders the phase of TEACH and STUDY carries out first.
 struct TeachVerbs;
 
+/// Has the verb TEACH.
 impl PhaseVerbs for TeachVerbs {
     ghost is_of = { is_teaching };
 
@@ -125,7 +126,7 @@ fn first_mentions(alloc: Global, numbers: &[u32]) -> Result<Vec<u32>, AllocError
     Ok(list)
 }
 
-/// How many men of a unit were taught so far; 0 where the unit isn't listed.
+/// How many men of a unit were taught so far in this month; 0 where the unit isn't in the map.
 pub(crate) fn taught_at(taught: &Numbered<u32>, unit: u32) -> u32
     ensures { result ≡ amount_of taught.now unit }
 {
@@ -146,7 +147,7 @@ fn men_at(campaign: &Campaign, unit: u32) -> u32
     }
 }
 
-/// How many men of a unit weren't taught yet.
+/// How many men of a unit weren't taught yet in this month; 0 where the unit isn't there.
 fn untaught_men(campaign: &Campaign, taught: &Numbered<u32>, unit: u32) -> u32
     ensures value { result ≡ untaught_men campaign.now.value (amount_of taught.now) unit }
     ensures room { amount_of taught.now unit + result ≤ 4294967295 }
@@ -154,8 +155,8 @@ fn untaught_men(campaign: &Campaign, taught: &Numbered<u32>, unit: u32) -> u32
     men_at(campaign, unit).saturating_sub(taught_at(taught, unit))
 }
 
-/// Teaches at most `places` men of these units, each listed once, in their order.
-/// Returns how many men were taught.
+/// Teaches at most `places` men who weren't taught yet of these units, each listed once, in their
+/// order. Enters them in `taught`, and returns how many they are.
 fn teach_men(
     campaign: &Campaign,
     taught: &mut Numbered<u32>,
@@ -177,8 +178,8 @@ fn teach_men(
     Ok(places - left)
 }
 
-/// Teaches at most `places` men of these units, each where it is first listed.
-/// Returns the outcome: how many men were taught.
+/// Teaches at most `places` men who weren't taught yet of these units, each where it is first
+/// listed. Returns the outcome: how many men were taught.
 fn give_lesson(
     alloc: Global,
     campaign: &Campaign,
@@ -205,7 +206,8 @@ fn is_own(campaign: &Campaign, order: PhaseOrder<'_>) -> bool
     }
 }
 
-/// Why the unit of an order can't teach; None where it can.
+/// Why the unit of an order can't teach: NotYours, NoMen, NotLearning or CannotTeach; None where it
+/// can.
 fn teach_fault(
     campaign: &Campaign,
     order: PhaseOrder<'_>,
@@ -227,7 +229,8 @@ fn teach_fault(
     }
 }
 
-/// Carries out an order of TEACH; nobody is taught where it has a fault. Returns the outcome.
+/// Carries out an order of TEACH: enters in `taught` how many men of which units it teaches, or
+/// changes nothing where it has a fault. Returns the outcome.
 #[tactic(auto, unfolding(crate::specs::Teach::teach))]
 fn teach(
     alloc: Global,
@@ -314,8 +317,8 @@ pub(crate) fn teach_all(
     Ok(taught)
 }
 
-/// Does nothing. Its clause is a law: of no unit more men are taught in a month than it has,
-/// however many units teach it.
+/// The law that of no unit more men are taught in a month than it has, however many units teach it.
+/// Does nothing.
 pub fn nobody_is_taught_twice()
     ensures { NobodyIsTaughtTwice }
 {}

@@ -16,7 +16,7 @@ use std::alloc::{AllocError, Global};
 #[derive(Drop, Clone, Copy)]
 pub struct MovePhase;
 
-/// Whether there is a neighbour, and it is land.
+/// Whether there is a neighbouring region (`Some`), and it is land.
 fn is_land_there(world: &World, to: Option<u32>) -> bool
     ensures { result ≡ is_land_there world.now to }
 {
@@ -26,7 +26,8 @@ fn is_land_there(world: &World, to: Option<u32>) -> bool
     }
 }
 
-/// Why a unit can't walk to a neighbouring region; None where it can.
+/// Why a unit can't walk to a neighbouring region: NoMen, AtSea, NoWay or TooHeavy; None where it
+/// can.
 fn walk_fault(world: &World, unit: &Unit, to: Option<u32>) -> Option<EventFault>
     ensures { result ≡ walk_fault world.now unit.now to }
 {
@@ -78,6 +79,7 @@ fn walk(
     Ok(Outcome::Done(0))
 }
 
+/// Has the verb MOVE.
 impl PhaseVerbs for MovePhase {
     ghost is_of = { is_walking };
 

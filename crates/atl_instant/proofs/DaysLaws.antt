@@ -44,8 +44,8 @@ module _ (days : FinMap nat_cmp ℕ) (f : ℕ → ℕ → ℕ) (s : ℕ) where
           ap (cond (is_among es) (f s (amount_of days s))) here ∙ both (is_among es) (f s (amount_of days s))
       by_key false is = refl
 
-  -- After each skill of a map is set, skill s has f of its days.
-  -- If the map has 0 days of it, it had f of 0 before.
+  -- after each skill of the map `days` is set to f of its days there, skill s has f of its days there, if it had f of 0
+  -- before where the map has 0 days of it
   pub set_each : (left : FinMap nat_cmp ℕ) → (amount_of days s ≡ 0 → amount_of left s ≡ f s 0) → amount_of (set_all left (entries days)) s ≡ f s (amount_of days s)
   set_each left others =
       set_among (entries days) left (each-from_every (λ k v. amount_of days k ≡ v) days (λ k v there. ap (λ (o : Option ℕ). unwrap_or o 0) there))
@@ -62,7 +62,7 @@ module _ (days : FinMap nat_cmp ℕ) (f : ℕ → ℕ → ℕ) (s : ℕ) where
 nobody_goes : (n men : ℕ) → days_going n men 0 ≡ 0
 nobody_goes n men = ap (λ k. k / men) (zero-mul n) ∙ zero-div men
 
--- setting days from a mapped list is setting f of the days of each entry
+-- to set the days of a list whose entries were mapped by f is to set f of the days of each entry of the list itself
 with_days_mapped : (f : ℕ → ℕ → ℕ) (es : List (ℕ × ℕ)) (all : FinMap nat_cmp ℕ) →
     with_days all (map (λ e. (e.0, f e.0 e.1)) es) ≡ fold (λ (m : FinMap nat_cmp ℕ) (e : ℕ × ℕ). with_amount_of m e.0 (f e.0 e.1)) all es
 with_days_mapped f [] all = refl
@@ -93,7 +93,8 @@ none_come d g e f = omega (arith, e, f)
 pub none_go : (n : ℕ) (h : HoldingValue) (s : ℕ) → amount_of h.days s ≡ 0 → going_of n h s ≡ 0
 none_go n h s none = ap (days_going n h.men) none ∙ nobody_goes n h.men
 
--- after any number of men went, both units have the days that `staying_of` and `raised_of` give
+-- however many men went, the sender has of each skill the days that stay (`staying_of`), and the receiver those that it
+-- had and those that came (`raised_of`)
 pub days_go_with_men : DaysGoWithMen
 days_go_with_men n other h s = record {
   stay = as_said (staying_of n other) (keys other.days) s (λ none. none_stay (amount_of other.days s) (going_of n other s) (none_listed other.days s none));
@@ -105,7 +106,7 @@ days_go_with_men n other h s = record {
 
 -- ---- what the code sets one by one
 
--- a map in which no skill has 0 days lists none with 0 days after days are set one by one
+-- a map that lists no skill with 0 days lists none with 0 days after the days of some skills are set one by one
 every_set : (f : ℕ → ℕ → ℕ) (es : List (ℕ × ℕ)) (left : FinMap nat_cmp ℕ) → Every (λ s d. 1 ≤ d) left → Every (λ s d. 1 ≤ d) (fold (λ (m : FinMap nat_cmp ℕ) (e : ℕ × ℕ). with_amount_of m e.0 (f e.0 e.1)) left es)
 every_set f [] left old = old
 every_set f (e ∷ es) left old = every_set f es (with_amount_of left e.0 (f e.0 e.1)) (every_amount (λ s d. 1 ≤ d) left e.0 (f e.0 e.1) (λ some. some) old)
@@ -121,8 +122,8 @@ set_as_said days had said f some some_said others each =
     (subst (Every (λ s d. 1 ≤ d)) (sym set) (every_set f (entries days) had some)) some_said
     (λ s. ap (λ (m : FinMap nat_cmp ℕ). amount_of m s) set ∙ set_each days f s had (others s) ∙ each s)
 
--- Setting each skill of `days` gives the same map over `days` as over the empty map.
--- For this f must keep 0 at 0, and no listed days may be 0.
+-- Setting each skill of `days` to f of its days gives the same map over `days` as over the empty map,
+-- if f gives 0 for 0 days, and no skill of `days` has 0.
 pub set_again : (days : FinMap nat_cmp ℕ) (f : ℕ → ℕ → ℕ) → ((s : ℕ) → f s 0 ≡ 0) → Every (λ s d. 1 ≤ d) days
     → with_days days (map (λ e. (e.0, f e.0 e.1)) (entries days)) ≡ fold (λ (m : FinMap nat_cmp ℕ) (e : ℕ × ℕ). with_amount_of m e.0 (f e.0 e.1)) empty (entries days)
 set_again days f none some =
@@ -134,7 +135,7 @@ set_again days f none some =
 abbrev rest_days : (n men : ℕ) → (skill days : ℕ) → ℕ
 rest_days n men k d = d - days_going n men d
 
--- the holding that the code sets for the sender of n men is `with_fewer`
+-- the holding that the code sets for the sender of n men is that of the definition (`with_fewer`)
 pub fewer_is : (n : ℕ) (h : HoldingValue) → Every (λ s d. 1 ≤ d) h.days → record h { men = h.men - n; days = with_days h.days (left_list n h.men h.days) } ≡ with_fewer n h
 fewer_is n h had =
     ap (λ (m : FinMap nat_cmp ℕ). record h { men = h.men - n; days = m })
@@ -147,7 +148,7 @@ fewer_is n h had =
 abbrev raised_days : (n men : ℕ) → FinMap nat_cmp ℕ → (skill days : ℕ) → ℕ
 raised_days n men had k d = amount_of had k + days_going n men d
 
--- the holding that the code sets for the receiver of n men is `with_more`
+-- the holding that the code sets for the receiver of n men is that of the definition (`with_more`)
 pub more_is : (n : ℕ) (other h : HoldingValue) → Every (λ s d. 1 ≤ d) h.days → record h { men = h.men + n; days = with_days h.days (raised_list n other.men other.days h.days) } ≡ with_more n other h
 more_is n other h had =
     ap (λ (m : FinMap nat_cmp ℕ). record h { men = h.men + n; days = m })

@@ -26,19 +26,19 @@ module _ (c : CampaignValue) (n : ℕ) (x : Faction) (name : List ℕ) (is : get
   abbrev shown : CampaignValue
   shown = record c { factions = factions }
 
-  -- no faction is added
+  -- a number that had no faction has none after faction n got another name
   none_kept : (k : ℕ) → get c.factions k ≡ None → get factions k ≡ None
   none_kept k none = get-insert_other c.factions n k renamed (λ same. none_some x (sym none ∙ ap (get c.factions) same ∙ is)) ∙ none
 
-  -- each faction is still there
+  -- each faction is still there after faction n got another name
   there : (k : ℕ) → IsThere c.factions k → IsThere factions k
   there k h = there-insert c.factions n k renamed h
 
-  -- there are as many factions as before
+  -- there are as many factions as before after faction n got another name
   same_count : len factions ≡ len c.factions
   same_count = same_len c.factions n x renamed is
 
-  -- the campaign stays within the ranges of its numbers
+  -- after a faction got another name, numbers and amounts are still in their ranges (`AreInRange`)
   numbers_kept : (w : WorldValue) → AreInRange w c → AreInRange w shown
   numbers_kept w old = record {
     month = old.month;
@@ -59,7 +59,7 @@ module _ (c : CampaignValue) (n : ℕ) (x : Faction) (name : List ℕ) (is : get
   abbrev JoinedOnce : ℕ → Faction → ℕ → Faction → Type 0
   JoinedOnce k f m g = f.joined_as ≡ g.joined_as → k ≡ m
 
-  -- all names stay good, if the new name is good
+  -- all names still follow their rules (`AreNamed`), if the faction's new name follows the name rule
   names_kept : IsTrue (name_ok name) → AreNamed c → AreNamed shown
   names_kept named old =
       let (joined, was, pass) = old.factions n x is in
@@ -73,7 +73,7 @@ module _ (c : CampaignValue) (n : ℕ) (x : Faction) (name : List ℕ) (is : get
         structures = old.structures;
       }
 
-  -- all that the campaign refers to is still there
+  -- after a faction got another name, all that the campaign refers to is still there (`AreKnown`)
   known_kept : (w : WorldValue) → AreKnown w c → AreKnown w shown
   known_kept w old = record {
     regions = old.regions;
@@ -83,7 +83,7 @@ module _ (c : CampaignValue) (n : ℕ) (x : Faction) (name : List ℕ) (is : get
     posts = posted-there there old.posts;
   }
 
-  -- factions, units and structures stay numbered as the rule says (`AreNumbered`)
+  -- after a faction got another name, factions, units and structures are numbered as the rule says (`AreNumbered`)
   next_kept : AreNumbered c → AreNumbered shown
   next_kept old = record {
     factions = record { first = none_kept 0 old.factions.first; count = old.factions.count ∙ ap (λ l. l + 1) (sym same_count); free = λ k l. none_kept k (old.factions.free k l) };
@@ -91,7 +91,7 @@ module _ (c : CampaignValue) (n : ℕ) (x : Faction) (name : List ℕ) (is : get
     units = old.units;
   }
 
-  -- the campaign stays steady, if the new name is good
+  -- the campaign `shown`, with the faction's other name, is steady, if it was before and the name follows the name rule
   steady_shown : (w : WorldValue) → IsTrue (name_ok name) → IsSteady w c → IsSteady w shown
   steady_shown w named old = record {
     numbers = numbers_kept w old.numbers;
@@ -109,7 +109,7 @@ module _ (c : CampaignValue) (n : ℕ) (x : Faction) (name : List ℕ) (is : get
   shown_is : with_faction_name c n name ≡ shown
   shown_is = ap (λ m. record c { factions = m }) (changed-known (λ f. record f { name = name }) c.factions n x is)
 
-  -- a campaign stays steady when a faction shows another good name
+  -- a campaign stays steady when a faction shows another name that follows the name rule
   pub steady-faction_name : (w : WorldValue) → IsTrue (name_ok name) → IsSteady w c → IsSteady w (with_faction_name c n name)
   steady-faction_name w named old = subst (IsSteady w) (sym shown_is) (steady_shown w named old)
 

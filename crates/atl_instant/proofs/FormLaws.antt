@@ -31,7 +31,7 @@ module _ (w : WorldValue) (c : CampaignValue) (early : IsEarly w c) where
   free_number = early.steady.next.units c.next_unit (omega arith)
 
   module _ (f n : ℕ) where
-    -- if unit n is of faction f, the campaign after FORM has a new unit of its faction, in its region and structure
+    -- if unit n is of faction f, `with_formed_unit` adds a new unit with the faction, region and structure of unit n
     formed_is : (u : Unit) → get c.units n ≡ Some u → u.faction ≡ f → with_formed_unit c f n ≡ with_unit_begun c (new_unit c.next_unit u.faction u.region u.structure)
     formed_is u is own =
         ap (λ g. with_unit_begun c (new_unit c.next_unit g (region_of c n) (inside c n))) (sym own)
@@ -76,12 +76,12 @@ module _ (w : WorldValue) (c : CampaignValue) (early : IsEarly w c) where
 
 -- ---- orders apart from the month
 
--- the copied orders together make what the orders themselves make
+-- copies of orders of FORM, carried out one after another, make what the orders themselves make
 pub formed_apart : (p : CampaignValue × MonthValue) (ts : List Task) → fold form_apart p (map forming_of ts) ≡ fold form_order p ts
 formed_apart p [] = refl
 formed_apart p (t ∷ ts) = formed_apart (form_order p t) ts
 
--- the copied orders of a month make what the phase makes
+-- the copies of all orders of FORM of a month, carried out one after another, make what the phase makes
 pub all_formed : (w : WorldValue) (c : CampaignValue) (m : MonthValue) → fold form_apart (c, m) (map forming_of (values (orders_of is_forming ByFaction m.aliases m.readings))) ≡ form_meaning w c m
 unfolding form_meaning
 all_formed w c m = formed_apart (c, m) (values (orders_of is_forming ByFaction m.aliases m.readings))

@@ -40,24 +40,25 @@ len_new m k v h = len-insert nat_cmp_total m k v ∙ ap (λ o. cond (is_some o) 
 still_there : {V : Type 0} (m : FinMap nat_cmp V) (k q : ℕ) (v x : V) → get m k ≡ None → get m q ≡ Some x → get (insert m k v) q ≡ Some x
 still_there m k q v x free is = get-insert_other m k q v (λ same. none_some x (sym free ∙ ap (get m) (sym same) ∙ is)) ∙ is
 
--- where the unit limit isn't reached, there are fewer units than the most, and the next number may be given
+-- if the test for the unit limit is false, of u units and the next number n, u is below 100,000, and n at most
+-- 999,999,999
 few : (u n : ℕ) → (nat_le most_units u || nat_lt last_unit n) ≡ false → (u < most_units) × (n ≤ last_unit)
 few u n h = (grind (arith, nat_tests), grind (arith, nat_tests))
 
--- if the unit limit isn't reached, there is room for one more unit, and for its number
+-- if the unit limit isn't reached, there are fewer units than 100,000, and the next number is at most 999,999,999
 pub room : (c : CampaignValue) → is_unit_limit c ≡ false → (len c.units < most_units) × (c.next_unit ≤ last_unit)
 room c h = few (len c.units) c.next_unit h
 
 module _ (w : WorldValue) (c : CampaignValue) (p : ℕ) (u : Unit) (is : get c.units p ≡ Some u) (early : IsEarly w c) where
-  -- the new unit
+  -- the unit that unit p forms
   abbrev child : Unit
   child = new_unit c.next_unit u.faction u.region u.structure
 
-  -- the units with the new one
+  -- the units of the campaign with the one that is formed
   abbrev units : FinMap nat_cmp Unit
   units = insert c.units c.next_unit child
 
-  -- the campaign with the new unit
+  -- the campaign after unit p formed a unit
   abbrev begun : CampaignValue
   begun = with_unit_begun c child
 
@@ -73,7 +74,7 @@ module _ (w : WorldValue) (c : CampaignValue) (p : ℕ) (u : Unit) (is : get c.u
   unit_stays : Every (λ n v. get units n ≡ Some v) c.units
   unit_stays n v there = still_there c.units c.next_unit n child v free there
 
-  -- the campaign stays within the ranges of its numbers, if the unit limit isn't reached
+  -- after a unit is formed, numbers and amounts are in their ranges (`AreInRange`), if the unit limit wasn't reached
   numbers_kept : is_unit_limit c ≡ false → AreInRange w begun
   numbers_kept limit =
       let r = room c limit in
@@ -93,7 +94,7 @@ module _ (w : WorldValue) (c : CampaignValue) (p : ℕ) (u : Unit) (is : get c.u
         books = n.books;
       }
 
-  -- all names stay good, if the unit limit isn't reached
+  -- after a unit is formed, all names follow their rules (`AreNamed`), if the unit limit wasn't reached
   names_kept : is_unit_limit c ≡ false → AreNamed begun
   names_kept limit =
       let n = old.names in
@@ -105,7 +106,7 @@ module _ (w : WorldValue) (c : CampaignValue) (p : ℕ) (u : Unit) (is : get c.u
         structures = n.structures;
       }
 
-  -- all that the campaign refers to is still there
+  -- after a unit is formed, all that the campaign refers to is there (`AreKnown`)
   known_kept : AreKnown w begun
   known_kept =
       let k = old.known in
@@ -119,7 +120,7 @@ module _ (w : WorldValue) (c : CampaignValue) (p : ℕ) (u : Unit) (is : get c.u
         posts = k.posts;
       }
 
-  -- factions, units and structures stay numbered as the rule says (`AreNumbered`)
+  -- after a unit is formed, factions, units and structures are numbered as the rule says (`AreNumbered`)
   next_kept : AreNumbered begun
   next_kept = record {
     factions = old.next.factions;
@@ -127,14 +128,14 @@ module _ (w : WorldValue) (c : CampaignValue) (p : ℕ) (u : Unit) (is : get c.u
     units = λ q above. get-insert_other c.units c.next_unit q child (λ same. omega arith) ∙ old.next.units q (omega arith);
   }
 
-  -- factions that are gone still have no units
+  -- after a unit is formed, factions that are gone still have no units
   gone_kept : GoneHaveNone begun
   gone_kept m f there gone =
       let test = λ (x : Unit). x.faction == m in
       let none = old.gone m f there gone in
       numbers_where-insert_other test c.units c.next_unit child free (none_passing test c.units none p u is) ∙ none
 
-  -- each structure still has its right owner
+  -- after a unit is formed, each structure still has its right owner (`AreOwned`)
   owners_kept : AreOwned begun
   owners_kept n s there =
       let o = old.owners n s there in
@@ -143,7 +144,7 @@ module _ (w : WorldValue) (c : CampaignValue) (p : ℕ) (u : Unit) (is : get c.u
         ownerless = λ none. every-insert (λ m x. x.structure ≢ n) c.units c.next_unit child (o.ownerless none p u is) (o.ownerless none);
       }
 
-  -- on water each unit is still inside a ship
+  -- after a unit is formed, each unit on water is inside a ship (`AreAfloat`)
   water_kept : AreAfloat w begun
   water_kept = record {
     units = every-insert (λ n x. is_land_at w x.region ≡ false → IsAboard w begun x) c.units c.next_unit child (old.water.units p u is) old.water.units;
@@ -179,11 +180,11 @@ module _ (w : WorldValue) (c : CampaignValue) (p : ℕ) (u : Unit) (is : get c.u
   nothing_held People = refl
   nothing_held (Item i) = ap (λ o. unwrap_or o 0) (get-empty nat_cmp i)
 
-  -- an amount that is the sum of another and 0 equals the other
+  -- if a is b + h, and h is 0, a is b
   none_more : (a b h : ℕ) → a ≡ b + h → h ≡ 0 → a ≡ b
   none_more a b h e none = omega arith
 
-  -- the totals stay the same, as the new unit has nothing
+  -- the campaign's total of each thing is the same after a unit is formed
   same_total : (t : Thing) → total begun t ≡ total c t
   unfolding total
   same_total t = none_more (total begun t) (total c t) (unit_amount t child.holding) (total-with_unit c c.next_unit child t free) (nothing_held t)

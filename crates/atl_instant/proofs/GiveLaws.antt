@@ -37,13 +37,15 @@ use Rattle.atl_instant.specs.declared.give.Gift.{Gift}
 use Rattle.atl_instant.specs.declared.give.Gift.TheVariants.{Item, Money}
 use Rattle.atl_instant.proofs.MovingLaws.{early-moved, moved, receiver_still, spared-moved, steps-moved}
 
--- what holds of two units where a gift has no fault
+-- the receiver is in the giver's region, the giver holds n of the gift, and the receiver has room for n more,
+-- unless it is the giver itself: what holds where a gift has no fault
 pub record CanGive (gift : Gift) (n : ℕ) (itself : Bool) (u v : Unit) : Type 0 where
   pub here : v.region ≡ u.region
   pub enough : n ≤ held_of gift u.holding
   pub room : itself ≡ false → held_of gift v.holding + n ≤ holding_limit
 
--- where a gift has no fault, `CanGive` holds of both units
+-- where a gift has no fault, both units are in one region, the giver holds enough, and the receiver has room for it
+-- unless it is the giver itself (`CanGive`)
 pub can_give : (gift : Gift) (n : ℕ) (itself : Bool) (u v : Unit) → give_fault gift n itself u (Some v) ≡ None → CanGive gift n itself u v
 can_give gift n itself u v is =
     let little = nat_lt (held_of gift u.holding) n in
@@ -57,7 +59,7 @@ can_give gift n itself u v is =
       room = λ other. not_less holding_limit (held_of gift v.holding + n) (unless_itself itself full three.0 other);
     }
 
--- a unit holds at most the limit of what is given
+-- a unit holds at most `holding_limit` (999,999,999) of the money or the item that is given
 pub held_within : (gift : Gift) (h : HoldingValue) → IsHolding h → held_of gift h ≤ holding_limit
 held_within Money h is = is.money
 held_within (Item i) h is = amount_within h i is

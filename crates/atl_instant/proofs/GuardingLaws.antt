@@ -40,7 +40,7 @@ use Rattle.atl_instant.specs.Guard.{guard, guard_concerns, guard_effect, guard_f
 
 -- ---- other guards of the region
 
--- if no element of a list passes a test, an element of the list doesn't
+-- if the test whether any number of a list passes a test (`list_any`) is false, each number of the list fails the test
 none_of : (p : ℕ → Bool) (ns : List ℕ) → list_any p ns ≡ false → (k : ℕ) → IsListed k ns → p k ≡ false
 none_of p [] is k listed = absurd listed
 none_of p (n ∷ ns) is k listed = by_test (p n) refl is (λ e h. none_of p ns e k h) listed
@@ -110,7 +110,7 @@ module _ (c : CampaignValue) (n : ℕ) (u : Unit) (is : get c.units n ≡ Some u
     held_same People = refl
     held_same (Item i) = refl
 
-    -- the totals stay the same when the guard flag of the unit is set
+    -- the campaign's total of each thing stays the same when the guard flag of the unit is set
     total_same : (t : Thing) → total flagged t ≡ total c t
     total_same t = same (total flagged t) (total c t) (unit_amount t u.holding) (unit_amount t (record u.holding { guard = true })) (total-unit_amount w c n u (record u.holding { guard = true }) is t) (held_same t)
       where

@@ -68,7 +68,7 @@ module _ (w : WorldValue) (c : CampaignValue) (n : ℕ) (u : Unit) (is : get c.u
       (same_month_by refl) refl
       (λ t. same_total (total (with_hold h) t) (total c t) (unit_amount t u.holding) (total-unit_amount w c n u h is t ∙ ap (λ k. total c t + k) (same t)))
 
-  -- a unit may hold what it held, with another good name, if it doesn't newly guard
+  -- a unit may hold what it held, with another name that follows the name rule, if it doesn't newly guard (`MayHold`)
   may_hold : (h : HoldingValue) → IsTrue (name_ok h.name) → h.men ≡ u.holding.men → h.money ≡ u.holding.money → h.items ≡ u.holding.items → h.days ≡ u.holding.days → (guards (record u { holding = h }) ≡ true → guards u ≡ true) → MayHold w u h
   may_hold h name men money items days guard =
       let place = early.steady.known.units n u is in
@@ -82,7 +82,7 @@ module _ (w : WorldValue) (c : CampaignValue) (n : ℕ) (u : Unit) (is : get c.u
         guard = guard;
       }
 
-  -- naming the unit keeps the campaign early and in balance (`StepsWell`), if the name is good
+  -- naming the unit keeps the campaign early and in balance (`StepsWell`), if the name follows the name rule
   unit_name_well : (name : List ℕ) → IsTrue (name_ok name) → Well (with_unit_name c n name)
   unit_name_well name ok =
       let h = record u.holding { name = name } in
@@ -108,7 +108,7 @@ module _ (w : WorldValue) (c : CampaignValue) (n : ℕ) (u : Unit) (is : get c.u
 
   -- ---- the names of its faction and of a structure
 
-  -- naming the unit's faction keeps the campaign early and in balance (`StepsWell`), if the name is good
+  -- naming the unit's faction keeps the campaign early and in balance (`StepsWell`), if the name follows the name rule
   faction_well : (name : List ℕ) → IsTrue (name_ok name) → Well (with_faction_name c u.faction name)
   faction_well name ok =
       let (x, there) = (early.steady.known.units n u is).faction in
@@ -120,7 +120,7 @@ module _ (w : WorldValue) (c : CampaignValue) (n : ℕ) (u : Unit) (is : get c.u
   abbrev titled : List ℕ → Structure → Structure
   titled name s = record s { name = name }
 
-  -- naming a structure keeps the campaign early and in balance (`StepsWell`), if the name is good
+  -- naming a structure keeps the campaign early and in balance (`StepsWell`), if the name follows the name rule
   structure_name_well : (k : ℕ) (name : List ℕ) → IsTrue (name_ok name) → Well (with_structure_name c k name)
   structure_name_well k name ok =
       unbooked_well w c (with_structure_name c k name)
@@ -136,7 +136,8 @@ module _ (w : WorldValue) (c : CampaignValue) (n : ℕ) (u : Unit) (is : get c.u
       owned q y true o = record { owned = o.owned; ownerless = o.ownerless }
       owned q y false o = o
 
-  -- an order to name structure k keeps the campaign early and in balance (`StepsWell`), if the name is good
+  -- an order to name structure k keeps the campaign early and in balance (`StepsWell`), with a fault or without,
+  -- if the name follows the name rule
   structure_well : (k : ℕ) (ship : Bool) (name : List ℕ) → IsTrue (name_ok name) → Well (structure_name_result w c n k ship name).0
   structure_well k ship name ok = by_fault (structure_fault w n ship (get c.structures k))
     where
@@ -146,7 +147,7 @@ module _ (w : WorldValue) (c : CampaignValue) (n : ℕ) (u : Unit) (is : get c.u
 
   -- ---- an order
 
-  -- NAME keeps the campaign early and in balance (`StepsWell`), whatever it names, if the name is good
+  -- NAME keeps the campaign early and in balance (`StepsWell`), whatever it names, if the name follows the name rule
   named_well : (what : NameKind) (name : List ℕ) → IsTrue (name_ok name) → Well (name_result w c n u.faction u.structure what name).0
   named_well kinds.Unit name ok = unit_name_well name ok
   named_well kinds.Faction name ok = faction_well name ok
@@ -166,7 +167,7 @@ module _ (w : WorldValue) (c : CampaignValue) (n : ℕ) (u : Unit) (k : ℕ) (ap
   abbrev Stays : CampaignValue → Type 0
   Stays d = get d.units k ≡ get c.units k
 
-  -- naming a structure leaves every other unit as it was
+  -- an order to name a structure leaves every unit as it was
   structure_stays : (j : ℕ) (ship : Bool) (name : List ℕ) → Stays (structure_name_result w c n j ship name).0
   structure_stays j ship name = by_fault (structure_fault w n ship (get c.structures j))
     where

@@ -37,7 +37,7 @@ use Rattle.atl_phase.proofs.OrderEffectLaws.{no_worse_spares, well_same}
 use Rattle.atl_phase.proofs.UnbookedLaws.{same_total_of, stays_spared, unbooked_well}
 use Rattle.atl_instant.specs.Place.{enter, with_unit_inside, is_in, leave, leave_fault, enter_fault, place_effect, place_step, promote_fault, promote}
 
--- an order that is neither LEAVE, ENTER nor PROMOTE is passed over
+-- an order whose operands are neither none (LEAVE) nor a number (ENTER) nor a unit (PROMOTE) is passed over
 pub place_other : (w : WorldValue) (a : Aliases) (f n : ℕ) (text : List ℕ) (o : Operands Span) → (o ≡ operands.Nothing → ⊥) → ((s : ℕ) → o ≡ operands.Number s → ⊥) → ((to : UnitRef) → o ≡ operands.Unit to → ⊥)
     → place_effect w a f n (named text o) ≡ None
 place_other w a f n text operands.Nothing l b d = absurd (l refl)
@@ -60,7 +60,7 @@ module _ (w : WorldValue) (c : CampaignValue) (n : ℕ) (u : Unit) (is : get c.u
   left_place : (u.structure == 0) ≡ false → is_land_at w u.region ≡ true → Well (with_place c n u.region 0)
   left_place some dry = place_well w c n u 0 is early (λ none. is_unequal u.structure 0 some none) (λ not_none. absurd (not_none refl)) (λ wet. absurd (true≢false (sym dry ∙ wet)))
 
-  -- LEAVE keeps the campaign early and in balance (`StepsWell`), inside a structure or not, on land or on water
+  -- LEAVE keeps the campaign early and in balance (`StepsWell`), whether it has the fault NotInside, AtSea or none
   without_leaver : (a b : Bool) → (u.structure == 0) ≡ a → is_land_at w u.region ≡ b → Well (unless c (first_fault ((a, NotInside) ∷ (not b, AtSea) ∷ [])) (with_place c n u.region 0, Done 0)).0
   without_leaver true b some dry = unchanged
   without_leaver false false some dry = unchanged
@@ -102,7 +102,7 @@ module _ (w : WorldValue) (c : CampaignValue) (n : ℕ) (u : Unit) (is : get c.u
   -- ---- PROMOTE
 
   module _ (to : ℕ) where
-    -- a unit inside the same structure as unit n, which is inside one, is there
+    -- if the structure of unit `to` (0 where there is no such unit) is that of unit n, and isn't 0, unit `to` is there
     inside_to : (o : Option Unit) → get c.units to ≡ o → option_map_or (λ (x : Unit). x.structure) o 0 ≡ u.structure → u.structure ≢ 0 → (v : Unit) × (get c.units to ≡ Some v) × (v.structure ≡ u.structure)
     inside_to None there same some = absurd (some (sym same))
     inside_to (Some v) there same some = (v, there, same)
@@ -128,7 +128,7 @@ module _ (w : WorldValue) (c : CampaignValue) (n : ℕ) (u : Unit) (is : get c.u
             }
         owned q y false here old = old
 
-    -- PROMOTE keeps the campaign early and in balance (`StepsWell`), whichever of its faults applies
+    -- PROMOTE keeps the campaign early and in balance (`StepsWell`), whichever of its faults applies, or none
     promoted_by : (a b d : Bool) → (u.structure == 0) ≡ a → (inside c to == u.structure) ≡ d
         → Well (unless c (first_fault ((a, NotInside) ∷ (not b, NotOwner) ∷ (not d, NotHere) ∷ [])) (with_owner c u.structure to, Done 0)).0
     promoted_by true b d some near = unchanged
@@ -160,7 +160,7 @@ module _ (w : WorldValue) (a : Aliases) (c : CampaignValue) (f n : ℕ) (u : Uni
   unless_stays (Some fault) d stay = refl
   unless_stays None d stay = stay
 
-  -- ENTER leaves every other unit as it was
+  -- ENTER leaves every other unit as it was, whether the unit is inside the structure already or not
   entered_stays : (s : ℕ) (b : Bool) → Stays (if b then c else with_place c n u.region s)
   entered_stays s true = refl
   entered_stays s false = place_stays c n u.region s k apart

@@ -59,15 +59,15 @@ use Rattle.atl_instant.specs.Quit.{after_leaving, loss_entry, loss_under, quit, 
 
 -- ---- things and entries
 
--- the amount if the two things are one, and 0 otherwise
+-- the amount if the two things are the same, and 0 otherwise
 abbrev pub part_of : Thing → Thing → ℕ → ℕ
 part_of s t amount = cond (thing_index s == thing_index t) amount 0
 
--- n if the entry is that for the loss of the thing, and 0 otherwise
+-- n if the entry is the one under which the loss of the thing is booked, and 0 otherwise
 abbrev under : Entry → Thing → ℕ → ℕ
 under e t n = if entry_index e == entry_index (loss_entry t) then n else 0
 
--- things with one number are one thing
+-- things with the same number (`thing_index`) are the same thing
 same_thing : (s t : Thing) → thing_index s ≡ thing_index t → s ≡ t
 same_thing Money Money e = refl
 same_thing Money People e = absurd (omega (arith, e))
@@ -79,7 +79,8 @@ same_thing (Item i) Money e = absurd (omega (arith, e))
 same_thing (Item i) People e = absurd (omega (arith, e))
 same_thing (Item i) (Item j) e = let same : i ≡ j = omega (arith, e) in ap Item same
 
--- the bound on one loss is within `under`
+-- to book an amount of thing t as gone moves thing s under entry e by at most that amount, if s is t and e the entry of
+-- its loss, and by 0 otherwise (`under`)
 one_moves : (amount : ℕ) (t : Thing) (e : Entry) (s : Thing) → moves_only amount (loss_entry t) t e s ≤ under e s (part_of s t amount)
 one_moves amount t e s = by_number (amount_number e s == amount_number (loss_entry t) t) refl
   where
@@ -99,7 +100,8 @@ one_moves amount t e s = by_number (amount_number e s == amount_number (loss_ent
         at_place (entry_index e == entry_index (loss_entry s)) (thing_index s == thing_index t) (let f : (entry_index e == entry_index (loss_entry s)) ≡ true = grind (arith, nat_tests) in f) (let g : (thing_index s == thing_index t) ≡ true = grind (arith, nat_tests) in g)
     by_number false is = omega arith
 
--- if x is within `under` for m, and y for n, x + y is within `under` for m + n
+-- if x is at most m, and y at most n, under the entry of a thing's loss, and both are 0 under any other entry,
+-- x + y is at most m + n, and 0 (`under`)
 under_sum : (e : Entry) (s : Thing) (x y m n : ℕ) → x ≤ under e s m → y ≤ under e s n → x + y ≤ under e s (m + n)
 under_sum e s x y m n = by_test (entry_index e == entry_index (loss_entry s))
   where
@@ -109,12 +111,13 @@ under_sum e s x y m n = by_test (entry_index e == entry_index (loss_entry s))
 
 -- ---- what is booked of some items
 
--- how much of a thing a list of items with amounts has
+-- how much of a thing a list of items with their amounts has: for an item the sum of its amounts, else 0
 abbrev pub owing_items : List (ℕ × ℕ) → Thing → ℕ
 owing_items [] s = 0
 owing_items (e ∷ es) s = part_of s (Item e.0) e.1 + owing_items es s
 
--- the bound on the losses of some items is within `under`
+-- to book a list of items as lost moves a thing under the entry of its loss by at most what the list has of it, and
+-- under any other entry by 0 (`under`)
 items_within : (es : List (ℕ × ℕ)) (e : Entry) (s : Thing) → moving_items es e s ≤ under e s (owing_items es s)
 items_within [] e s = omega arith
 items_within (x ∷ xs) e s = under_sum e s (moves_only x.1 Lost (Item x.0) e s) (moving_items xs e s) (part_of s (Item x.0) x.1) (owing_items xs s) (one_moves x.1 (Item x.0) e s) (items_within xs e s)
@@ -162,7 +165,7 @@ owing h s = part_of s People h.men + (part_of s Money h.money + owing_items (ent
 abbrev pub held_moves : HoldingValue → BookBound
 held_moves h = both_move (moves_only h.men Left People) (both_move (moves_only h.money Lost Money) (moving_items (entries h.items)))
 
--- what a unit owes of a thing as it leaves is what it holds of the thing
+-- how much of a thing a holding has by `owing` is how much it has by `unit_amount`
 all_owed : (h : HoldingValue) (s : Thing) → owing h s ≡ unit_amount s h
 all_owed h Money = sum h.money (owing_items (entries h.items) Money) (no_money (entries h.items))
   where
@@ -181,7 +184,8 @@ all_owed h (Item j) =
     sum true d m n k e f = cc
     sum false true m n k e f = cc
 
--- what a leaving unit moves in the books is at most what it holds, under the entry for its loss (`loss_under`)
+-- to book all that a unit holds as gone moves each thing by at most what the unit holds of it under the entry of its
+-- loss, and by 0 under any other (`loss_under`)
 pub moves_what_leaves : (h : HoldingValue) (e : Entry) (s : Thing) → held_moves h e s ≤ loss_under e s h
 moves_what_leaves h e s =
     subst (λ n. held_moves h e s ≤ under e s n) (all_owed h s)
@@ -198,7 +202,8 @@ pub record BooksOff (w : WorldValue) (off : Thing → ℕ) (moving : BookBound) 
   pub near : (e : Entry) (s : Thing) → IsNear (moving e s) (amount_in c.books e s) (amount_in d.books e s)
   pub same : d ≡ record c { books = d.books }
 
--- two bookings as gone, each within its bound (`BooksOff`), are one of the sum of both, within the sum of the bounds
+-- two steps that book something as gone, each within a bound (`BooksOff`), book together the sum of both, within the
+-- sum of the bounds
 off_twice : {o p : Thing → ℕ} {i j : BookBound} (w : WorldValue) (a b c : CampaignValue) → BooksOff w o i a b → BooksOff w p j b c → BooksOff w (λ s. o s + p s) (both_move i j) a c
 off_twice {o} {p} {i} {j} w a b c one two = record {
   steady = two.steady;
@@ -252,7 +257,7 @@ off_all w c h known steady =
 
 -- ---- what the code books, and marks
 
--- all that changes when something is booked as gone is marked
+-- all that changes when an amount of a thing is booked as gone is marked
 pub gone_marks : (c d : MarkedCampaign) (t : Thing) (amount : ℕ) → d.value ≡ with_loss c.value t amount → d.marks ≡ mark_amount c (loss_entry t) t → MarksChanges c d
 gone_marks c d t amount what marks =
     let all = marks-amount c (loss_entry t) t (neg_ℤ (pos amount)) in
@@ -306,7 +311,7 @@ unfolding total
 total_books c books t = refl
 
 module _ (w : WorldValue) (c : CampaignValue) (n : ℕ) (u : Unit) (is : get c.units n ≡ Some u) (steady : IsSteady w c) where
-  -- the campaign with all that the unit has booked as gone
+  -- the campaign in which all that the unit holds is booked as gone, before the unit is removed
   abbrev off : CampaignValue
   off = with_all_losses c u.holding
 
@@ -442,7 +447,7 @@ quit_spares w c number u k x steady here other =
 
 -- ---- the phase
 
--- what all units hold of a thing is within the bound of the phase
+-- in a steady campaign all that QUIT may still book (`quit_reserve`) is within the bound of the phase (`quit_moves`)
 reserve_within : (w : WorldValue) (c : CampaignValue) → IsSteady w c → (e : Entry) (t : Thing) → quit_reserve c e t ≤ quit_moves e t
 reserve_within w c steady e t = by_test (entry_index e == entry_index (loss_entry t))
   where

@@ -54,8 +54,8 @@ quit_some w c number x steady = quit_cases (HasSomeOf c) c number x (λ k u ther
 is_own_unit : (c : CampaignValue) (t : Task) (x : Unit) → IsUnitOf c t x → is_own c t ≡ true
 is_own_unit c t x own = ap (is_of_faction t.faction) own.there ∙ equal_passes x.faction t.faction own.faction
 
--- An order for a unit of its own faction in d was for a unit of its own faction in c.
--- All units of d are units of c.
+-- if each unit of d is an unchanged unit of c, an order for a unit that is in d of the faction that wrote it (`is_own`)
+-- is also in c for such a unit
 own_before : (c d : CampaignValue) (t : Task) → HasSomeOf c d → is_own d t ≡ true → is_own c t ≡ true
 own_before c d t some own = by_unit (get d.units t.unit) refl own
   where
@@ -65,13 +65,14 @@ own_before c d t some own = by_unit (get d.units t.unit) refl own
 
 -- ---- by the campaign as the phase begins
 
--- The campaign is steady.
--- An order for a unit of its own faction was for a unit of its own faction as the phase began.
+-- The campaign is steady, and each order that now is for a unit of the faction that wrote it (`is_own`) was so as the
+-- phase began.
 abbrev OwnSince : CampaignValue → Condition
 OwnSince begun w c = IsSteady w c × ((t : Task) → is_own c t ≡ true → is_own begun t ≡ true)
 
 module _ (begun : CampaignValue) where
-  -- an order of QUIT keeps the condition `OwnSince`, the month and the balance of the books (`StepsWell`)
+  -- an order of QUIT keeps the campaign steady, the month and the balance of the books (`StepsWell`), and lets no order
+  -- come to be for a unit of its own faction (`OwnSince`)
   since_well : (w : WorldValue) (c : CampaignValue) (x : Unit) → OwnSince begun w c → (s : OperandsValue) → IfSome (quit_effect s) (λ deed. StepsWell (OwnSince begun) quit_reserve w c (deed c x).0)
   since_well w c x since (operands.Number number) =
       let well = quit_well w c number x since.0 in
@@ -83,7 +84,8 @@ module _ (begun : CampaignValue) where
       }
   since_well w c x since other = tt
 
-  -- QUIT keeps `OwnSince`, and a unit that it doesn't concern by `QuitsFrom` is no worse off (`IsOrderly`)
+  -- QUIT keeps what `OwnSince` says, and a unit is no worse off, unless its faction quits by an order for a unit that
+  -- was its own as the phase began (`IsOrderly`, `QuitsFrom`)
   since_orderly : IsOrderly quit_step (OwnSince begun) quit_reserve quit_moves (QuitsFrom begun) IsNoWorse
   since_orderly = record {
     well = λ w a c t x since fit own. since_well w c x since t.order_value.operands;

@@ -57,7 +57,7 @@ module _ (c : CampaignValue) where
     all_stay m [] own at = at
     all_stay m (e ∷ es) own at = all_stay (with_guard_of m e.1) es own.1 (one_stays m e.1 own.0 at)
 
-    -- if the map has a faction for the region once a unit is noted, a unit of that faction guards the region
+    -- if a unit of the faction that the map has for the region guards there, this is still so once a unit is noted
     held_more : (m : GuardMap) (n : ℕ) (u : Unit) → get c.units n ≡ Some u → (get m region ≡ Some faction → Held region faction) → get (with_guard_of m u) region ≡ Some faction → Held region faction
     held_more m n u is old = by_test (guards u) refl
       where
@@ -71,7 +71,7 @@ module _ (c : CampaignValue) where
             ]
         by_test false on at = old at
 
-  -- if the map has a faction for a region once some units are noted, a unit of that faction guards the region
+  -- if each region in the map is guarded by a unit of its faction, this is still so once some units are noted
   held_of : (m : GuardMap) (es : List (ℕ × Unit)) → AreUnits es → ((r f : ℕ) → get m r ≡ Some f → Held r f) → (r f : ℕ) → get (with_guards_of m es) r ≡ Some f → Held r f
   held_of m [] are old = old
   held_of m (e ∷ es) are old = held_of (with_guard_of m e.1) es are.1 (λ r f. held_more r f m e.0 e.1 are.0 (old r f))
@@ -93,7 +93,8 @@ module _ (c : CampaignValue) where
         by_test true on = get-insert_same m e.1.region e.1.faction
         by_test false on = cc
 
-    -- the map of a campaign is right, if all units that guard a region are of one faction
+    -- the map of a campaign has, for each region that units guard, their faction, and nothing else (`AreRegionGuards`),
+    -- if all units that guard a region are of one faction
     pub holders_are : AreRegionGuards c (guard_map_of c)
     holders_are =
         let are = each-from_every (λ n u. get c.units n ≡ Some u) c.units (λ n u is. is) in
@@ -120,7 +121,7 @@ any_none p [] none = refl
 any_none p (n ∷ ns) none = ap (λ b. b || list_any p ns) (none n (inl refl)) ∙ any_none p ns (λ k listed. none k (inr listed))
 
 module _ (c : CampaignValue) (m : GuardMap) (are : AreRegionGuards c m) (region faction : ℕ) where
-  -- whether unit n guards for another faction
+  -- whether unit n guards, and is of another faction than this one
   abbrev against : ℕ → Bool
   against n = guards_against faction (get c.units n)
 
@@ -153,7 +154,7 @@ module _ (c : CampaignValue) (m : GuardMap) (are : AreRegionGuards c m) (region 
       by_holder None at = sym (all_own (λ u here noted. none_some u.faction (sym at ∙ ap (get m) (sym here) ∙ noted)))
       by_holder (Some holder) at = other_holder holder at (holder == faction) refl
 
--- the fault of beginning to guard that the code finds by the map is the right one
+-- the fault that the code finds by the map for a unit that begins to guard is that of the definition (`guard_fault`)
 pub found_fault_is : (c : CampaignValue) (m : GuardMap) → AreRegionGuards c m → (u : Unit) (few held : Bool) → (u.holding.men == 0) ≡ few → has_other_guard u.faction (get m u.region) ≡ held
     → first_fault ((few, NoMen) ∷ (held, Guarded) ∷ []) ≡ guard_fault c u
 found_fault_is c m are u few held few_is held_is =
@@ -206,7 +207,7 @@ module _ (c : CampaignValue) (m : GuardMap) (n : ℕ) (u : Unit) (is : get c.uni
             (k, v, get-insert_other c.units n k (guarding c n u is) (λ same. apart (sym guard.stands ∙ ap (λ (x : Unit). x.region) (same_Some _ _ (sym there ∙ ap (get c.units) same ∙ is)))) ∙ there, guard)
       ]
 
-  -- The map is right after a unit began to guard and its faction was set for the region.
-  -- The unit has men, and no other faction guards the region.
+  -- After a unit with men began to guard a region that no other faction guards, the map with its faction set for the
+  -- region has exactly the factions that guard (`AreRegionGuards`).
   pub holders_set : is_guarded_against c u.region u.faction ≡ false → nat_lt 0 u.holding.men ≡ true → AreRegionGuards (with_guard c n true) set_now
   holders_set none men = subst (λ d. AreRegionGuards d set_now) (sym (flagged_is c n u is)) (record { noted = set_noted none; held = set_held men })

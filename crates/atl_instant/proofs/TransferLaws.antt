@@ -39,7 +39,8 @@ use Rattle.atl_instant.proofs.AmountsForLaws.{each_said}
 use Rattle.atl_instant.proofs.DaysLaws.{days_go_with_men, none_go}
 use Rattle.atl_instant.proofs.MovingLaws.{early-moved, moved, receiver_still, spared-moved, steps-moved}
 
--- What holds of sender and receiver if a transfer of n men has no fault.
+-- Sender and receiver are of one region and faction, the sender has n men, and the receiver has room for n more,
+-- unless it is the sender itself: what holds if a transfer has no fault.
 pub record CanSend (n : ℕ) (itself : Bool) (u v : Unit) : Type 0 where
   pub here : v.region ≡ u.region
   pub own : v.faction ≡ u.faction
@@ -141,7 +142,7 @@ known_skill w h s may some = by_option (get h.days s) refl some
 days_may : (w : WorldValue) (h : HoldingValue) (s : ℕ) → MayHave w h → amount_of h.days s ≤ most_days * h.men
 days_may w h s may = days_within h.days (most_days * h.men) s may.days
 
--- a unit of which n men went may hold what it then holds
+-- what a unit holds after n of its men went is what a unit may have (`MayHave`)
 pub may_have_fewer : (w : WorldValue) (n : ℕ) (h : HoldingValue) → n ≤ h.men → MayHave w h → MayHave w (with_fewer n h)
 may_have_fewer w n h fewer may = record {
   limits = record { men = omega (arith, may.limits.men); money = may.limits.money; items = may.limits.items };
@@ -156,7 +157,7 @@ may_have_fewer w n h fewer may = record {
     had : (a g d : ℕ) → d ≡ a - g → 1 ≤ d → 1 ≤ a
     had a g d is some = omega (arith, is, some)
 
--- what a unit holds after n men came is what a unit may have, if there is room for the men
+-- what a unit holds after n men came is what a unit may have (`MayHave`), if there is room for the men
 pub may_have_more : (w : WorldValue) (n : ℕ) (other h : HoldingValue) → h.men + n ≤ men_limit → MayHave w other → MayHave w h → MayHave w (with_more n other h)
 may_have_more w n other h room from may = record {
   limits = record { men = room; money = may.limits.money; items = may.limits.items };

@@ -30,7 +30,7 @@ is_forming verb = false
 
 -- ---- one order
 
--- whether no further unit can be formed: there are 100,000 units, or the last unit number is given
+-- whether no further unit can be formed: there are 100,000 units, or the next unit's number is above 999,999,999
 abbrev pub is_unit_limit : CampaignValue → Bool
 is_unit_limit c = nat_le most_units (len c.units) || nat_lt last_unit c.next_unit
 

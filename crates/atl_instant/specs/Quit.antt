@@ -39,7 +39,7 @@ abbrev pub loss_entry : Thing → Entry
 loss_entry People = Left
 loss_entry thing = Lost
 
--- the campaign with this amount of a thing booked as gone
+-- the campaign with this amount of a thing booked as gone: men as left, money and items as lost
 abbrev pub with_loss : CampaignValue → Thing → ℕ → CampaignValue
 with_loss c t amount = with_amount c (loss_entry t) t (neg_ℤ (pos amount))
 
@@ -47,7 +47,7 @@ with_loss c t amount = with_amount c (loss_entry t) t (neg_ℤ (pos amount))
 abbrev pub with_item_loss : CampaignValue → ℕ × ℕ → CampaignValue
 with_item_loss c (item, amount) = with_loss c (Item item) amount
 
--- the campaign with all that a unit has booked as gone: its men, its money and each of its items
+-- the campaign in which all that a unit holds is booked as gone: its men, its money and each of its items
 abbrev pub with_all_losses : CampaignValue → HoldingValue → CampaignValue
 with_all_losses c h = fold with_item_loss (with_loss (with_loss c People h.men) Money h.money) (entries h.items)
 
@@ -115,7 +115,7 @@ loss_under e t h = if entry_index e == entry_index (loss_entry t) then unit_amou
 abbrev pub quit_reserve : RemainingBound
 quit_reserve c e t = sum_over (λ u. loss_under e t u.holding) c.units
 
--- the specification of the phase of QUIT
+-- the specification of the phase of QUIT, which books all that the leaving units had as left and lost
 abbrev pub quit_spec : PhaseSpec
 quit_spec = record {
   meaning = quit_meaning;

@@ -15,7 +15,7 @@ GuardMap = FinMap nat_cmp ℕ
 abbrev pub with_guard_of : GuardMap → Unit → GuardMap
 with_guard_of m u = if guards u then insert m u.region u.faction else m
 
--- the map with the factions of those of these units that guard, one after another
+-- the map with the faction of each of these units that guards under its region, entered one after another
 abbrev pub with_guards_of : GuardMap → List (ℕ × Unit) → GuardMap
 with_guards_of m es = fold (λ held e. with_guard_of held e.1) m es
 
@@ -34,8 +34,8 @@ pub record IsGuardOf (region faction : ℕ) (u : Unit) : Type 0 where
   pub stands : u.region ≡ region
   pub belongs : u.faction ≡ faction
 
--- For each unit that guards, the map has its faction under its region.
--- Each region in the map is guarded by a unit of the faction that the map has for it.
+-- The map has the faction of each unit that guards under its region, and nothing else: each region in the map is
+-- guarded by a unit of the faction that the map has for it.
 pub record AreRegionGuards (c : CampaignValue) (m : GuardMap) : Type 0 where
   pub noted : Every (λ n u. guards u ≡ true → get m u.region ≡ Some u.faction) c.units
   pub held : (region faction : ℕ) → get m region ≡ Some faction → (n : ℕ) × (u : Unit) × (get c.units n ≡ Some u) × IsGuardOf region faction u

@@ -5,10 +5,10 @@ use Rattle.std.specs.FinMap.{FinMap, entries}
 use Rattle.atl_records.specs.Holdings.{amount_of}
 use Rattle.atl_instant.specs.Transfer.{days_going}
 
--- each skill with the days that stay as n of a unit's `men` men go, which had `days`
+-- each skill of a unit of `men` men that have `days`, with the days that stay as n of its men go
 abbrev pub left_list : (n men : ℕ) → (days : FinMap nat_cmp ℕ) → List (ℕ × ℕ)
 left_list n men days = map (λ e. (e.0, e.1 - days_going n men e.1)) (entries days)
 
--- each skill of the unit that sends n of its `men` men, with the days that the receiver, which had `more`, then has
+-- each skill of a unit that sends n of its `men` men, with the days that the receiver, which had `more`, has after that
 abbrev pub raised_list : (n men : ℕ) → (days more : FinMap nat_cmp ℕ) → List (ℕ × ℕ)
 raised_list n men days more = map (λ e. (e.0, amount_of more e.0 + days_going n men e.1)) (entries days)

@@ -41,7 +41,7 @@ going_of n h s = days_going n h.men (amount_of h.days s)
 abbrev pub staying_of : (n : ℕ) → HoldingValue → (skill : ℕ) → ℕ
 staying_of n h s = amount_of h.days s - going_of n h s
 
--- the days of a skill that a unit has as n men of the other one come
+-- the days of a skill that a unit has as n men of another unit come
 abbrev pub raised_of : (n : ℕ) → (other h : HoldingValue) → (skill : ℕ) → ℕ
 raised_of n other h s = amount_of h.days s + going_of n other s
 
@@ -49,18 +49,18 @@ raised_of n other h s = amount_of h.days s + going_of n other s
 abbrev pub with_fewer : (n : ℕ) → HoldingValue → HoldingValue
 with_fewer n h = record h { men = h.men - n; days = amounts_for (staying_of n h) (keys h.days) }
 
--- what a unit holds as n men of the other one come with their days
+-- what a unit holds as n men of another unit come with their days
 abbrev pub with_more : (n : ℕ) → (other h : HoldingValue) → HoldingValue
 with_more n other h = record h { men = h.men + n; days = amounts_for (raised_of n other h) (keys h.days ++ keys other.days) }
 
 -- ---- a law: the days that both units have of each skill after n men went
 
--- after n men went, both units have the days of a skill that `staying_of` and `raised_of` give
+-- after n men went, one unit has the days of a skill that stay, and the other those that it had and those that came
 pub record HaveDaysOf (n : ℕ) (other h : HoldingValue) (skill : ℕ) : Type 0 where
   pub stay : amount_of (with_fewer n other).days skill ≡ staying_of n other skill
   pub come : amount_of (with_more n other h).days skill ≡ raised_of n other h skill
 
--- A law: after any number of men went, both units have the days of each skill that `staying_of` and `raised_of` give.
+-- A law: however many men went, one unit has the days of each skill that stay, the other its own and those that came.
 abbrev pub DaysGoWithMen : Type 0
 DaysGoWithMen = (n : ℕ) (other h : HoldingValue) (skill : ℕ) → HaveDaysOf n other h skill
 

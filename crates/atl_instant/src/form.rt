@@ -21,19 +21,21 @@ use atl_state::{
 use atl_tables::{Numbered, Text, World};
 use std::alloc::{AllocError, Global};
 
-/// The phase of FORM: units form new units, which have a name and nothing else.
-/// See docs/RULES.md, "Form".
+/// The phase of FORM: units form new units of their faction, in their region and structure, without
+/// men or goods. See docs/RULES.md, "Form".
 #[derive(Drop, Clone, Copy)]
 pub struct FormPhase;
 
-/// Whether no further unit can be formed: there are 100,000 units, or the last number is taken.
+/// Whether no further unit can be formed: there are 100,000 units, or the next unit's number would
+/// be above 999,999,999.
 fn is_unit_limit(campaign: &Campaign) -> bool
     ensures { result ≡ is_unit_limit campaign.now.value }
 {
     campaign.unit_count() >= MOST_UNITS || campaign.next_unit() > LAST_UNIT
 }
 
-/// The fault of an order of FORM from a faction for a unit; None where it has none.
+/// The fault of an order of FORM from a faction for a unit: NotYours or UnitLimit; None where it
+/// has none.
 fn form_fault(campaign: &Campaign, faction: u32, unit: u32) -> Option<EventFault>
     ensures { result ≡ form_fault campaign.now.value faction unit }
 {
@@ -46,7 +48,8 @@ fn form_fault(campaign: &Campaign, faction: u32, unit: u32) -> Option<EventFault
     }
 }
 
-/// A new unit, with a name and nothing else. AllocError without memory for the name.
+/// A new unit of a faction, in a region and a structure, named `Unit` and its number, without men,
+/// goods or guard flag. AllocError without memory for the name.
 fn new_unit(
     alloc: Global,
     number: u32,
@@ -87,7 +90,8 @@ fn begin(
     campaign.begin_unit(unit)
 }
 
-/// Carries out an order of FORM, and notes the new unit under its alias. Returns the outcome.
+/// Carries out an order of FORM: adds the new unit, and notes it under its alias, or changes
+/// nothing where the order has a fault. Returns the outcome.
 fn form(
     alloc: Global,
     campaign: &mut Campaign,
@@ -191,6 +195,7 @@ fn form_one(
     })
 }
 
+/// Has the verb FORM.
 impl PhaseVerbs for FormPhase {
     ghost is_of = { is_forming };
 
@@ -199,6 +204,8 @@ impl PhaseVerbs for FormPhase {
     }
 }
 
+/// Carries out the orders of FORM one by one, by faction and line, and then gathers the orders that
+/// the later phases pick theirs from.
 impl Phase for FormPhase {
     ghost meaning = { form_meaning };
 

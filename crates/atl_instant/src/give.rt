@@ -40,14 +40,15 @@ fn held_of(gift: Gift, holding: &Holding) -> u32
     }
 }
 
-/// Whether a unit that has this much of something can't hold this amount more.
+/// Whether a unit that has this much money, or pieces of an item, can't hold this amount more.
 fn is_too_much(have: u32, amount: u32) -> bool
     ensures { result ≡ nat_lt holding_limit (have + amount) }
 {
     u64::from(have) + u64::from(amount) > u64::from(HOLDING_LIMIT)
 }
 
-/// The fault of giving this amount to a receiver; None where it has none.
+/// The fault of giving this amount to a receiver: NotHere, NotEnough or NoRoom; None where it has
+/// none.
 fn give_fault(
     gift: Gift,
     amount: u32,
@@ -72,7 +73,8 @@ fn give_fault(
     None
 }
 
-/// Sets how much a unit holds of what is given; nothing changes where the unit isn't there.
+/// Sets how much money, or pieces of the item that is given, a unit holds; nothing changes where
+/// the unit isn't there.
 fn set_held(campaign: &mut Campaign, number: u32, gift: Gift, amount: u32) -> Result<(), AllocError>
     requires { amount ≤ holding_limit }
     ensures { OnOk result (ChangesHolding campaign.old campaign.new number
@@ -87,7 +89,7 @@ fn set_held(campaign: &mut Campaign, number: u32, gift: Gift, amount: u32) -> Re
     }
 }
 
-/// Moves this amount of the gift from one unit to another, if both are there.
+/// Moves this amount of the money or the item from one unit to another, if both are there.
 fn hand_over(
     campaign: &mut Campaign,
     from: u32,
@@ -144,6 +146,7 @@ fn give(
     Ok(Outcome::Done(u64::from(amount)))
 }
 
+/// Has the verbs GIVE and PAY.
 impl PhaseVerbs for GivePhase {
     ghost is_of = { is_giving };
 

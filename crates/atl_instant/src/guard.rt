@@ -23,7 +23,8 @@ use std::alloc::{AllocError, Global};
 #[derive(Drop, Clone, Copy)]
 pub struct GuardPhase;
 
-/// Why a unit can't begin to guard its region, by the map of guards; None where it can.
+/// Why a unit can't begin to guard its region, by the map of guards: NoMen or Guarded; None where
+/// it can.
 fn guard_fault(holders: &RegionGuards, unit: &Unit) -> Option<EventFault>
     ensures { (c : CampaignValue) → AreRegionGuards c holders.now
         → result ≡ guard_fault c unit.now }
@@ -63,7 +64,8 @@ fn guard(
     Ok(Outcome::Done(0))
 }
 
-/// Carries out an order of GUARD. Returns its outcome, or None for GUARD 0, which is passed over.
+/// Carries out an order of GUARD 1, and returns its outcome, or None for GUARD 0, which is passed
+/// over.
 fn carry_out(
     campaign: &mut Campaign,
     holders: &mut RegionGuards,
@@ -104,6 +106,7 @@ fn guard_one(
     Ok(())
 }
 
+/// Has the verb GUARD; an order of GUARD 0 is passed over when it is carried out.
 impl PhaseVerbs for GuardPhase {
     ghost is_of = { is_guarding };
 
@@ -112,6 +115,8 @@ impl PhaseVerbs for GuardPhase {
     }
 }
 
+/// Makes the map of which faction guards each region, carries out the orders of GUARD one by one by
+/// it, and then adds their events.
 impl Phase for GuardPhase {
     ghost meaning = { guard_spec.meaning };
 

@@ -57,7 +57,8 @@ fn is_of_kind(world: &World, ship: bool, structure: &Structure) -> bool
     is_ship == ship
 }
 
-/// Why a unit can't name the structure that it is inside; None where it can.
+/// Why a unit can't name the ship or building that it is inside: NotInside or NotOwner; None where
+/// it can.
 fn structure_fault(
     world: &World,
     campaign: &Campaign,
@@ -106,7 +107,8 @@ fn clear_guard(campaign: &mut Campaign, unit: u32)
     campaign.set_guard(unit, false);
 }
 
-/// Carries out GUARD 0: clears the guard flag of the order's unit, if that is the faction's own.
+/// Carries out GUARD 0: clears the guard flag of the order's unit, if that is the faction's own, or
+/// changes nothing, with NotYours.
 fn leave_guard(campaign: &mut Campaign, order: PhaseOrder<'_>) -> Outcome
     ensures what { (campaign.new.value, result)
         ≡ faction_effect (leave_guard order.entry.unit) campaign.old.value order.entry.faction
@@ -120,7 +122,8 @@ fn leave_guard(campaign: &mut Campaign, order: PhaseOrder<'_>) -> Outcome
     Outcome::Done(0)
 }
 
-/// Sets the name of a unit, its faction or the structure that it is inside, by the kind of NAME.
+/// Names a unit, its faction or the structure that it is inside, by the kind of NAME. Returns the
+/// outcome: Done, or for a structure NotInside or NotOwner, and then nothing changes.
 fn name(
     world: &World,
     campaign: &mut Campaign,
@@ -143,7 +146,8 @@ fn name(
     Outcome::Done(0)
 }
 
-/// Carries out NAME for the order's unit, if that is the faction's own.
+/// Carries out NAME: the order's unit gives the name, if it is the faction's own, or nothing
+/// changes, with NotYours.
 fn give_name(
     alloc: Global,
     world: &World,
@@ -168,6 +172,7 @@ fn give_name(
     Ok(name(world, campaign, order.unit, faction, inside, what, given))
 }
 
+/// Has the verbs NAME and GUARD; an order of GUARD 1 is passed over when it is carried out.
 impl PhaseVerbs for NamePhase {
     ghost is_of = { is_naming };
 
@@ -176,6 +181,7 @@ impl PhaseVerbs for NamePhase {
     }
 }
 
+/// Gives a name by NAME, or clears the guard flag by GUARD 0. GUARD 1 is passed over.
 impl OrderPhase for NamePhase {
     ghost step = { λ _. name_step };
 

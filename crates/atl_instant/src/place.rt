@@ -57,7 +57,7 @@ fn put_inside(
     campaign.place(unit, region, structure)
 }
 
-/// Why a unit can't leave the structure that it is inside; None where it can.
+/// Why a unit can't leave the structure that it is inside: NotInside or AtSea; None where it can.
 fn leave_fault(world: &World, unit: &Unit) -> Option<EventFault>
     ensures { result ≡ leave_fault world.now unit.now }
 {
@@ -70,7 +70,8 @@ fn leave_fault(world: &World, unit: &Unit) -> Option<EventFault>
     }
 }
 
-/// Carries out LEAVE: the unit leaves its structure, or nothing changes where a fault applies.
+/// Carries out LEAVE: the unit goes out of the structure that it is inside, or nothing changes
+/// where a fault applies.
 #[tactic(auto, unfolding(crate::specs::Place::leave))]
 fn leave(
     world: &World,
@@ -137,7 +138,8 @@ fn enter(
     Ok(Outcome::Done(0))
 }
 
-/// Why a unit can't make another the owner of its structure; None where it can.
+/// Why a unit can't make another the owner of the structure that it is inside: NotInside, NotOwner
+/// or NotHere; None where it can.
 fn promote_fault(campaign: &Campaign, number: u32, to: u32, unit: &Unit) -> Option<EventFault>
     ensures { result ≡ promote_fault campaign.now.value number to unit.now }
 {
@@ -160,7 +162,8 @@ fn give_to(campaign: &mut Campaign, structure: u32, owner: u32)
     campaign.set_owner(structure, owner);
 }
 
-/// Carries out PROMOTE: another unit gets the structure, or nothing changes where a fault applies.
+/// Carries out PROMOTE: another unit becomes the owner of the structure that both are inside, or
+/// nothing changes where a fault applies.
 #[tactic(auto, unfolding(crate::specs::Place::promote))]
 fn promote(campaign: &mut Campaign, order: PhaseOrder<'_>, to: u32) -> Outcome
     ensures what { (campaign.new.value, result)
@@ -179,6 +182,7 @@ fn promote(campaign: &mut Campaign, order: PhaseOrder<'_>, to: u32) -> Outcome
     Outcome::Done(0)
 }
 
+/// Has the verbs LEAVE, ENTER and PROMOTE.
 impl PhaseVerbs for PlacePhase {
     ghost is_of = { is_placing };
 
@@ -187,6 +191,8 @@ impl PhaseVerbs for PlacePhase {
     }
 }
 
+/// Carries out LEAVE, ENTER or PROMOTE by the form of the operands: none, a number, or a unit. An
+/// order with other operands is passed over.
 impl OrderPhase for PlacePhase {
     ghost step = { λ _. place_step };
 

@@ -37,7 +37,7 @@ fn loss_entry(thing: Thing) -> Entry
     }
 }
 
-/// Books that this amount of a thing is gone.
+/// Books that this amount of a thing left the campaign: men under left, money and items under lost.
 fn book_loss(campaign: &mut Campaign, thing: Thing, amount: u32)
     requires there { thing_index thing < campaign.old.value.books.things }
     requires room { HasRoom amount (amount_in campaign.old.value.books (loss_entry thing) thing) }
@@ -60,7 +60,7 @@ fn book_items(world: &World, campaign: &mut Campaign, items: &[(u16, u32)])
     }
 }
 
-/// Books that all that a unit has is gone: its men, its money and its items.
+/// Books all that a unit has as gone: its men as left, its money and its items as lost.
 fn book_off(world: &World, campaign: &mut Campaign, men: u32, money: u32, items: &[(u16, u32)])
     requires things { campaign.old.value.books.things ≡ things_of world.now }
     requires known { EachOf (λ i amount. i < length world.now.items) items.now }
@@ -158,6 +158,7 @@ fn quit(
     Ok(Outcome::Done(0))
 }
 
+/// Has the verb QUIT.
 impl PhaseVerbs for QuitPhase {
     ghost is_of = { is_quitting };
 
@@ -166,6 +167,7 @@ impl PhaseVerbs for QuitPhase {
     }
 }
 
+/// Removes all units of a faction by QUIT. An order with other operands is passed over.
 impl OrderPhase for QuitPhase {
     ghost step = { λ _. quit_step };
 
@@ -194,6 +196,8 @@ impl OrderPhase for QuitPhase {
     fn is_orderly(&self) {}
 }
 
+/// Carries out the orders of QUIT (`carry_out_orders`), and does nothing else. It isn't a
+/// `PlainPhase`, since it keeps more than its steps say one by one.
 impl Phase for QuitPhase {
     ghost meaning = { quit_meaning };
 

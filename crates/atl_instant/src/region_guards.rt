@@ -14,6 +14,7 @@ pub(crate) struct RegionGuards {
     factions: Numbered<u32>,
 }
 
+/// Contracts see the map as a finite map from region to faction.
 impl Model for RegionGuards {
     ghost use Rattle.std.specs.Coded.{coded_ℕ};
     ghost use Rattle.std.specs.FinMap as map;

@@ -34,7 +34,7 @@ fn days_going(going: u32, men: u32, days: u32) -> u32
     (u64::from(days) * u64::from(going) / u64::from(men)) as u32
 }
 
-/// The days of each skill that stay with a unit as `going` of its men go.
+/// Each skill of a unit, with the days that stay with it as `going` of its men go.
 fn days_left(alloc: Global, going: u32, holding: &Holding) -> Result<Vec<(u32, u32)>, AllocError>
     requires fewer { going ≤ holding.now.men }
     requires days { Every (λ s days. (1 ≤ days) × (days ≤ most_days * holding.now.men))
@@ -49,7 +49,7 @@ fn days_left(alloc: Global, going: u32, holding: &Holding) -> Result<Vec<(u32, u
     Ok(list)
 }
 
-/// The days that the receiver has of each of the sender's skills once `going` men came.
+/// Each of the sender's skills, with the days that the receiver has of it once `going` men came.
 fn days_raised(
     alloc: Global,
     going: u32,
@@ -104,7 +104,8 @@ fn send(
     set_people(campaign, to, more, &raised)
 }
 
-/// The fault of sending `going` men to a receiver; None where it has none.
+/// The fault of sending `going` men to a receiver: NotHere, NotYours, NotEnough or NoRoom; None
+/// where it has none.
 fn transfer_fault(
     going: u32,
     itself: bool,
@@ -160,6 +161,7 @@ fn transfer(
     Ok(Outcome::Done(u64::from(going)))
 }
 
+/// Has the verb TRANSFER.
 impl PhaseVerbs for TransferPhase {
     ghost is_of = { is_transferring };
 
@@ -168,6 +170,7 @@ impl PhaseVerbs for TransferPhase {
     }
 }
 
+/// Moves men with their days of study by TRANSFER. An order with other operands is passed over.
 impl OrderPhase for TransferPhase {
     ghost step = { λ _. transfer_step };
 
@@ -199,8 +202,8 @@ impl PlainPhase for TransferPhase {
     fn is_plain(&self) {}
 }
 
-/// Does nothing. Its clause is a law: each skill's days leave the one unit and come to the other as
-/// the definitions of TRANSFER say.
+/// The law that, as men go, the days of each skill that go with them leave the one unit and come to
+/// the other. Does nothing.
 pub fn days_go_with_men()
     ensures { DaysGoWithMen }
 {}

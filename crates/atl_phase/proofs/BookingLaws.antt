@@ -14,19 +14,19 @@ use Rattle.atl_phase.specs.Meaning.{BookBound, IsNear, moves_only}
 use Rattle.atl_phase.specs.Bounds.{HasRoom, amount_limit}
 use Rattle.atl_phase.proofs.MeaningLaws.{near_room}
 
--- an amount that z was added to, or that stayed, differs from the old one by at most n, if z is at most n in size
+-- if y is x + z, or is x, and z is at most n in size, x and y differ by at most n (`IsNear`)
 near_by : (x y z : ℤ) (n : ℕ) → IsWithin n z → (y ≡ x +ℤ z) ⊎ (y ≡ x) → IsNear n x y
 near_by x y z n small h = elim h [
   | inl is ↦ record { above = omega (arith, ints, small.most, is); below = omega (arith, ints, small.least, is) }
   | inr is ↦ record { above = omega (arith, ints, is); below = omega (arith, ints, is) }
 ]
 
--- an amount that stays moves by 0
+-- an amount of the books that stays the same moves by at most 0 (`IsNear`)
 near_same : (x y : ℤ) → y ≡ x → IsNear 0 x y
 near_same x y is = record { above = omega (arith, ints, is); below = omega (arith, ints, is) }
 
 module _ (books : BooksValue) (e : Entry) (t : Thing) (z : ℤ) (n : ℕ) (small : IsWithin n z) where
-  -- a booking of at most n under e and t moves that amount by at most n, and no other
+  -- a booking of at most n in size moves the amount of entry e and thing t by at most n, and no other amount
   pub booked-near : (f : Entry) (u : Thing) → IsNear (moves_only n e t f u) (amount_in books f u) (amount_in (after_booking books e t z) f u)
   booked-near f u = by_number (amount_number f u == amount_number e t) refl
     where
@@ -47,10 +47,10 @@ by_sign (negsuc n) most less = record { sfits = omega (arith, ints, less) }
 pub booking_fits : (x z : ℤ) (n : ℕ) → IsWithin n z → HasRoom n x → FitsSigned w64 (x +ℤ z)
 booking_fits x z n small room = by_sign (x +ℤ z) (omega (arith, ints, room.above, small.most)) (omega (arith, ints, room.below, small.least))
 
--- a number of at most n is at most n in size
+-- a natural number k of at most n is, as an integer, at most n in size (`IsWithin`)
 pub within-pos : (k n : ℕ) → k ≤ n → IsWithin n (pos k)
 within-pos k n l = record { most = omega (arith, ints); least = omega (arith, ints) }
 
--- the negative of a number of at most n is at most n in size
+-- the negative of a natural number k of at most n is at most n in size (`IsWithin`)
 pub within-neg : (k n : ℕ) → k ≤ n → IsWithin n (neg_ℤ (pos k))
 within-neg k n l = record { most = omega (arith, ints); least = omega (arith, ints) }

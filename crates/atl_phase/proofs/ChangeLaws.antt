@@ -35,7 +35,7 @@ same_held c n = by_unit (get c.units n) refl
     by_unit None is = refl
     by_unit (Some u) is = ap (λ m. record c { units = m }) (put_same c.units n u u is refl)
 
--- to change what a unit holds is to set it to the new holding (`with_held`), if the unit is there
+-- to change by f what unit n holds, if the unit is there, is to give it f of its holding (`with_held`)
 pub changed_held : (f : HoldingValue → HoldingValue) (c d : CampaignValue) (n : ℕ) → d ≡ unit_changed (λ u. record u { holding = f u.holding }) c n → (u : Unit) → get c.units n ≡ Some u → d ≡ with_held c n (f u.holding) (Some u)
 changed_held f c d n what u is = what ∙ ap (λ o. record c { units = changed_at (λ (v : Unit). record v { holding = f v.holding }) c.units n o }) is
 
@@ -49,7 +49,7 @@ others_held f c n k apart = by_unit (get c.units n)
 
 -- ---- what calls leave
 
--- if unit n isn't there, an unchanged campaign satisfies `ChangesHolding` for every change of its holding
+-- if unit n isn't there, an unchanged campaign counts as one in which its holding was changed by f (`ChangesHolding`)
 pub nobody_changes : (c : MarkedCampaign) (n : ℕ) (f : HoldingValue → HoldingValue) → get c.value.units n ≡ None → ChangesHolding c c n f
 nobody_changes c n f none = record {
   value = sym (ap (λ o. record c.value { units = changed_at (λ (u : Unit). record u { holding = f u.holding }) c.value.units n o }) none);
@@ -57,7 +57,7 @@ nobody_changes c n f none = record {
   goods = refl;
 }
 
--- a campaign changed by f (`ChangesHolding`) is changed by g, if f and g make the same of what the unit held
+-- a change of a unit's holding by f (`ChangesHolding`) is also one by g, if f and g make the same of what the unit held
 pub changes_as : (c d : MarkedCampaign) (n : ℕ) (f g : HoldingValue → HoldingValue) (u : Unit) → get c.value.units n ≡ Some u → f u.holding ≡ g u.holding → ChangesHolding c d n f → ChangesHolding c d n g
 changes_as c d n f g u is same old = record {
   value =
@@ -67,7 +67,7 @@ changes_as c d n f g u is same old = record {
   goods = old.goods;
 }
 
--- a change by f and then one by g is a change by both in turn
+-- a change of a unit's holding by f and then one by g are together a change by f and g in turn (`ChangesHolding`)
 pub then_changes : (a b d : MarkedCampaign) (n : ℕ) (f g : HoldingValue → HoldingValue) → ChangesHolding a b n f → ChangesHolding b d n g → ChangesHolding a d n (λ h. g (f h))
 then_changes a b d n f g one two = record {
   value =

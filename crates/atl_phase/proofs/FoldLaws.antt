@@ -4,12 +4,12 @@ use Rattle.std.specs.Prelude.{fold}
 use Rattle.std.specs.List.{All}
 use Rattle.std.proofs.lemmas.List.{drop_all, drop_more, get_or-map, length-map}
 
--- after one more step of the loop, the fold over the elements from i + 1 on still gives the whole result
+-- if the fold over the elements from i on gives `whole`, so does the fold over those from i + 1 on after the step at i
 pub fold_behind : {S A : Type 0} (f : S → A → S) (xs : List A) (i : ℕ) (none : A) (before : S) {after whole : S} → i < length xs
     → after ≡ f before (get_or xs i none) → fold f before (drop i xs) ≡ whole → fold f after (drop (i + 1) xs) ≡ whole
 fold_behind f xs i none before inside step all = ap (λ s. fold f s (drop (i + 1) xs)) step ∙ sym (ap (fold f before) (drop_more xs i none inside)) ∙ all
 
--- past the end of the list the result so far is the result of the whole fold
+-- if the fold over the elements from i on gives `whole`, and i is past the end, the result so far is `whole`
 pub fold_ended : {S A : Type 0} (f : S → A → S) (xs : List A) (i : ℕ) (behind : S) {whole : S} → length xs ≤ i → fold f behind (drop i xs) ≡ whole → behind ≡ whole
 fold_ended f xs i behind ended all = sym (ap (fold f behind) (drop_all i xs ended)) ∙ all
 

@@ -27,13 +27,13 @@ sum_within {V} f most (e ∷ es) each =
     more : (s x y a b m : ℕ) → s ≡ x + y → a ≡ b + m → x ≤ m → y ≤ b → s ≤ a
     more s x y a b m e f k l = omega (arith, e, f, k, l)
 
--- a unit holds at most the limit of each thing
+-- a unit holds at most `holding_limit` (999,999,999) of each thing: money, men, or an item
 within_limit : (t : Thing) (h : HoldingValue) → IsHolding h → unit_amount t h ≤ holding_limit
 within_limit Money h is = is.money
 within_limit People h is = omega (arith, is.men)
 within_limit (Item i) h is = amount_within h i is
 
--- what all units hold of a thing is less than 10^14
+-- in a steady campaign all units together hold less than 10^14 of each thing
 pub all_held_within : (w : WorldValue) (c : CampaignValue) → IsSteady w c → (t : Thing) → sum_over (λ (u : Unit). unit_amount t u.holding) c.units ≤ most_moved
 all_held_within w c steady t =
     few (sum_over (λ (u : Unit). unit_amount t u.holding) c.units) (length (entries c.units))

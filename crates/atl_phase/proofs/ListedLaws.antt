@@ -66,7 +66,7 @@ module _ {K X : Type 0} {R : K → K → Ordering} (o : IsTotalOrder R) (exact :
   find_is q [] = refl
   find_is q (e ∷ es) = ap (cond (eq_by_cmp R q e.0) (Some e.1)) (find_is q es)
 
-  -- what a look-up by key finds in a list is found in the list in another order
+  -- what a look-up by key finds in a list is found in the list in another order, if no two keys are equal
   found : (es fs : List (K × X)) → IsPermutation es fs → IsDistinct (eq_by_cmp R) (keys_of fs) → (q : K) (v : X) → lookup (eq_by_cmp R q) es ≡ Some v → lookup (eq_by_cmp R q) fs ≡ Some v
   found es fs p apart q v h =
       let at = place_from_lookup (eq_by_cmp R q) es v h in
@@ -100,12 +100,12 @@ module _ {K X : Type 0} {R : K → K → Ordering} (o : IsTotalOrder R) (exact :
       (ap is_lt (λ i. R (key (k + 1) (omega arith) i) (key k (omega arith) i)) ∙ up k e (omega arith) (omega arith))
       (apart_from_distinct (eq_by_cmp R) ks k (k + 1) e.0 apart (omega arith) h))
 
-  -- a key less than all keys of a list is below the list
+  -- a key less than all keys of a list of entries passes the test `below_all` of that list
   all_below : (x : K) (es : List (K × X)) → AllByRecursion (λ y. R x y ≡ Less) (keys_of es) → below_all R x es ≡ true
   all_below x [] h = refl
   all_below x (e ∷ es) h = λ i. is_lt (h.0 i) && all_below x es h.1 i
 
-  -- strictly sorted keys pass the test for sorted entries
+  -- entries whose keys are strictly sorted pass the test for sorted entries (`is_sorted`)
   in_order : (es : List (K × X)) → IsStrictlySortedBy R (keys_of es) → is_sorted R es ≡ true
   in_order [] h = refl
   in_order (e ∷ es) h = λ i. all_below e.0 es (sorted_head R e.0 (keys_of es) h) i && in_order es (sorted_tail R e.0 (keys_of es) h) i
@@ -117,12 +117,12 @@ module _ {K X : Type 0} {R : K → K → Ordering} (o : IsTotalOrder R) (exact :
       sym (entries-from_sorted R fs ordered) ∙ ap entries (same_map o exact (from_sorted fs) (from_entries es) (λ q.
       get-from_sorted R fs q ordered ∙ sym (find-permutation es fs p apart q) ∙ sym (get-from_entries o es q)))
 
-  -- a key that is below a list is less than each of its keys
+  -- a key that passes the test `below_all` of a list of entries is less than each key of the list
   all_less : (x : K) (es : List (K × X)) → below_all R x es ≡ true → AllByRecursion (λ y. R x y ≡ Less) (keys_of es)
   all_less x [] h = tt
   all_less x (e ∷ es) h = let parts = and_parts _ _ h in (less _ parts.0, all_less x es parts.1)
 
-  -- entries that pass the test for sorted ones have strictly sorted keys
+  -- entries that pass the test for sorted entries (`is_sorted`) have strictly sorted keys
   rising : (es : List (K × X)) → is_sorted R es ≡ true → IsStrictlySortedBy R (keys_of es)
   unfolding IsStrictlySortedBy
   rising [] h = tt
@@ -135,7 +135,7 @@ module _ {K X : Type 0} {R : K → K → Ordering} (o : IsTotalOrder R) (exact :
     abbrev passing : List (K × X) → List (K × X)
     passing es = filter (λ e. p e.1) es
 
-    -- a key that is below a list is below those of its entries that pass the test
+    -- a key less than all keys of a list is less than the keys of those entries that pass the test (`below_all`)
     below-passing : (x : K) (es : List (K × X)) → below_all R x es ≡ true → below_all R x (passing es) ≡ true
     below-passing x [] h = refl
     below-passing x (e ∷ es) h =
@@ -178,7 +178,7 @@ module _ {K X : Type 0} {R : K → K → Ordering} (o : IsTotalOrder R) (exact :
 
 -- elements sorted by a key, each listed with its key
 module _ {K X : Type 0} (R : K → K → Ordering) (key : X → K) where
-  -- an element, after its key
+  -- the pair of an element's key and the element
   abbrev keyed : X → K × X
   keyed x = (key x, x)
 

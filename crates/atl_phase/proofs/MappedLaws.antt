@@ -17,7 +17,7 @@ pub no_entries : {K X : Type 0} (R : K → K → Ordering) → entries (empty {X
 no_entries {X = X} R = empty_list _ (sym (len-entries empty) ∙ len-empty R X)
 
 module _ {K X Y : Type 0} (R : K → K → Ordering) (f : X → Y) where
-  -- an entry with f of its value
+  -- the entry with f of its value in place of the value
   abbrev pub with_value : K × X → K × Y
   with_value e = (e.0, f e.1)
 

@@ -18,12 +18,12 @@ use Rattle.atl_state.proofs.OwnerLaws.{place-what}
 pub marks_by : (a b m : MarkedCampaign) → b.value ≡ m.value → b.marks ≡ m.marks → MarksChanges a m → MarksChanges a b
 marks_by a b m what marks h = rw (what, marks) (record { stay = h.stay; covers = h.covers })
 
--- if a change marks all that it changes, it does so with a later booking too, which marks its amount
+-- a change that marks all that it changes, and then a booking that marks its amount, mark together all that they change
 pub booked_marks : (a b d : MarkedCampaign) (e : Entry) (t : Thing) (z : ℤ) → MarksChanges a b → d.value ≡ with_amount b.value e t z → d.marks ≡ mark_amount b e t → MarksChanges a d
 booked_marks a b d e t z before what marks =
     marks-trans a b d before (marks_by b d (record { value = with_amount b.value e t z; marks = mark_amount b e t }) what marks (marks-amount b e t z))
 
--- placing a unit marks all that changes, whether the unit is there or not
+-- putting a unit in a region and a structure (`place_marked_at`) marks all that changes, also if the unit isn't there
 marks_place_at : (c : MarkedCampaign) (n r s : ℕ) (o : Option Unit) → MarksChanges c (place_marked_at c n r s o)
 marks_place_at c n r s None = marks-refl c
 marks_place_at c n r s (Some u) = by_test (u.structure == s)
@@ -37,7 +37,7 @@ marks_place_at c n r s (Some u) = by_test (u.structure == s)
         let next = handed_marked (put_marked c n r s) u.structure n (heir c.value u.structure n) in
         marks-trans c next (handed_marked next s 0 n) (marks-trans c (put_marked c n r s) next one_put (marks-after_handover (put_marked c n r s) u.structure n (heir c.value u.structure n))) (marks-after_handover next s 0 n)
 
--- placing a unit in another region and structure, with the marks of `place_marked`, marks all that changes
+-- putting a unit in another region and structure, with the marks of `place_marked`, marks all that changes
 pub marks-place : (c d : MarkedCampaign) (n r s : ℕ) → d.value ≡ with_place c.value n r s → d.marks ≡ (place_marked c n r s).marks → MarksChanges c d
 unfolding place_marked
 marks-place c d n r s what marks = marks_by c d (place_marked c n r s) (what ∙ sym (place-what c n r s)) marks (marks_place_at c n r s (get c.value.units n))

@@ -17,11 +17,11 @@ use Rattle.atl_phase.specs.Month.{MonthValue}
 use Rattle.atl_phase.specs.Meaning.{BookBound, Condition, Frame, IsNear, IsSameMonth, LeavesWell, Meaning, both_keep, both_move}
 use Rattle.atl_phase.specs.Bounds.{HasRoom, HaveRoom, moved_times}
 
--- two moves, of at most j and at most k, are together one of at most j + k
+-- two moves of an amount in turn, by at most j and at most k, are together one by at most j + k
 pub near_twice : (j k : ℕ) (a b c : ℤ) → IsNear j a b → IsNear k b c → IsNear (j + k) a c
 near_twice j k a b c g h = record { above = omega (arith, ints, g.above, h.above); below = omega (arith, ints, g.below, h.below) }
 
--- amounts that differ by at most j differ by at most a greater k
+-- amounts that differ by at most j differ by at most k, if j is at most k
 pub near_more : (j k : ℕ) (a b : ℤ) → j ≤ k → IsNear j a b → IsNear k a b
 near_more j k a b l h = record { above = omega (arith, ints, h.above); below = omega (arith, ints, h.below) }
 
@@ -29,11 +29,11 @@ near_more j k a b l h = record { above = omega (arith, ints, h.above); below = o
 pub near_same : (k : ℕ) (a : ℤ) → IsNear k a a
 near_same k a = record { above = omega (arith, ints); below = omega (arith, ints) }
 
--- an amount with room for j + k has room for k after a move of at most j
+-- an amount of the books with room for j + k has room for k after a move of at most j
 pub near_room : (j k : ℕ) (a b : ℤ) → IsNear j a b → HasRoom (j + k) a → HasRoom k b
 near_room j k a b near room = record { above = omega (arith, ints, near.above, room.above); below = omega (arith, ints, near.below, room.below) }
 
--- an amount with room for k has room for a smaller j
+-- an amount of the books with room for k has room for each j that is at most k
 pub less_room : (j k : ℕ) (a : ℤ) → j ≤ k → HasRoom k a → HasRoom j a
 less_room j k a l room = record { above = omega (arith, ints, room.above); below = omega (arith, ints, room.below) }
 
@@ -41,7 +41,7 @@ less_room j k a l room = record { above = omega (arith, ints, room.above); below
 abbrev pub MovesLess : BookBound → BookBound → Type 0
 MovesLess less more = (e : Entry) (t : Thing) → less e t ≤ more e t
 
--- books with room for a bound have room for a smaller one
+-- books with room for a bound have room for another, if that is at most as great for each amount
 pub room_less : (j k : BookBound) (c : CampaignValue) → MovesLess j k → HaveRoom k c → HaveRoom j c
 room_less j k c l room e t = less_room (j e t) (k e t) (amount_in c.books e t) (l e t) (room e t)
 
@@ -120,7 +120,7 @@ well_unchanged moving w c h = record { leaves_it = h; same_month = same_month c;
 
 -- steps of one kind in turn, each of which keeps the books in balance and within one bound (`LeavesWell`)
 module _ {A : Type 0} {leaves : Condition} (moving : BookBound) (w : WorldValue) (step : CampaignValue → A → CampaignValue) (each : (c : CampaignValue) (x : A) → leaves w c → LeavesWell leaves moving w c (step c x)) where
-  -- the bound of one step and then of the others is within the bound of all steps
+  -- the bound of one step, added to that of the other steps, is at most the bound of all of them
   more : {B : Type 0} (x : B) (xs : List B) → MovesLess (both_move moving (moved_times (length xs) moving)) (moved_times (length (x ∷ xs)) moving)
   more x xs e t = let one : length (x ∷ xs) * moving e t ≡ length xs * moving e t + moving e t = suc-mul (length xs) (moving e t) in omega arith
 

@@ -21,7 +21,7 @@ use Rattle.atl_orders.specs.Mailing.{Reading, reading_of}
 use Rattle.atl_phase.specs.Month.{HaveOwnFactions, HaveNoOrder, by_faction}
 use Rattle.atl_phase.proofs.ListedLaws.{find_is, from_entries-permutation, keyed_order, strictly}
 
--- a reading, after its faction as the key
+-- the pair of a reading's faction, which is its key in a map, and the reading
 abbrev pub by_its_faction : Reading → ℕ × Reading
 by_its_faction r = (r.faction, r)
 
@@ -49,7 +49,7 @@ mailings_have_no_order ms ns apart p =
 
 -- ---- mailings that are sorted by faction
 
--- a mailing, after its faction as the key
+-- the pair of a mailing's faction, which is its key in a map, and the mailing
 abbrev under_faction : Mailing → ℕ × Mailing
 under_faction m = (m.faction, m)
 

@@ -33,7 +33,7 @@ use Rattle.atl_phase.proofs.PhaseOrderLaws.{orders_are_in_mailings}
 
 -- ---- amounts
 
--- an unchanged amount uses nothing of its remaining bound
+-- an unchanged amount of the books uses nothing of its remaining bound (`UsesBound`)
 pub drawn_same : (r : ℕ) (a : ℤ) → UsesBound r r a a
 drawn_same r a = record { above = omega (arith, ints); below = omega (arith, ints) }
 
@@ -41,15 +41,15 @@ drawn_same r a = record { above = omega (arith, ints); below = omega (arith, int
 pub not_drawn : (r s : ℕ) (a b : ℤ) → s ≡ r → b ≡ a → UsesBound r s a b
 not_drawn r s a b e f = record { above = omega (arith, ints, e, f); below = omega (arith, ints, e, f) }
 
--- two moves within `UsesBound` in turn are one
+-- two moves of an amount in turn, each by at most what its remaining bound falls, are one such move (`UsesBound`)
 pub drawn_twice : (r s t : ℕ) (a b c : ℤ) → UsesBound r s a b → UsesBound s t b c → UsesBound r t a c
 drawn_twice r s t a b c one two = record { above = omega (arith, ints, one.above, two.above); below = omega (arith, ints, one.below, two.below) }
 
--- an amount that moves by at most x uses x of its remaining bound
+-- an amount that moves by at most x moves by no more than its remaining bound falls (`UsesBound`), if that falls by x
 pub drawn_near : (x reserve left : ℕ) (a b : ℤ) → left + x ≡ reserve → IsNear x a b → UsesBound reserve left a b
 drawn_near x reserve left a b e near = record { above = omega (arith, ints, e, near.above); below = omega (arith, ints, e, near.below) }
 
--- an amount that moves within its remaining bound moves by at most that bound
+-- an amount that moves by at most what its remaining bound r falls moves by at most `most`, if r is at most `most`
 near_drawn : (r s most : ℕ) (a b : ℤ) → r ≤ most → UsesBound r s a b → IsNear most a b
 near_drawn r s most a b l h = record { above = omega (arith, ints, h.above); below = omega (arith, ints, h.below) }
 
@@ -81,7 +81,7 @@ well_twice {holds} {reserve} w a b c one two = record {
 pub room_left : {holds : Condition} {reserve : RemainingBound} (w : WorldValue) (a b : CampaignValue) → StepsWell holds reserve w a b → HaveRoom (reserve a) a → HaveRoom (reserve b) b
 room_left {holds} {reserve} w a b well room e t = room_drawn (reserve a e t) (reserve b e t) (amount_in a.books e t) (amount_in b.books e t) (well.drawn e t) (room e t)
 
--- steps within their remaining bound (`StepsWell`) are within a bound of the phase that is as large (`LeavesWell`)
+-- a step within a remaining bound (`StepsWell`) is within a bound of the phase that is at least as large (`LeavesWell`)
 pub leaves_well : {holds : Condition} {reserve : RemainingBound} {moving : BookBound} (w : WorldValue) (a b : CampaignValue) → ((e : Entry) (t : Thing) → reserve a e t ≤ moving e t) → StepsWell holds reserve w a b → LeavesWell holds moving w a b
 leaves_well {holds} {reserve} {moving} w a b l h = record {
   leaves_it = h.holds_still;
@@ -96,13 +96,14 @@ room_reserved reserve moving c l room e t = less_room (reserve c e t) (moving e 
 
 -- ---- what stays
 
--- `IsNoWorse` is reflexive and transitive, and keeps the faction
+-- to be no worse off (`IsNoWorse`) is reflexive and transitive, and keeps the faction
 pub no_worse_spares : IsUnaffectedRelation IsNoWorse
 no_worse_spares = record { same = no_worse; again = no_worse_twice; faction = λ u v h. h.faction }
 
 -- ---- orders
 
--- P holds of the result of a faction's order, if it holds of no change with NotYours, and of the effect on its own unit
+-- P holds of the result of a faction's order, if it holds of NotYours with the campaign as it was, and of the order's
+-- effect on a unit of the faction
 pub carried_cases : (P : CampaignValue × Outcome → Type 0) (deed : OrderEffect) (c : CampaignValue) (faction n : ℕ) → P (c, Fault 1) → ((u : Unit) → get c.units n ≡ Some u → u.faction ≡ faction → P (deed c u)) → P (faction_effect deed c faction n)
 carried_cases P deed c faction n other own = by_unit (get c.units n) refl
   where
@@ -114,16 +115,16 @@ carried_cases P deed c faction n other own = by_unit (get c.units n) refl
     by_unit None there = other
     by_unit (Some u) there = by_faction u there (u.faction == faction) refl
 
--- P holds of the campaign after an order, if it holds without a change and after the effect on the order's unit
+-- P holds of the campaign after an order, if it holds of the campaign before and after the effect on the order's unit
 pub ordered_cases : (P : CampaignValue → Type 0) (step : Option OrderEffect) (c : CampaignValue) (t : Task) → P c → ((x : Unit) → IsUnitOf c t x → IfSome step (λ deed. P (deed c x).0)) → P (order_result step c t.faction t.unit).0
 ordered_cases P None c t same done = same
 ordered_cases P (Some deed) c t same done = carried_cases (λ p. P p.0) deed c t.faction t.unit same (λ x there faction. done x (record { there = there; faction = faction }))
 
--- a result, with its outcome as one that is there (`Some`)
+-- a campaign and an outcome, with the outcome in `Some`
 abbrev with_some : CampaignValue × Outcome → CampaignValue × Option Outcome
 with_some p = (p.0, Some p.1)
 
--- an order that isn't passed over has the campaign of its effect, and the outcome of its effect
+-- a campaign and an outcome that are the effect of an order are its result, if the phase doesn't pass it over
 pub told_some : (deed : OrderEffect) (c d : CampaignValue) (faction n : ℕ) (o : Outcome) → (d, o) ≡ faction_effect deed c faction n → (d, Some o) ≡ order_result (Some deed) c faction n
 told_some deed c d faction n o is = ap with_some is
 
@@ -132,12 +133,14 @@ module _ (step : OrderMeaning) {holds : Condition} {reserve : RemainingBound} {m
   pub order_well : (a : Aliases) (c : CampaignValue) (t : Task) → holds w c → IsOrderOf w t.order_value → StepsWell holds reserve w c (order_result (step w a t) c t.faction t.unit).0
   order_well a c t h fit = ordered_cases (StepsWell holds reserve w c) (step w a t) c t (well_same w c h) (λ x own. orderly.well w a c t x h fit own)
 
-  -- an order spares each unit that it doesn't concern, if its phase is `IsOrderly`
+  -- each unit that an order doesn't concern is there after it, and `spares` relates what it was to what it is then,
+  -- if the order's phase is `IsOrderly`
   order_spares : (a : Aliases) (c : CampaignValue) (t : Task) → holds w c → (n : ℕ) (u : Unit) → get c.units n ≡ Some u → (concerns t n u.faction → ⊥) → IsUnaffected spares (order_result (step w a t) c t.faction t.unit).0 n u
   order_spares a c t h n u there other =
       ordered_cases (λ d. IsUnaffected spares d n u) (step w a t) c t (record { unit = u; there = there; spared = orderly.sparing.same u }) (λ x own. orderly.spared w a c t x h own n u there other)
 
-  -- orders spare a unit that none of them concerns, if their phase is `IsOrderly`
+  -- a unit that none of some orders concerns is there after them, and `spares` relates what it was to what it is then,
+  -- if their phase is `IsOrderly`
   orders_spare_one : (c : CampaignValue) (m : MonthValue) (ts : List Task) → holds w c → AllByRecursion (λ t. IsOrderOf w t.order_value) ts → (n : ℕ) (u : Unit) → get c.units n ≡ Some u → AllByRecursion (λ t. concerns t n u.faction → ⊥) ts
       → IsUnaffected spares (fold (one_order step w) (c, m) ts).0 n u
   orders_spare_one c m [] h fit n u there others = record { unit = u; there = there; spared = orderly.sparing.same u }
@@ -148,7 +151,8 @@ module _ (step : OrderMeaning) {holds : Condition} {reserve : RemainingBound} {m
       let rest = orders_spare_one next.0 next.1 ts (order_well m.aliases c t h fit.0).holds_still fit.1 n one.unit one.there (subst (λ f. AllByRecursion (λ t. concerns t n f → ⊥) ts) (sym same_faction) others.1) in
       record { unit = rest.unit; there = rest.there; spared = orderly.sparing.again u one.unit rest.unit one.spared rest.spared }
 
-  -- orders spare each unit that none of them concerns, if their phase is `IsOrderly`
+  -- each unit that none of some orders concerns is there after them, and `spares` relates what it was to what it is
+  -- then, if their phase is `IsOrderly`
   pub orders_spare : (c : CampaignValue) (m : MonthValue) (ts : List Task) → holds w c → All (λ t. IsOrderOf w t.order_value) ts → AreUnaffected concerns spares ts c (fold (one_order step w) (c, m) ts).0
   orders_spare c m ts h fit n u there others =
       orders_spare_one c m ts h (recursion_from_All (λ t. IsOrderOf w t.order_value) ts fit) n u there (recursion_from_All (λ t. concerns t n u.faction → ⊥) ts others)

@@ -12,13 +12,13 @@ use Rattle.atl_phase.specs.Month.{Aliases}
 use Rattle.atl_phase.specs.PhaseOrders.{Task, stands, stands_in, tasks_for, tasks_from, unit_of}
 use Rattle.atl_phase.specs.OrderIndices.{AddsMailing, AreLastLines, IsThere, Lines, all_tasks, every_verb, mailing_at, no_entry, no_mailing, stands_by, task_at, tasks_at}
 
--- an order counts by the last lines exactly if it counts among the orders of its mailing
+-- an order counts by the greatest lines noted of its mailing exactly if it counts among the mailing's orders
 by_lines : (ts : List Task) (lines : Lines) (t : Task) → AreLastLines ts lines → (o : Option Slot) → stands_by lines t.unit t.line o ≡ stands_in ts t o
 by_lines ts lines t last None = refl
 by_lines ts lines t last (Some slot) = ap (λ n. t.line == n) (last slot t.unit)
 
 module _ (aliases : Aliases) (ms : List Mailing) (at : ℕ) where
-  -- the mailing whose orders are gone over
+  -- the mailing at index `at`, whose orders the code goes over
   abbrev read : Mailing
   read = mailing_at ms at
 
@@ -42,20 +42,20 @@ module _ (aliases : Aliases) (ms : List Mailing) (at : ℕ) where
   opened : (i : ℕ) → i < length read.entries → rest_from i ≡ cond (counts i) (task_at ms (place_of i) ∷ rest_from (i + 1)) (rest_from (i + 1))
   opened i h = ap (λ es. filter (stands (tasks_at aliases ms at)) (tasks_from aliases read.faction i (map (entry_value read.text) es))) (drop_more read.entries i no_entry h)
 
-  -- the list has the indices of the orders that count up to index i of the mailing, after those of `old`
+  -- the list has the indices of the orders that count before index i of the mailing, after those of `old`
   pub record Added (old : List OrderIndex) (i : ℕ) (list : List OrderIndex) : Type 0 where
     pub there : All (IsThere ms) old → All (IsThere ms) list
     pub tasks : map (task_at ms) list ++ rest_from i ≡ map (task_at ms) old ++ rest_from 0
 
   module _ (old list : List OrderIndex) (i : ℕ) (h : i < length read.entries) (before : Added old i list) where
-    -- an order that doesn't count adds no index
+    -- if the order at i doesn't count, the list as it is has the indices of those that count before i + 1 (`Added`)
     pub passed : counts i ≡ false → Added old (i + 1) list
     passed skipped = record {
       there = before.there;
       tasks = ap (λ ts. map (task_at ms) list ++ ts) (sym (opened i h ∙ ap (λ b. cond b (task_at ms (place_of i) ∷ rest_from (i + 1)) (rest_from (i + 1))) skipped)) ∙ before.tasks;
     }
 
-    -- an order that counts adds its own index to the list
+    -- if the order at i counts, the list with its index has the indices of those that count before i + 1 (`Added`)
     pub pushed : at < length ms → counts i ≡ true → Added old (i + 1) (list ++ place_of i ∷ [])
     pushed within counted = record {
       there = λ all. All-push (IsThere ms) list (place_of i) (before.there all) (record { mailing = within; entry = h });
@@ -81,13 +81,14 @@ module _ (aliases : Aliases) (ms : List Mailing) (at : ℕ) where
       place = i;
     }
 
-    -- the code's test of an order is whether it counts
+    -- what the code's test by the noted lines says of the order at i is whether that order counts
     pub counts_by : (lines : Lines) (b : Bool) → AreLastLines (tasks_at aliases ms at) lines → b ≡ stands_by lines unit e.line (row_of e.order.verb).slot → counts i ≡ b
     counts_by lines b last is =
         let t = task_at ms (place_of i) in
         sym (is ∙ (λ k. stands_by lines (found_is k).unit (found_is k).line (row_of (entry k).order.verb).slot) ∙ by_lines (tasks_at aliases ms at) lines t last (row_of t.order_value.verb).slot)
 
-    -- the index that the code makes of an order that counts is the one to be added
+    -- if the order at i counts, the list with the index that the code makes has the indices of those that count
+    -- before i + 1 (`Added`)
     pub added : (old list new : List OrderIndex) → i < length read.entries → Added old i list → at < length ms → counts i ≡ true → new ≡ list ++ found ∷ [] → Added old (i + 1) new
     added old list new h before within counted is = subst (Added old (i + 1)) (sym (is ∙ ap (λ p. list ++ p ∷ []) found_is)) (pushed old list i h before within counted)
 

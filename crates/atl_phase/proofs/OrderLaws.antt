@@ -34,12 +34,12 @@ use Rattle.atl_phase.proofs.MonthLaws.{by_its_faction, factions_read, keys_of-fa
 abbrev same_key : Arrangement → Task → Task → Bool
 same_key a t u = eq_by_cmp (slice_cmp nat_cmp) (key_of a t) (key_of a u)
 
--- orders with one key are of one faction
+-- two orders with the same key are of one faction
 factions_tie : (a : Arrangement) (t u : Task) → key_of a t ≡ key_of a u → t.faction ≡ u.faction
 factions_tie ByUnit t u e = ap (λ key. get_or key 2 0) e
 factions_tie ByFaction t u e = ap (λ key. get_or key 0 0) e
 
--- orders with one key have one index in their mailings
+-- two orders with the same key have the same index in their mailings
 places_tie : (a : Arrangement) (t u : Task) → key_of a t ≡ key_of a u → t.place ≡ u.place
 places_tie ByUnit t u e = ap (λ key. get_or key 3 0) e
 places_tie ByFaction t u e = ap (λ key. get_or key 3 0) e
@@ -49,7 +49,7 @@ refuted : (b : Bool) → (b ≡ true → ⊥) → b ≡ false
 refuted true h = absurd (h refl)
 refuted false h = refl
 
--- orders for which `same_key` holds have equal keys
+-- orders that pass the test for the same key (`same_key`) have equal keys
 keys_tie : (a : Arrangement) (t u : Task) → same_key a t u ≡ true → key_of a t ≡ key_of a u
 keys_tie a t u h = slice_cmp-IsAntisymmetric nat_cmp-IsAntisymmetric (key_of a t) (key_of a u) ((Equal-is (slice_cmp nat_cmp (key_of a t) (key_of a u))).0 h)
 
@@ -57,7 +57,7 @@ keys_tie a t u h = slice_cmp-IsAntisymmetric nat_cmp-IsAntisymmetric (key_of a t
 other_faction : (a : Arrangement) (t u : Task) → t.faction < u.faction → same_key a t u ≡ false
 other_faction a t u l = refuted (same_key a t u) (λ h. let e = factions_tie a t u (keys_tie a t u h) in omega arith)
 
--- orders with two indices in their mailings have different keys
+-- two orders with different indices in their mailings have different keys
 other_place : (a : Arrangement) (t u : Task) → t.place < u.place → same_key a t u ≡ false
 other_place a t u l = refuted (same_key a t u) (λ h. let e = places_tie a t u (keys_tie a t u h) in omega arith)
 
@@ -66,7 +66,8 @@ module _ (aliases : Aliases) (a : Arrangement) where
   abbrev IsBehind : ℕ → ℕ → Task → Type 0
   IsBehind faction place t = (t.faction ≡ faction) × (place ≤ t.place)
 
-  -- the orders of the entries from an index on have that index or a greater one
+  -- those orders of a faction's entries from index `place` on that pass a test are of this faction, and have an index
+  -- of at least `low`, if `low` is at most `place`
   behind : (p : Task → Bool) (faction : ℕ) (low place : ℕ) (es : List EntryValue) → low ≤ place → AllByRecursion (IsBehind faction low) (filter p (tasks_from aliases faction place es))
   behind p faction low place [] le = tt
   behind p faction low place (e ∷ es) le =
@@ -82,7 +83,7 @@ module _ (aliases : Aliases) (a : Arrangement) where
   apart_behind t faction [] h = tt
   apart_behind t faction (u ∷ ts) h = (other_place a t u (omega (arith, h.0.1)), apart_behind t faction ts h.1)
 
-  -- no two orders of one mailing have one key
+  -- no two orders of one mailing have the same key
   pub apart_within : (p : Task → Bool) (faction : ℕ) (place : ℕ) (es : List EntryValue) → IsDistinct (same_key a) (filter p (tasks_from aliases faction place es))
   unfolding IsDistinct
   apart_within p faction place [] = tt
@@ -93,7 +94,7 @@ module _ (aliases : Aliases) (a : Arrangement) where
       kept ts t true h r = (h, r)
       kept ts t false h r = r
 
-  -- if Q holds of a faction, it holds of the faction of each order of that faction's entries
+  -- if Q holds of a faction, it holds of the faction of each order of this faction's mailing that passes a test
   of_faction : (p : Task → Bool) (faction : ℕ) (place : ℕ) (es : List EntryValue) (Q : ℕ → Type 0) → Q faction → AllByRecursion (λ t. Q t.faction) (filter p (tasks_from aliases faction place es))
   of_faction p faction place [] Q q = tt
   of_faction p faction place (e ∷ es) Q q = kept _ _ (p _) q (of_faction p faction (place + 1) es Q q)
@@ -125,7 +126,7 @@ module _ (aliases : Aliases) (a : Arrangement) where
     all_before n [] us e h = tt
     all_before n (t ∷ ts) us e h = (before n t us e.0 h, all_before n ts us e.1 h)
 
-    -- no two orders of a phase have one key, in mailings sorted by faction
+    -- no two orders of a phase have the same key, in mailings sorted by faction
     pub all_apart : (rs : List Reading) → IsStrictlySortedBy nat_cmp (map (λ r. r.faction) rs) → IsDistinct (same_key a) (all_tasks is_of aliases rs)
     unfolding IsDistinct
     all_apart [] h = tt
@@ -147,25 +148,25 @@ module _ {X : Type 0} (as_task : X → Task) where
   values-tasks (e ∷ es) = ap (λ ts. as_task e.1 ∷ ts) (values-tasks es)
 
   module _ (key : Task → List ℕ) where
-    -- an element, after the key of its order
+    -- the pair of the key of an element's order and the element
     abbrev keyed : X → List ℕ × X
     keyed o = (key (as_task o), o)
 
-    -- an order, after its key
+    -- the pair of an order's key and the order
     abbrev paired : Task → List ℕ × Task
     paired t = (key t, t)
 
-    -- the keys of elements after their keys are the keys of their orders
+    -- the keys of elements that are paired with the keys of their orders are the keys of these orders
     keys-keyed : (os : List X) → keys_of (map keyed os) ≡ map key (map as_task os)
     keys-keyed [] = refl
     keys-keyed (o ∷ os) = ap (λ ks. key (as_task o) ∷ ks) (keys-keyed os)
 
-    -- elements after their keys, each mapped to its order, are the orders after their keys
+    -- elements that are paired with keys, each mapped to its order, are the orders paired with their keys
     pairs-keyed : (os : List X) → map (with_value (slice_cmp nat_cmp) as_task) (map keyed os) ≡ map paired (map as_task os)
     pairs-keyed [] = refl
     pairs-keyed (o ∷ os) = ap (λ es. paired (as_task o) ∷ es) (pairs-keyed os)
 
-    -- elements after their keys, without the keys, are the elements
+    -- elements that are paired with keys, without the keys, are the elements
     unkeyed : (os : List X) → map (λ e. e.1) (map keyed os) ≡ os
     unkeyed [] = refl
     unkeyed (o ∷ os) = ap (λ ps. o ∷ ps) (unkeyed os)
@@ -182,7 +183,7 @@ module _ {X : Type 0} (as_task : X → Task) where
         ∙ ap (map (λ e. e.1)) (sym (entries-with_value (slice_cmp nat_cmp) as_task nat_list_cmp_total (map keyed os)))
         ∙ ap (λ es. values (from_entries {R = slice_cmp nat_cmp} es)) (pairs-keyed os ∙ ap (map paired) are)
 
--- orders sorted by a key, of which no two are equal, are what the map of the orders under their keys lists
+-- orders sorted by a key, no two with the same key, are what the map from key to order lists
 pub listed_tasks : (key : Task → List ℕ) (os list : List PhaseOrder) (ts : List Task) → map task_of os ≡ ts → IsDistinct (λ t u. eq_by_cmp (slice_cmp nat_cmp) (key t) (key u)) ts → IsPermutation os list
     → IsSortedByKey (λ o. key (task_of o)) (slice_cmp nat_cmp) list → map task_of list ≡ values (from_entries {R = slice_cmp nat_cmp} (map (λ t. (key t, t)) ts))
 listed_tasks = listed task_of
@@ -201,12 +202,13 @@ module _ (is_of : Verb → Bool) (a : Arrangement) (aliases : Aliases) where
 
 -- ---- the indices of all orders
 
--- indices sorted by their keys are sorted by the keys of their orders
+-- indices of orders that are sorted by their own keys are sorted by the keys of the orders that they name
 by_key : (a : Arrangement) (ms : List Mailing) (list : List OrderIndex) → IsSortedByKey (key_by a) (slice_cmp nat_cmp) list → IsSortedByKey (λ p. key_of a (task_at ms p)) (slice_cmp nat_cmp) list
 by_key ByUnit ms list up = up
 by_key ByFaction ms list up = up
 
--- the indices of all orders that count, sorted by their keys, are the order indices of the arrangement
+-- the indices of all orders that count, mailing by mailing, name them as the arrangement sorts them once they are
+-- sorted by their keys (`AreOrderIndices`)
 pub sorted_places : (a : Arrangement) (aliases : Aliases) (ms : List Mailing) (os list : List OrderIndex) → AreByFaction ms → AreIndicesByMailing aliases ms os → IsPermutation os list → IsSortedByKey (key_by a) (slice_cmp nat_cmp) list
     → AreOrderIndices a aliases ms list
 sorted_places a aliases ms os list h are p up =

@@ -15,15 +15,15 @@ pub none_fits : (fits : Bool) (fault : EventFault) (more : List (Bool × EventFa
 none_fits true fault more is = cc
 none_fits false fault more is = (refl, is)
 
--- numbers of which the test for difference fails are equal
+-- two numbers are equal if the test `not (a == b)` is false
 pub not_apart : (a b : ℕ) → not (a == b) ≡ false → a ≡ b
 not_apart a b is = let same : (a == b) ≡ true = not-false (a == b) is in grind (arith, nat_tests)
 
--- where the test `a < b` fails, b is at most a
+-- where the test `a < b` is false, b is at most a
 pub not_less : (a b : ℕ) → nat_lt a b ≡ false → b ≤ a
 not_less a b is = grind (arith, nat_tests)
 
--- if a test that counts only for another unit fails as a whole, and it is another unit, the test itself fails
+-- if `not itself && fits` is false, and `itself` is false, `fits` is false
 pub unless_itself : (itself fits : Bool) → (not itself && fits) ≡ false → itself ≡ false → fits ≡ false
 unless_itself true fits is other = cc
 unless_itself false fits is other = is

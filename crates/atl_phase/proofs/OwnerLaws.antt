@@ -15,7 +15,7 @@ use Rattle.atl_state.proofs.NumberListLaws.{IsListed, first_of}
 
 -- two campaigns c and d, in which all units but n are the same
 module _ (c d : CampaignValue) (n : ℕ) (away : (k : ℕ) → k ≢ n → get d.units k ≡ get c.units k) where
-  -- P holds of each unit of d, if it holds of unit n there and of every other unit of c
+  -- P holds of each unit of d, if it holds of unit n of d, and of every other unit of c
   every_away : (P : ℕ → Unit → Type 0) → ((v : Unit) → get d.units n ≡ Some v → P n v) → ((k : ℕ) (v : Unit) → k ≢ n → get c.units k ≡ Some v → P k v) → Every P d.units
   every_away P mine others k v there = elim (cases_eq k n) [
     | inl same ↦ subst (λ j. P j v) (sym same) (mine v (ap (get d.units) (sym same) ∙ there))

@@ -36,7 +36,7 @@ module _ {K X : Type 0} (R : K → K → Ordering) (P : K → X → Type 0) wher
         | Greater ↦ λ o. (all.0, entries-put anti k v es h all.1)
       ] refl
 
-  -- if P holds of each entry of a list, it holds of each entry of the map that the list makes
+  -- if P holds of each entry of a list, it holds of each entry that the map made of the list lists
   pub entries-listed : IsTotalOrder R → IsAntisymmetric R → (es : List (K × X)) → Entries es → Entries (entries (from_entries {R = R} es))
   entries-listed o anti [] all = subst Entries (sym (no_entries R)) tt
   entries-listed o anti (e ∷ es) all =

@@ -8,14 +8,15 @@ use Rattle.atl_phase.specs.PhaseSpecs.{EachPhase, MovesItsOwn, PhaseSpec, keeps_
 use Rattle.atl_phase.specs.Unmailed.{starved_in}
 use Rattle.atl_phase.proofs.UnmailedLaws.{ClosesUnmailed, LeavesUnmailed, both_leave, then_closes}
 
--- if P implies Q for every phase, and P holds of each phase of a list, Q does
+-- if P implies Q for every phase, and P holds of each phase of a list, Q holds of each
 pub each_also : {P Q : PhaseSpec → Type 0} → ((phase : PhaseSpec) → P phase → Q phase) → (phases : List PhaseSpec) → EachPhase P phases → EachPhase Q phases
 each_also also [] each = tt
 each_also also (phase ∷ rest) each = (also phase each.0, each_also also rest each.1)
 
 -- ---- the books
 
--- if one phase and the others each move an amount within `most_moved` for each phase that may move it, all together do
+-- what one phase and the others move of an amount is together at most `most_moved` times the number of phases that may
+-- move it, if this is so of the one phase and of the others
 counted : (b : Bool) (rest moved most : ℕ) → moved ≤ (if b then most_moved else 0) → rest ≤ most * most_moved → moved + rest ≤ ((if b then 1 else 0) + most) * most_moved
 counted true rest moved most one others = omega (arith, one, others)
 counted false rest moved most one others = omega (arith, one, others)
@@ -32,7 +33,7 @@ moved_within (phase ∷ next ∷ rest) each e t = counted (may_move phase.moved 
 
 -- ---- a faction without a mailing
 
--- the phase, by its effect and what it keeps, leaves the units of factions without a mailing (`LeavesUnmailed`)
+-- the phase leaves units of factions without a mailing what is theirs (`LeavesUnmailed`)
 abbrev pub PhaseLeavesUnmailed : PhaseSpec → Type 0
 PhaseLeavesUnmailed phase = LeavesUnmailed phase.meaning phase.keeps
 
@@ -42,7 +43,8 @@ CloseTogether [] = ⊥
 CloseTogether (phase ∷ []) = ClosesUnmailed phase.meaning phase.keeps
 CloseTogether (phase ∷ next ∷ rest) = PhaseLeavesUnmailed phase × CloseTogether (next ∷ rest)
 
--- phases in turn leave units of factions without a mailing what is theirs, if each does (`CloseTogether`)
+-- phases in turn, after the last of which a unit may have starved out, leave units of factions without a mailing
+-- what is theirs (`ClosesUnmailed`), if each does (`CloseTogether`)
 pub closed_together : (phases : List PhaseSpec) → CloseTogether phases → ClosesUnmailed (meaning_of phases) (keeps_of phases)
 closed_together [] none = absurd none
 closed_together (phase ∷ []) closes = closes

@@ -44,7 +44,7 @@ filter-map p f (x ∷ xs) =
     ]
 
 module _ (a : Arrangement) where
-  -- an order, after its key
+  -- the pair of an order's key and the order
   abbrev paired : Task → List ℕ × Task
   paired t = (key_of a t, t)
 
@@ -64,7 +64,7 @@ module _ (a : Arrangement) where
       ∙ sym (filter-map p (λ e. e.1) (entries (from_entries {R = slice_cmp nat_cmp} es)))
 
 module _ (is_of : Verb → Bool) (aliases : Aliases) where
-  -- the orders that count for a phase are those among all that count that have a verb of the phase
+  -- the orders that a phase takes are those which have one of its verbs, among all orders that count
   tasks_of_phase : (rs : List Reading) → all_tasks is_of aliases rs ≡ filter (has_verb is_of) (all_tasks every_verb aliases rs)
   tasks_of_phase [] = refl
   tasks_of_phase (r ∷ rs) =
@@ -102,12 +102,13 @@ module _ (is_of : Verb → Bool) (ms : List Mailing) (places : List OrderIndex) 
   opened : (i : ℕ) (p : OrderIndex) → i < length places → p ≡ get_or places i p → rest_from i ≡ cond (has_verb is_of (task_at ms p)) (task_at ms p ∷ rest_from (i + 1)) (rest_from (i + 1))
   opened i p h at = ap (tasks_picked is_of ms) (next_of places i p h at)
 
-  -- the code's test of an order is whether it has a verb of the phase
+  -- what the code's test says of an order's verb is whether the order that index p names has a verb of the phase
   read_verb : (p : OrderIndex) (o : PhaseOrder) (b : Bool) → task_of o ≡ task_at ms p → is_of o.order.now.verb ≡ b → has_verb is_of (task_at ms p) ≡ b
   read_verb p o b task verb = ap (has_verb is_of) (sym task) ∙ verb
 
   module _ (list : List PhaseOrder) (i : ℕ) (p : OrderIndex) (o : PhaseOrder) (ts : List Task) (h : i < length places) (at : p ≡ get_or places i p) (task : task_of o ≡ task_at ms p) (before : map task_of list ++ rest_from i ≡ ts) where
-    -- an order with a verb of the phase is added to the list
+    -- after the order at i, which has a verb of the phase, is added, the list and what is picked from i + 1 on are
+    -- still all orders to be picked
     pub taken : (new : List PhaseOrder) → is_of o.order.now.verb ≡ true → new ≡ list ++ o ∷ [] → map task_of new ++ rest_from (i + 1) ≡ ts
     taken new verb is =
         ap (λ os. map task_of os ++ rest_from (i + 1)) is
@@ -117,13 +118,14 @@ module _ (is_of : Verb → Bool) (ms : List Mailing) (places : List OrderIndex) 
         ∙ ap (λ us. map task_of list ++ us) (sym (opened i p h at ∙ ap (λ b. cond b (task_at ms p ∷ rest_from (i + 1)) (rest_from (i + 1))) (read_verb p o true task verb)))
         ∙ before
 
-    -- an order without a verb of the phase is left out
+    -- past the order at i, which has no verb of the phase, the list as it is and what is picked from i + 1 on are
+    -- still all orders to be picked
     pub left : (new : List PhaseOrder) → is_of o.order.now.verb ≡ false → new ≡ list → map task_of new ++ rest_from (i + 1) ≡ ts
     left new verb is =
         ap (λ os. map task_of os ++ rest_from (i + 1)) is
         ∙ ap (λ us. map task_of list ++ us) (sym (opened i p h at ∙ ap (λ b. cond b (task_at ms p ∷ rest_from (i + 1)) (rest_from (i + 1))) (read_verb p o false task verb))) ∙ before
 
-  -- after the last index the list has all orders to be picked
+  -- past the last index the list is all orders to be picked
   pub all_picked : (list : List PhaseOrder) (i : ℕ) (ts : List Task) → length places ≤ i → map task_of list ++ rest_from i ≡ ts → map task_of list ≡ ts
   all_picked list i ts h before =
       sym (append-nil (map task_of list)) ∙ ap (λ ps. map task_of list ++ tasks_picked is_of ms ps) (sym (drop_all i places h)) ∙ before

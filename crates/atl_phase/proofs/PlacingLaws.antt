@@ -27,7 +27,7 @@ use Rattle.atl_phase.proofs.RefitLaws.{IsRefit, IsRelabelled, early-refitted, re
 use Rattle.atl_phase.proofs.StructureLaws.{changed_else, equal_passes, get-after_handover, handed_is, handed_on, len-after_handover}
 use Rattle.atl_phase.proofs.UnbookedLaws.{unbooked_well}
 
--- to map a looked-up value by one function and then by another is to map it by both in turn
+-- to map what a look-up found by g and then by f is to map it by both at once
 pub mapped_twice : {A : Type 0} (f g : A → A) (o : Option A) → option_map f (option_map g o) ≡ option_map (λ y. f (g y)) o
 mapped_twice f g None = refl
 mapped_twice f g (Some y) = refl
@@ -37,11 +37,11 @@ relabelled_if : (b : Bool) (to : ℕ) (y : Structure) → IsRelabelled y (if b t
 relabelled_if true to y = record { kind = refl; region = refl; done = refl; name = λ old. old }
 relabelled_if false to y = record { kind = refl; region = refl; done = refl; name = λ old. old }
 
--- a structure that is relabelled twice is relabelled
+-- if two changes in turn each keep all of a structure but owner and name (`IsRelabelled`), so do both together
 relabelled_twice : (x y z : Structure) → IsRelabelled x y → IsRelabelled y z → IsRelabelled x z
 relabelled_twice x y z one two = record { kind = two.kind ∙ one.kind; region = two.region ∙ one.region; done = two.done ∙ one.done; name = λ old. two.name (one.name old) }
 
--- a unit owns no structure but the one that it is inside
+-- in a steady campaign a unit owns no structure but the one that it is inside
 pub owns_no_other : (w : WorldValue) (c : CampaignValue) (n : ℕ) (u : Unit) → get c.units n ≡ Some u → IsSteady w c → (q : ℕ) (y : Structure) → get c.structures q ≡ Some y → q ≢ u.structure → y.owner ≢ n
 owns_no_other w c n u is steady q y there other own =
     let least = (steady.numbers.units n u is).0 in
@@ -51,11 +51,11 @@ owns_no_other w c n u is steady q y there other own =
     other (sym inside ∙ ap (λ (x : Unit). x.structure) unit)
 
 module _ (w : WorldValue) (c : CampaignValue) (n : ℕ) (u : Unit) (s : ℕ) (is : get c.units n ≡ Some u) (steady : IsSteady w c) (apart : u.structure ≢ s) where
-  -- the structure that the unit leaves
+  -- the structure that unit n leaves; 0 for none
   abbrev old_place : ℕ
   old_place = u.structure
 
-  -- the unit that owns that structure next
+  -- the next owner of the structure that unit n leaves; 0 where no other unit is inside
   abbrev next : ℕ
   next = heir c old_place n
 
@@ -71,7 +71,7 @@ module _ (w : WorldValue) (c : CampaignValue) (n : ℕ) (u : Unit) (s : ℕ) (is
   abbrev gone_out : CampaignValue
   gone_out = after_handover begun old_place n next
 
-  -- the campaign after the unit also became the owner of the structure that it entered, if nobody owned this
+  -- the campaign after unit n went: what it left has its next owner, and what it entered is its own if nobody owned it
   abbrev gone_in : CampaignValue
   gone_in = after_handover gone_out s 0 n
 
@@ -79,7 +79,7 @@ module _ (w : WorldValue) (c : CampaignValue) (n : ℕ) (u : Unit) (s : ℕ) (is
   abbrev owner_behind : ℕ → Structure → Structure
   owner_behind q y = handed_on s 0 n q (handed_on old_place n next q y)
 
-  -- the campaign after the unit went
+  -- the campaign after unit n went, as a refit: unit n inside structure s, and each structure with its owner then
   abbrev pub behind : CampaignValue
   behind = refitted w c n u s is gone_in.structures owner_behind
 
@@ -98,7 +98,7 @@ module _ (w : WorldValue) (c : CampaignValue) (n : ℕ) (u : Unit) (s : ℕ) (is
   pub place_is : with_place c n u.region s ≡ behind
   place_is = placed_is ∙ behind_is
 
-  -- a look-up of a structure after both handovers
+  -- a look-up of a structure after both handovers finds what was there before, with its owner after both
   at : (q : ℕ) → get gone_in.structures q ≡ option_map (λ y. handed_on s 0 n q (handed_on old_place n next q y)) (get c.structures q)
   at q =
       get-after_handover gone_out s 0 n q ∙ ap (option_map (handed_on s 0 n q)) (get-after_handover begun old_place n next q)
@@ -116,7 +116,7 @@ module _ (w : WorldValue) (c : CampaignValue) (n : ℕ) (u : Unit) (s : ℕ) (is
   low : Every (λ k v. 1 ≤ k) c.units
   low k v there = (steady.numbers.units k v there).0
 
-  -- every unit but n stays as it was
+  -- every unit but n is as it was after unit n went
   away : (k : ℕ) → k ≢ n → get behind.units k ≡ get c.units k
   away k other = get-insert_other c.units n k moved other
 
@@ -124,11 +124,11 @@ module _ (w : WorldValue) (c : CampaignValue) (n : ℕ) (u : Unit) (s : ℕ) (is
   stands : (v : Unit) → get behind.units n ≡ Some v → v.structure ≡ s
   stands v there = sym (ap (λ (x : Unit). x.structure) (same_Some moved v (sym (get-insert_same c.units n moved) ∙ there)))
 
-  -- a structure keeps its owner if unit n doesn't own it, and doesn't enter it where nobody owns it
+  -- a structure still has its right owner if unit n didn't own it, and doesn't enter it where nobody owned it
   still_owned : (q : ℕ) (y : Structure) → get c.structures q ≡ Some y → y.owner ≢ n → (y.owner ≡ 0 → s ≢ q) → IsOwned behind q y
   still_owned q y there other free = owner_stays c behind n away q y (steady.owners q y there) other (λ none v here inside. free none (sym (stands v here) ∙ inside))
 
-  -- the structure that a unit, if it is there, is inside; otherwise that of the second unit
+  -- the structure that the unit of a look-up is inside; that of the unit v where the look-up found none
   structure_in : Option Unit → Unit → ℕ
   structure_in (Some x) v = x.structure
   structure_in None v = v.structure
@@ -176,7 +176,7 @@ module _ (w : WorldValue) (c : CampaignValue) (n : ℕ) (u : Unit) (s : ℕ) (is
     pub placed_early : IsEarly w c → IsEarly w behind
     placed_early early = early-refitted w c n u s is gone_in.structures owner_behind refit early
 
-    -- the totals stay the same when the unit goes to another structure
+    -- the campaign's total of each thing stays the same when the unit goes to another structure
     pub placed_total : (t : Thing) → total behind t ≡ total c t
     placed_total = total-refitted w c n u s is gone_in.structures owner_behind
 

@@ -23,14 +23,14 @@ use Rattle.atl_state.specs.Totals.{total}
 use Rattle.atl_records.proofs.EveryLaws.{every-insert, get-insert_other, none_some}
 use Rattle.atl_state.proofs.RegionLaws.{same_len}
 
--- The structure after is the structure before, but for owner and name; the name is good if it was good before.
+-- The structure after is the structure before, but for owner and name; the name follows the name rule if it did before.
 pub record IsRelabelled (before after : Structure) : Type 0 where
   pub kind : after.kind ≡ before.kind
   pub region : after.region ≡ before.region
   pub done : after.done ≡ before.done
   pub name : IsTrue (name_ok before.name) → IsTrue (name_ok after.name)
 
--- a value that is found after each was mapped by f is f of a value that was found before
+-- if what a look-up o found, mapped by f, is x, then o found a value v of which f makes x
 pub under : {A B : Type 0} (f : A → B) (o : Option A) (x : B) → option_map f o ≡ Some x → (v : A) × (o ≡ Some v) × (f v ≡ x)
 under f None x is = none_some x is
 under f (Some v) x is = let same : f v ≡ x = cc in (v, refl, same)
@@ -41,7 +41,8 @@ module _ (c : CampaignValue) (units : FinMap nat_cmp Unit) (structures : FinMap 
   abbrev pub replaced : CampaignValue
   replaced = record c { units = units; structures = structures }
 
-  -- numbers and amounts stay in their ranges, if there are as many units and structures, each in range
+  -- numbers and amounts stay in their ranges (`AreInRange`), if there are as many units and structures as before, and
+  -- each of them is in range
   pub in_range_replaced : (w : WorldValue) → len units ≡ len c.units → len structures ≡ len c.structures → Every (λ k x. (1 ≤ k) × IsHolding x.holding) units
       → Every (λ k x. (1 ≤ x.done) × (x.done ≤ size_of w x.kind)) structures → AreInRange w c → AreInRange w replaced
   in_range_replaced w unit_count structure_count new_units new_structures old = record {
@@ -59,12 +60,12 @@ module _ (c : CampaignValue) (units : FinMap nat_cmp Unit) (structures : FinMap 
     books = old.books;
   }
 
-  -- names stay good, if all units and structures have good ones
+  -- all names still follow their rules (`AreNamed`), if those of all new units and structures follow the name rule
   pub named_replaced : Every (λ k x. IsTrue (name_ok x.holding.name)) units → Every (λ k x. IsTrue (name_ok x.name)) structures → AreNamed c → AreNamed replaced
   named_replaced new_units new_structures old = record { pass = old.pass; factions = old.factions; joined = old.joined; units = new_units; structures = new_structures }
 
-  -- Factions, units and structures stay numbered as the rule says (`AreNumbered`).
-  -- Each number that had no unit or no structure must still have none.
+  -- factions, units and structures stay numbered as the rule says (`AreNumbered`), if each number that had no unit or
+  -- no structure still has none, and there are as many structures
   pub numbered_replaced : len structures ≡ len c.structures → ((k : ℕ) → get c.units k ≡ None → get units k ≡ None) → ((k : ℕ) → get c.structures k ≡ None → get structures k ≡ None)
       → AreNumbered c → AreNumbered replaced
   numbered_replaced count no_unit no_structure old = record {
@@ -86,8 +87,8 @@ module _ (w : WorldValue) (c : CampaignValue) (n : ℕ) (u : Unit) (s : ℕ) (is
   abbrev pub refitted : CampaignValue
   refitted = record c { units = units; structures = structures }
 
-  -- A refit: g gives the structures, each relabelled and with its right owner.
-  -- The unit is inside a structure of its region, or none, and on water inside a ship.
+  -- A refit: unit n is inside structure s of its region, which on water is a ship, or inside none (0), and g gives the
+  -- structures, each changed in owner and name at most, and with its right owner.
   pub record IsRefit : Type 0 where
     pub at : (k : ℕ) → get structures k ≡ option_map (g k) (get c.structures k)
     pub count : len structures ≡ len c.structures
@@ -107,22 +108,22 @@ module _ (w : WorldValue) (c : CampaignValue) (n : ℕ) (u : Unit) (s : ℕ) (is
     forth : (k : ℕ) (y : Structure) → get c.structures k ≡ Some y → get structures k ≡ Some (g k y)
     forth k y there = refit.at k ∙ ap (option_map (g k)) there
 
-    -- a number without a structure stays without
+    -- a number that had no structure has none after the refit
     none_kept : (k : ℕ) → get c.structures k ≡ None → get structures k ≡ None
     none_kept k none = refit.at k ∙ ap (option_map (g k)) none
 
-    -- the campaign stays within the ranges of its numbers
+    -- after the refit the campaign's numbers and amounts are still in their ranges (`AreInRange`)
     numbers_kept : AreInRange w c → AreInRange w refitted
     numbers_kept old =
         in_range_replaced c units structures w (same_len c.units n u moved_unit is) refit.count
         (every-insert (λ k x. (1 ≤ k) × IsHolding x.holding) c.units n moved_unit (old.units n u is) old.units)
         (every_structure (λ k x. (1 ≤ x.done) × (x.done ≤ size_of w x.kind)) (λ k y was. let r = refit.same k y was in rw (r.done, r.kind) (old.structures k y was))) old
 
-    -- a structure in a region is still there, in this region
+    -- a structure that was there in a region is there after the refit, in the same region
     still_inside : (j region : ℕ) → (x : Structure) × (get c.structures j ≡ Some x) × (x.region ≡ region) → (x : Structure) × (get structures j ≡ Some x) × (x.region ≡ region)
     still_inside j region (x, there, here) = (g j x, forth j x there, (refit.same j x there).region ∙ here)
 
-    -- all that the campaign refers to is still there
+    -- all that the campaign refers to is still there after the refit (`AreKnown`)
     known_kept : AreKnown w c → AreKnown w refitted
     known_kept old = record {
       regions = old.regions;
@@ -141,21 +142,21 @@ module _ (w : WorldValue) (c : CampaignValue) (n : ℕ) (u : Unit) (s : ℕ) (is
       posts = old.posts;
     }
 
-    -- factions, units and structures stay numbered as the rule says (`AreNumbered`)
+    -- after the refit factions, units and structures are still numbered as the rule says (`AreNumbered`)
     next_kept : AreNumbered c → AreNumbered refitted
     next_kept =
         numbered_replaced c units structures refit.count
         (λ k none. get-insert_other c.units n k moved_unit (λ same. none_some u (sym none ∙ ap (get c.units) same ∙ is)) ∙ none) none_kept
 
-    -- factions that are gone still have no units
+    -- factions that are gone still have no units after the refit
     gone_kept : GoneHaveNone c → GoneHaveNone refitted
     gone_kept old m f there gone = numbers_where-insert_known (λ x. x.faction == m) c.units n u moved_unit is refl ∙ old m f there gone
 
-    -- a ship is still there, and still a ship
+    -- a structure that was there and a ship is so after the refit, too
     still_aboard : (j : ℕ) → (x : Structure) × (get c.structures j ≡ Some x) × (is_ship w x ≡ true) → (x : Structure) × (get structures j ≡ Some x) × (is_ship w x ≡ true)
     still_aboard j (x, there, ship) = (g j x, forth j x there, rw ((refit.same j x there).kind) ship)
 
-    -- on water each unit is still inside a ship
+    -- after the refit each unit on water is still inside a ship, and structures there are complete ships (`AreAfloat`)
     water_kept : AreAfloat w c → AreAfloat w refitted
     water_kept old = record {
       units = every-insert (λ k x. is_land_at w x.region ≡ false → IsAboard w refitted x) c.units n moved_unit (λ sea. still_aboard s (refit.afloat sea))
@@ -170,7 +171,7 @@ module _ (w : WorldValue) (c : CampaignValue) (n : ℕ) (u : Unit) (s : ℕ) (is
       abbrev Agree : Unit → Unit → Type 0
       Agree x y = test x ≡ true → test y ≡ true → x.region ≡ y.region → x.faction ≡ y.faction
 
-      -- units that pass the test still are of one faction in each region
+      -- units that pass the test are of one faction in each region after the refit, if they were before
       pub of_one_faction_refitted : AreOfOneFaction test c → AreOfOneFaction test refitted
       of_one_faction_refitted old =
           every-insert (λ k x. Every (λ m y. Agree x y) units) c.units n moved_unit
@@ -201,7 +202,7 @@ module _ (w : WorldValue) (c : CampaignValue) (n : ℕ) (u : Unit) (s : ℕ) (is
   cancelled : (a b h r : ℕ) → a + h ≡ b + h → a + r ≡ b + r
   cancelled a b h r e = omega arith
 
-  -- the totals stay the same after a refit
+  -- the campaign's total of each thing is the same after a refit
   pub total-refitted : (t : Thing) → total refitted t ≡ total c t
   unfolding total
   total-refitted t =

@@ -52,7 +52,7 @@ same_place n (x ∷ es) (suc i) (suc j) d e rise one two line = ap suc (same_pla
 
 -- ---- slots
 
--- slots with one number are one slot
+-- two slots with the same number are the same slot
 slots_are : (s o : Slot) → (slot_number s == slot_number o) ≡ true → s ≡ o
 slots_are MonthLong MonthLong same = refl
 slots_are Selling Selling same = refl
@@ -112,19 +112,19 @@ module _ (w : WorldValue) (is_of : Verb → Bool) (a : Arrangement) (aliases : A
   all_stand (e ∷ es) there =
       append_each Stands (tasks_for is_of (tasks_of aliases e.0 e.1)) (flat_map (λ e. tasks_for is_of (tasks_of aliases e.0 e.1)) es) (stand_from e.0 e.1 there.0 0 e.1.entries) (all_stand es there.1)
 
-  -- an order under its key, which counts in the mailing of its faction
+  -- order t is in the mailing of its faction and counts there, and its key is `key`
   record IsKept (key : List ℕ) (t : Task) : Type 0 where
     keyed : key ≡ key_of a t
     there : IsInMailing aliases readings t
     kept : Stands t
 
-  -- orders that are in their mailings and count there are `IsKept` under their keys
+  -- orders that are in their mailings and count there are so under their keys, too (`IsKept`)
   both : (ts : List Task) → AllByRecursion (IsInMailing aliases readings) ts → AllByRecursion Stands ts → AllByRecursion (λ t. IsKept (key_of a t) t) ts
   both [] there kept = tt
   both (t ∷ ts) there kept = (record { keyed = refl; there = there.0; kept = kept.0 }, both ts there.1 kept.1)
 
   module _ (fit : AreFit w readings) where
-    -- two kept orders that share a slot are one order
+    -- two orders that count in their mailings (`IsKept`) and share a slot are one order
     are_one : (key other : List ℕ) (t o : Task) → IsKept key t → IsKept other o → share_slot t o ≡ true → t ≡ o
     are_one key other t o one two share =
         let first = and_parts _ _ share in
@@ -154,7 +154,7 @@ module _ (w : WorldValue) (is_of : Verb → Bool) (a : Arrangement) (aliases : A
         by_order Equal same l = cc
         by_order Greater same l = cc
 
-    -- a kept order shares no slot with kept orders of greater keys
+    -- an order that counts in its mailing shares no slot with orders of greater keys that count in theirs (`IsKept`)
     apart_from : (e : List ℕ × Task) (es : List (List ℕ × Task)) → IsKept e.0 e.1 → AllByRecursion (λ x. IsKept x.0 x.1) es → below_all order e.0 es ≡ true → AllByRecursion (λ o. share_slot e.1 o ≡ false) (map (λ x. x.1) es)
     apart_from e [] here all low = tt
     apart_from e (x ∷ es) here all low =
@@ -165,7 +165,7 @@ module _ (w : WorldValue) (is_of : Verb → Bool) (a : Arrangement) (aliases : A
           apart_from e es here all.1 parts.1,
         )
 
-    -- no two kept orders share a slot, if they are sorted by their keys
+    -- no two of some orders that count in their mailings (`IsKept`) share a slot, if they are sorted by their keys
     all_apart : (es : List (List ℕ × Task)) → AllByRecursion (λ x. IsKept x.0 x.1) es → is_sorted order es ≡ true → IsDistinct share_slot (map (λ x. x.1) es)
     unfolding IsDistinct
     all_apart [] all rise = tt

@@ -17,7 +17,7 @@ use Rattle.atl_phase.specs.OrderIndices.{Lines, line_in, with_line}
 
 -- the greatest line in a slot for a unit, after one more line is noted
 module _ (lines : Lines) (k u line : ℕ) where
-  -- the lines of a slot after a line was noted
+  -- after a line of slot k and unit u is noted, slot k has for u the greater of it and the old one; other slots stay
   group_at : (j : ℕ) → group_of (with_line lines k u line) j ≡ (if j == k then insert (group_of lines k) u (max (line_in lines k u) line) else group_of lines j)
   group_at j =
       ap (λ o. unwrap_or o empty) (get-insert nat_cmp_total lines k (insert (group_of lines k) u (max (line_in lines k u) line)) j)
@@ -27,7 +27,8 @@ module _ (lines : Lines) (k u line : ℕ) where
         | false ↦ refl
       ]
 
-  -- the greatest line for a unit in a slot after a line of that slot was noted
+  -- after a line of slot k and unit u is noted, the greatest line of slot k for u is the greater of it and the old one;
+  -- for other units it stays
   in_group : (unit n : ℕ) → max (unwrap_or (get (insert (group_of lines k) u (max (line_in lines k u) line)) unit) 0) n ≡ max (line_in lines k unit) (max (if (u == unit) && true then line else 0) n)
   in_group unit n =
       ap (λ o. max (unwrap_or o 0) n) (get-insert nat_cmp_total (group_of lines k) u (max (line_in lines k u) line) unit)
@@ -43,8 +44,8 @@ module _ (lines : Lines) (k u line : ℕ) where
       two : (a n : ℕ) → max a n ≡ max a (max 0 n)
       two a n = omega arith
 
-  -- After a line is noted, the greatest line in its slot for its unit is the greater of it and the old one.
-  -- For other slots and units it stays.
+  -- after a line of slot k and unit u is noted, the greatest line of a slot for a unit is the greater of it and the old
+  -- one, if both are k and u, and otherwise the old one
   noted_at : (j unit n : ℕ) → max (line_in (with_line lines k u line) j unit) n ≡ max (line_in lines j unit) (max (if (u == unit) && (j == k) then line else 0) n)
   noted_at j unit n =
       ap (λ g. max (unwrap_or (get g unit) 0) n) (group_at j)
@@ -62,7 +63,8 @@ module _ (slot : Slot) (aliases : Aliases) (faction : ℕ) (text : List ℕ) whe
   abbrev rest_from : ℕ → List Entry → ℕ → ℕ
   rest_from i es unit = last_line slot unit (tasks_from aliases faction i (map (entry_value text) (drop i es)))
 
-  -- the greatest line of the orders from i on is the greater of that of the order at i and that of those from i + 1 on
+  -- the greatest line of the orders from i on is that of those from i + 1 on, or the line of the order at i, if this is
+  -- greater and the order is in the slot and for the unit
   opened : (es : List Entry) (i : ℕ) (e : Entry) (in_slot : Option Slot) (unit : ℕ) → i < length es → e ≡ get_or es i e → (row_of e.order.verb).slot ≡ in_slot →
       rest_from i es unit ≡ max (if (unit_of aliases faction e.target == unit) && is_slot slot in_slot then e.line else 0) (rest_from (i + 1) es unit)
   opened es i e in_slot unit h is slot_is =
@@ -76,7 +78,7 @@ module _ (slot : Slot) (aliases : Aliases) (faction : ℕ) (text : List ℕ) whe
       noted_at lines (slot_number other) (unit_of aliases faction e.target) e.line (slot_number slot) unit (rest_from (i + 1) es unit)
       ∙ ap (max (line_in lines (slot_number slot) unit)) (sym (opened es i e (Some other) unit h is b))
 
-  -- under a test that is false a line doesn't count
+  -- the greater of n and a line that counts as 0, because one of its two tests is false, is n
   neither : (c : Bool) (line n : ℕ) → max (if c && false then line else 0) n ≡ n
   neither true line n = omega arith
   neither false line n = omega arith

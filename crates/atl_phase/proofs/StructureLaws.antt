@@ -1,4 +1,4 @@
--- Laws of a change of one value of a map, and of the structures after one of them got another owner.
+-- Laws of a change of one value of a map, and of the structures after one of them went to another owner (a handover).
 use Rattle.std.proofs.Common.{◌≡◌, ◌≢◌, ◌==◌, ◌&&◌, ℕ, Bool, true, false, Option, Some, None, refl, sym, ap, ◌∙◌, inl, inr, arith}
 use Rattle.std.specs.Prelude.{option_map, if◌then◌else◌}
 use Rattle.std.specs.Ordering.{nat_cmp}
@@ -20,21 +20,21 @@ equal_passes a b same = grind (arith, nat_tests)
 -- ---- a value of a map that is changed
 
 module _ {V : Type 0} (f : V → V) (m : FinMap nat_cmp V) (k : ℕ) where
-  -- f of the value, if the number is k, and the value as it is otherwise
+  -- f of the value, if its number q is k, and the value as it is otherwise
   abbrev pub at_number : ℕ → V → V
   at_number q v = if q == k then f v else v
 
-  -- if q is k, mapping by f is mapping by `at_number`
+  -- if q is k, `at_number` maps what a look-up of q found as f does
   mapped_here : (q : ℕ) → (q == k) ≡ true → (o : Option V) → option_map f o ≡ option_map (at_number q) o
   mapped_here q t None = refl
   mapped_here q t (Some v) = ap (λ b. Some (if b then f v else v)) (sym t)
 
-  -- if q isn't k, mapping by `at_number` changes nothing
+  -- if q isn't k, `at_number` leaves what a look-up of q found as it is
   mapped_else : (q : ℕ) → (q == k) ≡ false → (o : Option V) → o ≡ option_map (at_number q) o
   mapped_else q t None = refl
   mapped_else q t (Some v) = ap (λ b. Some (if b then f v else v)) (sym t)
 
-  -- a look-up of number k after the change finds f of the value
+  -- a look-up of number k finds f of the old value, after the value under k was changed by f
   changed_here : (o : Option V) → get m k ≡ o → get (changed_at f m k o) k ≡ option_map f o
   changed_here None is = is
   changed_here (Some v) is = get-insert_same m k (f v)
@@ -44,7 +44,7 @@ module _ {V : Type 0} (f : V → V) (m : FinMap nat_cmp V) (k : ℕ) where
   changed_else q apart None = refl
   changed_else q apart (Some v) = get-insert_other m k q (f v) apart
 
-  -- a look-up after a change of the value under k finds the old value, mapped by `at_number`
+  -- after the value under k was changed by f, a look-up finds f of the old value under k, and the old value elsewhere
   pub get-changed : (q : ℕ) → get (changed f m k) q ≡ option_map (at_number q) (get m q)
   get-changed q = elim (cases_eq q k) [
     | inl same ↦
@@ -78,12 +78,13 @@ module _ (c : CampaignValue) (k from to : ℕ) where
   here_by y is true = changed_here (owned_by to) c.structures k (get c.structures k) refl ∙ ap (option_map (owned_by to)) is
   here_by y is false = is
 
-  -- a look-up of structure k after the handover finds it as `handed_on` gives it
+  -- after a handover of structure k, a look-up of k finds it with the owner `to` if its owner was `from`, and as it was
+  -- otherwise (`handed_on`)
   here : (o : Option Structure) → get c.structures k ≡ o → get (after (is_owned_by o from)).structures k ≡ option_map (handed_on k from to k) o
   here None is = is
   here (Some y) is = here_by y is (y.owner == from) ∙ ap (λ b. Some (if b && y.owner == from then owned_by to y else y)) (sym (equal_passes k k refl))
 
-  -- every structure but k stays as it was in a handover
+  -- every structure but k stays as it was, whether structure k got the owner `to` or not
   else_by : (q : ℕ) → q ≢ k → (b : Bool) → get (after b).structures q ≡ get c.structures q
   else_by q apart true = changed_else (owned_by to) c.structures k q apart (get c.structures k)
   else_by q apart false = refl
@@ -93,7 +94,8 @@ module _ (c : CampaignValue) (k from to : ℕ) where
   unmoved q apart None = refl
   unmoved q apart (Some y) = ap (λ b. Some (if b && y.owner == from then owned_by to y else y)) (sym (other_number q k apart))
 
-  -- a look-up after a handover of structure k finds the structure as `handed_on` gives it
+  -- after structure k went from its owner `from`, if that owned it, to `to`, a look-up finds it with its owner then,
+  -- and each other structure as it was (`handed_on`)
   pub get-after_handover : (q : ℕ) → get (after_handover c k from to).structures q ≡ option_map (handed_on k from to q) (get c.structures q)
   get-after_handover q = elim (cases_eq q k) [
     | inl same ↦

@@ -21,7 +21,8 @@ use Rattle.atl_phase.specs.Bounds.{IsUnitOf, StepsWell, books_nothing}
 use Rattle.atl_phase.proofs.NoWorseLaws.{no_worse}
 use Rattle.atl_phase.proofs.OrderEffectLaws.{not_drawn}
 
--- a step satisfies `StepsWell` if `holds` is true of the campaign after it, and month, books and totals stay the same
+-- a step that leaves month, books and totals as they are keeps the books in balance within a remaining bound of 0
+-- (`StepsWell`), if `holds` is true of the campaign after it
 pub stays_well : (holds : Condition) (w : WorldValue) (c d : CampaignValue) → holds w d → IsSameMonth c d → d.books ≡ c.books → ((t : Thing) → total d t ≡ total c t) → StepsWell holds books_nothing w c d
 stays_well holds w c d still same books totals = record {
   holds_still = still;
@@ -30,7 +31,8 @@ stays_well holds w c d still same books totals = record {
   drawn = λ e t. not_drawn 0 0 (amount_in c.books e t) (amount_in d.books e t) refl (ap (λ b. amount_in b e t) books);
 }
 
--- a step satisfies `StepsWell` if the campaign is early after it, and month, books and totals stay the same
+-- a step that leaves month, books and totals as they are keeps the books in balance within a remaining bound of 0
+-- (`StepsWell`), if the campaign is early after it
 pub unbooked_well : (w : WorldValue) (c d : CampaignValue) → IsEarly w d → IsSameMonth c d → d.books ≡ c.books → ((t : Thing) → total d t ≡ total c t) → StepsWell IsEarly books_nothing w c d
 unbooked_well = stays_well IsEarly
 
@@ -44,8 +46,8 @@ same_total_of c d units regions t =
 
 -- ---- the unit of an order
 
--- a unit for which its own faction didn't write the order isn't the order's unit,
--- if the order is for a unit of its faction
+-- if an order is for a unit of the faction that wrote it, a unit for which its own faction didn't write the order
+-- is another one
 pub other_unit : (c : CampaignValue) (t : Task) (x : Unit) (k : ℕ) (v : Unit) → IsUnitOf c t x → get c.units k ≡ Some v → (IsOwnOrder t k v.faction → ⊥) → k ≢ t.unit
 other_unit c t x k v own there apart same =
     let unit : x ≡ v = same_Some _ _ (sym own.there ∙ ap (get c.units) (sym same) ∙ there) in

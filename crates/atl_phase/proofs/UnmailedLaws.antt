@@ -39,18 +39,17 @@ use Rattle.atl_phase.proofs.PhaseOrderLaws.{orders_are_in_mailings}
 
 -- ---- phases one after the other
 
--- The phase keeps the mailings and takes back no Starved event.
--- Each unit of a faction without a mailing is there after, with its name, its items,
--- and its men less exactly those who starve.
+-- After the phase each unit of a faction without a mailing is there, with its faction and name, no less of any item,
+-- and its men less exactly those who starve. The phase keeps the mailings and takes back no Starved event.
 pub record LeavesUnmailed (meaning : Meaning) (keeps : Frame) : Type 0 where
   pub readings : (w : WorldValue) (c : CampaignValue) (m : MonthValue) → (meaning w c m).1.readings ≡ m.readings
   pub told : (w : WorldValue) (c : CampaignValue) (m : MonthValue) (n : ℕ) → starved_in m.events n ≤ starved_in (meaning w c m).1.events n
   pub left : (w : WorldValue) (c : CampaignValue) (m : MonthValue) → keeps w m c (meaning w c m).0 →
       Every (λ n u. get m.readings u.faction ≡ None → IsUnaffected (IsLessBy (starved_in (meaning w c m).1.events n - starved_in m.events n)) (meaning w c m).0 n u) c.units
 
--- The phase takes back no Starved event; it may change the mailings.
--- Each unit of a faction without a mailing of which not all men starve is there after, with name, items,
--- and men less those who starve.
+-- After the phase each unit of a faction without a mailing of which not all men starve is there, with its faction and
+-- name, no less of any item, and its men less exactly those who starve. The phase takes back no Starved event, and may
+-- change the mailings.
 pub record ClosesUnmailed (meaning : Meaning) (keeps : Frame) : Type 0 where
   pub told : (w : WorldValue) (c : CampaignValue) (m : MonthValue) (n : ℕ) → starved_in m.events n ≤ starved_in (meaning w c m).1.events n
   pub left : (w : WorldValue) (c : CampaignValue) (m : MonthValue) → keeps w m c (meaning w c m).0 →
@@ -68,7 +67,7 @@ less_twice x y z u v t l k one two = record {
     less : (a b d : ℕ) → b ≡ a - (y - x) → d ≡ b - (z - y) → d ≡ a - (z - x)
     less a b d e f = omega (arith, l, k)
 
--- if fewer men starved in two changes than there were, fewer starved in the second than were left after the first
+-- if fewer men starved in two phases together than there were, fewer starved in the second than the first left
 some_left : (x y z a b : ℕ) → x ≤ y → y ≤ z → b ≡ a - (y - x) → z - x < a → z - y < b
 some_left x y z a b l k e some = omega arith
 
@@ -89,7 +88,8 @@ module _ {first second : Meaning} {early late : Frame} where
         record { unit = b.unit; there = b.there; spared = less_twice _ _ _ u a.unit b.unit (one.told w c m n) (two.told w between.0 between.1 n) a.spared b.spared };
   }
 
-  -- a phase that `LeavesUnmailed` and then one that `ClosesUnmailed` are in turn one that `ClosesUnmailed`
+  -- a phase that leaves units of factions without a mailing what is theirs (`LeavesUnmailed`), and then one that does
+  -- so but may let a unit starve out (`ClosesUnmailed`), are together one of the second kind
   pub then_closes : LeavesUnmailed first early → ClosesUnmailed second late → ClosesUnmailed (then_also first second) (both_keep first early late)
   then_closes one two = record {
     told = λ w c m n. omega (arith, one.told w c m n, two.told w (first w c m).0 (first w c m).1 n);
@@ -105,7 +105,7 @@ module _ {first second : Meaning} {early late : Frame} where
 
 -- ---- a phase in which nobody starves: men and items
 
--- The unit has the same faction and exactly as many men.
+-- The unit has after a change the same faction and exactly as many men as before.
 pub record HasItsMen (before after : Unit) : Type 0 where
   pub faction : after.faction ≡ before.faction
   pub men : after.holding.men ≡ before.holding.men
@@ -191,20 +191,20 @@ place_men c n r s = by_unit (get c.units n)
     by_unit None = men_stay c
     by_unit (Some u) = by_test u (u.structure == s)
 
--- The unit has the same name, and no less of any item.
+-- The unit has after a change the same name, and no less of any item than before.
 pub record HasItsItems (before after : Unit) : Type 0 where
   pub name : after.holding.name ≡ before.holding.name
   pub items : (i : ℕ) → amount_of before.holding.items i ≤ amount_of after.holding.items i
 
--- a unit that is no worse off keeps its name and items
+-- a unit that is no worse off has its name, and no less of any item (`HasItsItems`)
 pub items_of_no_worse : (u v : Unit) → IsNoWorse u v → HasItsItems u v
 items_of_no_worse u v h = record { name = h.name; items = h.items }
 
--- `spares` holds of each unit whose faction sent no mailing
+-- each unit whose faction sent no mailing is there after, and `spares` relates what it was to what it is then
 abbrev pub UnmailedAre : Unaffected → MonthValue → CampaignValue → CampaignValue → Type 0
 UnmailedAre spares m before after = Every (λ n u. get m.readings u.faction ≡ None → IsUnaffected spares after n u) before.units
 
--- a unit that keeps its men, name and items has 0 men less (`IsLessBy`)
+-- a unit that keeps its faction, men and name, and no less of any item, has 0 men less (`IsLessBy`)
 whole : (x y : ℕ) (u v : Unit) → y ≡ x → HasItsMen u v → HasItsItems u v → IsLessBy (y - x) u v
 whole x y u v same men items = record { faction = men.faction; name = items.name; men = nobody u.holding.men v.holding.men men.men; items = items.items }
   where
@@ -215,8 +215,8 @@ module _ {meaning : Meaning} {keeps : Frame} (readings : (w : WorldValue) (c : C
     (nobody : (w : WorldValue) (c : CampaignValue) (m : MonthValue) (n : ℕ) → starved_in (meaning w c m).1.events n ≡ starved_in m.events n)
     (men : (w : WorldValue) (c : CampaignValue) (m : MonthValue) → keeps w m c (meaning w c m).0 → UnmailedAre HasItsMen m c (meaning w c m).0)
     (items : (w : WorldValue) (c : CampaignValue) (m : MonthValue) → keeps w m c (meaning w c m).0 → UnmailedAre HasItsItems m c (meaning w c m).0) where
-  -- A phase in which nobody starves leaves the units of factions without a mailing, if it keeps the mailings,
-  -- and these units keep their men and items.
+  -- A phase in which nobody starves leaves units of factions without a mailing what is theirs (`LeavesUnmailed`), if it
+  -- keeps the mailings, and these units keep their men and items.
   pub whole_leaves : LeavesUnmailed meaning keeps
   whole_leaves = record {
     readings = readings;
@@ -236,7 +236,7 @@ none_ordered is_of arrangement m f none k d l same =
     let h = orders_are_in_mailings is_of arrangement m.aliases m.readings k d l in
     none_some h.reading (sym none ∙ ap (get m.readings) (sym same) ∙ h.of_faction)
 
--- the event of an order reports no men who starved
+-- one more event of an order adds no men who starved to the events
 pub told_of_order : (events : List Event) (t : Task) (outcome : Outcome) (n : ℕ) → starved_in (events ++ event_for t outcome ∷ []) n ≡ starved_in events n
 told_of_order events t outcome n =
     sum_by_push (λ (e : Event). if e.unit == n then men_starved_by e.verb e.outcome else 0) events (event_for t outcome) ∙ by_unit (t.unit == n) (starved_in events n)
@@ -249,20 +249,21 @@ told_of_order events t outcome n =
 abbrev pub OthersHaveMen : (faction : ℕ) → CampaignValue → CampaignValue → Type 0
 OthersHaveMen f c d = Every (λ n u. f ≢ u.faction → IsUnaffected HasItsMen d n u) c.units
 
--- if all units have their men (`HaveTheirMen`), the units of other factions than f have (`OthersHaveMen`)
+-- if all units have their men (`HaveTheirMen`), so have the units of other factions than f (`OthersHaveMen`)
 pub others_men : (f : ℕ) (c d : CampaignValue) → HaveTheirMen c d → OthersHaveMen f c d
 others_men f c d men n u there other = men n u there
 
--- after an order each unit of another faction than the order's has its men (`OthersHaveMen`)
+-- after each order of the phase, every unit of another faction than the one that wrote it has its men (`OthersHaveMen`)
 abbrev pub SparesMen : OrderMeaning → Type 0
 SparesMen step = (w : WorldValue) (a : Aliases) (c : CampaignValue) (t : Task) (x : Unit) → IsUnitOf c t x → IfSome (step w a t) (λ deed. OthersHaveMen t.faction c (deed c x).0)
 
 module _ (step : OrderMeaning) where
-  -- if a step satisfies `SparesMen`, an order leaves units of other factions than the one that wrote it their men
+  -- an order leaves units of other factions than the one that wrote it their men, also if it is passed over or has a
+  -- fault, if its effect does (`SparesMen`)
   order_spares : SparesMen step → (w : WorldValue) (a : Aliases) (c : CampaignValue) (t : Task) → OthersHaveMen t.faction c (order_result (step w a t) c t.faction t.unit).0
   order_spares spares w a c t = ordered_cases (OthersHaveMen t.faction c) (step w a t) c t (others_men t.faction c c (men_stay c)) (λ x own. spares w a c t x own)
 
-  -- if a step satisfies `SparesMen`, orders of other factions leave a unit its men
+  -- orders of other factions than a unit's, one after another, leave it its men, if each effect does (`SparesMen`)
   orders_spare : SparesMen step → (w : WorldValue) (c : CampaignValue) (m : MonthValue) (ts : List Task) → (n : ℕ) (u : Unit) → get c.units n ≡ Some u → AllByRecursion (λ t. t.faction ≢ u.faction) ts → IsUnaffected HasItsMen (fold (one_order step w) (c, m) ts).0 n u
   orders_spare spares w c m [] n u there others = men_stay c n u there
   orders_spare spares w c m (t ∷ ts) n u there others =
@@ -271,7 +272,7 @@ module _ (step : OrderMeaning) where
       let two = orders_spare spares w next.0 next.1 ts n one.unit one.there (subst (λ f. AllByRecursion (λ t. t.faction ≢ f) ts) (sym one.spared.faction) others.1) in
       record { unit = two.unit; there = two.there; spared = record { faction = two.spared.faction ∙ one.spared.faction; men = two.spared.men ∙ one.spared.men } }
 
-  -- orders leave the readings as they are
+  -- orders carried out one by one leave the readings of the month as they are
   orders_readings : (w : WorldValue) (p : CampaignValue × MonthValue) (ts : List Task) → (fold (one_order step w) p ts).1.readings ≡ p.1.readings
   orders_readings w p [] = refl
   orders_readings w p (t ∷ ts) = orders_readings w (one_order step w p t) ts ∙ order_readings step w p t
@@ -290,7 +291,7 @@ module _ (step : OrderMeaning) where
   orders_told w p (t ∷ ts) n = orders_told w (one_order step w p t) ts n ∙ order_told w p t n
 
   module _ (is_of : Verb → Bool) where
-    -- a phase that carries out its orders one by one keeps the readings
+    -- a phase that carries out its orders one by one leaves the readings of the month as they are
     pub carried_readings : (w : WorldValue) (c : CampaignValue) (m : MonthValue) → (meaning_by_orders step is_of w c m).1.readings ≡ m.readings
     unfolding meaning_by_orders
     carried_readings w c m = orders_readings w (c, m) (values (orders_of is_of ByUnit m.aliases m.readings))
@@ -300,7 +301,8 @@ module _ (step : OrderMeaning) where
     unfolding meaning_by_orders
     carried_starve_none w c m n = orders_told w (c, m) (values (orders_of is_of ByUnit m.aliases m.readings)) n
 
-    -- if its step satisfies `SparesMen`, a phase leaves units of factions without a mailing their men
+    -- a phase that carries out its orders one by one leaves units of factions without a mailing their men, if each
+    -- order leaves the units of other factions theirs (`SparesMen`)
     pub carried_men : SparesMen step → (w : WorldValue) (c : CampaignValue) (m : MonthValue) → UnmailedAre HasItsMen m c (meaning_by_orders step is_of w c m).0
     unfolding meaning_by_orders
     carried_men spares w c m n u there none =
@@ -314,7 +316,7 @@ module _ (step : OrderMeaning) where
         whole_leaves {meaning = meaning_by_orders step is_of} {keeps = keeps} carried_readings carried_starve_none
         (λ w c m h. carried_men spares w c m) (λ w c m h. items w c (meaning_by_orders step is_of w c m).0 m h)
 
--- an order for a unit by its own faction is of that faction
+-- an order that is a unit's own (`IsOwnOrder`) was written by the faction of that unit
 pub own_faction : (t : Task) (n f : ℕ) → IsOwnOrder t n f → t.faction ≡ f
 own_faction t n f h = h.faction
 

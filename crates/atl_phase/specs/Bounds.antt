@@ -67,9 +67,9 @@ pub record IsUnitOf (c : CampaignValue) (t : Task) (u : Unit) : Type 0 where
   pub there : get c.units t.unit ≡ Some u
   pub faction : u.faction ≡ t.faction
 
--- The conditions on a phase that carries its orders out one by one. Each order satisfies `StepsWell`.
--- After an order, `spares` relates each unit that the order doesn't concern to what it was before.
--- No remaining bound is above the bound of the phase.
+-- The conditions on a phase that carries its orders out one by one: each order keeps `holds`, month, balance and
+-- remaining bound (`StepsWell`), `spares` relates each unit that an order doesn't concern to what it is after it, and
+-- no remaining bound is above the bound of the phase.
 pub record IsOrderly (step : OrderMeaning) (holds : Condition) (reserve : RemainingBound) (moving : BookBound) (concerns : Affects) (spares : Unaffected) : Type 0 where
   pub well : (w : WorldValue) (a : Aliases) (c : CampaignValue) (t : Task) (x : Unit) → holds w c → IsOrderOf w t.order_value → IsUnitOf c t x →
       IfSome (step w a t) (λ deed. StepsWell holds reserve w c (deed c x).0)

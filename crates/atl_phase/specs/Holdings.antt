@@ -8,18 +8,18 @@ use Rattle.atl_state.specs.Marks.{Marks}
 use Rattle.atl_state.specs.Campaign.{MarkedCampaign, unit_changed}
 
 -- Unit n, if it is there, holds what `change` makes of what it held, and nothing else changes.
--- All that changed is marked, and no unit's goods are newly marked as a whole.
+-- All that changed is marked, and the same units as before have all their items and days marked at once.
 pub record ChangesHolding (before after : MarkedCampaign) (n : ℕ) (change : HoldingValue → HoldingValue) : Type 0 where
   pub value : after.value ≡ unit_changed (λ u. record u { holding = change u.holding }) before.value n
   pub marks : MarksChanges before after
   pub goods : after.marks.goods ≡ before.marks.goods
 
--- the marks before and after are the same for goods as a whole and for single items
+-- before and after the same units have all their items and days marked, and the same single items are marked
 pub record MarksNoItems (before after : Marks) : Type 0 where
   pub goods : after.goods ≡ before.goods
   pub items : after.items ≡ before.items
 
--- the marks before and after are the same for goods as a whole, for single items and for single skills
+-- before and after the same units have all their items and days marked, and the same single items and skills are marked
 abbrev pub MarksNoGoods : Marks → Marks → Type 0
 MarksNoGoods before after = MarksNoItems before after × (after.skills ≡ before.skills)
 

@@ -20,7 +20,7 @@ then_also first second w c m = second w (first w c m).0 (first w c m).1
 
 -- ---- what a campaign keeps before a phase, and after it
 
--- a statement of a campaign in its world
+-- a statement about a campaign in its world
 abbrev pub Condition : Type 1
 Condition = WorldValue → CampaignValue → Type 0
 
@@ -29,11 +29,11 @@ Condition = WorldValue → CampaignValue → Type 0
 abbrev pub Follows : Condition → Condition → Type 0
 Follows leaves needs = (w : WorldValue) (c : CampaignValue) → leaves w c → needs w c
 
--- what two phases in turn need: what the first one needs, and that the first leaves what the second needs
+-- what two phases in turn need: what the first one needs, and that what the first leaves is what the second needs
 abbrev pub both_need : Condition → Condition → Condition → Condition
 both_need needs between follows w c = needs w c × Follows between follows
 
--- What a phase keeps: a statement of the campaign before it, the month that it got, and the campaign after it.
+-- What a phase keeps: a statement about the campaign before it, the month that it got, and the campaign after it.
 -- It says what the phase leaves to the units whose own faction wrote no order of it.
 abbrev pub Frame : Type 1
 Frame = WorldValue → MonthValue → CampaignValue → CampaignValue → Type 0

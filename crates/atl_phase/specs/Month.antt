@@ -23,8 +23,8 @@ use Rattle.atl_records.specs.contracts.event.Event as event
 abbrev pub Aliases : Type 0
 Aliases = FinMap nat_cmp (FinMap nat_cmp ℕ)
 
--- What the phases of a month hand on, as contracts see it.
--- It has what was read of each faction's mailing, the aliases, the words of the dice, and the events so far.
+-- What the phases of a month hand on, as contracts see it: what was read of each faction's mailing, the aliases,
+-- the words of the dice, and the events so far.
 pub record MonthValue : Type 0 where
   pub readings : FinMap nat_cmp Reading
   pub aliases : Aliases
@@ -33,11 +33,11 @@ pub record MonthValue : Type 0 where
 
 -- ---- the encoding of a month for the logic
 
--- the encoding of an order whose names are texts
+-- the encoding, which the kit requires of each type, of what an order says, with its names as texts
 abbrev pub said_code : Coded OrderValue
 said_code = (order.the_row (sequence.the_row u8)).coded
 
--- the encoding of an entry of a mailing: its line, its target and its order
+-- the encoding, which the kit requires of each type, of an entry of a mailing: its line, its target and its order
 abbrev pub entry_code : Coded EntryValue
 entry_code =
     code_by (ℕ × (UnitRef × OrderValue)) (coded× coded_ℕ (coded× target.the_row.coded said_code))
@@ -45,7 +45,7 @@ entry_code =
     (λ p. record { line = p.0; target = p.1.0; order_value = p.1.1 })
     (λ _. refl)
 
--- the encoding of what was read of a mailing: its faction, its entries and its faulty lines
+-- the encoding, which the kit requires of each type, of what was read of a mailing: its faction, entries, faulty lines
 abbrev pub reading_code : Coded Reading
 reading_code =
     code_by (ℕ × (List EntryValue × List FaultyLine)) (coded× coded_ℕ (coded× (coded_list entry_code) (coded_list faulty.the_row.coded)))
@@ -53,7 +53,7 @@ reading_code =
     (λ p. record { faction = p.0; entries = p.1.0; faults = p.1.1 })
     (λ _. refl)
 
--- the encoding of a month: its readings, aliases, words and events
+-- the encoding, which the kit requires of each type, of a month's value: its readings, aliases, words and events
 abbrev pub month_code : Coded MonthValue
 month_code =
     code_by (FinMap nat_cmp Reading × (Aliases × (List ℕ × List Event)))

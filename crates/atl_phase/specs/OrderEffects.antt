@@ -80,27 +80,27 @@ meaning_by_orders step is_of w c m = fold (one_order step w) (c, m) (orders_by_u
 abbrev pub Affects : Type 1
 Affects = Task → ℕ → ℕ → Type 0
 
--- order t is for unit n, and faction f wrote it, which is the unit's own
+-- order t is for unit n, and faction f wrote it; f is meant as the faction of unit n
 pub record IsOwnOrder (t : Task) (n f : ℕ) : Type 0 where
   pub unit : t.unit ≡ n
   pub faction : t.faction ≡ f
 
--- a relation of a unit before to the unit after: what stays of it
+-- a relation of a unit as it was before to the unit as it is after: what stays of the unit
 abbrev pub Unaffected : Type 1
 Unaffected = Unit → Unit → Type 0
 
--- the unit under this number is there after, and `spares` relates it to what it was before
+-- the unit of this number, which was u before, is there after, and `spares` relates u to what it is then
 pub record IsUnaffected (spares : Unaffected) (after : CampaignValue) (number : ℕ) (u : Unit) : Type 0 where
   pub unit : Unit
   pub there : get after.units number ≡ Some unit
   pub spared : spares u unit
 
--- each unit that none of these orders concerns is there after, and `spares` relates it to what it was before
+-- each unit that none of these orders concerns is there after, and `spares` relates what it was to what it is then
 abbrev pub AreUnaffected : Affects → Unaffected → List Task → CampaignValue → CampaignValue → Type 0
 AreUnaffected concerns spares ts before after =
     (n : ℕ) (u : Unit) → get before.units n ≡ Some u → All (λ t. concerns t n u.faction → ⊥) ts → IsUnaffected spares after n u
 
 -- what a phase keeps: each unit that none of its orders concerns is there after,
--- and `spares` relates it to what it was before
+-- and `spares` relates what it was before to what it is then
 abbrev pub spares_others : Affects → Unaffected → (Verb → Bool) → Frame
 spares_others concerns spares is_of w m before after = AreUnaffected concerns spares (orders_by_unit is_of m) before after

@@ -25,7 +25,7 @@ use Rattle.atl_phase.specs.PhaseOrders.{Task, orders_of, tasks_of, tasks_for, la
 abbrev pub AreByFaction : List Mailing → Type 0
 AreByFaction mailings = IsStrictlySortedBy nat_cmp (map (λ m. m.faction) mailings)
 
--- the greatest line of a mailing's orders in each slot, by the number of the slot and then by unit
+-- the greatest line of a mailing's orders in each slot for each unit, by the number of the slot and then by unit
 abbrev pub Lines : Type 0
 Lines = FinMap nat_cmp (FinMap nat_cmp ℕ)
 
@@ -33,15 +33,15 @@ Lines = FinMap nat_cmp (FinMap nat_cmp ℕ)
 abbrev pub line_in : Lines → (slot unit : ℕ) → ℕ
 line_in lines slot unit = unwrap_or (get (group_of lines slot) unit) 0
 
--- the lines with one more noted in a slot for a unit: the greater of this and the one noted before
+-- the noted lines with one more for a slot and a unit, of which the greater of it and the one noted before is kept
 abbrev pub with_line : Lines → (slot unit line : ℕ) → Lines
 with_line lines slot unit line = insert lines slot (insert (group_of lines slot) unit (max (line_in lines slot unit) line))
 
--- the lines are those that `last_line` gives for these orders, in each slot and for each unit
+-- the noted lines are the greatest lines of these orders, in each slot and for each unit (`last_line`)
 abbrev pub AreLastLines : List Task → Lines → Type 0
 AreLastLines ts lines = (slot : Slot) (unit : ℕ) → line_in lines (slot_number slot) unit ≡ last_line slot unit ts
 
--- whether an order counts by these lines: its line is the greatest in its slot, or it has no slot
+-- whether an order counts by the noted lines: it has no slot, or its line is the one noted for its slot and its unit
 abbrev pub stands_by : Lines → (unit line : ℕ) → Option Slot → Bool
 stands_by lines unit line None = true
 stands_by lines unit line (Some slot) = line == line_in lines (slot_number slot) unit
@@ -93,7 +93,7 @@ task_at mailings p = record {
   order_value = order_value (mailing_at mailings p.mailing).text (slice_index_or (mailing_at mailings p.mailing).entries p.place no_entry).order;
 }
 
--- the mailing and the order that an index names are there
+-- the mailing that an index names is there, and so is the order that it names in this mailing
 pub record IsThere (mailings : List Mailing) (p : OrderIndex) : Type 0 where
   pub mailing : p.mailing < length mailings
   pub entry : p.place < length (mailing_at mailings p.mailing).entries
@@ -108,19 +108,19 @@ pub record Adds (mailings : List Mailing) (ts : List Task) (old new : List Order
   pub there : All (IsThere mailings) old → All (IsThere mailings) new
   pub tasks : map (task_at mailings) new ≡ map (task_at mailings) old ++ ts
 
--- the new indices are the old ones, followed by those of the orders of one mailing that count
+-- the new indices name the orders that the old ones name, and after them the orders of one mailing that count
 abbrev pub AddsMailing : Aliases → List Mailing → ℕ → List OrderIndex → List OrderIndex → Type 0
 AddsMailing aliases mailings place = Adds mailings (tasks_for every_verb (tasks_at aliases mailings place))
 
--- the indices name all orders that count, mailing by mailing
+-- the indices name the orders of all mailings that count, mailing by mailing
 abbrev pub AreIndicesByMailing : Aliases → List Mailing → List OrderIndex → Type 0
 AreIndicesByMailing aliases mailings = AreAt mailings (all_tasks every_verb aliases (map reading_of mailings))
 
--- the indices name all orders that count, sorted as the arrangement says
+-- the indices name the orders of all mailings that count, sorted as the arrangement says
 abbrev pub AreOrderIndices : Arrangement → Aliases → List Mailing → List OrderIndex → Type 0
 AreOrderIndices arrangement aliases mailings = AreAt mailings (values (orders_of every_verb arrangement aliases (by_faction (map reading_of mailings))))
 
--- the orders that these indices name and that have a verb of the phase
+-- those of the orders which these indices name that have a verb of the phase, in their order
 abbrev pub tasks_picked : (Verb → Bool) → List Mailing → List OrderIndex → List Task
 tasks_picked is_of mailings places = filter (has_verb is_of) (map (task_at mailings) places)
 

@@ -37,7 +37,7 @@ abbrev pub unit_of : Aliases → ℕ → UnitRef → ℕ
 unit_of aliases faction (Number n) = n
 unit_of aliases faction (Alias alias) = unwrap_or (alias_unit aliases faction alias) 0
 
--- the orders of some entries of a mailing, whose indices count up from this one
+-- the orders of some entries of a faction's mailing; the first of them has the index `place`
 abbrev pub tasks_from : Aliases → ℕ → ℕ → List EntryValue → List Task
 tasks_from aliases faction place [] = []
 tasks_from aliases faction place (e ∷ es) =
@@ -67,7 +67,7 @@ is_slot slot (Some other) = slot_number slot == slot_number other
 abbrev pub is_month_long : Verb → Bool
 is_month_long verb = is_slot MonthLong (row_of verb).slot
 
--- the greatest line of the orders in a slot of a unit; 0 where there is none
+-- the greatest line of those of these orders that are in a slot and for a unit; 0 where there is none
 abbrev pub last_line : Slot → ℕ → List Task → ℕ
 last_line slot unit [] = 0
 last_line slot unit (t ∷ ts) =
@@ -94,7 +94,7 @@ abbrev pub key_of : Arrangement → Task → List ℕ
 key_of ByUnit t = t.unit ∷ t.line ∷ t.faction ∷ t.place ∷ []
 key_of ByFaction t = t.faction ∷ t.line ∷ t.unit ∷ t.place ∷ []
 
--- The orders of all mailings that count and have the verbs of a phase, under their keys.
+-- The map from the key (`key_of`) of each order that counts and has a verb of the phase to the order, of all mailings.
 abbrev pub orders_of : (Verb → Bool) → Arrangement → Aliases → FinMap nat_cmp Reading → FinMap (slice_cmp nat_cmp) Task
 orders_of is_of arrangement aliases readings =
     from_entries (map (λ t. (key_of arrangement t, t)) (flat_map (λ e. tasks_for is_of (tasks_of aliases e.0 e.1)) (entries readings)))

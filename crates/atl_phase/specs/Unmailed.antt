@@ -26,7 +26,7 @@ pub record IsLessBy (fewer : ℕ) (before after : Unit) : Type 0 where
   pub men : after.holding.men ≡ before.holding.men - fewer
   pub items : (i : ℕ) → amount_of before.holding.items i ≤ amount_of after.holding.items i
 
--- a unit of which fewer men starved than it had is still there, with its faction, name and items,
+-- a unit of which fewer men starved than it had is still there, with its faction and name, no less of any item,
 -- and exactly those men less
 abbrev pub IsLeft : (starved : ℕ) → (after : CampaignValue) → (number : ℕ) → Unit → Type 0
 IsLeft starved after number u = starved < u.holding.men → IsUnaffected (IsLessBy starved) after number u

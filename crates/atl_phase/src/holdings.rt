@@ -6,7 +6,7 @@ ghost use Rattle.atl_phase.specs.Holdings.{ChangesHolding, with_days};
 use atl_state::Campaign;
 use std::alloc::AllocError;
 
-/// Sets a unit's days of study of each listed skill; they are those of all its men together.
+/// Sets the days of study of each listed skill that all men of a unit have together.
 fn set_each(campaign: &mut Campaign, unit: u32, list: &[(u32, u32)]) -> Result<(), AllocError>
     ensures what { OnOk result
         (ChangesHolding campaign.old campaign.new unit

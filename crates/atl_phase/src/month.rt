@@ -16,9 +16,8 @@ use atl_tables::{Numbered, let_go};
 use std::alloc::{AllocError, Global};
 use std::marker::Model;
 
-/// What the phases of a month hand on: the mailings, the units that FORM made by their aliases, the
-/// words of the dice, and the events of the orders so far. Nothing shows in which order the
-/// mailings were given.
+/// What the phases of a month hand on: the mailings, the unit that FORM made under each alias, the
+/// words of the dice, and the events so far. Nothing shows in which order the mailings were given.
 pub struct Month {
     // Sorted by faction, no two of one faction.
     mailings: Vec<Mailing>,
@@ -30,12 +29,15 @@ pub struct Month {
     standing: Option<Vec<OrderIndex>>,
 }
 
+/// Drops all parts of a month by one call (`let_go!`), which the prover meets only once.
 impl Drop for Month {
     fn drop(self) {
         let_go!(self: Month { mailings, aliases, words, events, standing });
     }
 }
 
+/// Contracts see a month as a `MonthValue`: the mailings as a map from each faction to its reading,
+/// and nothing of the indices that were gathered.
 impl Model for Month {
     ghost use Rattle.std.specs.Prelude.{map};
     ghost use Rattle.atl_orders.specs.Mailing.{reading_of};
@@ -86,7 +88,7 @@ impl Month {
         &self.words
     }
 
-    /// The events of the orders carried out so far.
+    /// The events of the month so far, in the order in which they came.
     pub fn events(&self) -> &[Event]
         ensures { result.now ≡ self.now.events }
     {
@@ -107,7 +109,7 @@ impl Month {
         events
     }
 
-    /// Adds the event of an order. Without memory the month stays as it is.
+    /// Adds an event after those so far. Without memory the month stays as it is.
     pub fn add_event(&mut self, event: Event) -> Result<(), AllocError>
         ensures ok { OnOk result
             (self.new ≡ record self.old { events = self.old.events ++ event ∷ [] }) }
@@ -117,8 +119,8 @@ impl Month {
         Ok(())
     }
 
-    /// Notes the unit that a faction's FORM made under an alias. Without memory the month stays as
-    /// it is.
+    /// Notes the unit that a faction's FORM made under an alias, and drops what `gather` stored.
+    /// Without memory the month's value stays the same.
     pub fn set_alias(
         &mut self,
         alloc: Global,
@@ -135,8 +137,8 @@ impl Month {
         self.aliases.insert_under(alloc, faction, alias, unit)
     }
 
-    /// Gathers the indices of the orders that count, for all phases until an alias is set.
-    /// The month's value stays the same, also without memory.
+    /// Stores in the month where the orders that count are, sorted by unit, line and faction, for
+    /// all phases until an alias is set. The month's value stays the same, also without memory.
     pub fn gather(&mut self, alloc: Global) -> Result<(), AllocError>
         ensures { self.new ≡ self.old }
     {
@@ -145,10 +147,10 @@ impl Month {
         Ok(())
     }
 
-    /// The orders that a phase carries out, in the order of the arrangement. It takes memory for
-    /// each of them. If the month's orders aren't gathered, or not in this arrangement, it also
-    /// takes memory for each order of all mailings, and n log n steps for n of them. See
-    /// docs/RULES.md, "Orders of a month".
+    /// The orders that count and have a verb of the phase, in the order of the arrangement. It
+    /// takes memory for each of them. If the month's orders aren't gathered, or not in this
+    /// arrangement, it also takes memory for each order of all mailings, and n log n steps for n of
+    /// them. See docs/RULES.md, "Orders of a month".
     pub fn orders<P: PhaseVerbs>(
         &self,
         alloc: Global,
@@ -191,7 +193,7 @@ impl Month {
     }
 }
 
-/// Adds the events of orders to a month. Without memory some of them may be added.
+/// Adds events to a month, after those that it has. Without memory some of them may be added.
 pub fn add_events(month: &mut Month, events: &[Event]) -> Result<(), AllocError>
     ensures { OnOk result (month.new ≡ with_events month.old events.now) }
 {
@@ -211,7 +213,7 @@ fn sort(mailings: &mut Vec<Mailing>)
     mailings.sort_unstable_by_key(|mailing| mailing.faction);
 }
 
-/// The mailing of a faction, by binary search in mailings that are sorted by faction.
+/// The mailing of a faction, by binary search in mailings sorted by faction; None if it has none.
 fn mailing_of(mailings: &[Mailing], faction: u32) -> Option<&Mailing>
     requires { AreByFaction mailings.now }
     ensures { option_map reading_of (option_copied result)
@@ -230,8 +232,8 @@ pub(crate) fn unit_under(aliases: &Numbered<Numbered<u32>>, faction: u32, alias:
     aliases.get_under(faction, alias).copied()
 }
 
-/// Does nothing. Its clause is a law: mailings of different factions, listed in another order, give
-/// the same map of readings.
+/// The law that mailings of different factions, listed in another order, give the same map of
+/// readings. Does nothing.
 pub fn mailings_have_no_order()
     ensures { HaveNoOrder }
 {}

@@ -12,7 +12,8 @@ use atl_orders::Mailing;
 use atl_tables::Numbered;
 use std::alloc::{AllocError, Global};
 
-/// The index of an order that counts, with the numbers that orders are sorted by.
+/// Where an order that counts is (the index of its mailing, and its own index in the mailing), with
+/// the numbers that it is sorted by.
 #[derive(Drop, Clone, Copy)]
 pub(crate) struct OrderIndex {
     /// The unit that the order is for; 0 for an alias under which no unit was made.
@@ -28,7 +29,8 @@ pub(crate) struct OrderIndex {
 }
 
 impl OrderIndex {
-    /// The numbers that orders are sorted by in this arrangement; the last is the order's index.
+    /// The numbers that the order is sorted by in this arrangement, the first one first; the last
+    /// number is its index in its mailing.
     fn key(&self, arrangement: Arrangement) -> [usize; 4]
         ensures { result ≡ key_by arrangement self.now }
     {
@@ -73,7 +75,8 @@ fn add_standing(
     Ok(())
 }
 
-/// Adds the indices of the orders of one mailing that count.
+/// Finds the greatest line of each slot and unit in one mailing, and adds to the list the indices
+/// of the mailing's orders that count.
 fn add_mailing(
     alloc: Global,
     aliases: &Numbered<Numbered<u32>>,
@@ -88,7 +91,7 @@ fn add_mailing(
     add_standing(aliases, mailings, at, &lines, list)
 }
 
-/// The indices of all orders that count, mailing by mailing.
+/// The indices of the orders of all mailings that count, mailing by mailing.
 fn indices_by_mailing(
     alloc: Global,
     aliases: &Numbered<Numbered<u32>>,
@@ -103,7 +106,7 @@ fn indices_by_mailing(
     Ok(list)
 }
 
-/// The indices of all orders that count, sorted as the arrangement says.
+/// The indices of the orders of all mailings that count, sorted as the arrangement says.
 /// The mailings are sorted by faction, no two of one faction. It takes memory for each order, and
 /// n log n steps.
 pub(crate) fn order_indices(

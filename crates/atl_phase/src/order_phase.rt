@@ -24,28 +24,30 @@ use std::alloc::{AllocError, Global};
 
 /// A phase that carries out its orders one by one, each on the campaign that the one before left.
 pub trait OrderPhase: PhaseVerbs {
-    // What an order does for a unit of its own faction, if the phase doesn't pass it over.
+    // What an order does for a unit of the faction that wrote it; None where the phase passes the
+    // order over.
     ghost step: { Self → OrderMeaning };
 
     // What holds of the campaign before each order, and after it.
     ghost holds: { Condition };
 
-    // By how much each amount of the books may still be moved. Most phases book nothing.
+    // By how much each amount of the books may still be moved, from a campaign on: by default 0.
     ghost reserve: { RemainingBound } = { books_nothing };
 
-    // By how much the whole phase may move each amount of the books.
+    // By how much the whole phase may move each amount of the books, up or down: by default 0.
     ghost moving: { BookBound } = { moves_nothing };
 
-    // Which units an order concerns; `spares` says what stays of the others. With most phases it
-    // concerns the unit that it is for, of the faction that wrote it.
+    // Which units an order concerns; `spares` says what stays of the others. By default an order
+    // concerns the unit that it is for, if that is of the faction that wrote the order.
     ghost concerns: { Affects } = { IsOwnOrder };
 
-    // What stays of the units that no order concerns. With most phases they are no worse off.
+    // What stays of the units that no order concerns. By default they are no worse off.
     ghost spares: { Unaffected } = { IsNoWorse };
 
-    /// Carries out an order of the phase's verbs. Returns its outcome, or None where it is passed
-    /// over. An order for a unit that isn't the faction's own changes nothing. AllocError without
-    /// memory; the campaign may then be changed in part. See docs/RULES.md, "Orders of a month".
+    /// Carries out an order of the phase's verbs, and returns its outcome, or None where the phase
+    /// passes it over. An order for a unit that isn't the faction's own changes nothing. AllocError
+    /// without memory; the campaign may then be changed in part. See docs/RULES.md, "Orders of a
+    /// month".
     fn carry_out(
         &self,
         alloc: Global,
@@ -63,8 +65,8 @@ pub trait OrderPhase: PhaseVerbs {
             campaign.old.value order.entry.faction order.entry.unit) }
         ensures marks { OnOk result (MarksChanges campaign.old campaign.new) };
 
-    /// Does nothing. Its clause is the law that the phase's orders satisfy `IsOrderly`: what each
-    /// order keeps, and which units it spares.
+    /// The law of what each order of the phase keeps, how far it moves the books, and that each
+    /// unit which it doesn't concern is left as `spares` says (`IsOrderly`). Does nothing.
     fn is_orderly(&self)
         ensures { IsOrderly (step self.now) holds reserve moving concerns spares };
 }
@@ -155,14 +157,16 @@ pub fn carry_out_orders<P: OrderPhase>(
 /// A phase whose step doesn't depend on the value of its type:
 /// it carries out orders, and does nothing else.
 pub trait PlainPhase: OrderPhase {
-    // What an order does for a unit of its own faction, if the phase doesn't pass it over.
+    // What an order does for a unit of the faction that wrote it; None where the phase passes the
+    // order over.
     ghost makes: { OrderMeaning };
 
-    /// Does nothing. Its clause says that the step of each value is `makes`.
+    /// The law that the step of each value of the type is `makes`. Does nothing.
     fn is_plain(&self)
         ensures { Self.step self.now ≡ makes };
 }
 
+/// Carries out the orders of the phase (`carry_out_orders`), and does nothing else.
 impl<P: PlainPhase> Phase for P {
     ghost meaning = { meaning_by_orders P.makes P.is_of };
 

@@ -30,6 +30,7 @@ pub trait PhaseVerbs {
 /// each unit from each mailing: the one that counts.
 pub struct MonthLongVerbs;
 
+/// Has the verbs whose slot is the month-long one.
 impl PhaseVerbs for MonthLongVerbs {
     ghost is_of = { is_month_long };
 
@@ -38,7 +39,7 @@ impl PhaseVerbs for MonthLongVerbs {
     }
 }
 
-/// The order that an index names.
+/// The order that an `OrderIndex` names, borrowed from its mailing.
 fn order_at<'m>(mailings: &'m [Mailing], placed: &OrderIndex) -> PhaseOrder<'m>
     requires { IsThere mailings.now placed.now }
     ensures { task_of result ≡ task_at mailings.now placed.now }
@@ -55,7 +56,7 @@ fn order_at<'m>(mailings: &'m [Mailing], placed: &OrderIndex) -> PhaseOrder<'m>
     }
 }
 
-/// The orders that these indices name and that have a verb of the phase.
+/// Those of the orders which these indices name that have a verb of the phase, in their order.
 fn phase_orders_at<'m, P: PhaseVerbs>(
     alloc: Global,
     phase: &P,
@@ -76,9 +77,9 @@ fn phase_orders_at<'m, P: PhaseVerbs>(
     Ok(list)
 }
 
-/// The orders that a phase carries out, in the order of the arrangement. The mailings are sorted by
-/// faction, no two of one faction. By unit the orders are picked from the gathered indices, if
-/// there are any. Otherwise all orders are gathered for this call alone.
+/// The orders that count and have a verb of the phase, in the order of the arrangement. The
+/// mailings are sorted by faction, no two of one faction. By unit the orders are picked from the
+/// gathered indices, if there are any. Otherwise all orders are gathered for this call alone.
 pub(crate) fn orders_of<'m, P: PhaseVerbs>(
     alloc: Global,
     phase: &P,
@@ -101,14 +102,14 @@ pub(crate) fn orders_of<'m, P: PhaseVerbs>(
     }
 }
 
-/// Does nothing. Its clause is a law: each order of a phase is an entry of the mailing of its
-/// faction, at its index there.
+/// The law that each order of a phase is an entry of the mailing of its faction, at its index
+/// there. Does nothing.
 pub fn orders_are_in_mailings()
     ensures { OrdersAreInMailings }
 {}
 
-/// Does nothing. Its clause is a law: of the verbs that share a slot, at most one order counts for
-/// a unit in a faction's mailing. See docs/RULES.md, "Orders of a month".
+/// The law that of the verbs that share a slot, at most one order counts for a unit in a faction's
+/// mailing. Does nothing. See docs/RULES.md, "Orders of a month".
 pub fn one_order_stands()
     ensures { OneOrderStands }
 {}

@@ -26,15 +26,15 @@ pub trait Phase {
     // What the campaign is after the phase: with most phases steady.
     ghost leaves: { Condition } = { IsSteady };
 
-    // By how much the phase may move each amount of the books: by less than 10^14 for one phase,
-    // and by the sum of their bounds for several. By default it moves none.
+    // By how much the phase may move each amount of the books, up or down: by less than 10^14 for
+    // one phase, and by the sum of their bounds for several. By default it moves none.
     ghost moving: { BookBound } = { moves_nothing };
 
     // What the phase keeps: what is left to the units whose own faction wrote no order of it.
     ghost keeps: { Frame };
 
-    /// Runs the phase, with orders as they can be read with the world. AllocError without memory;
-    /// the campaign and the month are then given up.
+    /// Runs the phase, and returns the campaign and the month as it leaves them. The orders are
+    /// such as can be read with the world. AllocError without memory; both are then given up.
     fn run(&self, alloc: Global, world: &World, campaign: Campaign, month: Month) -> PhaseResult
         requires needs { needs world.now campaign.value }
         requires room { HaveRoom moving campaign.value }
@@ -48,6 +48,7 @@ pub trait Phase {
         ensures marks { IfOk result (λ r. MarksChanges campaign r.0) };
 }
 
+/// Runs the first phase, and then the second one on the campaign and the month that the first left.
 impl<P: Phase, Q: Phase> Phase for (P, Q) {
     ghost meaning = { then_also P.meaning Q.meaning };
 

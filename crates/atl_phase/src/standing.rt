@@ -10,7 +10,7 @@ use atl_orders::{Mailing, Slot, UnitRef};
 use atl_tables::Numbered;
 use std::alloc::{AllocError, Global};
 
-/// The number of a slot, from 0 on.
+/// The number of a slot, from 0 to 4.
 fn number_of(slot: Slot) -> u32
     ensures { result ≡ slot_number slot }
 {
@@ -44,7 +44,8 @@ pub(crate) fn unit_of(aliases: &Numbered<Numbered<u32>>, faction: u32, target: U
     }
 }
 
-/// The greatest line of a mailing's orders in each slot, by the slot's number and then by unit.
+/// The greatest line of a mailing's orders in each slot for each unit, by the slot's number and
+/// then by unit.
 pub(crate) type LastLines = Numbered<Numbered<u32>>;
 
 /// The greatest line noted for a unit in a slot; 0 where none is noted.
@@ -57,7 +58,7 @@ fn line_in(lines: &LastLines, slot: Slot, unit: u32) -> u32
     }
 }
 
-/// Notes the line of one more order in a slot for a unit.
+/// Notes a line of a slot and a unit, unless a greater one is noted for them already.
 fn note(
     alloc: Global,
     lines: &mut LastLines,
@@ -90,7 +91,7 @@ pub(crate) fn last_lines(
     Ok(lines)
 }
 
-/// Whether an order counts: its line is the greatest in its slot, or it has no slot.
+/// Whether an order counts: it has no slot, or its line is the one noted for its slot and unit.
 pub(crate) fn stands(lines: &LastLines, unit: u32, line: u32, slot: Option<Slot>) -> bool
     ensures { result ≡ stands_by lines.now unit line slot }
 {
