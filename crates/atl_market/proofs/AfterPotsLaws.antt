@@ -55,7 +55,7 @@ module _ (w : WorldValue) where
     twice = λ q s t. ap (λ m. record q { money = m }) (less_both q.money s t);
   }
 
--- TAX changes all units and regions at once
+-- TAX changes all units and regions at once: each unit has its share more, each region what its units took less
 pub taxes_at_once : TaxesAtOnce
 taxes_at_once w c os =
     all_at_once tax_pots w (λ n. with_more_money) with_less_money c os (tax_pays w)
@@ -80,7 +80,8 @@ module _ (w : WorldValue) where
     twice = λ q s t. ap (λ p. record q { peasants = p }) (less_both q.peasants s t);
   }
 
--- RECRUIT changes all units and regions at once
+-- RECRUIT changes all units and regions at once: each unit has its recruits more and their price less, each region as
+-- many peasants less.
 pub recruits_at_once : RecruitsAtOnce
 recruits_at_once w c os =
     all_at_once recruit_pots w (λ n. with_recruits w) with_less_peasants c os (recruit_pays w)
@@ -100,7 +101,7 @@ module _ (w : WorldValue) where
     twice = λ q s t. refl;
   }
 
--- WORK changes all units and regions at once
+-- WORK pays all units at once: each has the wages of its work places more, and no region changes
 pub works_at_once : WorksAtOnce
 works_at_once w c os =
     all_at_once work_pots w (λ n u places. with_more_money u (wages_for w u.region places)) unchanged_region c os (work_pays w)
@@ -131,7 +132,7 @@ module _ (asked : FinMap nat_cmp ℕ) (w : WorldValue) where
       made_regions (with_raw_used d e.0 amount x.raw) e.0 i e.1
       ∙ by_option (HasItsRegions d) (λ r. with_used d e.0 r amount) x.raw d refl (λ r raw. used_regions d e.0 r amount)))
 
-  -- the unit after it made its items
+  -- a unit that is there has, after its production, what it made more and the raw items for it less (`maker_by`)
   produced_unit : (d : CampaignValue) (e : ℕ × ℕ) (u : Unit) → get d.units e.0 ≡ Some u → get (after_production asked w d e).units e.0 ≡ Some (maker_by w u e.1 (get asked e.0))
   unfolding after_production
   produced_unit d e u is = by_item (get asked e.0)
@@ -159,7 +160,7 @@ module _ (asked : FinMap nat_cmp ℕ) (w : WorldValue) where
     twice = λ q s t. refl;
   }
 
--- PRODUCE changes all units and regions at once
+-- PRODUCE pays all units at once: each has what it made more and the raw items for it less, and no region changes
 pub produces_at_once : ProducesAtOnce
 produces_at_once w c os =
     let items = items_by produce_pots w c os in

@@ -189,7 +189,7 @@ module _ (trade : Trade) (items : FinMap nat_cmp ℕ) (w : WorldValue) where
   abbrev step : CampaignValue → ℕ × ℕ → CampaignValue
   step d e = after_trade trade items w d e
 
-  -- a unit whose number is below those still to come stays as it is
+  -- a unit with a lower number than all units that are still to trade stays as it is
   traded_once : (d : CampaignValue) (es : List (ℕ × ℕ)) (n : ℕ) → AllByRecursion (λ e. n < e.0) es → get (fold (after_trade trade items w) d es).units n ≡ get d.units n
   traded_once d [] n above = refl
   traded_once d (e ∷ es) n above = traded_once (step d e) es n above.1 ∙ traded_others trade items w d e n (λ same. absurd (omega (arith, same, above.0)))
@@ -257,7 +257,8 @@ module _ (trade : Trade) (w : WorldValue) (c : CampaignValue) (os : List Task) w
       let (u, t, there, own, low, fine, told) = given_is_named (trade_pots trade) w c (trades_give trade w c) os n share is in
       (u, there, λ at. without_share n share u (count_in t.order_value.operands) (item_in t.order_value.operands) low told at)
 
--- SELL and BUY change all units and stocks at once, in a world's campaign
+-- In a world's campaign SELL and BUY change all units and stocks at once: each unit by its share, each stock by what
+-- the units of its region trade of the item.
 pub trades_at_once : TradesAtOnce
 unfolding after_sharing
 trades_at_once trade w c os world =

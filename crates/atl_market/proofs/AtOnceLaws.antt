@@ -19,7 +19,7 @@ use Rattle.atl_market.specs.PotPhase.{PotMeaning, after_sharing, given_by, items
 use Rattle.atl_market.proofs.DrawLaws.{AreUntouched, Drawers, all_pairs, drawn, still, untouched, who_stand}
 use Rattle.atl_market.proofs.PotLaws.{found_other}
 
--- 0 more than a number is the number
+-- 0 plus a number is the number
 no_more : (a : ℕ) → 0 + a ≡ a
 no_more a = omega arith
 
@@ -28,7 +28,8 @@ abbrev pub Around : Bool → CampaignValue → Unit → Type 0
 Around true d u = IsThere d.regions u.region
 Around false d u = ⊤
 
--- one payment changes its unit by `gets` and its unit's region by `gives`, and no other unit or region
+-- One payment changes its unit by `gets` and its unit's region by `gives`, and no other unit or region; giving 0 is
+-- no change, and giving two amounts in turn is giving their sum.
 pub record Pays (needs : Bool) (step : CampaignValue → ℕ × ℕ → CampaignValue) (gets : ℕ → UnitChange) (gives : RegionChange) : Type 0 where
   pub mine : (d : CampaignValue) (e : ℕ × ℕ) (u : Unit) → get d.units e.0 ≡ Some u → Around needs d u → get (step d e).units e.0 ≡ Some (gets e.0 u e.1)
   pub others : (d : CampaignValue) (e : ℕ × ℕ) (u : Unit) → get d.units e.0 ≡ Some u → Around needs d u → (k : ℕ) → k ≢ e.0 → get (step d e).units k ≡ get d.units k

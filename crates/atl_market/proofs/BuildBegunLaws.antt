@@ -24,7 +24,8 @@ use Rattle.atl_phase.proofs.OrderEffectLaws.{not_drawn}
 
 -- ---- where units hold what they held, and nothing is booked
 
--- a change that keeps the books, all totals and what BUILD may still book keeps what BUILD needs
+-- A change that leaves what BUILD needs (`CanBuild`), and keeps the month, the books, all totals and what BUILD may
+-- still book, is sound as a step of BUILD (`StepsWell`).
 pub still_well : (w : WorldValue) (c d : CampaignValue) → CanBuild w d → IsSameMonth c d → d.books ≡ c.books → ((t : Thing) → total d t ≡ total c t) → ((e : Entry) (t : Thing) → build_reserve d e t ≡ build_reserve c e t) → StepsWell CanBuild build_reserve w c d
 still_well w c d can same books totals reserves = record {
   holds_still = can;
@@ -35,7 +36,7 @@ still_well w c d can same books totals reserves = record {
 
 -- ---- a structure more
 
--- the first name of a structure is a valid name
+-- the name that a structure is begun with, such as `Ship 7`, keeps the rule of names
 pub first_name_ok : (k : Kind) (number : ℕ) → number ≤ last_unit → IsTrue (name_ok (name_prefix k ++ decimal number))
 first_name_ok k number l = by_sort k.ship
   where
@@ -43,7 +44,7 @@ first_name_ok k number l = by_sort k.ship
     by_sort true = numbered_name_ok (codes "Ship ") (record { bytes = refl; begins = refl; some = lit≤ tt; few = lit≤ tt }) number l
     by_sort false = numbered_name_ok (codes "Building ") (record { bytes = refl; begins = refl; some = lit≤ tt; few = lit≤ tt }) number l
 
--- adding a structure keeps what BUILD needs
+-- adding a structure, while fewer than 10,000 were begun, keeps what BUILD needs of the campaign (`CanBuild`)
 pub raised_well : (w : WorldValue) (c : CampaignValue) (s : Structure) (fresh : IsFresh w c s) (room : c.next_structure ≤ most_structures) (can : CanBuild w c) → StepsWell CanBuild build_reserve w c (raised w c s fresh room can.steady)
 raised_well w c s fresh room can =
     still_well w c (raised w c s fresh room can.steady) (record { steady = steady_raised w c s fresh room can.steady; kinds = can.kinds })
@@ -51,7 +52,7 @@ raised_well w c s fresh room can =
 
 -- ---- more of a structure is done
 
--- doing more of a structure, at most up to its kind's size, keeps what BUILD needs
+-- doing more of a structure, at most up to its kind's size, keeps what BUILD needs of the campaign (`CanBuild`)
 pub built_well : (w : WorldValue) (c : CampaignValue) (k : ℕ) (s : Structure) (done : ℕ) (is : get c.structures k ≡ Some s) (more : s.done ≤ done) (most : done ≤ size_of w s.kind) (can : CanBuild w c) → StepsWell CanBuild build_reserve w c (built w c k s done is)
 built_well w c k s done is more most can =
     still_well w c (built w c k s done is) (record { steady = steady_built w c k s done is more most can.steady; kinds = can.kinds })

@@ -77,7 +77,7 @@ limit_by_next c numbered = rw numbered.count (by_count most_structures (len c.st
 
 -- ---- orders without a fault
 
--- a unit has all that it needs to begin a structure of a kind
+-- a unit has all that it needs to begin a structure of a kind: men, land, the level, material, and room for a structure
 pub record CanBegin (w : WorldValue) (c : CampaignValue) (u : Unit) (k : Kind) : Type 0 where
   pub men : 1 ≤ u.holding.men
   pub land : is_land_at w u.region ≡ true
@@ -85,7 +85,7 @@ pub record CanBegin (w : WorldValue) (c : CampaignValue) (u : Unit) (k : Kind) :
   pub material : 1 ≤ amount_of u.holding.items k.material
   pub room : len c.structures < most_structures
 
--- a unit without a fault of `BUILD kind` can begin: it has men, level and material, is on land, and there is room
+-- a unit without a fault of `BUILD kind` can begin: it has men, level and material, is on land, and has room for it
 pub can_begin : (w : WorldValue) (c : CampaignValue) (u : Unit) (k : Kind) → begin_fault w c u k ≡ None → CanBegin w c u k
 can_begin w c u k is =
     let limit = (is_structure_limit c, StructureLimit) ∷ [] in
@@ -146,11 +146,11 @@ product : (a b : ℕ) → 1 ≤ a → 1 ≤ b → 1 ≤ a * b
 product a b l m = let h : a * 1 ≤ a * b = mul-le-mul_left a m in omega (arith, l, h)
 
 module _ (k : Kind) (h : HoldingValue) (done : ℕ) where
-  -- the size that is added is at most the material held
+  -- the size that a unit adds to a structure is at most the material that it holds
   pub size_held : size_added k h done ≤ amount_of h.items k.material
   size_held = within_of (h.men * level_in h k.skill) (amount_of h.items k.material) (k.size - done)
 
-  -- the size that is added is at most what is missing of the structure
+  -- the size that a unit adds to a structure is at most what is missing of the structure
   pub size_missing : size_added k h done ≤ k.size - done
   size_missing = missing_of (h.men * level_in h k.skill) (amount_of h.items k.material) (k.size - done)
 
@@ -159,14 +159,14 @@ module _ (k : Kind) (h : HoldingValue) (done : ℕ) where
   size_some men level material missing =
       least_of (h.men * level_in h k.skill) (amount_of h.items k.material) (k.size - done) (product h.men (level_in h k.skill) men level) material (omega (arith, missing))
 
--- the size of a kind, found by the kind's number
+-- the size that is found by the number of a kind is that kind's `size`
 kind_size : (w : WorldValue) (i : ℕ) (k : Kind) → slice_get w.kinds i ≡ Some k → size_of w i ≡ k.size
 kind_size w i k is = ap (λ o. option_map_or (λ (x : Kind). x.size) o most_size) is
 
 -- ---- a structure is begun
 
 module _ (w : WorldValue) (c : CampaignValue) (n kind : ℕ) (u : Unit) (k : Kind) (is : get c.units n ≡ Some u) where
-  -- the size of the new structure
+  -- how much of the new structure is done as the unit begins it
   abbrev size : ℕ
   size = size_added k u.holding 0
 
@@ -189,7 +189,7 @@ module _ (w : WorldValue) (c : CampaignValue) (n kind : ℕ) (u : Unit) (k : Kin
       ∙ others_stay w c n k.material size u is j apart
 
   module _ (kind_is : slice_get w.kinds kind ≡ Some k) (can : CanBuild w c) (fit : CanBegin w c u k) where
-    -- the kind is one of the world's
+    -- the kind names a material and a skill of the world (`IsKind`)
     good : IsKind (length w.items) (length w.skills) k
     good = can.kinds kind k kind_is
 
@@ -197,11 +197,11 @@ module _ (w : WorldValue) (c : CampaignValue) (n kind : ℕ) (u : Unit) (k : Kin
     room : c.next_structure ≤ most_structures
     room = next_within c can.steady.next.structures fit.room
 
-    -- using the material keeps what BUILD needs
+    -- using the material keeps what BUILD needs of the campaign (`CanBuild`)
     one_well : StepsWell CanBuild build_reserve w c one
     one_well = used_for_well w c n k.material size u is (size_held k u.holding 0) good.material can
 
-    -- the new structure
+    -- the structure that the unit begins, with its first name
     abbrev new : Structure
     new = new_structure c.next_structure kind k u.region size
 
@@ -217,11 +217,11 @@ module _ (w : WorldValue) (c : CampaignValue) (n kind : ℕ) (u : Unit) (k : Kin
       ownerless = refl;
     }
 
-    -- the campaign in which the new structure is added, and not entered yet
+    -- the campaign in which the new structure is added, and the unit hasn't entered it yet
     two : CampaignValue
     two = raised w one new fresh room one_well.holds_still.steady
 
-    -- beginning a structure keeps what BUILD needs
+    -- beginning a structure keeps what BUILD needs of the campaign (`CanBuild`)
     begun_well : StepsWell CanBuild build_reserve w c (after_start c n kind k u.region size)
     unfolding two
     begun_well =
@@ -236,7 +236,7 @@ module _ (w : WorldValue) (c : CampaignValue) (n kind : ℕ) (u : Unit) (k : Kin
 -- ---- more of a structure is done
 
 module _ (w : WorldValue) (c : CampaignValue) (n : ℕ) (u : Unit) (s : Structure) (k : Kind) (is : get c.units n ≡ Some u) where
-  -- the size that the unit adds
+  -- the size that the unit adds to the structure that it is inside
   abbrev added : ℕ
   added = size_added k u.holding s.done
 
@@ -257,7 +257,7 @@ module _ (w : WorldValue) (c : CampaignValue) (n : ℕ) (u : Unit) (s : Structur
   on_stays j apart = ap (λ (d : CampaignValue). get d.units j) on_is ∙ others_stay w c n k.material added u is j apart
 
   module _ (there : get c.structures u.structure ≡ Some s) (kind_is : slice_get w.kinds s.kind ≡ Some k) (can : CanBuild w c) (fit : CanGoOn u s k) where
-    -- using the material keeps what BUILD needs
+    -- using the material keeps what BUILD needs of the campaign (`CanBuild`)
     paid_well : StepsWell CanBuild build_reserve w c paid
     paid_well = used_for_well w c n k.material added u is (size_held k u.holding s.done) (can.kinds s.kind k kind_is).material can
 
@@ -268,7 +268,7 @@ module _ (w : WorldValue) (c : CampaignValue) (n : ℕ) (u : Unit) (s : Structur
         up : (a d m : ℕ) → a ≤ m - d → d < m → d + a ≤ m
         up a d m l h = omega (arith, l, h)
 
-    -- continuing a structure keeps what BUILD needs, if the unit has what it needs for it (`CanGoOn`)
+    -- continuing a structure keeps what BUILD needs of the campaign, if the unit has what it needs for it (`CanGoOn`)
     on_well : StepsWell CanBuild build_reserve w c (after_building_on c n k.material added u.structure (s.done + added))
     on_well =
         let done_is = built_is w paid u.structure s (s.done + added) there in
@@ -312,11 +312,11 @@ go_on_cases P w c n u same go = by_structure (get c.structures u.structure) refl
     by_structure (Some s) there = by_kind s there (slice_get w.kinds s.kind) refl
 
 module _ (w : WorldValue) (c : CampaignValue) (n : ℕ) (u : Unit) (is : get c.units n ≡ Some u) where
-  -- `BUILD kind` keeps what BUILD needs
+  -- `BUILD kind` keeps what BUILD needs of the campaign (`CanBuild`), with a fault or without
   begin_well : (kind : ℕ) (k : Kind) → slice_get w.kinds kind ≡ Some k → CanBuild w c → StepsWell CanBuild build_reserve w c (begin w n kind k c u).0
   begin_well kind k kind_is can = begin_cases (λ d. StepsWell CanBuild build_reserve w c d) w c n kind k u (well_same w c can) (λ fit. begun_well w c n kind u k is kind_is can fit)
 
-  -- `BUILD` keeps what BUILD needs
+  -- `BUILD` keeps what BUILD needs of the campaign (`CanBuild`), with a fault or without
   go_on_well : CanBuild w c → StepsWell CanBuild build_reserve w c (go_on w n c u).0
   go_on_well can = go_on_cases (λ d. StepsWell CanBuild build_reserve w c d) w c n u (well_same w c can) (λ s k there kind_is fit. on_well w c n u s k is there kind_is can fit)
 
@@ -330,7 +330,7 @@ module _ (w : WorldValue) (c : CampaignValue) (n : ℕ) (u : Unit) (is : get c.u
 
 -- ---- what BUILD may still book
 
--- what BUILD may still book is within the bound of the phase
+-- what BUILD may still book is within the bound of the whole phase: less than 10^14 used of each item (`build_moves`)
 reserve_within : (w : WorldValue) (c : CampaignValue) → CanBuild w c → (e : Entry) (t : Thing) → build_reserve c e t ≤ build_moves e t
 reserve_within w c can e t = by_thing t
   where
@@ -357,7 +357,8 @@ reserve_within w c can e t = by_thing t
 
 -- ---- the phase
 
--- BUILD as a phase of orders keeps what it needs, within its bound; a unit without its faction's order is no worse off
+-- Each order of BUILD keeps what BUILD needs of the campaign, within the bounds on the books; a unit without an order
+-- of its own faction is no worse off (`IsOrderly`).
 pub build_orderly : IsOrderly build_step CanBuild build_reserve build_moves IsOwnOrder IsNoWorse
 build_orderly = record {
   well = λ w a c t x can fit own. well w c t.unit x own.there can t.order_value.operands;
@@ -384,11 +385,11 @@ build_orderly = record {
     stays w c n x is j apart (operands.Kind None) = go_on_stays w c n x is j apart
     stays w c n x is j apart other = tt
 
--- a phase that keeps what BUILD needs keeps a campaign steady, with the same bound on the books
+-- a phase that leaves what BUILD needs (`CanBuild`) leaves a steady campaign, with the same bound on the books
 pub leaves_steady : (w : WorldValue) (c d : CampaignValue) → LeavesWell CanBuild build_moves w c d → LeavesWell IsSteady build_moves w c d
 leaves_steady w c d h = record { leaves_it = h.leaves_it.steady; same_month = h.same_month; balances = h.balances; near = h.near }
 
--- a unit can use what it holds of an item, if BUILD has what it needs and the books have room for what all hold
+-- a unit can use what it holds of an item (`CanUse`), if the books have room for what all units hold (`build_reserve`)
 pub can_use : (w : WorldValue) (c : CampaignValue) (n item amount : ℕ) (u : Unit) → get c.units n ≡ Some u → amount ≤ amount_of u.holding.items item → item < length w.items → CanBuild w c → HaveRoom (build_reserve c) c → CanUse w c n item amount
 can_use w c n item amount u is enough known can room = record {
   unit = u;

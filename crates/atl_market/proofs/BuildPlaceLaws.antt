@@ -17,7 +17,7 @@ use Rattle.atl_phase.proofs.PlacingLaws.{behind, place_is, placed_steady, placed
 use Rattle.atl_market.specs.Bounds.{CanBuild, build_reserve, usable}
 use Rattle.atl_market.proofs.BuildBegunLaws.{still_well}
 
--- if a sum stays the same while one of its terms does, the other term stays the same
+-- if two sums are equal, and their second terms are, their first terms are equal
 cancelled : (a b h g : ℕ) → a + h ≡ b + g → g ≡ h → a ≡ b
 cancelled a b h g e f = omega (arith, e, f)
 
@@ -26,14 +26,14 @@ module _ (w : WorldValue) (c : CampaignValue) (n : ℕ) (u : Unit) (s : ℕ) (is
   abbrev then : CampaignValue
   then = behind w c n u s is can.steady apart
 
-  -- what BUILD may still book stays the same
+  -- moving unit `n` into structure `s` keeps what BUILD may still book
   reserve_stays : (e : Entry) (t : Thing) → build_reserve then e t ≡ build_reserve c e t
   reserve_stays e t =
       let f = λ (x : Unit). usable e t x.holding in
       let moved : Unit = record u { structure = s } in
       cancelled (build_reserve then e t) (build_reserve c e t) (f u) (f moved) (sum_over-insert_known f c.units n u moved is) refl
 
-  -- moving a unit into a structure of its region, on water into a ship, keeps what BUILD needs
+  -- moving a unit into a structure of its region, on water into a ship, keeps what BUILD needs (`CanBuild`)
   pub place_well : (s ≢ 0 → (x : Structure) × (get c.structures s ≡ Some x) × (x.region ≡ u.region)) → (is_land_at w u.region ≡ false → (x : Structure) × (get c.structures s ≡ Some x) × (is_ship w x ≡ true)) → StepsWell CanBuild build_reserve w c (with_place c n u.region s)
   place_well inside afloat =
       subst (StepsWell CanBuild build_reserve w c) (sym (place_is w c n u s is can.steady apart))

@@ -128,7 +128,7 @@ module _ (w : WorldValue) (c : CampaignValue) (n item amount : ℕ) (u : Unit) (
         (shrunk (build_reserve used e t) (build_reserve c e t) (f u) (f user) (used_of item amount e t) (sum_over-insert_known f c.units n u user is) (usable_less u.holding item amount enough e t))
         (near_more (moves_only amount Used (Item item) e t) (used_of item amount e t) (amount_in c.books e t) (amount_in used.books e t) (only_used item amount e t) (well.near e t))
 
-    -- using the item keeps what BUILD needs, and the books within what BUILD may still book
+    -- using the item keeps what BUILD needs (`CanBuild`), and the books within what BUILD may still book
     pub used_for_well : StepsWell CanBuild build_reserve w c used
     used_for_well = record {
       holds_still = record { steady = well.leaves_it; kinds = can.kinds };

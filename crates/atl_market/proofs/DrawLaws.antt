@@ -55,7 +55,7 @@ all_pairs P (e ∷ es) h = (h.0, all_pairs P es h.1)
 
 -- ---- what is drawn from one pot
 
--- which units draw from a pot, by their numbers
+-- a test on the numbers of units: which of them draw from a pot
 abbrev pub Drawers : Type 0
 Drawers = ℕ → Bool
 
@@ -75,12 +75,12 @@ module _ (draws : Drawers) where
     narrowed n ns [] above all = tt
     narrowed n ns (f ∷ es) above all = (λ draws. let (is, same) = all.0 draws in (another f.0 n ns above.0 is, same), narrowed n ns es above.1 all.1)
 
-    -- numbers above one are above any that is no greater
+    -- if the units of all shares have numbers above `k`, their numbers are above each `n` that is at most `k`
     lower : (n k : ℕ) (es : List (ℕ × ℕ)) → n ≤ k → AllByRecursion (λ f. k < f.0) es → AllByRecursion (λ f. n < f.0) es
     lower n k [] low above = tt
     lower n k (f ∷ es) low above = (omega (arith, low, above.0), lower n k es low above.1)
 
-    -- if the rest is 0, so is 0 and the rest
+    -- 0 plus a number that is 0 is 0
     none_first : (rest : ℕ) → rest ≡ 0 → 0 + rest ≡ 0
     none_first rest h = omega (arith, h)
 
@@ -97,7 +97,7 @@ module _ (draws : Drawers) where
     both : (mine rest others all : ℕ) → rest ≤ others → all ≡ mine + others → mine + rest ≤ all
     both mine rest others all h e = omega (arith, h, e)
 
-    -- 0 and what others draw are at most the sum of all amounts, if what they draw is
+    -- 0 plus what others draw is at most the sum of all amounts, if what they draw is
     none_of : (rest all : ℕ) → rest ≤ all → 0 + rest ≤ all
     none_of rest all h = omega (arith, h)
 
@@ -105,11 +105,11 @@ module _ (draws : Drawers) where
     skipped : (drawing others first all : ℕ) → drawing ≤ others → all ≡ first + others → drawing ≤ all
     skipped drawing others first all h e = omega (arith, h, e)
 
-    -- by sorted entries, all of listed units, these draw at most the sum of the amounts of the listed units
+    -- sorted shares that are listed under the sorted units `ns` draw at most the sum of the amounts of `ns`
     abbrev Bounded : List ℕ → Type 0
     Bounded ns = (es : List (ℕ × ℕ)) → IsRisen ns → Rise es → AllByRecursion (Listed ns) es → drawn es ≤ sum (map amount ns)
 
-    -- what the units of a list with one more unit draw is at most the sum of their amounts, if that is so of the list
+    -- the units of a list with one more unit in front draw at most the sum of their amounts, if those of the list do
     with_first : (n : ℕ) (ns : List ℕ) → Bounded ns → (es : List (ℕ × ℕ)) → IsRisen (n ∷ ns) → Rise es → AllByRecursion (Listed (n ∷ ns)) es → drawn es ≤ sum (map amount (n ∷ ns))
     with_first n ns rest [] up rise all = omega arith
     with_first n ns rest (e ∷ es) up rise all =
@@ -129,7 +129,7 @@ module _ (draws : Drawers) where
           | false ↦ λ _. none_of (drawn es) (sum (map amount (n ∷ ns))) (with_first n ns rest es up rise.1 all.1)
         ] refl
 
-    -- what the units of a sorted list draw is at most the sum of their amounts
+    -- the units of a sorted list draw at most the sum of their amounts
     pub drawn_among : (ns : List ℕ) → Bounded ns
     drawn_among [] es up rise all = let none = nothing_drawn es all in omega (arith, none)
     drawn_among (n ∷ ns) es up rise all = with_first n ns (drawn_among ns) es up rise all
@@ -172,7 +172,7 @@ module _ {K : Type 0} (pots : DrawnPots K) where
         left_over share rest less all h k = omega (arith, h, k)
 
   module _ (d : CampaignValue) (e : ℕ × ℕ) (after : CampaignValue) where
-    -- a number and 0 make the number
+    -- a number plus 0 is the number
     no_less : (a : ℕ) → a + 0 ≡ a
     no_less a = omega arith
 

@@ -45,7 +45,7 @@ module _ (g : ℕ → Option ℕ) where
         | inr apart ↦ get-insert_other m e.0 n e.1 apart ∙ at
       ])
 
-  -- a number of entries that agree with the function has its value by the function, once they are put in
+  -- entries that agree with the function, put into a map, give each of their numbers the function's value there
   agreeing_comes : (m : FinMap nat_cmp ℕ) (es : Entries) (n s : ℕ) → AgreeWith es → g n ≡ Some s → is_some (find nat_cmp n es) ≡ true → get (with_each m es) n ≡ Some s
   agreeing_comes m [] n s tells is some = absurd (false≢true some)
   agreeing_comes m (e ∷ es) n s tells is some = elim (cases_eq n e.0) [
@@ -53,7 +53,7 @@ module _ (g : ℕ → Option ℕ) where
     | inr apart ↦ agreeing_comes (insert m e.0 e.1) es n s tells.1 is (ap is_some (sym (found_other e es n apart)) ∙ some)
   ]
 
-  -- entries that agree with a function, and have all its numbers, give each number its value once they are put in
+  -- entries that agree with a function and have all its numbers, put into the empty map, make a map of the function
   pub agreeing_put : (es : Entries) → AgreeWith es → ((n s : ℕ) → g n ≡ Some s → is_some (find nat_cmp n es) ≡ true) → (n : ℕ) → get (with_each empty es) n ≡ g n
   agreeing_put es tells whole n = by_find (find nat_cmp n es) refl
     where
@@ -110,7 +110,7 @@ risen_apart : (es : Entries) → IsRisen (map (λ e. e.0) es) → IsApart es
 risen_apart [] up = tt
 risen_apart (e ∷ es) up = (none_above e.0 es up.0, risen_apart es up.1)
 
--- a number below those of all entries, by comparing lists, is below all of their keys
+-- a number below the number of each entry passes the test `below_all` for these entries
 all_below : (k : ℕ) (es : Entries) → AllByRecursion (λ n. nat_cmp k n ≡ Less) (map (λ e. e.0) es) → below_all nat_cmp k es ≡ true
 all_below k [] h = refl
 all_below k (e ∷ es) h = ap (λ o. is_lt o && below_all nat_cmp k es) h.0 ∙ all_below k es h.1
@@ -175,7 +175,7 @@ module _ (item_of : ℕ → Option ℕ) (wants : FinMap nat_cmp ℕ) where
       by_test true is = sym (ap (λ o. unwrap_or o 0) (mine_at i n ∙ ap (λ b. cond b (get wants n) None) is))
       by_test false is = absurd (false≢true (sym (ap is_some (mine_at i n ∙ ap (λ b. cond b (get wants n) None) is)) ∙ some))
 
-  -- the wants for item `i` of some units, as entries
+  -- the entries (unit, want) of those of some units that have a want for item `i`
   abbrev pairs : ℕ → List ℕ → Entries
   pairs i ns = flat_map (λ n. want_entry n (get (mine i) n)) ns
 
@@ -203,7 +203,7 @@ module _ (item_of : ℕ → Option ℕ) (wants : FinMap nat_cmp ℕ) where
   group_is groups [] i = refl
   group_is groups (n ∷ ns) i = group_is (with_want item_of wants groups n) ns i ∙ one_put groups n (pairs i ns) i
 
-  -- the entries of some units' wants for item `i` have the numbers of those with a want for it
+  -- the units in the entries `pairs` for item `i` are those of the list `ns` that have a want for it
   pair_keys : (i : ℕ) (ns : List ℕ) → map (λ e. e.0) (pairs i ns) ≡ filter (λ n. is_some (get (mine i) n)) ns
   pair_keys i [] = refl
   pair_keys i (n ∷ ns) = elim (get (mine i) n) as (λ o. map (λ e. e.0) (want_entry n o ++ pairs i ns) ≡ cond (is_some o) (n ∷ filter (λ k. is_some (get (mine i) k)) ns) (filter (λ k. is_some (get (mine i) k)) ns)) [
@@ -233,20 +233,20 @@ so_each P h (x ∷ xs) = (h x, so_each P h xs)
 -- ---- the shares of one region, and of all
 
 module _ (item_of : ℕ → Option ℕ) (pot_of : (item region : ℕ) → ℕ) (wants : FinMap nat_cmp ℕ) (c : CampaignValue) where
-  -- the share of a unit, by its number
+  -- what a unit, by its number, gets by the definition of the pot of its item in its region (`item_share`)
   abbrev gets : ℕ → Option ℕ
   gets n = item_share item_of pot_of wants c n
 
-  -- the share of a unit, by the item that it asks for
+  -- what unit `n` gets of the pot of item `o` in its region; nothing where no item is given
   abbrev pub share_for : ℕ → Option ℕ → Option ℕ
   share_for n o = option_and_then (λ i. share_of (pot_of i) (wants_for item_of wants i) c n) o
 
   module _ (r : ℕ) where
-    -- the groups of the region's units
+    -- the wants of the units of region `r`, grouped by item
     abbrev groups : Groups
     groups = fold (with_want item_of wants) empty (numbers_in r c.units)
 
-    -- the shares of item `i` in the region
+    -- the units of region `r` that want item `i`, each with its share of the region's pot of the item
     abbrev of_item : ℕ → Entries
     of_item i = shares_in (pot_of i) (mine item_of wants i) c.units r
 
@@ -310,11 +310,11 @@ module _ (item_of : ℕ → Option ℕ) (pot_of : (item region : ℕ) → ℕ) (
           let (want, wanted, low) = pots_give (pot_of i) c (mine item_of wants i) n s is in
           (want, is_wanted item_of wants i n want wanted, low)
 
-  -- the entry of a unit's share, if it has one
+  -- a unit's number with its share, if it has one
   abbrev share_at : ℕ → Option ℕ → Option (ℕ × ℕ)
   share_at n o = option_map (λ s. (n, s)) o
 
-  -- the shares of those units of some wants that have a share, as entries
+  -- the entries (unit, share) of those units of some wants that have a share
   abbrev of_wants : Entries → Entries
   of_wants es = filter_map (λ e. share_at e.0 (gets e.0)) es
 

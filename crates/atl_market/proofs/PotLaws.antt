@@ -398,7 +398,7 @@ module _ (wants : FinMap nat_cmp ℕ) (units : FinMap nat_cmp Unit) where
   sorted_units : is_sorted nat_cmp (entries units) ≡ true
   sorted_units = sorted units
 
-  -- each of the units listed for a region that has a want is there
+  -- each unit listed for region `r` as one with a want is in the region and has a want (`IsTaker`)
   takers_each : (r : ℕ) → AllByRecursion (IsTaker r) (takers_in wants units r)
   takers_each r =
       each_so _ (IsTaker r) (λ n ((u, is, here), want). ((u, get-entries units n ∙ is, here), is_there (get wants n) want)) (takers_in wants units r)

@@ -53,23 +53,23 @@ on : (b : Bool) → (if b then holding_limit else 0) ≤ holding_limit
 on true = omega arith
 on false = omega arith
 
--- a bound for one amount of the books is 0 for another amount
+-- the bound that moves only the amount numbered `b` is 0 for an amount with another number
 off : (a b : ℕ) → a ≢ b → (if a == b then holding_limit else 0) ≤ 0
 off a b apart = let other : (a == b) ≡ false = grind (arith, nat_tests) in rw other (omega arith)
 
--- the bound on using one item is within that of PRODUCE
+-- the bound on using one item is, for each amount of the books, at most that of PRODUCE
 used_less : (r : ℕ) → MovesLess (moves_only holding_limit booked.Used (things.Item r)) (produce_moves holding_limit)
 used_less r booked.Made (things.Item j) = on (amount_number booked.Made (things.Item j) == amount_number booked.Used (things.Item r))
 used_less r booked.Used (things.Item j) = on (amount_number booked.Used (things.Item j) == amount_number booked.Used (things.Item r))
 used_less r e t = off (amount_number e t) (amount_number booked.Used (things.Item r)) (omega arith)
 
--- the bound on making one item is within that of PRODUCE
+-- the bound on making one item is, for each amount of the books, at most that of PRODUCE
 made_less : (i : ℕ) → MovesLess (moves_only holding_limit booked.Made (things.Item i)) (produce_moves holding_limit)
 made_less i booked.Made (things.Item j) = on (amount_number booked.Made (things.Item j) == amount_number booked.Made (things.Item i))
 made_less i booked.Used (things.Item j) = on (amount_number booked.Used (things.Item j) == amount_number booked.Made (things.Item i))
 made_less i e t = off (amount_number e t) (amount_number booked.Made (things.Item i)) (omega arith)
 
--- many steps within PRODUCE's bound for `one` are within its bound for `all`, if `steps * one` is at most `all`
+-- `steps` steps within PRODUCE's bound for `one` are within its bound for `all`, if `steps * one` is at most `all`
 scaled : (steps one all : ℕ) → steps * one ≤ all → (e : Entry) (t : Thing) → steps * produce_moves one e t ≤ produce_moves all e t
 scaled steps one all few booked.Made (things.Item i) = few
 scaled steps one all few booked.Used (things.Item i) = few
@@ -89,7 +89,7 @@ both_less r i booked.Made (things.Item j) = omega (arith, used_none r j, made_le
 both_less r i booked.Used (things.Item j) = omega (arith, used_less r booked.Used (things.Item j), made_none i j)
 both_less r i e t = omega (arith, used_less r e t, made_less i e t)
 
--- books with room under the bound that moves one amount alone, by a holding's limit, have that room for that amount
+-- an amount with room for what `moves_only holding_limit` may move of it has room for a holding's limit
 pub only_room : (e : Entry) (t : Thing) (z : ℤ) → HasRoom (moves_only holding_limit e t e t) z → HasRoom holding_limit z
 only_room e t z room = subst (λ b. HasRoom (if b then holding_limit else 0) z) (same_number (amount_number e t)) room
 
@@ -97,11 +97,11 @@ only_room e t z room = subst (λ b. HasRoom (if b then holding_limit else 0) z) 
 
 module _ (asked : FinMap nat_cmp ℕ) (w : WorldValue) (c : CampaignValue) (e : ℕ × ℕ) where
   module _ (can : CanProduce asked w c e) (i : ℕ) (x : Item) (told : get asked e.0 ≡ Some i) (there : slice_get w.items i ≡ Some x) where
-    -- the unit holds at most a holding's limit of each item
+    -- the unit of a share that can be produced holds at most a holding's limit of each item
     held : (r : ℕ) → amount_of can.unit.holding.items r ≤ holding_limit
     held r = amount_within can.unit.holding r (can.steady.numbers.units e.0 can.unit can.there).1
 
-    -- the unit can use the raw items
+    -- the unit can use the raw items for its share
     can_use : (r : ℕ) → x.raw ≡ Some r → CanUse w c e.0 r (e.1 * x.raw_count)
     can_use r raw =
         let fits = can.fits i x told there in
@@ -280,7 +280,7 @@ module _ (asked : FinMap nat_cmp ℕ) (w : WorldValue) where
   abbrev step_moves : BookBound
   step_moves = produce_moves holding_limit
 
-  -- the units that have not made theirs yet have room after a unit with a lower number changed
+  -- units that are still to make their shares keep room and raw items for them when a unit of a lower number changes
   still : (c d : CampaignValue) (n : ℕ) (es : List (ℕ × ℕ)) → ((k : ℕ) → k ≢ n → get d.units k ≡ get c.units k) → AllByRecursion (λ f. n < f.0) es → AllByRecursion (HasRoomFor asked w c) es → AllByRecursion (HasRoomFor asked w d) es
   still c d n [] same above all = tt
   still c d n (f ∷ es) same above ((u, there, fits), all) = ((u, same f.0 (λ e. absurd (omega (arith, e, above.0))) ∙ there, fits), still c d n es same above.1 all)
@@ -311,11 +311,11 @@ module _ (w : WorldValue) (c : CampaignValue) (world : IsWorld w) (steady : IsSt
       let (u, there, low) = given_can w c os n made is in
       (u, there, fits_by named w c world steady n made u there low)
 
-  -- at most as many units make something as there may be units
+  -- at most 100,000 units make something, as many as there may be
   few : length shares ≤ most_units
   few = omega (arith, few_given produce_pots w c (makes_give w c) os, steady.numbers.few_units)
 
-  -- all steps together move each amount by less than 10^14
+  -- the production of all these units together moves each amount of the books by less than 10^14
   little : MovesLess (moved_times (length shares) (produce_moves holding_limit)) (produce_moves most_moved)
   little e t = scaled (length shares) holding_limit most_moved (omega (arith, few)) e t
 

@@ -263,11 +263,11 @@ module _ (w : WorldValue) (c : CampaignValue) where
         let few : drawn (who_stand c.units r) shares ≤ q.peasants / w.rules.recruit_fraction = subst (λ pot. drawn (who_stand c.units r) shares ≤ pot) (ap (λ o. option_map_or (λ (x : Region). x.peasants / w.rules.recruit_fraction) o 0) around) (pot_is_enough _ _ c r (q, around)) in
         omega (arith, few, part q.peasants w.rules.recruit_fraction)
 
-    -- at most as many units get a share as there may be units
+    -- at most 100,000 units get recruits, as many as there may be
     few : length shares ≤ most_units
     few = omega (arith, few_given recruit_pots w c (λ items. pots_give (recruits_at w c) c) os, early.steady.numbers.few_units)
 
-    -- all steps together move each amount by less than 10^14
+    -- the recruiting of all these units together moves each amount of the books by less than 10^14
     little : (e : Entry) (t : Thing) → moved_times (length shares) step_moves e t ≤ recruit_moves most_moved e t
     little e t = few_holdings (length shares) few Recruiting Money e t
 

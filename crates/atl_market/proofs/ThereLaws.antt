@@ -7,7 +7,7 @@ use Rattle.atl_records.specs.declared.records.Unit.{Unit}
 use Rattle.atl_state.specs.Campaign.{CampaignValue}
 use Rattle.atl_phase.specs.There.{at_region, at_unit}
 
--- P holds of the result of a change that is made only if there is a value, if it holds with the value and without one
+-- `P` holds of `option_map_or f o otherwise` if it holds of `otherwise`, and of `f x` for the `x` that `o` holds
 pub by_option : {A B : Type 0} (P : B → Type 0) (f : A → B) (o : Option A) (otherwise : B) → P otherwise → ((x : A) → o ≡ Some x → P (f x)) → P (option_map_or f o otherwise)
 by_option {A} P f o otherwise without with = by_case o refl
   where
@@ -16,7 +16,7 @@ by_option {A} P f o otherwise without with = by_case o refl
     by_case (Some x) is = with x is
 
 module _ (c : CampaignValue) (n : ℕ) where
-  -- a change of a unit that is there is made
+  -- if unit `n` is there, `at_unit` gives the campaign with the unit's change
   pub unit_there : (change : Unit → CampaignValue) (u : Unit) → get c.units n ≡ Some u → at_unit c n change ≡ change u
   unit_there change u is = ap (λ o. option_map_or change o c) is
 
@@ -24,7 +24,7 @@ module _ (c : CampaignValue) (n : ℕ) where
   pub by_unit : (P : CampaignValue → Type 0) (change : Unit → CampaignValue) → P c → ((u : Unit) → get c.units n ≡ Some u → P (change u)) → P (at_unit c n change)
   by_unit P change without with = by_option P change (get c.units n) c without with
 
-  -- a change of a region that is there is made
+  -- if region `n` is there, `at_region` gives the campaign with the region's change
   pub region_there : (change : Region → CampaignValue) (q : Region) → get c.regions n ≡ Some q → at_region c n change ≡ change q
   region_there change q is = ap (λ o. option_map_or change o c) is
 

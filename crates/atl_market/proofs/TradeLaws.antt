@@ -245,7 +245,7 @@ abbrev pub traded_at : Trade → CampaignValue → ℕ × ℕ → Unit → Optio
 traded_at trade c e u o = option_map_or (λ m. with_result c e.0 u m.item (trade_entry trade) (trade_result_of trade u.holding (stock_of c u.region m.item) e.1 m)) o c
 
 module _ (trade : Trade) (items : FinMap nat_cmp ℕ) (w : WorldValue) (c : CampaignValue) (e : ℕ × ℕ) where
-  -- what a unit that is there trades, it trades with the market of its region for its order's item, if there is one
+  -- the trade of a unit that is there is with the market of its region for its order's item, if there is one
   pub traded_is : (u : Unit) → get c.units e.0 ≡ Some u → (o : Option Market) → market_for w u (get items e.0) ≡ o → after_trade trade items w c e ≡ traded_at trade c e u o
   unfolding after_trade
   traded_is u is o at = unit_there c e.0 _ u is ∙ ap (traded_at trade c e u) at
@@ -491,11 +491,11 @@ module _ (trade : Trade) (w : WorldValue) (world : IsWorld w) (c : CampaignValue
       for_item i None never = cc
       for_item i (Some j) same = ap Some (eqb-true j i same)
 
-  -- at most as many units get a share as there may be units
+  -- at most 100,000 units get a share, as many as there may be
   few : length shares ≤ most_units
   few = omega (arith, few_given (trade_pots trade) w c (trades_give trade w c) os, early.steady.numbers.few_units)
 
-  -- all steps together move each amount by less than 10^14
+  -- the trades of all these units together move each amount of the books by less than 10^14
   little : (e : Entry) (t : Thing) → moved_times (length shares) moves e t ≤ trade_moves trade most_moved e t
   little e t = few_holdings (length shares) few (trade_entry trade) Money e t
 
@@ -562,7 +562,7 @@ stock_most w c r i world early = by_region (get c.regions r) refl
 
 -- a campaign `c`, then `d` with other goods of a unit, and then `e` with another stock of a region
 module _ (c d e : MarkedCampaign) (n region item stock : ℕ) (f : HoldingValue → HoldingValue) (set : ChangesHolding c d n f) (put : e.value ≡ with_stock d.value region item stock) where
-  -- the books stay as they were
+  -- setting a unit's goods and then a stock keeps the books as they were
   pub settled_books : e.value.books ≡ c.value.books
   settled_books = ap (λ (s : CampaignValue). s.books) put ∙ ap (λ (s : CampaignValue). s.books) set.value
 
@@ -570,6 +570,6 @@ module _ (c d e : MarkedCampaign) (n region item stock : ℕ) (f : HoldingValue 
   pub settled_marks : MarksStock d region item stock e.marks → MarksChanges c e
   settled_marks how = marks-trans c d e set.marks (marks_by d e _ put refl (marks-stock d region item stock e.marks how))
 
-  -- the campaign after a unit's goods and a stock were set
+  -- after a unit's goods and a region's stock were set, the campaign is the old one with both
   pub settled_what : (u : Unit) → get c.value.units n ≡ Some u → e.value ≡ with_stock (with_holding c.value n (f u.holding)) region item stock
   settled_what u is = put ∙ ap (λ s. with_stock s region item stock) (changed_held f c.value d.value n set.value u is ∙ sym (ap (with_held c.value n (f u.holding)) is))

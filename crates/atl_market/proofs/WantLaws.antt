@@ -53,7 +53,7 @@ pub every-with_each : (P : ℕ → ℕ → Type 0) (m : FinMap nat_cmp ℕ) (es 
 every-with_each P m [] each old = old
 every-with_each P m (e ∷ es) each old = every-with_each P (insert m e.0 e.1) es each.1 (every-insert P m e.0 e.1 each.0 old)
 
--- a map of wants stays one with a further want of at most 999,999,999
+-- wants of at most 999,999,999 each (`AreWants`) stay so when a further one of at most 999,999,999 is put in
 pub one_want : (m : FinMap nat_cmp ℕ) (n want : ℕ) → want ≤ most_amount → AreWants m → AreWants (insert m n want)
 one_want m n want low old = every-insert (λ number want. want ≤ most_amount) m n want low old
 
@@ -122,7 +122,7 @@ module _ (p : PotMeaning) (w : WorldValue) (c : CampaignValue) where
     item_elsewhere None n apart = refl
     item_elsewhere (Some i) n apart = get-insert_other items t.unit n i apart
 
-    -- after one order each unit in the wants is wanted by some order without a fault, if that was so before
+    -- after one order is put in, each want in the map is that of some order without a fault, if that was so before
     wanted_by : (r : Result Unit EventFault) → unit_for p w c t ≡ r → Every (IsWanted items) m → Every (IsWanted (with_any items (cond (is_ok r) (named (item_in t.order_value.operands)) None))) (with_any m (wanting r))
     wanted_by (Err f) is old = old
     wanted_by (Ok u) is old = λ n want there. elim (cases_eq n t.unit) [
@@ -142,7 +142,7 @@ module _ (p : PotMeaning) (w : WorldValue) (c : CampaignValue) where
           (v, o, here, own, wanted, fine, λ i is_i. item_elsewhere (item_in t.order_value.operands) n apart ∙ names i is_i)
     ]
 
-  -- after several orders each unit in the wants is wanted by some order without a fault, if that was so before
+  -- after several orders are put in, each want in the map is that of some order without a fault, if that was so before
   all_wanted : (m items : FinMap nat_cmp ℕ) (ts : List Task) → Every (IsWanted items) m → Every (IsWanted (with_each items (filter_map (item_by p w c) ts))) (with_each m (filter_map (want_by p w c) ts))
   all_wanted m items [] old = old
   all_wanted m items (t ∷ ts) old =
@@ -150,7 +150,7 @@ module _ (p : PotMeaning) (w : WorldValue) (c : CampaignValue) where
       (subst (Every (IsWanted (with_each (with_any items (item_by p w c t)) (filter_map (item_by p w c) ts)))) (sym (any_then m (want_by p w c t) (filter_map (want_by p w c) ts)))
       (all_wanted (with_any m (want_by p w c t)) (with_any items (item_by p w c t)) ts (wanted_by m items t (unit_for p w c t) refl old)))
 
-  -- each want of a phase is wanted by some order without a fault
+  -- each want that a phase reads from its orders is that of some order without a fault
   wants_are_wanted : (ts : List Task) → Every (IsWanted (items_by p w c ts)) (wants_by p w c ts)
   wants_are_wanted ts =
       subst (Every (IsWanted (items_by p w c ts))) (put_in_turn (filter_map (want_by p w c) ts))

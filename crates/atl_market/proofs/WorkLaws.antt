@@ -197,11 +197,11 @@ module _ (w : WorldValue) where
         let (u, o, there, own, low) = given_is_wanted work_pots w c (λ items. pots_give (places_at w) c) os n places is in
         (u, there, wanted_fits u (terrain_of w u.region) places (steady.numbers.units n u there).1.money low)
 
-    -- at most as many units get a share as there may be units
+    -- at most 100,000 units get work places, as many as there may be
     few : length shares ≤ most_units
     few = omega (arith, few_given work_pots w c (λ items. pots_give (places_at w) c) os, steady.numbers.few_units)
 
-    -- all steps together move each amount by less than 10^14
+    -- the wages of all these units together move each amount of the books by less than 10^14
     little : (e : Entry) (t : Thing) → moved_times (length shares) step_moves e t ≤ work_moves most_moved e t
     little e t = few_holdings (length shares) few Wages Money e t
 

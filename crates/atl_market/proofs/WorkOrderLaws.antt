@@ -99,7 +99,7 @@ same_work a b = eq_by_cmp (slice_cmp nat_cmp) (work_key a) (work_key b)
 keys_tie : (a b : Task) → same_work a b ≡ true → work_key a ≡ work_key b
 keys_tie a b h = slice_cmp-IsAntisymmetric nat_cmp-IsAntisymmetric (work_key a) (work_key b) ((Equal-is (slice_cmp nat_cmp (work_key a) (work_key b))).0 h)
 
--- orders of which no two are of one unit and one faction differ in their keys
+-- two orders that aren't both for one unit and from one faction differ in their keys
 apart_by : (a b : Task) → (a.unit ≡ b.unit → a.faction ≡ b.faction → ⊥) → same_work a b ≡ false
 apart_by a b differ = false_from_ne_true (same_work a b) (λ h. let e = keys_tie a b h in differ (ap (λ k. get_or k 0 0) e) (ap (λ k. get_or k 2 0) e))
 
@@ -110,11 +110,11 @@ long_apart m = values_apart (slice_cmp nat_cmp) (slice_cmp-IsAntisymmetric nat_c
 -- ---- the units that have an order of their own faction
 
 module _ (c : CampaignValue) where
-  -- an order of a unit's own faction has its unit in the map of writers
+  -- if an order is from its unit's own faction, the unit is in the map of writers
   abbrev IsListed : FinMap nat_cmp ℕ → Task → Type 0
   IsListed writers o = is_of_faction o.faction (get c.units o.unit) ≡ true → is_some (get writers o.unit) ≡ true
 
-  -- after some orders are listed, the unit of each order of its own faction is in the map of writers
+  -- after the writers of some orders are put into a map, it has the unit of each order from the unit's own faction
   own_is_listed : (m : FinMap nat_cmp ℕ) (os : List Task) → AllByRecursion (IsListed (with_each m (flat_map (own_unit c) os))) os
   own_is_listed m [] = tt
   own_is_listed m (o ∷ os) =
@@ -131,7 +131,7 @@ module _ (c : CampaignValue) where
     abbrev writers : FinMap nat_cmp ℕ
     writers = own_writers c os
 
-    -- an order is the work of a unit without an order: of its own faction, and not in the map of writers
+    -- an order is the work of a unit that is there and isn't in the map of writers, and is from the unit's own faction
     pub record IsIdle (o : Task) : Type 0 where
       pub unit : Unit
       pub there : get c.units o.unit ≡ Some unit
@@ -191,7 +191,7 @@ module _ (c : CampaignValue) where
 
 -- ---- who has an order
 
--- a unit is in the map after some orders exactly if it was, or has an order of its own faction among them
+-- a unit is in the map after some orders exactly if it was before, or if its own faction wrote one of them for it
 writes_own : (c : CampaignValue) (os : List Task) (n : ℕ) (u : Unit) → get c.units n ≡ Some u → (m : FinMap nat_cmp ℕ) → is_some (get (with_each m (flat_map (own_unit c) os)) n) ≡ (is_ordered os n u || is_some (get m n))
 writes_own c [] n u is m = refl
 writes_own c (o ∷ os) n u is m =
@@ -225,7 +225,7 @@ writes_own c (o ∷ os) n u is m =
           ∙ sym (ap (λ b. (b && o.faction == u.faction) || is_some (get m n)) (other_number o.unit n (λ same. apart (sym same))))
     ]
 
--- a unit is in the map of writers exactly if it has an order of its own faction
+-- a unit is in the map of writers exactly if its own faction wrote one of the orders for it
 is_writer : (c : CampaignValue) (os : List Task) (n : ℕ) (u : Unit) → get c.units n ≡ Some u → is_some (get (own_writers c os) n) ≡ is_ordered os n u
 is_writer c os n u is = writes_own c os n u is empty ∙ ap (λ o. is_ordered os n u || is_some o) (get-empty nat_cmp n) ∙ or_false (is_ordered os n u)
   where
@@ -234,7 +234,7 @@ is_writer c os n u is = writes_own c os n u is empty ∙ ap (λ o. is_ordered os
     or_false false = refl
 
 module _ (c : CampaignValue) (ts : List Task) where
-  -- the orders that are defined for those of some units that are without an order
+  -- the orders of WORK that are defined for those of some units for which their own faction wrote none
   abbrev of_idle : List (ℕ × Unit) → List Task
   of_idle es = map (λ e. idle_task e.0 e.1.faction) (filter (is_idle ts) es)
 

@@ -102,7 +102,7 @@ inside_fault u s k = first_fault (
 abbrev pub after_building_on : CampaignValue → (n material size structure done : ℕ) → CampaignValue
 after_building_on c n material size structure done = with_done (with_used c n material size) structure done
 
--- a structure with its kind, if that is one of the world
+-- a structure with its kind, if the world has the kind
 abbrev pub with_kind : WorldValue → Structure → Option (Structure × Kind)
 with_kind w s = option_map (λ k. (s, k)) (slice_get w.kinds s.kind)
 
@@ -130,7 +130,7 @@ build_effect w n (operands.Kind (Some kind)) = option_map (begin w n kind) (slic
 build_effect w n (operands.Kind None) = Some (go_on w n)
 build_effect w n other = None
 
--- the effect of each order of BUILD, which needs no alias
+-- the effect of each order of BUILD, by its unit and operands; it needs no alias
 abbrev pub build_step : OrderMeaning
 build_step w aliases t = build_effect w t.unit t.order_value.operands
 

@@ -15,18 +15,18 @@ use Rattle.atl_market.specs.Work.{idle_task, written_work}
 abbrev pub own_unit : CampaignValue → Task → List (ℕ × ℕ)
 own_unit c t = if is_of_faction t.faction (get c.units t.unit) then (t.unit, t.faction) ∷ [] else []
 
--- a map from each unit for which its own faction wrote one of these orders to that faction
+-- a map from each unit for which its own faction wrote one of the orders `ts` to that faction
 abbrev pub own_writers : CampaignValue → List Task → FinMap nat_cmp ℕ
 own_writers c ts = with_each empty (flat_map (own_unit c) ts)
 
--- the work of a unit that has men and isn't among the `writers`; else nothing
+-- an order of WORK for a unit that has men and isn't among the `writers`; else nothing
 abbrev pub idle_by : FinMap nat_cmp ℕ → ℕ × Unit → List Task
 idle_by writers (n, u) = if nat_lt 0 u.holding.men && not (is_some (get writers n)) then idle_task n u.faction ∷ [] else []
 
--- the work of all units with men for which their own faction wrote none of these orders, by unit
+-- an order of WORK for each unit with men for which its own faction wrote none of the orders `ts`, by unit
 abbrev pub all_idle : CampaignValue → List Task → List Task
 all_idle c ts = flat_map (idle_by (own_writers c ts)) (entries c.units)
 
--- the orders of WORK among some orders, and then the work of the units without an order
+-- the orders of WORK among `ts`, and then one for each unit with men for which its own faction wrote none of `ts`
 abbrev pub all_work : CampaignValue → List Task → List Task
 all_work c ts = written_work ts ++ all_idle c ts

@@ -8,7 +8,7 @@ use Rattle.std.specs.FinMap.{FinMap, entries, from_entries, retain_keys}
 use Rattle.atl_state.specs.Campaign.{CampaignValue}
 use Rattle.atl_market.specs.Pots.{share_of}
 
--- whether a unit that asks for `asked` asks for this item
+-- whether the item that a unit asks for (`asked`, if any) is the given one
 abbrev pub is_for : ℕ → Option ℕ → Bool
 is_for item asked = option_map_or (λ other. other == item) asked false
 
@@ -24,7 +24,7 @@ module _ (item_of : ℕ → Option ℕ) where
     item_share number =
         option_and_then (λ item. share_of (pot_of item) (wants_for wants item) c number) (item_of number)
 
-    -- the shares of all units that have a want and get one, by unit
+    -- a map, by unit, of the shares of all units that have a want and get a share
     abbrev pub item_shares : FinMap nat_cmp ℕ
     item_shares =
         from_entries (filter_map (λ e. option_map (λ share. (e.0, share)) (item_share e.0)) (entries wants))

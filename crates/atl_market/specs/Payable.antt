@@ -25,8 +25,8 @@ pub record CanTax (w : WorldValue) (c : CampaignValue) (e : ℕ × ℕ) : Type 0
   pub enough : e.1 ≤ at.region.money
   pub early : IsEarly w c
 
--- The unit of a pair (unit, share) can get its share of recruits: it has the money and room for the men. Its region has
--- the peasants, and the books have room.
+-- The unit of a pair (unit, share) can get its share of recruits: it has the money and room for the men, its region
+-- has the peasants, and the books have room.
 pub record CanRecruit (w : WorldValue) (c : CampaignValue) (e : ℕ × ℕ) : Type 0 where
   pub at : IsSomewhere c e.0
   pub fits : at.unit.holding.men + e.1 ≤ men_limit

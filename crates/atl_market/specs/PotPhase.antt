@@ -25,7 +25,7 @@ use Rattle.atl_phase.specs.Meaning.{Meaning}
 
 -- ---- what an order names
 
--- the item that an order's operands name, if they name one
+-- the item that the operands of an order name, if they name one
 abbrev pub item_in : OperandsValue → Option ℕ
 item_in (operands.Item i) = Some i
 item_in (operands.Goods n i) = Some i
@@ -43,7 +43,7 @@ count_in other = 0
 pub record PotMeaning : Type 0 where
   -- the fault of an order of the unit's own faction, if there is one
   pub fault : WorldValue → Unit → Task → Option EventFault
-  -- how much a unit wants of the pot of its region by an order
+  -- how much a unit wants by an order of the pot of its region, or of its item there
   pub want : WorldValue → Unit → Task → ℕ
   -- what each unit gets, from the items that the orders name and from the wants, all by unit
   pub grants : (items : FinMap nat_cmp ℕ) → WorldValue → CampaignValue → (wants : FinMap nat_cmp ℕ) → FinMap nat_cmp ℕ
@@ -52,8 +52,8 @@ pub record PotMeaning : Type 0 where
   -- the campaign after a unit, by its number, got its share of the pot of its region, or of that of its item there
   pub paid : (items : FinMap nat_cmp ℕ) → WorldValue → CampaignValue → ℕ × ℕ → CampaignValue
 
--- A map from entries by unit. If a unit had several, the last would count. It has one at most: of the orders of a phase
--- that its own faction wrote for it only one counts.
+-- A map of amounts by unit, from a list of entries; of several entries for one unit the last counts. There is one at
+-- most: of the orders of a phase that its own faction wrote for a unit only one counts.
 abbrev pub by_unit : List (ℕ × ℕ) → FinMap nat_cmp ℕ
 by_unit es = from_entries (reverse es)
 
@@ -85,7 +85,7 @@ module _ (p : PotMeaning) (w : WorldValue) (c : CampaignValue) where
 
   -- ---- what they get
 
-  -- how much of its pot each unit gets, by unit
+  -- how much each unit gets of the pot of its region, or of its item there, by unit
   abbrev pub given_by : List Task → FinMap nat_cmp ℕ
   given_by ts = p.grants (items_by ts) w c (wants_by ts)
 

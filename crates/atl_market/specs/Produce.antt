@@ -101,8 +101,8 @@ is_unskilled h x = if is_some x.skill then nat_lt (level_in_any h x.skill) x.lev
 abbrev pub lacks_raw : HoldingValue → (count : ℕ) → (raw : Option ℕ) → Bool
 lacks_raw h count raw = option_map_or (λ r. amount_of h.items r / count == 0) raw false
 
--- The first fault of PRODUCE, if there is one: NoMen, NoSkill, NoMaterial. Without an item of the world: NoMen, else
--- NoSkill.
+-- The first fault of PRODUCE, if there is one: NoMen, NoSkill, NoMaterial; without an item of the world NoMen,
+-- else NoSkill.
 abbrev pub make_fault : HoldingValue → Option Item → Option EventFault
 make_fault h None = first_fault ((h.men == 0, NoMen) ∷ (true, NoSkill) ∷ [])
 make_fault h (Some x) =
@@ -121,7 +121,7 @@ produce_pots = record {
   paid = after_production;
 }
 
--- the meaning of the phase PRODUCE
+-- the meaning of the phase PRODUCE: the campaign and the month that it makes
 abbrev pub produce_meaning : Meaning
 produce_meaning = pots_by_orders produce_pots is_produce
 

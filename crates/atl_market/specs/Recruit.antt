@@ -62,7 +62,7 @@ recruit_pots = record {
   paid = λ items. after_recruiting;
 }
 
--- the meaning of the phase RECRUIT
+-- the meaning of the phase RECRUIT: the campaign and the month that it makes
 abbrev pub recruit_meaning : Meaning
 recruit_meaning = pots_by_orders recruit_pots is_recruit
 

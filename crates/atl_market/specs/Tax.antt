@@ -52,7 +52,7 @@ tax_pots = record {
   paid = λ items w c e. after_tax c e;
 }
 
--- the meaning of the phase TAX
+-- the meaning of the phase TAX: the campaign and the month that it makes
 abbrev pub tax_meaning : Meaning
 tax_meaning = pots_by_orders tax_pots is_tax
 

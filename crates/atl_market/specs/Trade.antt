@@ -57,8 +57,8 @@ abbrev pub trade_fault : Trade → HoldingValue → Option Market → Option Eve
 trade_fault trade h None = Some NoMarket
 trade_fault trade h (Some m) = first_fault ((has_too_little trade h m, NotEnough) ∷ [])
 
--- The most pieces that a unit can trade. SELL: by what it has of the item and its room for money. BUY: by its money and
--- its room for the item.
+-- The most pieces that a unit can trade: for SELL by what it has of the item and its room for money, for BUY by its
+-- money and its room for the item.
 abbrev pub most_tradable : Trade → HoldingValue → Market → ℕ
 most_tradable Sell h m = min (amount_of h.items m.item) ((holding_limit - h.money) / m.pays)
 most_tradable Buy h m = min (h.money / m.price) (holding_limit - amount_of h.items m.item)
@@ -69,7 +69,7 @@ trade_want trade h told market = option_map_or (λ m. min told (most_tradable tr
 
 -- ---- the pots
 
--- The pot of a market. SELL: its limit less its stock. BUY: its stock.
+-- the pot of a market: for SELL its limit less its stock, for BUY its stock
 abbrev pub pot_by : Trade → (limit stock : ℕ) → ℕ
 pot_by Sell limit stock = limit - stock
 pot_by Buy limit stock = stock
@@ -137,7 +137,7 @@ trade_pots trade = record {
   paid = after_trade trade;
 }
 
--- the meaning of the phase SELL or BUY
+-- the meaning of the phase SELL or BUY: the campaign and the month that it makes
 abbrev pub trade_meaning : Trade → Meaning
 trade_meaning trade = pots_by_orders (trade_pots trade) (is_trade trade)
 

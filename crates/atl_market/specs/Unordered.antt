@@ -10,11 +10,11 @@ use Rattle.atl_phase.specs.Meaning.{Frame}
 use Rattle.atl_phase.specs.PhaseOrders.{Task, orders_by_unit}
 use Rattle.atl_phase.specs.NoWorse.{IsNoWorse}
 
--- whether one of these orders is for a unit, by its number, and of the unit's own faction
+-- whether one of the orders `os` is for a unit, by its number, and from the unit's own faction
 abbrev pub is_ordered : List Task → ℕ → Unit → Bool
 is_ordered os n u = list_any (λ o. o.unit == n && o.faction == u.faction) os
 
--- each unit without an order of its own faction among these is still there, and no worse off
+-- each unit for which its own faction wrote none of the orders `os` is still there, and no worse off
 abbrev pub OthersAreNoWorse : List Task → CampaignValue → CampaignValue → Type 0
 OthersAreNoWorse os before after = Every (λ n u. is_ordered os n u ≡ false → (v : Unit) × (get after.units n ≡ Some v) × IsNoWorse u v) before.units
 

@@ -36,11 +36,11 @@ use Rattle.atl_phase.specs.PhaseSpecs.{PhaseSpec, books_money}
 abbrev pub idle_task : (unit faction : ℕ) → Task
 idle_task unit faction = record { faction = faction; unit = unit; line = 0; place = 0; order_value = order_of verbs.Work Nothing }
 
--- whether a unit has men and its own faction wrote none of these orders for it
+-- whether a unit has men and its own faction wrote none of the orders `ts` for it
 abbrev pub is_idle : List Task → ℕ × Unit → Bool
 is_idle ts (n, u) = nat_lt 0 u.holding.men && not (is_ordered ts n u)
 
--- orders of WORK for all units with men for which their own faction wrote none of these orders, by unit
+-- an order of WORK for each unit with men for which its own faction wrote none of the orders `ts`, by unit
 abbrev pub idle_work : CampaignValue → List Task → List Task
 idle_work c ts = map (λ e. idle_task e.0 e.1.faction) (filter (is_idle ts) (entries c.units))
 
@@ -104,7 +104,7 @@ work_pots = record {
   paid = λ items. after_work;
 }
 
--- the meaning of the phase WORK
+-- the meaning of the phase WORK: the campaign and the month that it makes
 abbrev pub work_meaning : Meaning
 work_meaning = pots_meaning work_pots work_orders
 

@@ -39,7 +39,8 @@ fn kind_of(world: &World, number: u16) -> Option<&Kind>
     world.kinds().get(usize::from(number))
 }
 
-/// How much material a unit adds in a month to a structure of a kind, of which `done` is done.
+/// How much a unit adds to a structure of which `done` is done: the least of its men times level,
+/// the material that it holds, and what is missing to the kind's size.
 fn size_added(kind: &Kind, holding: &Holding, done: u32) -> u32
     ensures { result ≡ size_added kind.now holding.now done }
 {
@@ -271,6 +272,7 @@ fn go_on(
     Ok(Outcome::Done(u64::from(size)))
 }
 
+/// The phase carries out orders with the verb BUILD alone.
 impl PhaseVerbs for BuildPhase {
     ghost is_of = { is_building };
 
@@ -279,6 +281,8 @@ impl PhaseVerbs for BuildPhase {
     }
 }
 
+/// Begins a structure by `BUILD kind`, or continues one by BUILD. An order with other operands, or
+/// with a kind that the world doesn't have, is passed over.
 impl OrderPhase for BuildPhase {
     ghost step = { λ _. build_step };
 
@@ -288,6 +292,7 @@ impl OrderPhase for BuildPhase {
 
     ghost moving = { build_moves };
 
+    /// Carries out `BUILD kind` or BUILD; None for an order that the phase passes over.
     fn carry_out(
         &self,
         alloc: Global,
@@ -309,6 +314,7 @@ impl OrderPhase for BuildPhase {
     fn is_orderly(&self) {}
 }
 
+/// Carries out the orders of BUILD one by one.
 impl Phase for BuildPhase {
     ghost meaning = { build_spec.meaning };
 

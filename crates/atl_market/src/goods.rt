@@ -23,7 +23,7 @@ fn held_of(campaign: &Campaign, number: u32, item: u16) -> u32
     }
 }
 
-/// Takes this amount of an item from a unit, and books it as used.
+/// Takes `amount` of an item from a unit that holds as much, and books it as used.
 pub(crate) fn use_item(
     world: &World,
     campaign: &mut Campaign,
@@ -42,7 +42,7 @@ pub(crate) fn use_item(
     Ok(())
 }
 
-/// Gives a unit this amount of an item, and books it as made.
+/// Gives `amount` of an item to a unit that has room for it, and books it as made.
 pub(crate) fn make_item(
     world: &World,
     campaign: &mut Campaign,

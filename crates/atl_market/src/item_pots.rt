@@ -59,7 +59,7 @@ fn note_want<P: ItemPots>(
     }
 }
 
-/// The wants of these units by item, and of each item by unit.
+/// Groups the wants of `units` by the item that each asks for, and in each group by unit.
 fn wants_by_item<P: ItemPots>(
     alloc: Global,
     pots: &P,
@@ -76,7 +76,7 @@ fn wants_by_item<P: ItemPots>(
     Ok(groups)
 }
 
-/// The numbers of the units that have one of these wants, in unit order.
+/// The numbers of the units that have a want in `wants`, in unit order.
 fn takers_of(alloc: Global, wants: &Numbered<u32>) -> Result<Vec<u32>, AllocError>
     ensures { IfOk result (λ takers. takers.items ≡ finmap.keys wants.now) }
 {

@@ -71,7 +71,8 @@ pub(crate) fn make_fault(world: &World, holding: &Holding, asked: Option<u16>) -
     }
 }
 
-/// The most of an item that a unit can make, at most 999,999,999.
+/// How many of an item a unit can make: by its men times level, its room for the item, and its raw
+/// items; at most 999,999,999.
 fn most_makeable_of(holding: &Holding, number: u16, item: &Item) -> u32
     requires { 1 ≤ item.now.raw_count }
     ensures value { result ≡ most_makeable_of holding.now number item.now }
@@ -82,7 +83,8 @@ fn most_makeable_of(holding: &Holding, number: u16, item: &Item) -> u32
     up_to_raw(holding, item.raw_count, item.raw, skilled.min(room))
 }
 
-/// The most that a unit can make of the item that its order names, at most 999,999,999.
+/// The most that a unit can make of the item that its order names, at most 999,999,999; 0 where it
+/// names none of the world's items.
 pub(crate) fn most_makeable(world: &World, holding: &Holding, asked: Option<u16>) -> u32
     ensures value { result ≡ most_makeable world.now holding.now asked }
     ensures bound { result ≤ most_amount }

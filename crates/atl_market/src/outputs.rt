@@ -29,6 +29,8 @@ fn output_item(world: &World, asked: &Numbered<u16>, unit: u32) -> Option<u16>
     if item.raw.is_some() { None } else { number }
 }
 
+/// Each unit asks for the item that it makes without raw items; a region's pot of an item is its
+/// terrain's `output` of it.
 impl<'a> ItemPots for Outputs<'a> {
     ghost item_of = { λ pots. output_item pots.world.now pots.asked.now };
 
@@ -36,10 +38,12 @@ impl<'a> ItemPots for Outputs<'a> {
 
     ghost ready = { λ _. ⊤ };
 
+    /// The item that a unit makes out of what its region gives, if it makes one without raw items.
     fn item(&self, unit: u32) -> Option<u16> {
         output_item(self.world, self.asked, unit)
     }
 
+    /// How much of an item a region's terrain gives; 0 where there is no terrain.
     fn pot(&self, item: u32, region: u32) -> u64 {
         match self.world.terrain_of(region) {
             Some(terrain) => match terrain.output.as_slice().get(item as usize) {
@@ -51,8 +55,8 @@ impl<'a> ItemPots for Outputs<'a> {
     }
 }
 
-/// How much a unit with this want makes: its share of what its region gives, or its want where it
-/// uses raw items.
+/// How much a unit makes: its share of what its region gives of its item, or, where its item needs
+/// raw items, all of its want.
 fn made_by(
     world: &World,
     campaign: &Campaign,

@@ -36,7 +36,7 @@ pub(crate) trait PotPhase {
         ensures { result ≡ PotMeaning.fault (meaning self.now) world.now unit.now
             (task_of order.entry) };
 
-    /// How much a unit wants of the pot of its region by an order, at most 999,999,999.
+    /// How much a unit wants by an order, at most 999,999,999.
     fn want(&self, world: &World, unit: &Unit, order: PhaseOrder<'_>) -> u32
         ensures value { result ≡ PotMeaning.want (meaning self.now) world.now unit.now
             (task_of order.entry) }
@@ -141,7 +141,7 @@ fn note_want<P: PotPhase>(
     Ok(())
 }
 
-/// What each unit wants by its order, by unit; an order with a fault wants nothing.
+/// What each unit wants by its order in `orders`, by unit; an order with a fault wants nothing.
 #[tactic(auto, using(crate::proofs::WantLaws::any_then))]
 fn wants_of<P: PotPhase>(
     alloc: Global,
@@ -180,7 +180,8 @@ fn note_item<P: PotPhase>(
     Ok(())
 }
 
-/// The item that each unit's order names, by unit; an order with a fault counts as naming none.
+/// The item that each unit's order in `orders` names, by unit; an order with a fault counts as
+/// naming none.
 #[tactic(auto, using(crate::proofs::WantLaws::any_then))]
 fn items_of<P: PotPhase>(
     alloc: Global,
@@ -199,7 +200,7 @@ fn items_of<P: PotPhase>(
     Ok(items)
 }
 
-/// How much of its pot each unit gets by these orders, by unit.
+/// How much of its pot each unit gets by the wants of `orders`, by unit.
 fn given_of<P: PotPhase>(
     alloc: Global,
     phase: &P,
@@ -217,7 +218,8 @@ fn given_of<P: PotPhase>(
     phase.grants(alloc, world, campaign, items, &wants)
 }
 
-/// The event of an order, by the amounts in `given`.
+/// The event of an order: its fault, or Done with the event's number for the unit's amount in
+/// `given`.
 fn event_of<P: PotPhase>(
     phase: &P,
     world: &World,
@@ -238,7 +240,7 @@ fn event_of<P: PotPhase>(
     order.event(outcome)
 }
 
-/// The event of each order, by the amounts in `given`.
+/// The event of each of `orders`, by the units' amounts in `given`.
 fn events_of<P: PotPhase>(
     alloc: Global,
     phase: &P,

@@ -55,7 +55,7 @@ fn want_of(wants: &Numbered<u32>, number: u32) -> u64
     }
 }
 
-/// What each of these units wants, in their order.
+/// What each unit of `takers` wants, in their order; 0 where it has no want.
 fn wants_of(alloc: Global, takers: &[u32], wants: &Numbered<u32>) -> Result<Vec<u64>, AllocError>
     requires { AreWants wants.now }
     ensures value { IfOk result (λ wanted. wanted.items ≡ map (want_of wants.now) takers.now) }
@@ -68,7 +68,7 @@ fn wants_of(alloc: Global, takers: &[u32], wants: &Numbered<u32>) -> Result<Vec<
     Ok(wanted)
 }
 
-/// Puts the share of each of these units into a map by unit, under its number.
+/// Puts the share of each unit of `takers` into a map by unit.
 fn put_shares(takers: &[u32], shares: &[u64], given: &mut Numbered<u32>) -> Result<(), AllocError>
     requires length { length shares.now ≡ length takers.now }
     requires bound { All (λ share. share ≤ most_amount) shares.now }
@@ -80,8 +80,8 @@ fn put_shares(takers: &[u32], shares: &[u64], given: &mut Numbered<u32>) -> Resu
     Ok(())
 }
 
-/// Shares one pot of at most 999,999,999 among these units by their wants, and puts the shares into
-/// a map by unit.
+/// Shares one pot of at most 999,999,999 among the units `takers` by their wants, and puts the
+/// shares into a map by unit.
 pub(crate) fn share_pot(
     alloc: Global,
     pot: u64,
@@ -168,16 +168,16 @@ pub fn pot_shares<P: Pots>(
     Ok(given)
 }
 
-/// Does nothing. Its clauses are the laws of who gets a share of `pot_shares`: only units that have
-/// a want and are in a region of the campaign, each of them, and none more than it wants.
+/// The laws of who gets a share of `pot_shares`: only units that have a want and are in a region of
+/// the campaign, each of them, and none more than it wants. Does nothing.
 pub fn takers_alone_get()
     ensures only { OnlyTakersGet }
     ensures each { EachTakerGets }
 {}
 
-/// Does nothing. Its clauses are the laws of one region's pot: the units there that have a want get
-/// its shares in unit order; these add up to the lesser of the pot and of all their wants; and no
-/// other region counts. See docs/RULES.md, "Shares".
+/// The laws of one region's pot: the units there that have a want get its shares in unit order;
+/// these add up to the lesser of the pot and of all their wants; and no other region counts. Does
+/// nothing. See docs/RULES.md, "Shares".
 pub fn each_pot_is_shared()
     ensures shares { SharesEachPot }
     ensures sum { GivesEachPot }

@@ -21,6 +21,7 @@ use std::alloc::{AllocError, Global};
 #[derive(Drop, Clone, Copy)]
 pub struct ProducePhase;
 
+/// The phase carries out orders with the verb PRODUCE alone.
 impl PhaseVerbs for ProducePhase {
     ghost is_of = { is_produce };
 
@@ -29,6 +30,8 @@ impl PhaseVerbs for ProducePhase {
     }
 }
 
+/// The fault, want and share of a unit in PRODUCE, by the item that its order names, and what it
+/// makes of its share; the event says how many were made.
 impl PotPhase for ProducePhase {
     ghost meaning = { λ _. produce_pots };
 
@@ -36,14 +39,18 @@ impl PotPhase for ProducePhase {
 
     ghost can_pay = { λ _. CanProduce };
 
+    /// NoMen, NoSkill or NoMaterial, by the item that the order names; None without a fault.
     fn fault(&self, world: &World, unit: &Unit, order: PhaseOrder<'_>) -> Option<EventFault> {
         make_fault(world, &unit.holding, named_item(order))
     }
 
+    /// The most that the unit can make of the item that the order names.
     fn want(&self, world: &World, unit: &Unit, order: PhaseOrder<'_>) -> u32 {
         most_makeable(world, &unit.holding, named_item(order))
     }
 
+    /// How much each unit makes: its share of its region's output of the item, or, with a raw item,
+    /// all that it wants.
     fn grants(
         &self,
         alloc: Global,
@@ -55,10 +62,12 @@ impl PotPhase for ProducePhase {
         made_amounts(alloc, world, campaign, items, wants)
     }
 
+    /// How many pieces the unit makes.
     fn event_number(&self, _world: &World, _unit: &Unit, share: u32) -> u64 {
         u64::from(share)
     }
 
+    /// Takes the raw items for `share` pieces of its item from a unit, and gives it the pieces.
     #[tactic(auto, unfolding(crate::specs::Produce::after_production))]
     fn pay(
         &self,
@@ -75,13 +84,14 @@ impl PotPhase for ProducePhase {
     }
 }
 
-/// Does nothing. Its clause says that a world is well-formed (`IsWorld`), which every `World` is.
+/// The law that every `World` is well-formed (`IsWorld`). Does nothing.
 pub(crate) fn world_is_sound(world: &World)
     ensures { IsWorld world.now }
 {
     let _ = world.items();
 }
 
+/// Carries out all orders of PRODUCE at once, with an event for each.
 impl Phase for ProducePhase {
     ghost meaning = { produce_meaning };
 
@@ -105,9 +115,9 @@ impl Phase for ProducePhase {
     }
 }
 
-/// Does nothing. Its clause is the law that all units produce at once: each has what it made more
-/// than as the phase began, and the raw items that went into it less, and no region changes. See
-/// docs/RULES.md, "Producing".
+/// The law that all units produce at once: each has what it made more than as the phase began, and
+/// the raw items that went into it less, and no region changes. Does nothing. See docs/RULES.md,
+/// "Producing".
 pub fn units_produce_all_at_once()
     ensures { ProducesAtOnce }
 {}

@@ -30,6 +30,7 @@ use std::alloc::{AllocError, Global};
 #[derive(Drop, Clone, Copy)]
 pub struct RecruitPhase;
 
+/// The phase carries out orders with the verb RECRUIT alone.
 impl PhaseVerbs for RecruitPhase {
     ghost is_of = { is_recruit };
 
@@ -45,11 +46,13 @@ struct RecruitPots<'a> {
     campaign: &'a Campaign,
 }
 
+/// A region's pot is its peasants divided by `recruit_fraction`, rounded down.
 impl<'a> Pots for RecruitPots<'a> {
     ghost pot_of = { λ pots. recruits_at pots.world.now pots.campaign.now.value };
 
     ghost ready = { λ pots. IsEarly pots.world.now pots.campaign.now.value };
 
+    /// How many of a region's peasants can be recruited; 0 where there is no region.
     fn pot(&self, region: u32) -> u64 {
         match self.campaign.region(region) {
             Some(found) => u64::from(found.peasants / self.world.rules().recruit_fraction),
@@ -93,6 +96,8 @@ fn leave_region(campaign: &mut Campaign, region: u32, peasants: u32, cost: u32)
     book_taken(campaign, Entry::Recruiting, Thing::Money, cost);
 }
 
+/// The fault, want and share of a unit in RECRUIT, and its recruits coming out of its region's
+/// peasants for their price; the event says how many came.
 impl PotPhase for RecruitPhase {
     ghost meaning = { λ _. recruit_pots };
 
@@ -100,6 +105,7 @@ impl PotPhase for RecruitPhase {
 
     ghost can_pay = { λ _ _. CanRecruit };
 
+    /// NotEnough where the unit's money is less than the price of one recruit; else None.
     fn fault(&self, world: &World, unit: &Unit, _order: PhaseOrder<'_>) -> Option<EventFault> {
         if unit.holding.money() < world.rules().recruit_price {
             Some(EventFault::NotEnough)
@@ -108,12 +114,14 @@ impl PotPhase for RecruitPhase {
         }
     }
 
+    /// The number that the order asks for, at most what the unit can pay for and has room for.
     fn want(&self, world: &World, unit: &Unit, order: PhaseOrder<'_>) -> u32 {
         let payable = unit.holding.money() / world.rules().recruit_price;
         let room = MEN_LIMIT - unit.holding.men();
         named_count(order).min(payable.min(room))
     }
 
+    /// The shares of the recruits of each region among its units, by unit.
     fn grants(
         &self,
         alloc: Global,
@@ -125,10 +133,12 @@ impl PotPhase for RecruitPhase {
         pot_shares(alloc, campaign, &RecruitPots { world, campaign }, wants)
     }
 
+    /// How many recruits join the unit.
     fn event_number(&self, _world: &World, _unit: &Unit, share: u32) -> u64 {
         u64::from(share)
     }
 
+    /// Makes `share` peasants of a unit's region men of the unit, and takes and books their price.
     #[tactic(auto, unfolding(crate::specs::Recruit::after_recruiting))]
     fn pay(
         &self,
@@ -153,6 +163,7 @@ impl PotPhase for RecruitPhase {
     }
 }
 
+/// Carries out all orders of RECRUIT at once, with an event for each.
 impl Phase for RecruitPhase {
     ghost meaning = { recruit_meaning };
 
@@ -179,9 +190,9 @@ impl Phase for RecruitPhase {
     }
 }
 
-/// Does nothing. Its clause is the law that all recruits join at once: each unit has its own more
-/// and their price less than as the phase began, and each region those that joined its units less.
-/// See docs/RULES.md, "Recruiting".
+/// The law that all recruits join at once: each unit has its own more and their price less than as
+/// the phase began, and each region those that joined its units less. Does nothing. See
+/// docs/RULES.md, "Recruiting".
 pub fn recruits_join_all_at_once()
     ensures { RecruitsAtOnce }
 {}

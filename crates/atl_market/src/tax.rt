@@ -23,6 +23,7 @@ use std::alloc::{AllocError, Global};
 #[derive(Drop, Clone, Copy)]
 pub struct TaxPhase;
 
+/// The phase carries out orders with the verb TAX alone.
 impl PhaseVerbs for TaxPhase {
     ghost is_of = { is_tax };
 
@@ -37,11 +38,13 @@ struct RegionMoney<'a> {
     campaign: &'a Campaign,
 }
 
+/// A region's pot is its money.
 impl<'a> Pots for RegionMoney<'a> {
     ghost pot_of = { λ pots. money_at pots.campaign.now.value };
 
     ghost ready = { λ pots. (w : WorldValue) × IsEarly w pots.campaign.now.value };
 
+    /// The money of a region; 0 where there is no region.
     fn pot(&self, region: u32) -> u64 {
         match self.campaign.region(region) {
             Some(found) => u64::from(found.money),
@@ -62,6 +65,8 @@ fn hand_over(campaign: &mut Campaign, unit: u32, money: u32, region: u32, left: 
     campaign.set_region_money(region, left);
 }
 
+/// The fault, want and share of a unit in TAX, and its share going from its region's money to it;
+/// the event says how much was taken.
 impl PotPhase for TaxPhase {
     ghost meaning = { λ _. tax_pots };
 
@@ -69,6 +74,7 @@ impl PotPhase for TaxPhase {
 
     ghost can_pay = { λ _ _. CanTax };
 
+    /// NoMen, or NotGuarding without the guard flag; None without a fault.
     fn fault(&self, _world: &World, unit: &Unit, _order: PhaseOrder<'_>) -> Option<EventFault> {
         if unit.holding.men() == 0 {
             Some(EventFault::NoMen)
@@ -79,11 +85,13 @@ impl PotPhase for TaxPhase {
         }
     }
 
+    /// `tax_per_man` money for each of the unit's men, at most its room for money.
     fn want(&self, world: &World, unit: &Unit, _order: PhaseOrder<'_>) -> u32 {
         let room = HOLDING_LIMIT - unit.holding.money();
         (unit.holding.men() * world.rules().tax_per_man).min(room)
     }
 
+    /// The shares of the money of each region among its units, by unit.
     fn grants(
         &self,
         alloc: Global,
@@ -95,10 +103,12 @@ impl PotPhase for TaxPhase {
         pot_shares(alloc, campaign, &RegionMoney { campaign }, wants)
     }
 
+    /// How much money the unit takes.
     fn event_number(&self, _world: &World, _unit: &Unit, share: u32) -> u64 {
         u64::from(share)
     }
 
+    /// Moves `share` money from a unit's region to the unit.
     #[tactic(auto, unfolding(crate::specs::Tax::after_tax))]
     fn pay(
         &self,
@@ -121,6 +131,7 @@ impl PotPhase for TaxPhase {
     }
 }
 
+/// Carries out all orders of TAX at once, with an event for each.
 impl Phase for TaxPhase {
     ghost meaning = { tax_meaning };
 
@@ -145,9 +156,8 @@ impl Phase for TaxPhase {
     }
 }
 
-/// Does nothing. Its clause is the law that all units take their tax at once: each has its share
-/// more than as the phase began, and each region what its units took less. See docs/RULES.md,
-/// "Tax".
+/// The law that all units take their tax at once: each has its share more than as the phase began,
+/// and each region what its units took less. Does nothing. See docs/RULES.md, "Tax".
 pub fn tax_pays_all_at_once()
     ensures { TaxesAtOnce }
 {}

@@ -48,7 +48,7 @@ pub(crate) struct TradeResult {
     pub money: u32,
     /// How much the unit has of the item.
     pub amount: u32,
-    /// How much of it the region has in stock.
+    /// How much of the item the region's market has in stock.
     pub stock: u32,
     /// The money to book: positive for SELL, negative for BUY.
     pub booked: i64,
@@ -84,7 +84,8 @@ fn has_too_little(trade: Trade, holding: &Holding, market: &Market) -> bool
     }
 }
 
-/// The first fault of SELL or BUY, if there is one: NoMarket, NotEnough.
+/// The first fault of SELL or BUY, if there is one: NoMarket without a market, else NotEnough with
+/// too little of the item or of money.
 fn trade_fault(trade: Trade, holding: &Holding, market: Option<&Market>) -> Option<EventFault>
     ensures { result ≡ trade_fault trade holding.now (option_copied market.entry) }
 {
@@ -112,7 +113,8 @@ fn most_tradable(trade: Trade, holding: &Holding, market: &Market) -> u32
     }
 }
 
-/// The result of trading `share` pieces with a market that has `stock` of them.
+/// What a unit holds of money and item, the market's stock, and the money to book, after the unit
+/// traded `share` pieces with a market that had `stock` of them.
 fn trade_result_of(
     trade: Trade,
     holding: &Holding,
@@ -211,6 +213,8 @@ struct MarketPots<'a> {
     items: &'a Numbered<u16>,
 }
 
+/// Each unit asks for the item that its order names; a region's pot of an item is what its market
+/// has room for (SELL) or has in stock (BUY).
 impl<'a> ItemPots for MarketPots<'a> {
     ghost item_of = { λ pots. finmap.get pots.items.now };
 
@@ -218,10 +222,12 @@ impl<'a> ItemPots for MarketPots<'a> {
 
     ghost ready = { λ pots. IsEarly pots.world.now pots.campaign.now.value };
 
+    /// The item that a unit's order names, if it names one.
     fn item(&self, unit: u32) -> Option<u16> {
         self.items.get(unit).copied()
     }
 
+    /// What a region's market for an item has room for (SELL) or has in stock (BUY).
     fn pot(&self, item: u32, region: u32) -> u64 {
         let stock = self.campaign.stock(region, item);
         world_is_sound(self.world);
@@ -232,6 +238,8 @@ impl<'a> ItemPots for MarketPots<'a> {
     }
 }
 
+/// The fault, want and share of a unit in SELL or BUY, and its goods, money and region's stock
+/// after the trade; the event says how many pieces were traded.
 impl PotPhase for Trade {
     ghost meaning = { trade_pots };
 
@@ -239,6 +247,8 @@ impl PotPhase for Trade {
 
     ghost can_pay = { CanTrade };
 
+    /// NoMarket, or NotEnough with too little of the item (SELL) or of money (BUY); None without a
+    /// fault.
     fn fault(&self, world: &World, unit: &Unit, order: PhaseOrder<'_>) -> Option<EventFault> {
         trade_fault(
             *self,
@@ -247,6 +257,7 @@ impl PotPhase for Trade {
         )
     }
 
+    /// The number that the order asks for, at most what the unit can trade; 0 without a market.
     fn want(&self, world: &World, unit: &Unit, order: PhaseOrder<'_>) -> u32 {
         match market_for(world, unit, named_item(order)) {
             Some(market) => named_count(order).min(most_tradable(*self, &unit.holding, market)),
@@ -254,6 +265,7 @@ impl PotPhase for Trade {
         }
     }
 
+    /// The shares of each market's pot among the units that trade its item there, by unit.
     fn grants(
         &self,
         alloc: Global,
@@ -272,10 +284,13 @@ impl PotPhase for Trade {
         Ok(given)
     }
 
+    /// How many pieces the unit trades.
     fn event_number(&self, _world: &World, _unit: &Unit, share: u32) -> u64 {
         u64::from(share)
     }
 
+    /// Trades `share` pieces between a unit and its market, and books the money; nothing without a
+    /// market.
     #[tactic(auto, unfolding(crate::specs::Trade::after_trade))]
     fn pay(
         &self,
@@ -306,6 +321,7 @@ fn trade_of(sells: bool) -> Trade
     if sells { Trade::Sell } else { Trade::Buy }
 }
 
+/// The phase carries out orders with the verb SELL alone, or with BUY alone.
 impl<const SELLS: bool> PhaseVerbs for TradePhase<SELLS> {
     ghost is_of = { is_trade (trade_of SELLS) };
 
@@ -317,6 +333,7 @@ impl<const SELLS: bool> PhaseVerbs for TradePhase<SELLS> {
     }
 }
 
+/// Carries out all orders of SELL, or all of BUY, at once, with an event for each.
 impl<const SELLS: bool> Phase for TradePhase<SELLS> {
     ghost meaning = { trade_meaning (trade_of SELLS) };
 
@@ -345,10 +362,10 @@ impl<const SELLS: bool> Phase for TradePhase<SELLS> {
     }
 }
 
-/// Does nothing. Its clause is the law that all units sell at once, and all buy at once: each has
-/// its share less or more than as the phase began, and the money for it more or less, and each
-/// region has of each item all that its units sold of it more, or all that they bought of it less.
-/// See docs/RULES.md, "Selling" and "Buying".
+/// The law that all units sell at once, and all buy at once: each has its share less or more than
+/// as the phase began, and the money for it more or less, and each region has of each item all that
+/// its units sold of it more, or all that they bought of it less. Does nothing. See docs/RULES.md,
+/// "Selling" and "Buying".
 pub fn units_trade_all_at_once()
     ensures { TradesAtOnce }
 {}

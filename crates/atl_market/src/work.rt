@@ -39,7 +39,7 @@ use std::alloc::{AllocError, Global};
 #[derive(Drop, Clone, Copy)]
 pub struct WorkPhase;
 
-/// A map from each unit for which its own faction wrote one of these orders to that faction.
+/// A map from each unit for which its own faction wrote one of `orders` to that faction.
 fn own_writers(
     alloc: Global,
     campaign: &Campaign,
@@ -80,8 +80,8 @@ fn written_work<'m>(
     Ok(list)
 }
 
-/// Appends to a list an order of WORK for each unit with men for which its own faction wrote none
-/// of these orders. `mailing` and `work` are what these refer to.
+/// Appends an order of WORK, on line 0, for each unit with men for which its own faction wrote none
+/// of `orders`, the month-long ones. `mailing` and `work` are what the appended orders refer to.
 fn add_idle<'m>(
     alloc: Global,
     campaign: &Campaign,
@@ -130,8 +130,9 @@ fn sort(list: &mut Vec<PhaseOrder<'_>>)
     );
 }
 
-/// The orders of the phase: those of WORK, and one for each unit with men without a month-long
-/// order, sorted. `mailing` and `work` are what the latter refer to.
+/// The orders of the phase WORK: those of the mailings, and one for each unit with men without a
+/// month-long order, sorted by unit, line and faction. `mailing` and `work` are what the latter
+/// refer to.
 fn work_orders<'m>(
     alloc: Global,
     campaign: &Campaign,
@@ -166,11 +167,13 @@ struct WorkPlaces<'a> {
     world: &'a World,
 }
 
+/// A region's pot is the `places` of its terrain.
 impl<'a> Pots for WorkPlaces<'a> {
     ghost pot_of = { λ pots. places_at pots.world.now };
 
     ghost ready = { λ _. ⊤ };
 
+    /// How many work places a region's terrain has; 0 where there is no terrain.
     fn pot(&self, region: u32) -> u64 {
         match self.world.terrain_of(region) {
             Some(terrain) => u64::from(terrain.places),
@@ -211,6 +214,8 @@ fn pay_wages(campaign: &mut Campaign, number: u32, held: u32, money: u32)
     campaign.book(Entry::Wages, Thing::Money, i64::from(money));
 }
 
+/// The fault, want and share of a unit in WORK, and the wages that its work places pay it; the
+/// event says how much money was paid.
 impl PotPhase for WorkPhase {
     ghost meaning = { λ _. work_pots };
 
@@ -218,6 +223,7 @@ impl PotPhase for WorkPhase {
 
     ghost can_pay = { λ _ _. CanWork };
 
+    /// NoMen where the unit has none; else None.
     fn fault(&self, _world: &World, unit: &Unit, _order: PhaseOrder<'_>) -> Option<EventFault> {
         if unit.holding.men() == 0 {
             Some(EventFault::NoMen)
@@ -226,6 +232,7 @@ impl PotPhase for WorkPhase {
         }
     }
 
+    /// A work place for each of the unit's men, at most as many as it has room for the wages.
     fn want(&self, world: &World, unit: &Unit, _order: PhaseOrder<'_>) -> u32 {
         match world.terrain_of(unit.region) {
             Some(terrain) => {
@@ -236,6 +243,7 @@ impl PotPhase for WorkPhase {
         }
     }
 
+    /// The shares of the work places of each region among its units, by unit.
     fn grants(
         &self,
         alloc: Global,
@@ -247,10 +255,12 @@ impl PotPhase for WorkPhase {
         pot_shares(alloc, campaign, &WorkPlaces { world }, wants)
     }
 
+    /// The wages, in money, of the unit's work places.
     fn event_number(&self, world: &World, unit: &Unit, share: u32) -> u64 {
         wages_for(world, unit.region, share)
     }
 
+    /// Pays a unit the wages of `share` work places, and books them.
     #[tactic(auto, unfolding(crate::specs::Work::after_work))]
     fn pay(
         &self,
@@ -270,6 +280,8 @@ impl PotPhase for WorkPhase {
     }
 }
 
+/// Carries out the orders of WORK, and the work of units with men without a month-long order, all
+/// at once, with an event for each.
 impl Phase for WorkPhase {
     ghost meaning = { work_meaning };
 
@@ -297,9 +309,9 @@ impl Phase for WorkPhase {
     }
 }
 
-/// Does nothing. Its clause is the law that all units are paid their wages at once: each by what it
-/// held and where it was as the phase began, and nothing else of a unit changes, nor of a region.
-/// See docs/RULES.md, "Work".
+/// The law that all units are paid their wages at once: each by what it held and where it was as
+/// the phase began, and nothing else of a unit changes, nor of a region. Does nothing. See
+/// docs/RULES.md, "Work".
 pub fn work_pays_all_at_once()
     ensures { WorksAtOnce }
 {}

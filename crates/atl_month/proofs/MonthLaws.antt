@@ -41,15 +41,15 @@ module _ (w : WorldValue) (c d : CampaignValue) (moving : BookBound) (little : M
   abbrev same : IsSameMonth c d
   same = well.same_month
 
-  -- an amount within a bound is, after a month moved it, within a bound that is greater by what a month may move
+  -- an amount within a bound is, after a month moved it, within a bound that is greater by 2*10^14
   near_within : (a b : ℤ) (m more most : ℕ) → m ≤ 200000000000000 → more + 200000000000000 ≤ most → IsNear m a b → IsWithin more a → IsWithin most b
   near_within a b m more most l fits near within = record { most = omega (arith, ints, near.above, within.most); least = omega (arith, ints, near.below, within.least) }
 
-  -- a bound on the books that grows with the months and factions has room for one month more
+  -- the bound of 2*10^14 for each month and 10^9 for each faction grows by 2*10^14 with one month more
   bound_grows : (a b f g : ℕ) → b ≡ a → g ≡ f → (200000000000000 * (a + 1) + 1000000000 * f) + 200000000000000 ≤ 200000000000000 * ((b + 1) + 1) + 1000000000 * g
   bound_grows a b f g month count = omega (arith, month, count)
 
-  -- each amount of the books that is within the bound of its campaign is so after the month
+  -- if each amount of the books is within the bound of its campaign (`AreAmountsWithin`), each is so after the month
   amounts_within : AreAmountsWithin c → AreAmountsWithin (after_month d)
   amounts_within old e t =
       near_within (amount_in c.books e t) (amount_in d.books e t) (moving e t) (amount_bound c) (amount_bound (after_month d)) (little e t)

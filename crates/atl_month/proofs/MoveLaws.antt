@@ -12,7 +12,7 @@ use Rattle.atl_phase.proofs.PhaseSpecLaws.{each_also, moved_within}
 use Rattle.atl_month.specs.Month.{PhasesMoveLittle, TwoMoveAtMost, early_phases, last_phases, later_phases, month_moves, moving_phases, phases_moving}
 use Rattle.atl_month.proofs.PhaseLaws.{IsPhase, early_are, last_move, later_are}
 
--- the bound on how far a month moves any amount of the books: the same for all amounts
+-- the bound on how far a month moves the books: 2*10^14 for each amount
 abbrev pub moves_in_month : BookBound
 moves_in_month e t = most_in_month
 

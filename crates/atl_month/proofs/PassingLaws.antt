@@ -41,21 +41,21 @@ use Rattle.atl_month.specs.Sweep.{IsKept, accepted_of, after_passing_item, after
 
 -- ---- more than is booked
 
--- the campaign has this amount of a thing more than its books account for
+-- the total of a thing in the campaign is by this amount more than its books account for
 abbrev pub Owes : CampaignValue → Thing → ℕ → Type 0
 Owes c s more = pos (total c s) ≡ booked c.books s +ℤ pos more
 
 -- ---- a unit from which nothing is taken (`IsKept`)
 
--- a unit that stays as it is is kept
+-- a unit that stays as it is is kept (`IsKept`): nothing is taken from it
 pub kept-refl : (u : Unit) → IsKept u u
 kept-refl u = record { no_worse = no_worse u; men = refl; days = refl }
 
--- a unit that is kept by one change and by the next is kept by both
+-- a unit that is kept (`IsKept`) by one change and by the next is kept by both
 pub kept-trans : (u v x : Unit) → IsKept u v → IsKept v x → IsKept u x
 kept-trans u v x one two = record { no_worse = no_worse_twice u v x one.no_worse two.no_worse; men = two.men ∙ one.men; days = two.days ∙ one.days }
 
--- a unit with no less money and no less of any item is kept
+-- a unit that gets other money and items, and no less of any, is kept (`IsKept`)
 kept-with : (u : Unit) (money : ℕ) (items : FinMap nat_cmp ℕ) → u.holding.money ≤ money → ((i : ℕ) → amount_of u.holding.items i ≤ amount_of items i)
     → IsKept u (record u { holding = record u.holding { money = money; items = items } })
 kept-with u money items more all = record {
@@ -77,7 +77,7 @@ pub record PassesOn (w : WorldValue) (n : ℕ) (owing : Thing → ℕ) (moving :
   pub forth : Every (λ m u. (v : Unit) × (get d.units m ≡ Some v) × IsKept u v) c.units
   pub back : Every (λ m v. (u : Unit) × (get c.units m ≡ Some u) × IsKept u v) d.units
 
--- a steady campaign that stays as it is passed nothing on
+-- a steady campaign that stays as it is has passed on nothing (`PassesOn` with 0 of each thing)
 pub passes-refl : (w : WorldValue) (n : ℕ) (c : CampaignValue) → IsSteady w c → PassesOn w n (λ s. 0) (λ e s. 0) c c
 passes-refl w n c steady = record {
   steady = steady;
@@ -92,7 +92,7 @@ passes-refl w n c steady = record {
     plain : (x : ℕ) → x ≡ x + 0
     plain x = omega arith
 
--- passing on something and then something else is passing on both together
+-- passing on something of unit `n` and then something else is passing on both together (`PassesOn`)
 pub passes-trans : {o p : Thing → ℕ} {i j : BookBound} (w : WorldValue) (n : ℕ) (a b c : CampaignValue) → PassesOn w n o i a b → PassesOn w n p j b c
     → PassesOn w n (λ s. o s + p s) (both_move i j) a c
 passes-trans {o} {p} {i} {j} w n a b c one two = record {
@@ -108,20 +108,21 @@ passes-trans {o} {p} {i} {j} w n a b c one two = record {
     grouped : (x y z : ℕ) → (x + y) + z ≡ x + (y + z)
     grouped x y z = omega arith
 
--- what the campaign has more than its books say, after a part of an amount was given and the rest booked as lost
+-- After `taken` was given and `lost` booked as lost, of a thing for which test `b` holds, the total is above the books
+-- by both together more than before; of any other thing by as much as before.
 owed : (b : Bool) (taken lost x before after : ℕ) (books : ℤ) → after ≡ before + cond b taken 0 → pos before ≡ books +ℤ pos x
     → pos after ≡ (books +ℤ cond b (neg_ℤ (pos lost)) (pos 0)) +ℤ pos (x + cond b (taken + lost) 0)
 owed true taken lost x before after books e h = omega (arith, ints, e, h)
 owed false taken lost x before after books e h = omega (arith, ints, e, h)
 
--- what the campaign has more than its books say, after an amount was booked as lost
+-- after `lost` was booked as lost, of a thing for which test `b` holds, the total is above the books by `lost` more
 owed_all : (b : Bool) (lost x all : ℕ) (books : ℤ) → pos all ≡ books +ℤ pos x
     → pos all ≡ (books +ℤ cond b (neg_ℤ (pos lost)) (pos 0)) +ℤ pos (x + cond b lost 0)
 owed_all true lost x all books h = omega (arith, ints, h)
 owed_all false lost x all books h = omega (arith, ints, h)
 
 module _ (w : WorldValue) (c : CampaignValue) (n : ℕ) (t : Thing) (inside : thing_index t < things_of w) (steady : IsSteady w c) where
-  -- booking an amount of a thing as lost passes it on, in a steady campaign
+  -- booking an amount of a thing as lost is passing it on (`PassesOn`), in a steady campaign
   pub all_lost : (amount : ℕ) → PassesOn w n (λ s. part_of s t amount) (moves_only amount Lost t) c (with_lost c t amount)
   all_lost amount = record {
     steady = steady-amount w c Lost t (neg_ℤ (pos amount)) inside steady;
@@ -152,7 +153,7 @@ module _ (w : WorldValue) (c : CampaignValue) (n : ℕ) (t : Thing) (inside : th
         sum : (a x b y p : ℕ) → a + x ≡ b + y → y ≡ x + p → a ≡ b + p
         sum a x b y p e f = omega (arith, e, f)
 
-    -- giving a part of an amount to a unit and booking the rest as lost passes it on
+    -- giving a part of an amount to a unit and booking the rest as lost is passing it on (`PassesOn`)
     pub part_lost : PassesOn w n (λ s. part_of s t (taken + lost)) (moves_only (taken + lost) Lost t) c (with_lost given t lost)
     part_lost = record {
       steady = steady-amount w given Lost t (neg_ℤ (pos lost)) inside (steady-unit_amount w c k v h is may steady);
@@ -192,7 +193,7 @@ module _ (w : WorldValue) (c : CampaignValue) (n : ℕ) (t : Thing) (inside : th
 
 -- ---- a holding with more of an item
 
--- a number plus nothing, since a test fails, is the number
+-- a number plus what is added only if a test holds is the number, if the test fails
 nothing_added : (b : Bool) (x n : ℕ) → b ≡ false → x ≡ x + cond b n 0
 nothing_added true x n e = cc
 nothing_added false x n e = omega arith
@@ -237,7 +238,7 @@ fits amount have l = omega (arith, least amount (holding_limit - have))
     least a b = omega arith
 
 module _ (w : WorldValue) (c : CampaignValue) (n k : ℕ) (apart : n ≢ k) (steady : IsSteady w c) where
-  -- campaign `d` is `c` after an amount of a thing of unit `n` was passed on
+  -- campaign `d` is one in which an amount of a thing of unit `n` was passed on (`PassesOn`), which moves Lost alone
   abbrev Passed : Thing → ℕ → CampaignValue → Type 0
   Passed t amount d = PassesOn w n (λ s. part_of s t amount) (moves_only amount Lost t) c d
 
@@ -260,7 +261,7 @@ module _ (w : WorldValue) (c : CampaignValue) (n k : ℕ) (apart : n ≢ k) (ste
       let taken = option_map_or (λ v. accepted_of amount v.holding.money) o 0 in
       with_lost (option_map_or (λ v. with_money c k (v.holding.money + taken)) o c) Money (amount - taken)
 
-  -- money that goes to unit `k`, or that is lost, is passed on
+  -- giving money to unit `k`, if there, up to its room, and booking the rest as lost is passing it on (`PassesOn`)
   pub pass_money : (amount : ℕ) → Passed Money amount (after_passing_money c k amount)
   unfolding after_passing_money
   pass_money amount = by_unit (get c.units k) refl
@@ -293,7 +294,7 @@ module _ (w : WorldValue) (c : CampaignValue) (n k : ℕ) (apart : n ≢ k) (ste
       let taken = option_map_or (λ v. accepted_of amount (amount_of v.holding.items i)) o 0 in
       with_lost (option_map_or (λ v. with_item c k i (amount_of v.holding.items i + taken)) o c) (Item i) (amount - taken)
 
-  -- an amount of an item of the world that goes to unit `k`, or that is lost, is passed on
+  -- giving an item to unit `k`, if there, up to its room, and booking the rest as lost is passing it on (`PassesOn`)
   pub pass_item : (i amount : ℕ) → i < length w.items → Passed (Item i) amount (after_passing_item k c (i, amount))
   unfolding after_passing_item
   pass_item i amount known = by_unit (get c.units k) refl
@@ -333,7 +334,7 @@ module _ (w : WorldValue) (c : CampaignValue) (n k : ℕ) (apart : n ≢ k) (ste
 
 -- ---- all that a unit has
 
--- items that unit `k` gets, or that are lost, are passed on one after the other
+-- giving items to unit `k` in turn, each up to its room, with the rest booked as lost, passes all on (`PassesOn`)
 pub pass_items : (w : WorldValue) (c : CampaignValue) (n k : ℕ) → n ≢ k → (es : List (ℕ × ℕ)) → EachOf (λ i a. i < length w.items) es → IsSteady w c
     → PassesOn w n (owing_items es) (moving_items es) c (fold (after_passing_item k) c es)
 pass_items w c n k apart [] known steady = passes-refl w n c steady

@@ -59,7 +59,7 @@ same_thing a x y true e true f = omega arith
 same_thing a x y false e false f = omega arith
 same_thing a x y false e true f = absurd (grind (arith, nat_tests, e, f))
 
--- an entry's amounts for two different things are different amounts
+-- a bound that applies only where two numbers are equal is 0 where they differ
 other_thing : (m n : ℕ) → m ≢ n → (if m == n then most_moved else 0) ≤ 0
 other_thing m n apart = subst (λ q. (if q then most_moved else 0) ≤ 0) (sym (other_number m n apart)) (omega arith)
 
@@ -113,7 +113,7 @@ both_hold true true = omega arith
 both_hold true false = omega arith
 both_hold false b = omega arith
 
--- a bound by a test that never holds is 0
+-- a bound that applies only where two tests hold is 0 if the second is false
 never : (a : Bool) → (if a && false then most_moved else 0) ≤ 0
 never true = omega arith
 never false = omega arith

@@ -33,7 +33,7 @@ module _ {V : Type 0} (p : V → Bool) where
   either_listed true n k ns here rest (inr h) = rest h
   either_listed false n k ns here rest h = rest h
 
-  -- a number below those of all entries is below the listed ones
+  -- a number below those of all entries is below each number listed among them
   below_listed : (x k : ℕ) (es : List (ℕ × V)) → below_all nat_cmp x es ≡ true → IsListed k (numbers_among p es) → x < k
   below_listed x k [] low h = absurd h
   below_listed x k (e ∷ es) low h =
@@ -57,7 +57,8 @@ module _ {V : Type 0} (p : V → Bool) where
   abbrev PassesIn : FinMap nat_cmp V → ℕ → Type 0
   PassesIn m k = (v : V) × (get m k ≡ Some v) × (p v ≡ true)
 
-  -- if what passes in `o` passes in `m`, and something does, the first in `m` is no greater than the first in `o`
+  -- If each number that passes in map `o` passes in map `m`, and some number passes in `o`, the first in `m` is no
+  -- greater than the first in `o`.
   first_below : (m o : FinMap nat_cmp V) → Every (λ k v. 1 ≤ k) m → ((k : ℕ) → PassesIn o k → PassesIn m k) → first_or_zero (numbers_where p o) ≢ 0
       → (first_or_zero (numbers_where p m) ≢ 0) × (first_or_zero (numbers_where p m) ≤ first_or_zero (numbers_where p o))
   first_below m o low also some =
@@ -86,7 +87,7 @@ module _ {V : Type 0} (p : V → Bool) where
 -- ---- while units are swept
 
 module _ (w : WorldValue) (c : CampaignValue) (n : ℕ) (steady : IsSteady w c) where
-  -- a unit that is kept receives for a region and faction exactly if it did before
+  -- a unit that is kept, with its men (`IsKept`), receives for a faction in a region exactly if it did before
   passes_still : (region faction : ℕ) (u v : Unit) → IsKept u v → receives region faction u ≡ receives region faction v
   passes_still region faction u v kept =
       ap (λ r. (r == region) && ((u.faction == faction) && nat_lt 0 u.holding.men)) (sym kept.no_worse.region)
@@ -111,7 +112,7 @@ module _ (w : WorldValue) (c : CampaignValue) (n : ℕ) (steady : IsSteady w c) 
 
 -- ---- receivers put into the map, unit by unit
 
--- the receiver of a faction by a region's part of the map; 0 where there is none
+-- the receiver of a faction by the part of the map for a region; 0 where there is none
 abbrev receiver_under : ℕ → Option (FinMap nat_cmp ℕ) → ℕ
 receiver_under faction o = unwrap_or (get (unwrap_or o empty) faction) 0
 
@@ -139,7 +140,7 @@ module _ (m : ReceiverMap) (region faction n : ℕ) where
       ]
 
 module _ (m : ReceiverMap) (n : ℕ) (u : Unit) (es : List (ℕ × Unit)) (low : 1 ≤ n) where
-  -- the receiver among the units that come after unit `n`; 0 where there is none
+  -- the receiver of a faction in a region among the units that come after unit `n`; 0 where there is none
   abbrev behind : (region faction : ℕ) → ℕ
   behind r f = first_or_zero (numbers_among (receives r f) es)
 

@@ -70,7 +70,7 @@ one_stocked k e t = by_number (amount_number e t == amount_number Stocked (Item 
         at_place (entry_index e == entry_index Stocked) (thing_index t == 2 + k) (let f : (entry_index e == entry_index Stocked) ≡ true = grind (arith, nat_tests) in f) (let g : (thing_index t == 2 + k) ≡ true = grind (arith, nat_tests) in g)
     by_number false is = omega arith
 
--- where the test is false, the bound is 0
+-- a number that is at most `most_amount` if two tests hold, and else 0 at most, is 0 where the second test is false
 no_part : (a b : Bool) (n : ℕ) → b ≡ false → n ≤ (if a && b then most_amount else 0) → n ≡ 0
 no_part true true n f l = cc
 no_part true false n f l = omega (arith, l)
@@ -132,7 +132,7 @@ not_stocked [] e t low = refl
 not_stocked (x ∷ xs) e t low =
     sum_of_none (moves_only most_amount Stocked (Item x.0) e t) (stocking xs e t) (other_item x.0 e t (grind (arith, nat_tests))) (not_stocked xs e t low)
 
--- the new goods of markets with different items are within the bound of restocking
+-- the new goods of markets with different items move Stocked of each item by at most 999,999,999, and nothing else
 pub stocks_little : (xs : List (ℕ × Market)) → is_sorted nat_cmp xs ≡ true → (e : Entry) (t : Thing) → stocking xs e t ≤ stocks_by most_amount e t
 stocks_little xs rising e Money = omega (arith, not_stocked xs e Money (omega arith))
 stocks_little xs rising e People = omega (arith, not_stocked xs e People (omega arith))
@@ -152,7 +152,7 @@ fits a b d l = omega (arith, least a (b - d))
     least x y = omega arith
 
 module _ (w : WorldValue) (c : CampaignValue) (n i : ℕ) (m : Market) (r : Region) (here : get c.regions n ≡ Some r) (market : market_of w n i ≡ Some m) (known : IsMarket (length w.items) i m) (steady : IsSteady w c) where
-  -- the stock of the market before
+  -- the stock of the market before it gets its new goods
   abbrev stock : ℕ
   stock = amount_of r.stocks i
 
@@ -272,7 +272,7 @@ module _ (w : WorldValue) (world : IsWorld w) (n : ℕ) where
   pub markets_are : (p : RegionPlan) → get w.regions n ≡ Some p → EachOf (IsMarketOf w n) (entries p.markets)
   markets_are p is = each-from_every (IsMarketOf w n) p.markets (λ i m at. (ap (λ o. option_and_then (λ (q : RegionPlan). get q.markets i) o) is ∙ at, (world.regions n p is).markets i m at))
 
-  -- restocking a region keeps a steady campaign steady and its books balanced, within the bound of restocking
+  -- restocking a region keeps a steady campaign steady and its books balanced, within the bound for one region
   pub restocked_leaves_well : (c : CampaignValue) → IsSteady w c → LeavesWell IsSteady (stocks_by most_amount) w c (after_restock n c (entries (markets_of w n)))
   restocked_leaves_well c steady = by_plan (get w.regions n) refl
     where

@@ -186,7 +186,7 @@ region_grows_well w world c n word t r here is steady =
     (births_fit w.rules.growth t.peasant_limit word r.peasants peasant_limit within.peasants)
     (income_fits w.rules.income t.money_limit (r.peasants + born) r.money money_limit within.money) steady
 
--- the season of one region keeps a steady campaign steady and its books balanced, within the bound of the season
+-- the season of one region keeps a steady campaign steady and its books balanced, within the bound for one region
 pub season_at_leaves_well : (w : WorldValue) → IsWorld w → (c : CampaignValue) (x : ℕ × ℕ) → IsSteady w c → LeavesWell IsSteady (season_moves most_amount) w c (season_at w c x)
 unfolding season_at
 season_at_leaves_well w world c (n, word) steady = by_terrain (terrain_of w n) refl

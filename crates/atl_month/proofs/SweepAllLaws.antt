@@ -43,7 +43,7 @@ swept_in c n o =
     option_map_or (λ u. if u.holding.men == 0 then without_unit (after_passing_all c (receiver c u.region u.faction) u) n else c) o c
 
 module _ (w : WorldValue) (c : CampaignValue) (n : ℕ) (steady : IsSteady w c) where
-  -- sweeping a unit keeps a steady campaign steady and its books balanced, within the bound of the sweep
+  -- sweeping a unit keeps a steady campaign steady and its books balanced, within the sweep's bound for one unit
   pub swept_at_leaves_well : LeavesWell IsSteady (loses_by most_amount) w c (after_sweeping_unit c n)
   unfolding after_sweeping_unit
   swept_at_leaves_well = by_unit (get c.units n) refl
@@ -112,7 +112,7 @@ module _ (w : WorldValue) (c : CampaignValue) (n : ℕ) (steady : IsSteady w c) 
 
 -- ---- all units
 
--- each unit without men is listed
+-- the list has each unit of the campaign that has no men
 abbrev AreListed : List ℕ → CampaignValue → Type 0
 AreListed ns c = Every (λ m v. v.holding.men ≡ 0 → IsListed m ns) c.units
 
@@ -218,7 +218,7 @@ module _ (c : CampaignValue) (n : ℕ) where
       by_test true t = by_faction (get c.factions n) refl
       by_test false t = λ m f there none stays. (λ own. some_at (numbers_of n c.units) (ap (λ k. numbers_of k c.units) (sym own) ∙ none) t, there)
 
--- each faction that has no unit, and isn't gone, is listed
+-- the list has each faction of the campaign that has no unit and isn't gone
 abbrev AreToGo : List ℕ → CampaignValue → Type 0
 AreToGo ns c = Every (λ m f. numbers_of m c.units ≡ [] → f.gone ≡ false → IsListed m ns) c.factions
 

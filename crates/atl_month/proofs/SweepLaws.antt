@@ -112,7 +112,7 @@ all_moved h none e s =
     (lost_sum e (moves_only h.money Lost Money e s) (moving_items (entries h.items) e s) (part_of s Money h.money)
     (owing_items (entries h.items) s) (one_moved h.money Money e s) (items_moved (entries h.items) e s))
 
--- what a unit within the limits holds of a thing is within the bound of the sweep, if it has no men
+-- what a unit within the limits holds of a thing is within the sweep's bound for one unit, if it has no men
 little_lost : (h : HoldingValue) → h.men ≡ 0 → h.money ≤ holding_limit → ((i : ℕ) → amount_of h.items i ≤ holding_limit) → (e : Entry) (s : Thing)
     → of_lost e (unit_amount s h) ≤ loses_by most_amount e s
 little_lost h none money items e Money = by_test (entry_index e == 7)
@@ -210,13 +210,13 @@ module _ (w : WorldValue) (c : CampaignValue) (n : ℕ) (u : Unit) (is : get c.u
   less_less : (a b d : ℕ) → a ≤ b → b ≤ d → a ≤ d
   less_less a b d k l = omega arith
 
-  -- passing on what the unit has moves the books within the bound of the sweep
+  -- passing on what the unit has moves the books within the sweep's bound for one unit
   pub moves_little : (e : Entry) (s : Thing) → moving_all u.holding e s ≤ loses_by most_amount e s
   moves_little e s =
       less_less (moving_all u.holding e s) (of_lost e (unit_amount s u.holding)) (loses_by most_amount e s) (all_moved u.holding none e s)
       (little_lost u.holding none (steady.numbers.units n u is).1.money (λ i. amount_within u.holding i (steady.numbers.units n u is).1) e s)
 
-  -- sweeping unit `n` keeps the campaign steady and its books balanced, within the bound of the sweep
+  -- sweeping unit `n` keeps the campaign steady and its books balanced, within the sweep's bound for one unit
   pub swept_leaves_well : LeavesWell IsSteady (loses_by most_amount) w c swept
   swept_leaves_well =
       let only = only_reduced w passed n u there_still in

@@ -350,11 +350,11 @@ module _ (w : WorldValue) (c : CampaignValue) (some : 1 ≤ w.rules.maintenance)
   abbrev list : List UpkeepResult
   list = upkeep_results w c
 
-  -- upkeep takes from at most as many units as there may be
+  -- upkeep takes from at most 100,000 units, as many as there may be
   few : length list ≤ most_units
   few = omega (arith, length-map (upkeep_inputs_of c) (settled_one w.rules.maintenance (upkeep_inputs_of c)), length-map (entries c.units) upkeep_input_of, len-entries c.units, steady.numbers.few_units)
 
-  -- all steps together move each amount by less than 10^14
+  -- the upkeep of all units together moves each amount of the books by less than 10^14
   little : MovesLess (moved_times (length list) (takes_up_to most_amount)) (takes_up_to most_moved)
   little e t = scaled (length list) few (amount_number e t == amount_number Upkeep Money) (amount_number e t == amount_number Starved People)
     where

@@ -22,7 +22,7 @@ use Rattle.atl_month.specs.UpkeepSharing.{AreInOrder, EachCanSpare, given_among,
 
 -- ---- an account is set in the map
 
--- the account of an option; `no_account` where there is none
+-- the account that an option holds; `no_account` where it holds none
 abbrev account_or : Option Account → Account
 account_or o = unwrap_or o no_account
 
@@ -104,7 +104,7 @@ own p = rw (same_number p.region, same_number p.faction) refl
 
 -- ---- the units are counted
 
--- with no unit counted yet, each account is the one of no units
+-- with no unit counted yet, each account of the empty map is that of no units (`account_of`)
 pub no_accounts : (m s g : ℕ) → account_at empty s g ≡ account_of m [] [] s g
 no_accounts m s g = ap (account_in g) (get-empty nat_cmp s) ∙ ap account_or (get-empty nat_cmp g)
 
@@ -126,7 +126,7 @@ module _ (m : ℕ) (before : List UpkeepInput) (p : UpkeepInput) where
   left_more : (s g : ℕ) → left_among m s g more ≡ left_among m s g before + cond (is_input_of s g p) (left_of m p) 0
   left_more s g = among_more (left_of m) (is_input_of s g) before p
 
-  -- with one more unit counted, what a faction's units in a region are short of grows by its lack, if it is one
+  -- with one more unit counted, what a faction's units in a region are short of grows by its own, if it is one of them
   short_more : (s g : ℕ) → short_among m s g more ≡ short_among m s g before + cond (is_input_of s g p) (short_of m p) 0
   short_more s g = among_more (short_of m) (is_input_of s g) before p
 
@@ -146,7 +146,7 @@ module _ (m : ℕ) (before : List UpkeepInput) (p : UpkeepInput) where
   short_other : (s g : ℕ) → is_input_of s g p ≡ false → short_among m s g more ≡ short_among m s g before
   short_other s g is = short_more s g ∙ ap (λ b. short_among m s g before + cond b (short_of m p) 0) is ∙ add-zero (short_among m s g before)
 
-  -- the lesser of 0 and any number is 0
+  -- the lesser of 0 and a number is the same for any two numbers
   none_given : (x y : ℕ) → min 0 x ≡ min 0 y
   none_given x y = omega arith
 
@@ -241,7 +241,7 @@ module _ (m : ℕ) (all before : List UpkeepInput) (p : UpkeepInput) (accounts :
   abbrev peers : List UpkeepInput
   peers = peers_of p.region p.faction all
 
-  -- what is to be given among the unit's peers
+  -- the money that the unit's peers with some left give to those that are short
   abbrev amount : ℕ
   amount = given_among m peers
 

@@ -54,7 +54,7 @@ later_phases = guard_spec ∷ quit_spec ∷ walk_spec ∷ sail_spec ∷ build_sp
 abbrev pub last_phases : List PhaseSpec
 last_phases = work_spec ∷ upkeep_spec ∷ season_spec ∷ sweep_spec ∷ []
 
--- the meaning of all phases from FORM to PRODUCE
+-- the meaning of all phases from FORM to PRODUCE: the campaign and the month that they make in turn
 abbrev pub orders_meaning : Meaning
 orders_meaning = then_also (meaning_of early_phases) (meaning_of later_phases)
 
@@ -62,7 +62,7 @@ orders_meaning = then_also (meaning_of early_phases) (meaning_of later_phases)
 abbrev pub orders_keep : Frame
 orders_keep = both_keep (meaning_of early_phases) (keeps_of early_phases) (keeps_of later_phases)
 
--- the meaning of a month, from its first phase to its last
+-- the meaning of a month: the campaign and the month that its phases make, from the first to the last
 abbrev pub month_meaning : Meaning
 month_meaning = then_also orders_meaning (meaning_of last_phases)
 

@@ -7,7 +7,7 @@ use Rattle.atl_records.specs.Every.{Every}
 use Rattle.atl_state.specs.Campaign.{CampaignValue}
 use Rattle.atl_phase.specs.Unmailed.{IsLeft, starved_in}
 
--- none of these mailings is the faction's
+-- none of `mailings` is from the faction
 abbrev pub SentNone : List Mailing → (faction : ℕ) → Type 0
 SentNone mailings faction = All (λ m. m.faction ≢ faction) mailings
 

@@ -87,6 +87,6 @@ upkeep_keeps w m before after =
     get after.units n ≡ Some (record u { holding = after_upkeep settled u.holding }))
     before.units
 
--- the specification of upkeep as a phase of the month
+-- the specification of upkeep as a phase of the month, which books Upkeep of money and Starved of people
 abbrev pub upkeep_spec : PhaseSpec
 upkeep_spec = books_money_and_people Upkeep Starved upkeep_meaning upkeep_keeps

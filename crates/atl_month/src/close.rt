@@ -83,14 +83,14 @@ pub fn close_month(
     Ok((campaign, month.into_events()))
 }
 
-/// Does nothing. Its clause is the law that the mailings of a month, given in another order, make
-/// the same campaign and the same events.
+/// The law that the mailings of a month, given in another order, make the same campaign and the
+/// same events. Does nothing.
 pub fn months_have_no_order()
     ensures { MailOrderDoesNotCount }
 {}
 
-/// Does nothing. Its clauses are the laws of what a month books: each phase moves the amounts of
-/// its own entries alone, each by less than 10^14; and at most two phases move an amount.
+/// The laws of what a month books: each phase moves the amounts of its own entries alone, each by
+/// less than 10^14; and at most two phases move an amount. Does nothing.
 pub fn phases_move_little()
     ensures little { PhasesMoveLittle }
     ensures two { TwoMoveAtMost }

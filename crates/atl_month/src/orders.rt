@@ -17,6 +17,7 @@ use std::alloc::Global;
 #[derive(Drop, Clone, Copy)]
 pub struct OrderPhases;
 
+/// Runs the phases from FORM to PRODUCE, each on what the one before left.
 impl Phase for OrderPhases {
     ghost meaning = { orders_meaning };
 

@@ -40,7 +40,7 @@ fn income(per_peasant: u32, limit: u32, peasants: u32, money: u32) -> u32
     earned.min(u64::from(limit.saturating_sub(money))) as u32
 }
 
-/// Adds births and income to a region that has these peasants and this money, and books them.
+/// Adds births and income to a region that has these peasants and this money, and books both.
 fn grow(campaign: &mut Campaign, number: u32, peasants: u32, money: u32, born: u32, earned: u32)
     requires things { 2 ≤ campaign.old.value.books.things }
     requires room { HaveRoom (grows_by most_amount) campaign.old.value }
@@ -56,8 +56,8 @@ fn grow(campaign: &mut Campaign, number: u32, peasants: u32, money: u32, born: u
     campaign.book(Entry::Income, Thing::Money, i64::from(earned));
 }
 
-/// Carries out the season of one region. AllocError without memory; the campaign may then be
-/// changed in part.
+/// Gives one region its births, its income and the new goods of its markets; nothing where the
+/// region isn't there. AllocError without memory; the campaign may then be changed in part.
 #[tactic(auto, unfolding(crate::specs::Season::season_at))]
 fn turn_region(
     world: &World,
@@ -86,7 +86,8 @@ fn turn_region(
     restock_region(world, campaign, number)
 }
 
-/// Carries out the season of the regions in the order of their numbers, as far as there are words.
+/// Carries out the season of the regions in the order of their numbers, as far as there are words
+/// of the dice.
 fn turn_regions(world: &World, campaign: &mut Campaign, words: &[u32]) -> Result<(), AllocError>
     requires steady { IsSteady world.now campaign.old.value }
     requires room { HaveRoom (season_moves most_moved) campaign.old.value }
@@ -106,6 +107,8 @@ fn turn_regions(world: &World, campaign: &mut Campaign, words: &[u32]) -> Result
     Ok(())
 }
 
+/// Gives each region its births, its income and the new goods of its markets, by its word of the
+/// dice; reports no event.
 impl Phase for SeasonPhase {
     ghost meaning = { season_meaning };
 

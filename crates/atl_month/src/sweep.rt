@@ -198,6 +198,8 @@ fn sweep_factions(campaign: &mut Campaign, numbers: &[u32])
     }
 }
 
+/// Removes the units without men, which leave what they have to their receivers, and then sets
+/// factions without units to gone; reports no event.
 impl Phase for SweepPhase {
     ghost meaning = { sweep_meaning };
 

@@ -53,8 +53,8 @@ fn days_with(alloc: Global, left: u32, holding: &Holding) -> Result<Vec<(u32, u3
     Ok(list)
 }
 
-/// Takes from a unit what it pays, where none of its men starves. It marks none of its goods, and
-/// where the unit pays nothing, nothing at all.
+/// Takes from a unit the money that it pays, where none of its men starves. It marks none of its
+/// goods, and where the unit pays nothing, nothing at all.
 fn pay(campaign: &mut Campaign, settled: &UpkeepResult)
     requires can { (w : WorldValue) × CanPayUpkeep w campaign.old.value settled.now }
     requires fed { settled.now.starved ≡ 0 }
@@ -71,8 +71,8 @@ fn pay(campaign: &mut Campaign, settled: &UpkeepResult)
     }
 }
 
-/// Takes from a unit what it pays and the men who starve, with their days. It marks none of its
-/// items.
+/// Takes from a unit the money that it pays and the men who starve, with their days. It marks none
+/// of its items.
 fn starve(alloc: Global, campaign: &mut Campaign, settled: &UpkeepResult) -> Result<(), AllocError>
     requires can { (w : WorldValue) × CanPayUpkeep w campaign.old.value settled.now }
     requires some { 1 ≤ settled.now.starved }
@@ -90,8 +90,8 @@ fn starve(alloc: Global, campaign: &mut Campaign, settled: &UpkeepResult) -> Res
     set_people(campaign, settled.unit, left, &days)
 }
 
-/// Takes from a unit what upkeep takes from it, without booking it. It marks none of the unit's
-/// items, and where nobody starves none of its goods.
+/// Takes from a unit the money that it pays for upkeep and the men who starve, without booking
+/// them. It marks none of the unit's items, and where nobody starves none of its goods.
 fn take_upkeep(
     alloc: Global,
     campaign: &mut Campaign,
@@ -111,8 +111,8 @@ fn take_upkeep(
     starve(alloc, campaign, settled)
 }
 
-/// Takes from a unit what upkeep takes from it, and books it. It marks none of the unit's items,
-/// and where nobody starves none of its goods.
+/// Takes from a unit the money that it pays for upkeep and the men who starve, and books both. It
+/// marks none of the unit's items, and where nobody starves none of its goods.
 fn upkeep_of(
     alloc: Global,
     campaign: &mut Campaign,
@@ -131,7 +131,7 @@ fn upkeep_of(
     Ok(())
 }
 
-/// Takes from each of some units what upkeep takes from it, and books it.
+/// Takes from each unit of `list` the money that it pays and the men who starve, and books both.
 fn upkeep_of_all(
     alloc: Global,
     campaign: &mut Campaign,
@@ -169,6 +169,7 @@ fn report_starved(month: &mut Month, list: &[UpkeepResult]) -> Result<(), AllocE
     Ok(())
 }
 
+/// Takes the upkeep of all units, and then adds an event Starved for each unit whose men starve.
 impl Phase for UpkeepPhase {
     ghost meaning = { upkeep_meaning };
 

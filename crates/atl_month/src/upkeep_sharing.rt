@@ -40,7 +40,7 @@ fn balance(maintenance: u32, input: &UpkeepInput) -> (u64, u64)
     (money.saturating_sub(due), due.saturating_sub(money))
 }
 
-/// The accounts of these units by region and faction, with nothing given or covered yet.
+/// The accounts of the units `inputs` by region and faction, with nothing given or covered yet.
 fn open_accounts(
     alloc: Global,
     maintenance: u32,
@@ -63,7 +63,8 @@ fn open_accounts(
     Ok(accounts)
 }
 
-/// What upkeep takes from a unit, by the account of its faction in its region, which it updates.
+/// What upkeep takes from a unit: the money that it pays and the men who starve, by the account of
+/// its faction in its region, to which what the unit gives or is covered by is added.
 fn payment_of(maintenance: u32, account: &mut Account, input: &UpkeepInput) -> UpkeepResult
     requires some { 1 ≤ maintenance }
     requires most { maintenance ≤ most_per_head }
@@ -89,7 +90,7 @@ fn payment_of(maintenance: u32, account: &mut Account, input: &UpkeepInput) -> U
     }
 }
 
-/// What upkeep takes from each of these units, which are in the order of their numbers. The units
+/// What upkeep takes from each unit of `inputs`, which are in the order of their numbers. The units
 /// of one faction in one region pay for each other. The maintenance is what one man costs in a
 /// month. AllocError without memory. See docs/RULES.md, "Upkeep".
 pub fn upkeep_payments(
@@ -115,8 +116,8 @@ pub fn upkeep_payments(
     Ok(list)
 }
 
-/// Does nothing. Its clause is the law that a unit pays no more money in upkeep than it has, and no
-/// more of its men starve than it has.
+/// The law that a unit pays no more money in upkeep than it has, and no more of its men starve than
+/// it has. Does nothing.
 pub fn each_unit_can_spare()
     ensures { EachCanSpare }
 {}

@@ -8,7 +8,7 @@ use Rattle.atl_tables.specs.declared.world.RegionPlan.{RegionPlan}
 use Rattle.atl_report.specs.Each.{each_text, separated_texts}
 use Rattle.atl_report.specs.Report.{exit_text, exit_texts, joined_or_none}
 
--- what is written for an exit: nothing where there is none, and after a comma where it isn't the first
+-- an exit as it is written: direction and number, after a comma unless it is the first; nothing without an exit
 abbrev pub written : (is_first : Bool) → (direction : List ℕ) → Option ℕ → List ℕ
 written is_first direction exit = option_map_or (λ to. (if is_first then [] else codes ", ") ++ exit_text direction to) exit []
 

@@ -36,7 +36,7 @@ above k q h = elim (nat_cmp q k) as (λ o. nat_cmp q k ≡ o → is_eq o ≡ fal
 -- ---- what holds of some entry
 
 module _ {X : Type 0} (p : X → Bool) (g : Option X → Bool) where
-  -- a test of values looked up by numbers does not change when a lower entry is put in front
+  -- a test on values that are looked up by the numbers of some entries stays the same with a lower entry put in front
   past : (k : ℕ) (v : X) (fs es : List (ℕ × X)) → below_all nat_cmp k es ≡ true → list_any (λ n. g (find nat_cmp n ((k, v) ∷ fs))) (numbers_among p es) ≡ list_any (λ n. g (find nat_cmp n fs)) (numbers_among p es)
   past k v fs [] h = refl
   past k v fs (e ∷ es) h =
@@ -49,7 +49,7 @@ module _ {X : Type 0} (p : X → Bool) (g : Option X → Bool) where
       ]
       ∙ ap (list_any (λ n. g (find nat_cmp n fs))) (sym (chosen-cons p e es))
 
-  -- in a sorted list, some chosen number, looked up, passes g just where some chosen entry passes g
+  -- in a sorted list, some number of an entry that passes `p`, looked up, passes `g` just where some entry passes both
   some_found : (es : List (ℕ × X)) → is_sorted nat_cmp es ≡ true → list_any (λ n. g (find nat_cmp n es)) (numbers_among p es) ≡ list_any (λ e. p e.1 && g (Some e.1)) es
   some_found [] h = refl
   some_found (e ∷ es) h =
@@ -90,11 +90,11 @@ seen_by c f q =
 
 -- ---- the numbers gathered
 
--- replaces a value by the unit value, so that only its number counts
+-- replaces a value by `tt`, so that of an entry its number alone is left
 abbrev forget_value : {V : Type 0} → V → Prim.Unit {0}
 forget_value v = tt
 
--- an entry with its value forgotten
+-- an entry with its value replaced by `tt`
 abbrev number_alone : {V : Type 0} → ℕ × V → ℕ × Prim.Unit {0}
 number_alone e = (e.0, tt)
 
@@ -117,17 +117,17 @@ module _ {V : Type 0} where
   sorted-alone [] = refl
   sorted-alone (e ∷ es) = ap (λ b. b && is_sorted nat_cmp (map number_alone es)) (below-alone e.0 es) ∙ ap (λ b. below_all nat_cmp e.0 es && b) (sorted-alone es)
 
-  -- forgetting a value before or after a choice is the same
+  -- replacing a value by `tt` gives the same before and after a choice between the value and None
   alone_chosen : (b : Bool) (o : Option V) → option_map forget_value (cond b o None) ≡ cond b (option_map forget_value o) None
   alone_chosen true o = refl
   alone_chosen false o = refl
 
 module _ (c : CampaignValue) (f q : ℕ) where
-  -- Some tt if the campaign has region k, else None
+  -- Some `tt` if the campaign has region `k`, else None
   abbrev there : ℕ → Option (Prim.Unit {0})
   there k = option_map forget_value (get c.regions k)
 
-  -- with region k gathered, q is gathered if it was, or is k and exists
+  -- after region `k` is added to the gathered regions, `q` is one of them if it was, or if it is `k` and is there
   one_region : (seen : FinMap nat_cmp (Prim.Unit {0})) (k : ℕ) (b : Bool) (o : Option Region) → get c.regions k ≡ o → get seen q ≡ cond b (there q) None → get (with_region seen k o) q ≡ cond (eq_by_cmp nat_cmp q k || b) (there q) None
   one_region seen k b None is was = was ∙ elim (nat_cmp q k) as (λ o. nat_cmp q k ≡ o → cond b (there q) None ≡ cond (is_eq o || b) (there q) None) [
     | Less ↦ λ _. refl
@@ -145,7 +145,8 @@ module _ (c : CampaignValue) (f q : ℕ) where
     | Greater ↦ λ _. was
   ] refl
 
-  -- with a unit's region gathered, q is gathered if it was, or the unit watches in it
+  -- After the region of a unit is added to the gathered regions, `q` is one of them if it was, or if it is there and
+  -- the unit is one of the faction's with men in it.
   one_watched : (seen : FinMap nat_cmp (Prim.Unit {0})) (b : Bool) (o : Option Unit) → get seen q ≡ cond b (there q) None → get (with_watched c f seen o) q ≡ cond (watches_in f q o || b) (there q) None
   one_watched seen b None was = was
   one_watched seen b (Some u) was =
@@ -161,7 +162,8 @@ module _ (c : CampaignValue) (f q : ℕ) where
   or_order false true b = refl
   or_order false false b = refl
 
-  -- with the regions of some units gathered, q is gathered if it was, or one of them watches in it
+  -- After the regions of some units are added to the gathered regions, `q` is one of them if it was, or if it is there
+  -- and one of the units is one of the faction's with men in it.
   all_watched : (ns : List ℕ) (seen : FinMap nat_cmp (Prim.Unit {0})) (b : Bool) → get seen q ≡ cond b (there q) None
       → get (with_all_watched c f ns seen) q ≡ cond (list_any (λ n. watches_in f q (get c.units n)) ns || b) (there q) None
   all_watched [] seen b was = was
@@ -169,12 +171,12 @@ module _ (c : CampaignValue) (f q : ℕ) where
       all_watched ns (with_watched c f seen (get c.units n)) (watches_in f q (get c.units n) || b) (one_watched seen b (get c.units n) was)
       ∙ ap (λ t. cond t (there q) None) (or_order (list_any (λ n. watches_in f q (get c.units n)) ns) (watches_in f q (get c.units n)) b)
 
-  -- an or with false is its first part
+  -- `a or false` is `a`
   or_none : (a : Bool) → (a || false) ≡ a
   or_none true = refl
   or_none false = refl
 
-  -- gathered from all units of the faction are just the regions that it sees
+  -- the regions gathered from all units of a faction are just those that it sees
   get-with_all_watched : get (with_all_watched c f (numbers_of f c.units) empty) q ≡ cond (sees_region c f q) (there q) None
   get-with_all_watched =
       all_watched (numbers_of f c.units) empty false (get-empty nat_cmp q)
@@ -194,7 +196,7 @@ entries-with_all_watched c f =
 
 -- regions looked up by the numbers of chosen entries
 module _ {A : Type 0} (m : FinMap nat_cmp Region) (make : ℕ → Region → A) where
-  -- regions looked up by their entries' numbers make what the entries make
+  -- what `make` gives of regions looked up by the numbers of chosen entries is what it gives of these entries
   looked_up : (p : ℕ × Region → Bool) (es : List (ℕ × Region)) → EachOf (λ n r. get m n ≡ Some r) es
       → filter_map (λ (e : ℕ × Prim.Unit {0}). option_map (make e.0) (get m e.0)) (map number_alone (filter p es)) ≡ map (λ e. make e.0 e.1) (filter p es)
   looked_up p [] h = refl
@@ -204,6 +206,6 @@ module _ {A : Type 0} (m : FinMap nat_cmp Region) (make : ℕ → Region → A) 
         | false ↦ looked_up p es h.1
       ]
 
--- what is made of regions looked up by the numbers of chosen entries is what is made of these entries
+-- what `make` gives of regions looked up by the numbers of a map's chosen entries is what it gives of these entries
 pub regions_looked_up : {A : Type 0} (m : FinMap nat_cmp Region) (make : ℕ → Region → A) (p : ℕ × Region → Bool) → filter_map (λ (e : ℕ × Prim.Unit {0}). option_map (make e.0) (get m e.0)) (map (λ e. (e.0, tt)) (filter p (entries m))) ≡ map (λ e. make e.0 e.1) (filter p (entries m))
 regions_looked_up m make p = looked_up m make p (entries m) (each-from_every (λ n r. get m n ≡ Some r) m (λ n r is. is))

@@ -17,7 +17,7 @@ by_region : (b : Bool) (o : Option (List ℕ)) (listed rest : List ℕ) (n : ℕ
 by_region true o listed rest n h = ap (λ l. (l ++ (n ∷ [])) ++ rest) (h refl) ∙ append_assoc (unwrap_or o []) (n ∷ []) rest
 by_region false o listed rest n h = refl
 
--- the lists under equal numbers are the same
+-- regions with equal numbers have the same list of structures
 same_list : (sites : FinMap nat_cmp (List ℕ)) (q r : ℕ) → (r == q) ≡ true → list_of sites r ≡ list_of sites q
 same_list sites q r h = ap (list_of sites) (is_equal r q h)
 

@@ -33,7 +33,7 @@ event_text e (Done n) = codes "Unit " ▸ decimal e.unit ▸ codes ", line " ▸
 event_text e (Fault k) = codes "Unit " ▸ decimal e.unit ▸ codes ", line " ▸ decimal e.line ▸ codes ", " ▸ event_keyword e.verb ▸ codes ": fault " ▸ decimal k ▸ codes " " ▸ name_of_number k ▸ codes ".\n"
 event_text e (Starved n) = codes "Unit " ▸ decimal e.unit ▸ codes ": " ▸ decimal n ▸ codes " starved.\n"
 
--- the line of an event
+-- the line of an event in a report, by its outcome
 unfoldable pub event_line : Event → List ℕ
 event_line e = event_text e e.outcome
 
@@ -43,7 +43,7 @@ event_lines = each_text event_line
 
 -- ---- what a faction's report says of orders
 
--- the events whose faction is this one
+-- those events of a list that are of the given faction
 abbrev pub own_events : ℕ → List Event → List Event
 own_events faction events = filter (λ e. e.faction == faction) events
 

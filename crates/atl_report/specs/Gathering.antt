@@ -7,7 +7,7 @@ use Rattle.atl_records.specs.declared.records.Unit.{Unit}
 use Rattle.atl_state.specs.Campaign.{CampaignValue}
 use Rattle.atl_report.specs.Watching.{is_watching}
 
--- the set of region numbers with n added, where region n exists
+-- the set of region numbers with `n` added, if there is region `n`
 abbrev pub with_region : FinMap nat_cmp (Prim.Unit {0}) → ℕ → Option Region → FinMap nat_cmp (Prim.Unit {0})
 with_region seen n None = seen
 with_region seen n (Some r) = insert seen n tt

@@ -38,12 +38,12 @@ abbrev pub unit_head : UnitView → Side → List ℕ
 unit_head u (Own money items skills) = codes "* Unit " ▸ decimal u.number ▸ codes " \"" ▸ u.name ▸ codes "\": " ▸ decimal u.men ▸ codes " men, " ▸ decimal money ▸ codes " money"
 unit_head u (Other faction name) = codes "- Unit " ▸ decimal u.number ▸ codes " \"" ▸ u.name ▸ codes "\" of faction " ▸ decimal faction ▸ codes " \"" ▸ name ▸ codes "\": " ▸ decimal u.men ▸ codes " men"
 
--- the word `guard` in a unit's line, where the unit guards
+-- the word `guard`, after a comma, in the line of a unit that guards; else empty
 abbrev pub guard_text : Bool → List ℕ
 guard_text true = codes ", guard"
 guard_text false = []
 
--- the number of the structure that a unit is inside; empty where it is inside none
+-- the structure that a unit is inside, by its number as in `, in 7`; empty where it is inside none
 abbrev pub inside_text : ℕ → List ℕ
 inside_text structure = if structure == 0 then [] else codes ", in " ▸ decimal structure
 
@@ -70,7 +70,7 @@ abbrev pub goods_text : WorldValue → Side → List ℕ
 goods_text w (Own money items skills) = item_texts w items ▸ skill_texts w skills
 goods_text w (Other faction name) = []
 
--- the line of a unit
+-- the line of a unit: head, guard, structure, and an own unit's items and skills
 unfoldable pub unit_line : WorldValue → UnitView → List ℕ
 unit_line w u = unit_head u u.side ▸ guard_text u.guard ▸ inside_text u.structure ▸ goods_text w u.side ▸ codes ".\n"
 
@@ -125,11 +125,11 @@ abbrev pub joined_or_none : List (List ℕ) → List ℕ
 joined_or_none [] = codes "none"
 joined_or_none (text ∷ texts) = separated_texts (codes ", ") (text ∷ texts)
 
--- the line with all exits of a region
+-- the line with all exits of a region, or with `none`
 abbrev pub exits_text : RegionPlan → List ℕ
 exits_text p = codes "Exits: " ▸ joined_or_none (exit_texts p) ▸ codes ".\n"
 
--- the line with all exits of a region; empty where the world does not have the region
+-- the line of a region's exits; empty where the world does not have the region
 unfoldable pub exits_line : WorldValue → RegionView → List ℕ
 exits_line w r = option_map_or exits_text (get w.regions r.number) []
 
@@ -161,14 +161,14 @@ region_parts w = each_text (region_part w)
 unfoldable pub report_of : WorldValue → View → List FaultyLine → List Event → List ℕ
 report_of w v faults events = header_line v ▸ orders_part v.faction faults events ▸ region_parts w v.regions
 
--- two lists of events with the same events of the faction give it the same report
+-- the law that two lists of events with the same events of a faction give it the same report
 abbrev pub OthersEventsAreNotTold : Type 0
 OthersEventsAreNotTold =
     (w : WorldValue) (v : View) (faults : List FaultyLine) (events others : List Event)
     → own_events v.faction events ≡ own_events v.faction others
     → report_of w v faults events ≡ report_of w v faults others
 
--- if a faction sees the same of two campaigns, its reports are the same for the same faulty lines and own events
+-- the law that a faction that sees the same of two campaigns gets one report, for the same faulty lines and own events
 abbrev pub OnlyWhatIsSeenIsTold : Type 0
 OnlyWhatIsSeenIsTold =
     (w : WorldValue) (c d : CampaignValue) (faction : ℕ) (faults : List FaultyLine) (events others : List Event)

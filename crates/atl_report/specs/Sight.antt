@@ -60,11 +60,11 @@ side_of c faction u =
 abbrev pub unit_view : CampaignValue → ℕ → ℕ → Unit → UnitView
 unit_view c faction number u = record { number = number; name = u.holding.name; men = u.holding.men; guard = guards u; structure = u.structure; side = side_of c faction u }
 
--- the view of a unit; None where there is no such unit, or the watch does not see it
+-- the view of a unit; None where there is no such unit, or the watch's faction doesn't see it
 abbrev pub seen_unit : WorldValue → CampaignValue → Watch → ℕ → Option Unit → Option UnitView
 seen_unit w c watch number unit = option_and_then (λ u. if is_seen w watch u then Some (unit_view c watch.faction number u) else None) unit
 
--- the views of the region's units that are seen, by number
+-- the views of the units of the watch's region that its faction sees, in the order of their numbers
 abbrev pub unit_views : WorldValue → CampaignValue → Watch → List UnitView
 unit_views w c watch = filter_map (λ n. seen_unit w c watch n (get c.units n)) (numbers_in watch.region c.units)
 
@@ -78,11 +78,11 @@ structures_in region structures = numbers_where (λ s. s.region == region) struc
 abbrev pub shown_owner : WorldValue → CampaignValue → Watch → Structure → ℕ
 shown_owner w c watch s = if is_seen_there w watch (get c.units s.owner) then s.owner else 0
 
--- the view of a structure, whose owner is 0 where he isn't seen
+-- the view of a structure, with its owner, or 0 where that unit isn't seen
 abbrev pub structure_view : WorldValue → CampaignValue → Watch → ℕ → Structure → StructureView
 structure_view w c watch number s = record { number = number; kind = s.kind; name = s.name; done = s.done; owner = shown_owner w c watch s }
 
--- the views of all structures of the region, by number
+-- the views of all structures of the watch's region, in the order of their numbers
 abbrev pub structure_views : WorldValue → CampaignValue → Watch → List StructureView
 structure_views w c watch = filter_map (λ n. option_map (structure_view w c watch n) (get c.structures n)) (structures_in watch.region c.structures)
 
@@ -106,7 +106,7 @@ region_market_views r plan = option_map_or (market_views r) plan []
 abbrev pub region_view : WorldValue → CampaignValue → Watch → Region → RegionView
 region_view w c watch r = record { number = watch.region; peasants = r.peasants; money = r.money; markets = region_market_views r (get w.regions watch.region); structures = structure_views w c watch; units = unit_views w c watch }
 
--- the views of the regions that the faction sees, by number
+-- the views of the regions that the faction sees, in the order of their numbers
 abbrev pub region_views : WorldValue → CampaignValue → ℕ → List RegionView
 region_views w c faction = map (λ e. region_view w c (watch_over w c faction e.0) e.1) (filter (λ e. sees_region c faction e.0) (entries c.regions))
 

@@ -22,7 +22,7 @@ sees_region c faction region = list_any (λ n. is_watching faction (get c.units 
 
 -- ---- units
 
--- the observation level of a unit of the faction; 0 for another's unit, or none
+-- the observation level of a unit of the faction; 0 for another faction's unit, or without a unit
 abbrev pub observation_of : WorldValue → ℕ → Option Unit → ℕ
 observation_of w faction unit = option_map_or (λ u. if u.faction == faction then level_in_any u.holding w.rules.observation else 0) unit 0
 
@@ -35,7 +35,7 @@ greatest (n ∷ ns) = max n (greatest ns)
 abbrev pub observation_in : WorldValue → CampaignValue → ℕ → ℕ → ℕ
 observation_in w c faction region = greatest (map (λ n. observation_of w faction (get c.units n)) (numbers_in region c.units))
 
--- the watch of a faction in a region: with the best observation level of its units there
+-- a faction's watch in a region: faction, region, and the best observation level of the faction's units there
 abbrev pub watch_over : WorldValue → CampaignValue → ℕ → ℕ → Watch
 watch_over w c faction region = record { faction = faction; region = region; observation = observation_in w c faction region }
 

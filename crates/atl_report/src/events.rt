@@ -40,7 +40,7 @@ fn name_of_number(number: u8) -> &'static str
     }
 }
 
-/// Writes the line of an event, by its outcome.
+/// Writes the line of an event: what was done, the fault, or how many men starved.
 #[tactic(auto, unfolding(crate::specs::Events::event_line))]
 fn write_event(out: &mut String, event: &Event) -> Result<(), AllocError>
     ensures { OnOk result (string_bytes out.new ≡ string_bytes out.old ++ event_line event.now) }

@@ -19,6 +19,7 @@ trait InReport {
     ghost use Rattle.std.specs.Prelude.{List, ℕ};
     ghost use Rattle.atl_tables.specs.Worlds.{WorldValue};
 
+    // The text of the part in a report.
     ghost text: { WorldValue → Self → List ℕ };
 
     /// Writes the text of the part at the end of `out`.
@@ -91,7 +92,8 @@ fn write_guard(out: &mut String, guard: bool) -> Result<(), AllocError>
     Ok(())
 }
 
-/// Writes the number of the structure that a unit is inside; nothing where it is inside none.
+/// Writes the number of the structure that a unit is inside, as in `, in 7`; nothing where it is
+/// inside none.
 fn write_inside(out: &mut String, structure: u32) -> Result<(), AllocError>
     ensures { OnOk result (string_bytes out.new ≡ string_bytes out.old ++ inside_text structure) }
 {
@@ -101,6 +103,8 @@ fn write_inside(out: &mut String, structure: u32) -> Result<(), AllocError>
     write!(out, ", in {structure}")
 }
 
+/// The amount and the name of an item that an own unit holds, as in `, 5 wood`; nothing for an item
+/// that the world doesn't have.
 impl InReport for ItemView {
     ghost text = { item_text };
 
@@ -115,6 +119,8 @@ impl InReport for ItemView {
     }
 }
 
+/// The name of a skill of an own unit with its level and days, as in `, sailing 1 (30)`; nothing
+/// for a skill that the world doesn't have.
 impl InReport for SkillView {
     ghost text = { skill_text };
 
@@ -151,6 +157,7 @@ fn write_goods(out: &mut String, world: &World, side: &Side) -> Result<(), Alloc
     }
 }
 
+/// The line of a unit: number, name, men, guard, structure, and an own unit's items and skills.
 impl InReport for UnitView {
     ghost text = { unit_line };
 
@@ -182,6 +189,7 @@ fn write_built(out: &mut String, structure: &StructureView, kind: &Kind) -> Resu
     )
 }
 
+/// The line of a structure; nothing where the world doesn't have its kind.
 impl InReport for StructureView {
     ghost text = { structure_line };
 
@@ -383,7 +391,7 @@ pub fn report_text(
     Ok(out)
 }
 
-/// The law that events of other factions make no difference to a report. It does nothing.
+/// The law that events of other factions make no difference to a faction's report. It does nothing.
 pub fn others_events_are_not_told()
     ensures { OthersEventsAreNotTold }
 {}

@@ -97,7 +97,8 @@ fn unit_view(
     })
 }
 
-/// The views of a region's units that are seen, by number.
+/// The views of the units of the watch's region that its faction sees, in the order of their
+/// numbers.
 fn unit_views(
     alloc: Global,
     world: &World,
@@ -128,7 +129,7 @@ fn shown_owner(world: &World, campaign: &Campaign, watch: Watch, structure: &Str
     }
 }
 
-/// The view of a structure, with 0 for an owner that isn't seen.
+/// The view of a structure, with its owner, or 0 where that unit isn't seen.
 fn structure_view(
     alloc: Global,
     world: &World,
@@ -149,7 +150,7 @@ fn structure_view(
     })
 }
 
-/// The views of all structures of a region, by number.
+/// The views of all structures of the watch's region, in the order of their numbers.
 fn structure_views(
     alloc: Global,
     world: &World,
@@ -182,7 +183,7 @@ fn market_view(number: u32, market: &Market, region: &Region) -> MarketView
     }
 }
 
-/// The views of all markets that the world gives a region, by item.
+/// The views of all markets that the world gives a region, in the order of their items.
 fn market_views(
     alloc: Global,
     plan: &RegionPlan,
@@ -197,7 +198,8 @@ fn market_views(
     Ok(markets)
 }
 
-/// The views of all markets of a region, by item; none where the world lacks the region.
+/// The views of all markets of a region, in the order of their items; none where the world lacks
+/// the region.
 fn region_market_views(
     alloc: Global,
     world: &World,
@@ -247,7 +249,7 @@ fn see(seen: &mut Numbered<()>, campaign: &Campaign, number: u32) -> Result<(), 
     Ok(())
 }
 
-/// The numbers of the regions where the faction has a unit with men, found from its units.
+/// The numbers of the regions where a faction has a unit with men, found from its units.
 fn regions_seen(
     alloc: Global,
     campaign: &Campaign,
@@ -268,7 +270,7 @@ fn regions_seen(
     Ok(seen)
 }
 
-/// The views of the regions that the faction sees, by number.
+/// The views of the regions that a faction sees, in the order of their numbers.
 fn region_views(
     alloc: Global,
     world: &World,
@@ -316,9 +318,9 @@ pub fn view_over(
 /// What a faction sees: the regions where it has a unit with men, and what is seen there.
 /// These are all markets and structures, and each unit that is its own, guards, or has a stealth
 /// level at most the best observation level of the faction's own units there. Of its own units it
-/// sees the money, the items and the skills too. A structure's owner is 0 where he isn't seen. It
-/// goes over the campaign's structures once, and else over the faction's units and what is in the
-/// regions seen. AllocError without memory. See docs/RULES.md, "Sight".
+/// sees the money, the items and the skills too. A structure's owner is 0 where that unit isn't
+/// seen. It goes over the campaign's structures once, and else over the faction's units and what is
+/// in the regions seen. AllocError without memory. See docs/RULES.md, "Sight".
 pub fn view(
     alloc: Global,
     world: &World,

@@ -1,4 +1,4 @@
-//! Lists the numbers of the structures of each region.
+//! Lists the numbers of the structures of each region, for the views of what factions see.
 ghost use Rattle.std.specs.Prelude.{◌≡◌, IfOk, OnOk};
 ghost use Rattle.atl_state.specs.KeptLists.{list_of};
 ghost use Rattle.atl_report.specs.Sites.{AreSites, with_site};

@@ -13,6 +13,7 @@ pub struct View {
     pub regions: Sequence<RegionView>,
 }
 
+/// Drops the name and the views of the regions.
 impl Drop for View {
     fn drop(self) {
         let_go!(self: View { month, faction, name, regions });
@@ -32,13 +33,14 @@ pub struct RegionView {
     pub units: Sequence<UnitView>,
 }
 
+/// Drops the views of the region's markets, structures and units.
 impl Drop for RegionView {
     fn drop(self) {
         let_go!(self: RegionView { number, peasants, money, markets, structures, units });
     }
 }
 
-/// A market of a region that is seen.
+/// A market of a region that the faction sees: its item, its stock, and how many pieces it wants.
 #[derive(Drop, Clone, Copy)]
 pub struct MarketView {
     /// The index of the item in the world.
@@ -49,7 +51,7 @@ pub struct MarketView {
     pub wanted: u32,
 }
 
-/// A structure that is seen.
+/// A structure of a region that the faction sees, as the report shows it.
 #[derive(Drop)]
 pub struct StructureView {
     pub number: u32,
@@ -62,7 +64,7 @@ pub struct StructureView {
     pub owner: u32,
 }
 
-/// A unit that is seen.
+/// A unit that the faction sees, as the report shows it.
 pub struct UnitView {
     pub number: u32,
     pub name: Text,
@@ -74,6 +76,7 @@ pub struct UnitView {
     pub side: Side,
 }
 
+/// Drops the unit's name and what is shown of its side.
 impl Drop for UnitView {
     fn drop(self) {
         let_go!(self: UnitView { number, name, men, guard, structure, side });
@@ -95,6 +98,7 @@ pub enum Side {
     },
 }
 
+/// Drops an own unit's items and skills, or another's faction name.
 impl Drop for Side {
     fn drop(self) {
         match self {
@@ -111,7 +115,7 @@ impl Drop for Side {
     }
 }
 
-/// How many pieces of an item an own unit holds.
+/// How many pieces of an item one of the faction's own units holds.
 #[derive(Drop, Clone, Copy)]
 pub struct ItemView {
     /// The index of the item in the world.
@@ -119,7 +123,7 @@ pub struct ItemView {
     pub amount: u32,
 }
 
-/// The level and the days of an own unit in a skill.
+/// The level and the days of one of the faction's own units in a skill.
 #[derive(Drop, Clone, Copy)]
 pub struct SkillView {
     /// The index of the skill in the world.

@@ -30,7 +30,7 @@ pub(crate) fn is_guard(unit: &Unit) -> bool
     unit.holding.guard() && unit.holding.men() > 0
 }
 
-/// The observation level of a unit of the faction; 0 for another's unit.
+/// The observation level of a unit of the faction; 0 for another faction's unit.
 fn observation_of(world: &World, faction: u32, unit: &Unit) -> u32
     ensures { result ≡ observation_of world.now faction (Some unit.now) }
 {
@@ -54,7 +54,8 @@ fn observation_in(world: &World, campaign: &Campaign, faction: u32, region: u32)
     best
 }
 
-/// The watch of a faction in a region: with the best observation level of its units there.
+/// A faction's watch in a region: faction, region, and the best observation level of the faction's
+/// units there.
 pub(crate) fn watch_over(world: &World, campaign: &Campaign, faction: u32, region: u32) -> Watch
     ensures { result ≡ watch_over world.now campaign.now.value faction region }
 {

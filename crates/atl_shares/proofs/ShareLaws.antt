@@ -7,16 +7,17 @@ use Rattle.std.proofs.lemmas.Bool.Decides.{nat_tests}
 use Rattle.std.proofs.lemmas.Bool.{cases_lt}
 use Rattle.atl_shares.specs.Share.{IsNearPart, SplittingKeepsOthers, share_upto, shares, shares_after}
 
--- what the first wants together get is the quotient `pot * x / total`, rounded down
+-- `total` times what wants that add up to `x` get together (`share_upto`) is at most `pot * x`, and less than `total`
+-- below it
 quotient : (pot total x : ℕ) → 0 < total → (total * share_upto pot total x ≤ pot * x) × (pot * x < total * share_upto pot total x + total)
 quotient pot total x p = (mul-div-le (pot * x) total, omega (arith, lt-mul-div-succ (pot * x) p))
 
--- the more the first wants add up to, the more they get together, or the same
+-- the first wants get together at least as much where they add up to more
 pub upto_mono : (pot total x y : ℕ) → 0 < total → x ≤ y → share_upto pot total x ≤ share_upto pot total y
 upto_mono pot total x y p h =
     (le-div_iff_mul-le p).1 (omega (arith, mul_comm (share_upto pot total x) total, (quotient pot total x p).0, mul-le-mul_left pot h))
 
--- one share is no larger than the want
+-- where the pot is at most the sum of all wants, a share, by prefix sums, is no larger than its want
 pub part_le : (pot total before want : ℕ) → 0 < total → pot ≤ total → share_upto pot total (before + want) - share_upto pot total before ≤ want
 part_le pot total before want p h =
     let spread : pot * (before + want) ≡ pot * before + pot * want = mul-add pot before want in
@@ -39,7 +40,8 @@ sum-shares_after pot total before p (w ∷ ws) =
     let same : share_upto pot total ((before + w) + sum ws) ≡ share_upto pot total (before + sum (w ∷ ws)) = ap (share_upto pot total) (omega arith) in
     omega arith
 
--- the shares of two lists of wants, one after the other, are those of the first and then those of the second
+-- The shares by prefix sums of two lists of wants, one after the other, are those of the first list and then those of
+-- the second.
 pub shares_after-append : (pot total before : ℕ) (xs ys : List ℕ) → shares_after pot total before (xs ++ ys) ≡ shares_after pot total before xs ++ shares_after pot total (before + sum xs) ys
 shares_after-append pot total before [] ys = ap (λ n. shares_after pot total n ys) (omega arith)
 shares_after-append pot total before (x ∷ xs) ys =
@@ -47,7 +49,7 @@ shares_after-append pot total before (x ∷ xs) ys =
     (shares_after-append pot total (before + x) xs ys
     ∙ ap (λ n. shares_after pot total (before + x) xs ++ shares_after pot total n ys) (let e : sum (x ∷ xs) ≡ x + sum xs = sum_by-cons (λ x. x) x xs in omega arith))
 
--- a share of a pot that isn't enough differs from `pot * want / total` by less than one
+-- a share by prefix sums differs from `pot * want / total` by less than one, where `total` isn't 0
 pub share_near : (pot total before want : ℕ) → 0 < total →
     ((share_upto pot total (before + want) - share_upto pot total before) * total < pot * want + total)
     × (pot * want < (share_upto pot total (before + want) - share_upto pot total before) * total + total)
@@ -116,7 +118,7 @@ length-shares pot wants = elim (cases_lt pot (sum wants)) [
   | inr h ↦ ap length (shares-enough pot wants h)
 ]
 
--- after a list is split the sum of all wants is the same
+-- the sum of all wants stays the same if several wants in a row (`parts`) take the place of one that is their sum
 sum-split : (ahead parts behind : List ℕ) → sum (ahead ++ parts ++ behind) ≡ sum (ahead ++ sum parts ∷ behind)
 sum-split ahead parts behind =
     let one : sum (ahead ++ parts ++ behind) ≡ sum (ahead ++ parts) + sum behind = sum_by-append (λ x. x) (ahead ++ parts) behind in
@@ -176,7 +178,8 @@ pub record IsRemainder (pot total before left : ℕ) : Type 0 where
   pub small : left < total
   pub whole : total * share_upto pot total before + left ≡ pot * before
 
--- the quotient of the pot times the next want plus the remainder, by the sum of the wants, is the next share
+-- The pot times the next want, plus the running remainder, divided by the sum of all wants and rounded down, is the
+-- share of the next want.
 pub next_share : (pot total before left want : ℕ) → 0 < total → IsRemainder pot total before left →
     (pot * want + left) / total ≡ share_upto pot total (before + want) - share_upto pot total before
 next_share pot total before left want p h =
@@ -186,7 +189,7 @@ next_share pot total before left want p h =
     let split : share_upto pot total (before + want) ≡ due / total + low = ap (λ n. n / total) all ∙ add-mul-div_left due low p in
     omega arith
 
--- the remainder of the division that gives the next share is the next running remainder
+-- the remainder of the division that gives the next want's share is again the running remainder (`IsRemainder`)
 pub next_left : (pot total before left want : ℕ) → 0 < total → IsRemainder pot total before left →
     IsRemainder pot total (before + want) ((pot * want + left) % total)
 next_left pot total before left want p h =

@@ -40,11 +40,11 @@ fn proportional_shares(alloc: Global, pot: u64, wants: &[u64]) -> Result<Vec<u64
     Ok(given)
 }
 
-/// What each of these wants gets of a pot, in their order: all of it where the pot is enough, else
-/// its share. A share is never more than the want. All shares together are the lesser of the pot
-/// and of all wants. Where the pot is short, a share differs by less than one from the pot times
-/// its want divided by all wants. The pot and each want are at most 999,999,999. AllocError without
-/// memory. See docs/RULES.md, "Shares".
+/// What each want gets of a pot, in the order of the wants: the whole want where the pot is enough
+/// for all, else its share. A share is never more than the want. All shares together are the lesser
+/// of the pot and of all wants. Where the pot is short, a share differs by less than one from the
+/// pot times its want divided by all wants. The pot and each want are at most 999,999,999.
+/// AllocError without memory. See docs/RULES.md, "Shares".
 #[tactic(auto, using(crate::proofs::ShareLaws::share_at_most, crate::proofs::ShareLaws::share_is_near, crate::proofs::ShareLaws::all_is_given))]
 pub fn share(alloc: Global, pot: u64, wants: &[u64]) -> Result<Vec<u64>, AllocError>
     requires pot { pot ≤ most_amount }
@@ -60,9 +60,8 @@ pub fn share(alloc: Global, pot: u64, wants: &[u64]) -> Result<Vec<u64>, AllocEr
     proportional_shares(alloc, pot, wants)
 }
 
-/// Does nothing. Its clause is the law of splitting a want into several that follow one another:
-/// together they get what the one want got, and no other share changes. See docs/RULES.md,
-/// "Shares".
+/// The law that splitting a want into several that follow one another changes no other share, and
+/// that together they get what the one want got. Does nothing. See docs/RULES.md, "Shares".
 pub fn splitting_keeps_others()
     ensures { SplittingKeepsOthers }
 {}
