@@ -26,7 +26,7 @@ use Rattle.atl_orders.specs.Bounds.{IsWithin, IsNumber, IsAlias, IsUnitRef, IsOr
 
 -- ---- lines
 
--- the unit and the alias of a reader's state are in bounds
+-- the unit of a reader's state, if any, has a number from 1 to 999,999,999, and the alias is from 1 to 9,999
 abbrev IsStateInBounds : ReaderState → Type 0
 IsStateInBounds Nowhere = Unit {0}
 IsStateInBounds (At n) = IsNumber n
@@ -34,24 +34,24 @@ IsStateInBounds (Forming parent alias) = IsNumber parent × IsAlias alias
 IsStateInBounds (Skipping None) = Unit {0}
 IsStateInBounds (Skipping (Some n)) = IsNumber n
 
--- the effect of a line is in bounds: the order that it gives, if any, and the unit that this is for
+-- the order that a line gives, if any, and the unit that it is for have numbers, names and things in bounds
 abbrev IsEffect : WorldValue → Effect → Type 0
 IsEffect world nothing = Unit {0}
 IsEffect world (faulty fault) = Unit {0}
 IsEffect world (says unit order_value) = IsUnitRef unit × IsOrderOf world order_value
 
--- the effect of a line, and the reader's state after it, are in bounds
+-- what a line gives (`IsEffect`), and the reader's state after it, have numbers, names and things in bounds
 abbrev IsStep : WorldValue → LineStep → Type 0
 IsStep world s = IsEffect world s.effect × IsStateInBounds s.place
 
 module _ (world : WorldValue) (given : ℕ → Bool) where
-  -- the step of a UNIT line is in bounds, if its number is
+  -- what a UNIT line gives and the state after it are in bounds (`IsStep`), if its number is from 1 to 999,999,999
   unit_sound : (r : Result Counted LineFault) → Holds (λ (x : Counted). IsNumber x.0) r → IsStep world (unit_step given r)
   unfolding unit_step
   unit_sound (Ok n) h = (tt, h)
   unit_sound (Err fault) h = (tt, tt)
 
-  -- the step of an END line is in bounds, if the state before it is
+  -- what an END line gives and the state after it are in bounds (`IsStep`), if the state before it is
   end_sound : (place : ReaderState) → IsStateInBounds place → IsStep world (end_step place given)
   unfolding end_step
   end_sound Nowhere h = (tt, tt)
@@ -60,18 +60,18 @@ module _ (world : WorldValue) (given : ℕ → Bool) where
   end_sound (Skipping None) h = (tt, tt)
   end_sound (Skipping (Some n)) h = (tt, h)
 
-  -- the step of a FORM line with an alias is in bounds, whether the alias was given before or not
+  -- what a FORM line with an alias gives and the state after it are in bounds (`IsStep`), be the alias new or given
   given_sound : (t : Bool) (n alias : ℕ) → IsNumber n → IsAlias alias → IsStep world (cond t (record { effect = faulty BadAlias; place = Skipping (Some n); given = given }) (record { effect = says (Number n) (form_value alias); place = Forming n alias; given = with_alias given alias }))
   given_sound true n alias h k = (tt, h)
   given_sound false n alias h k = ((h, k), (h, k))
 
-  -- the step of a FORM line outside of blocks is in bounds, if its unit and its alias are
+  -- what a FORM line outside of blocks gives and the state after it are in bounds (`IsStep`), if its unit and alias are
   block_sound : (n : ℕ) (r : Result Counted LineFault) → IsNumber n → Holds (λ (x : Counted). IsAlias x.0) r → IsStep world (block_step n given r)
   unfolding block_step
   block_sound n (Ok a) h k = given_sound (given a.0) n a.0 h k
   block_sound n (Err fault) h k = (tt, h)
 
-  -- the step of a FORM line is in bounds, if the state before it is
+  -- what a FORM line gives and the state after it are in bounds (`IsStep`), if the state before it is
   forming_sound : (place : ReaderState) (ws : List WordText) → IsStateInBounds place → IsStep world (form_step place given ws)
   unfolding form_step
   forming_sound Nowhere ws h = (tt, tt)
@@ -79,19 +79,19 @@ module _ (world : WorldValue) (given : ℕ → Bool) where
   forming_sound (Forming parent alias) ws h = (tt, h)
   forming_sound (Skipping parent) ws h = (tt, h)
 
-  -- the effect of an order for a unit is in bounds, if the order and the unit are
+  -- what an order's line gives for a unit is in bounds (`IsEffect`), if the order and the unit are
   for_unit : (unit : UnitRef) (r : Result OrderValue LineFault) → IsUnitRef unit → Sound world r → IsEffect world (effect_for unit r)
   for_unit unit (Ok order_value) h k = (h, k)
   for_unit unit (Err fault) h k = tt
 
-  -- the effect of an order's line is in bounds, if the state and the order are
+  -- what an order's line gives is in bounds (`IsEffect`), if the reader's state and the order are
   order_sound : (place : ReaderState) (r : Result OrderValue LineFault) → IsStateInBounds place → Sound world r → IsEffect world (order_effect (target place) r)
   order_sound Nowhere r h k = tt
   order_sound (At n) r h k = for_unit (Number n) r h k
   order_sound (Forming parent alias) r h k = for_unit (Alias alias) r h.1 k
   order_sound (Skipping parent) r h k = tt
 
-  -- the step of a line by its keyword is in bounds, if the state before it is
+  -- what a line gives by its keyword and the state after it are in bounds (`IsStep`), if the state before it is
   keyword_sound : (place : ReaderState) (k : Option Keyword) (ws : List WordText) → IsStateInBounds place → IsStep world (keyword_step world place given k ws)
   unfolding keyword_step
   keyword_sound place None ws h = (tt, h)
@@ -100,18 +100,18 @@ module _ (world : WorldValue) (given : ℕ → Bool) where
   keyword_sound place (Some keywords.Form) ws h = forming_sound place ws h
   keyword_sound place (Some (keywords.Order verb)) ws h = (order_sound place (said_by world verb ws) h (said_sound world verb ws), h)
 
-  -- the step of a line by its words is in bounds, if the state before it is
+  -- what a line gives by its words and the state after it are in bounds (`IsStep`), if the state before it is
   words_sound : (place : ReaderState) (ws : List WordText) → IsStateInBounds place → IsStep world (words_step world place given ws)
   unfolding words_step
   words_sound place [] h = (tt, h)
   words_sound place (w ∷ ws) h = keyword_sound place (keyword_of w) ws h
 
-  -- the step of a line is in bounds, whether its bytes are allowed or not
+  -- what a line gives and the state after it are in bounds (`IsStep`), whether its bytes are allowed or not
   tested_sound : (t : Bool) (place : ReaderState) (ws : List WordText) → IsStateInBounds place → IsStep world (cond t (words_step world place given ws) (record { effect = faulty BadByte; place = place; given = given }))
   tested_sound true place ws h = words_sound place ws h
   tested_sound false place ws h = (tt, h)
 
-  -- the step of a line is in bounds, if the state before it is
+  -- what a line gives and the state after it are in bounds (`IsStep`), if the state before it is
   line_sound : (place : ReaderState) (line : List ℕ) → IsStateInBounds place → IsStep world (line_step world place given line)
   unfolding line_step
   line_sound place line h = tested_sound (list_all is_plain line) place (words line) h
@@ -119,18 +119,18 @@ module _ (world : WorldValue) (given : ℕ → Bool) where
 -- ---- all lines, the header, and the whole text
 
 module _ (world : WorldValue) where
-  -- if the effect of a line is in bounds, the order that it gives is
+  -- if what a line gives is in bounds (`IsEffect`), the order of line n that it makes is, too (`IsEntry`)
   entry_sound : (n : ℕ) (effect : Effect) → IsEffect world effect → All (IsEntry world) (entry_of (n, effect))
   entry_sound n nothing h = All-nil (IsEntry world)
   entry_sound n (faulty fault) h = All-nil (IsEntry world)
   entry_sound n (says unit order_value) h = All-cons (IsEntry world) _ [] (record { target = h.0; order = h.1 }) (All-nil (IsEntry world))
 
-  -- the orders of one more line, up to `#END`, are in bounds, if those of its effect and of the rest are
+  -- the orders of a line and of those after it, none if the line is `#END`, are in bounds, if what these lines give is
   one_more : (t : Bool) (n : ℕ) (effect : Effect) (more : List (ℕ × Effect)) → IsEffect world effect → All (IsEntry world) (flat_map entry_of more) → All (IsEntry world) (flat_map entry_of (cond t [] ((n, effect) ∷ more)))
   one_more true n effect more h k = All-nil (IsEntry world)
   one_more false n effect more h k = All-append (IsEntry world) (entry_of (n, effect)) (flat_map entry_of more) (entry_sound n effect h) k
 
-  -- the orders of all lines are in bounds, if the reader's state before the first line is
+  -- the orders of all lines up to `#END` are in bounds, if the reader's state before the first line is
   body_sound : (lines : List (List ℕ)) (n : ℕ) (place : ReaderState) (given : ℕ → Bool) → IsStateInBounds place → All (IsEntry world) (flat_map entry_of (effects world n place given lines))
   unfolding effects
   body_sound [] n place given h = All-nil (IsEntry world)
@@ -145,7 +145,7 @@ rise_step world n m nothing rest h k = k m (omega arith)
 rise_step world n m (faulty fault) rest h k = k m (omega arith)
 rise_step world n m (says unit order_value) rest h k = (h, k n (omega arith))
 
--- the line numbers of orders are strictly ascending, whether line n is `#END` or not
+-- the line numbers of the orders of line n and the later ones are strictly ascending, whether line n is `#END` or not
 rise_test : (world : WorldValue) (t : Bool) (n m : ℕ) (effect : Effect) (more : List (ℕ × Effect)) → m < n → ((k : ℕ) → k < n + 1 → LinesRise k (flat_map entry_of more)) → LinesRise m (flat_map entry_of (cond t [] ((n, effect) ∷ more)))
 rise_test world true n m effect more h k = tt
 rise_test world false n m effect more h k = rise_step world n m effect (flat_map entry_of more) h k
@@ -163,33 +163,33 @@ abbrev HoldsOf : {X : Type 0} → (X → Type 0) → Result X MailFault → Type
 HoldsOf P (Ok x) = P x
 HoldsOf P (Err e) = Unit {0}
 
--- the faction of a header is in range, and the next line has a number above 0
+-- the faction of a header is from 1 to 9,999, and the next line has a number above 0
 abbrev IsHeaded : HeaderValue → Type 0
 IsHeaded h = IsWithin last_faction h.faction × (0 < h.next)
 
--- the faction that a header names is in range
+-- the faction that a header names is from 1 to 9,999
 faction_within : (ws : List WordText) (n : ℕ) → faction_of ws ≡ Some n → IsWithin last_faction n
 faction_within [] n h = cc
 faction_within (w ∷ []) n h = cc
 faction_within (w ∷ v ∷ ws) n h = from_one last_faction (number_of last_faction v.bytes) n (number_within last_faction v.bytes) h
 
--- what a header line gives is in bounds, if the faction that it names is
+-- what a header line gives, if no fault, has a faction from 1 to 9,999 (`IsHeaded`), if the faction that it names is so
 line_headed : (n : ℕ) (rest : List (List ℕ)) (f : Option ℕ) → ((k : ℕ) → f ≡ Some k → IsWithin last_faction k) → HoldsOf IsHeaded (header_line n rest f)
 line_headed n rest None h = tt
 line_headed n rest (Some k) h = (h k refl, omega arith)
 
--- a choice of two results for a header is in bounds, if both results are
+-- a choice of two results for a header has a faction from 1 to 9,999 (`IsHeaded`) or a fault, if both results have
 test_headed : (t : Bool) (a b : Result HeaderValue MailFault) → HoldsOf IsHeaded a → HoldsOf IsHeaded b → HoldsOf IsHeaded (cond t a b)
 test_headed true a b h k = h
 test_headed false a b h k = k
 
--- what the first header of lines gives is in bounds
+-- what the first header of lines gives, if no fault, has a faction from 1 to 9,999 (`IsHeaded`)
 header_sound : (lines : List (List ℕ)) (n : ℕ) → HoldsOf IsHeaded (header_from n lines)
 unfolding header_from
 header_sound [] n = tt
 header_sound (line ∷ rest) n = test_headed (begins (codes "#ATLANTIS") (words line)) _ _ (line_headed n rest (faction_of (words line)) (faction_within (words line))) (header_sound rest (n + 1))
 
--- what the lines after a header give is in bounds, if the header is
+-- what the lines after a header give is in bounds (`IsReading`), if the header's faction is from 1 to 9,999
 behind_sound : (world : WorldValue) (r : Result HeaderValue MailFault) → HoldsOf IsHeaded r → HoldsOf (IsReading world) (after_header world r)
 behind_sound world (Err fault) h = tt
 behind_sound world (Ok head) h = record { faction = h.0; entries = body_sound world head.rest head.next Nowhere no_alias tt; lines = body_rises world head.rest head.next 0 Nowhere no_alias h.1 }
@@ -199,7 +199,7 @@ test_sound : (world : WorldValue) (t : Bool) (r : Result Reading MailFault) → 
 test_sound world true r h = tt
 test_sound world false r h = h
 
--- what a text gives is in bounds, if it is no fault
+-- what a text is read as, if no fault, has its faction, its orders and its line numbers in bounds (`IsReading`)
 reading_sound : (world : WorldValue) (text : List ℕ) → HoldsOf (IsReading world) (reading world text)
 unfolding reading
 reading_sound world text = test_sound world (nat_lt most_bytes (length text)) _ (behind_sound world (header_from 1 (lines text)) (header_sound (lines text) 1))

@@ -53,12 +53,12 @@ anything (Err e) = tt
 
 -- ---- numbers
 
--- a number that is returned if a test passes is at most `most`, if the test says so
+-- if v is at most `most` where a test holds, the n that is v where the test holds, and else is None, is at most `most`
 chosen : (t : Bool) (v n most : ℕ) → (t ≡ true → v ≤ most) → cond t (Some v) None ≡ Some n → n ≤ most
 chosen true v n most f h = let e : v ≡ n = cc in omega (arith, f refl)
 chosen false v n most f h = cc
 
--- the last of three tests says that v is at most `most`
+-- if three tests hold, and the last one is that v is at most `most`, then v is at most `most`
 last_test : (a b : Bool) (v most : ℕ) → (a && b && nat_le v most) ≡ true → v ≤ most
 last_test a b v most h = grind (arith, nat_tests)
 
@@ -109,15 +109,15 @@ unit_holds (w ∷ ws) =
 and_then : (unit : Result UnitRef LineFault) (units : Result (List UnitRef) LineFault) → Holds IsUnitRef unit → Holds (All IsUnitRef) units → Holds (All IsUnitRef) (and_then_units unit units)
 and_then unit units h k = after IsUnitRef _ unit _ h (λ u p. after (All IsUnitRef) _ units _ k (λ us q. All-cons IsUnitRef u us p q))
 
--- a unit by number is in range
+-- a unit that a word names by its number has a number from 1 to 999,999,999
 numbered_holds : (w : WordText) → Holds IsUnitRef (numbered w)
 numbered_holds w = after IsNumber _ (or_fault BadNumber (not_zero (number_of most_number w.bytes))) _ (word_number most_number BadNumber w) (λ n h. h)
 
--- a unit by alias is in range
+-- a unit that a word after NEW names by its alias has an alias from 1 to 9,999
 named_holds : (w : WordText) → Holds IsUnitRef (new_unit_ref w)
 named_holds w = after IsAlias _ (or_fault BadAlias (not_zero (number_of last_alias w.bytes))) _ (word_number last_alias BadAlias w) (λ n h. h)
 
--- all units up to the line's end are in range
+-- all units that the words up to the line's end name have numbers and aliases in range
 units_hold : (ws : List WordText) → Holds (All IsUnitRef) (units_of ws)
 unfolding units_of
 units_hold [] = All-nil IsUnitRef
@@ -134,7 +134,7 @@ place_within : {A : Type 0} (title : A → List ℕ) (things : List A) (word : L
 place_within title [] word quoted i h = cc
 place_within title (x ∷ xs) word quoted i h = (position-Some (λ thing. str_eq_ignore_ascii_case (title thing) (name_of word quoted)) (x ∷ xs) i x h).0
 
--- an item that is read is one of the world
+-- an item that is read is one of the world's items
 item_holds : (world : WorldValue) (ws : List WordText) → Holds (λ i. i < length world.items) (item_at world ws)
 unfolding item_at
 item_holds world [] = tt
@@ -144,20 +144,20 @@ item_holds world (w ∷ ws) = found _ UnknownThing _ (λ i h. place_within _ wor
 abbrev Goods : Type 0
 Goods = ℕ × ℕ
 
--- an amount that is read is in range, and its item one of the world
+-- an amount that is read is from 1 to 999,999,999, and its item one of the world's items
 goods_hold : (world : WorldValue) (ws : List WordText) → Holds (λ (x : Goods). IsNumber x.0 × (x.1 < length world.items)) (amount_of_item_at world ws)
 unfolding amount_of_item_at
 goods_hold world ws =
     after (λ (x : Counted). IsNumber x.0) _ (number_at ws) _ (count_holds most_number BadNumber ws) (λ amount h.
     after (λ i. i < length world.items) _ (item_at world amount.1) _ (item_holds world amount.1) (λ item k. (h, k)))
 
--- a skill that is read is one of the world
+-- a skill that is read is one of the world's skills
 skill_holds : (world : WorldValue) (ws : List WordText) → Holds (λ i. i < length world.skills) (skill_at world ws)
 unfolding skill_at
 skill_holds world [] = tt
 skill_holds world (w ∷ ws) = found _ UnknownThing _ (λ i h. place_within _ world.skills w.bytes w.quoted i h)
 
--- a kind of structure that is read is one of the world
+-- a kind of structure that is read is one of the world's kinds
 kind_holds : (world : WorldValue) (ws : List WordText) → Holds (λ i. i < length world.kinds) (kind_at world ws)
 unfolding kind_at
 kind_holds world [] = tt
@@ -165,42 +165,42 @@ kind_holds world (w ∷ ws) = found _ UnknownThing _ (λ i h. place_within _ wor
 
 -- ---- what the words after a verb name
 
--- the operands of a result, if it is no fault, are in bounds in a world
+-- the operands of a result, if it is no fault, have numbers in range, names by the rule, and things that a world has
 abbrev AreSound : WorldValue → Result OperandsValue LineFault → Type 0
 AreSound world r = Holds (AreOperandsOf world) r
 
--- the order of a result, if it is no fault, is in bounds in a world
+-- the order of a result, if it is no fault, has numbers in range, names by the rule, and things that a world has
 abbrev pub Sound : WorldValue → Result OrderValue LineFault → Type 0
 Sound world r = Holds (IsOrderOf world) r
 
 module _ (world : WorldValue) where
-  -- the operands are in bounds where the words are read as an alias
+  -- if words are read as an alias, it is from 1 to 9,999 (`AreSound`)
   alias_sound : (ws : List WordText) → AreSound world (read_alias ws)
   unfolding read_alias
   alias_sound ws = after _ (AreOperandsOf world) (alias_at ws) _ (count_holds last_alias BadAlias ws) (λ n h. h)
 
-  -- the operands are in bounds where the words are read as a flag
+  -- if words are read as a flag, the operands are in bounds (`AreSound`), since a flag has no bound
   flag_sound : (ws : List WordText) → AreSound world (read_flag ws)
   unfolding read_flag
   flag_sound ws =
       after _ (AreOperandsOf world) (word_at ws) _ (anything (word_at ws)) (λ w _.
       after _ (AreOperandsOf world) (or_fault BadNumber (number_of 1 w.0.bytes)) _ (anything (or_fault BadNumber (number_of 1 w.0.bytes))) (λ n _. tt))
 
-  -- the operands are in bounds where the words are read as a number
+  -- if words are read as a number, it is from 1 to 999,999,999 (`AreSound`)
   number_sound : (ws : List WordText) → AreSound world (read_number ws)
   unfolding read_number
   number_sound ws = after _ (AreOperandsOf world) (number_at ws) _ (count_holds most_number BadNumber ws) (λ n h. h)
 
-  -- the operands are in bounds where the words are read as a unit
+  -- if words are read as a unit, its number or alias is in range (`AreSound`)
   unit_sound : (ws : List WordText) → AreSound world (read_unit ws)
   unfolding read_unit
   unit_sound ws = after _ (AreOperandsOf world) (unit_at ws) _ (unit_holds ws) (λ u h. h)
 
-  -- a list of one unit or more, all in range
+  -- a list has one unit or more, and all have their number or alias in range
   abbrev Units : List UnitRef → Type 0
   Units units = (0 < length units) × All IsUnitRef units
 
-  -- a list of units with one more in front is one unit or more, all in range
+  -- a unit in range in front of units in range makes a list of one unit or more, all in range
   more_units : (unit : Result UnitRef LineFault) (units : Result (List UnitRef) LineFault) → Holds IsUnitRef unit → Holds (All IsUnitRef) units → Holds Units (and_then_units unit units)
   more_units unit units h k = after IsUnitRef Units unit _ h (λ u p. after (All IsUnitRef) Units units _ k (λ us q. (omega arith, All-cons IsUnitRef u us p q)))
 
@@ -214,36 +214,36 @@ module _ (world : WorldValue) where
       (more_units (new_unit_ref v) (units_of ws) (named_holds v) (units_hold ws))
       (more_units (numbered w) (units_of (v ∷ ws)) (numbered_holds w) (units_hold (v ∷ ws)))
 
-  -- the operands are in bounds where the words are read as a list of units
+  -- if words are read as a list of units, it has one unit or more, all in range (`AreSound`)
   units_sound : (ws : List WordText) → AreSound world (read_units ws)
   unfolding read_units
   units_sound ws = after Units (AreOperandsOf world) (some_units_at ws) _ (some_hold ws) (λ us h. h)
 
-  -- the operands are in bounds where the words are read as a unit and a number
+  -- if words are read as a unit and a number, both are in range (`AreSound`)
   unit_and_number_sound : (ws : List WordText) → AreSound world (read_unit_and_number ws)
   unfolding read_unit_and_number
   unit_and_number_sound ws =
       after _ (AreOperandsOf world) (unit_at ws) _ (unit_holds ws) (λ to h.
       after _ (AreOperandsOf world) (number_at to.1) _ (count_holds most_number BadNumber to.1) (λ n k. (h, k)))
 
-  -- the operands are in bounds where the words are read as a unit and goods
+  -- if words are read as a unit, an amount and an item, these are in range, and the world has the item (`AreSound`)
   unit_and_goods_sound : (ws : List WordText) → AreSound world (read_unit_and_goods world ws)
   unfolding read_unit_and_goods
   unit_and_goods_sound ws =
       after _ (AreOperandsOf world) (unit_at ws) _ (unit_holds ws) (λ to h.
       after _ (AreOperandsOf world) (amount_of_item_at world to.1) _ (goods_hold world to.1) (λ goods k. (h, k.0, k.1)))
 
-  -- the operands are in bounds where the words are read as an amount and an item
+  -- if words are read as an amount and an item, the amount is in range, and the world has the item (`AreSound`)
   goods_sound : (ws : List WordText) → AreSound world (read_goods world ws)
   unfolding read_goods
   goods_sound ws = after _ (AreOperandsOf world) (amount_of_item_at world ws) _ (goods_hold world ws) (λ goods h. h)
 
-  -- the operands are in bounds where the words are read as a new name
+  -- a new name that is read keeps the rule of names (`AreSound`), since one that breaks it is a fault
   named_sound : (t : Bool) (what : NameKind) (bytes : List ℕ) → name_ok bytes ≡ t → AreSound world (cond t (Ok (operands.Name what bytes)) (Err BadName))
   named_sound true what bytes h = h
   named_sound false what bytes h = tt
 
-  -- the operands are in bounds where the words are read as what gets a new name, and the name
+  -- if words are read as what gets a new name, and the name, the name keeps the rule of names (`AreSound`)
   name_sound : (ws : List WordText) → AreSound world (read_name ws)
   unfolding read_name
   name_sound ws =
@@ -252,28 +252,28 @@ module _ (world : WorldValue) where
       after _ (AreOperandsOf world) (word_at w.1) _ (anything (word_at w.1)) (λ v _.
       named_sound (name_ok (name_of v.0.bytes v.0.quoted)) what (name_of v.0.bytes v.0.quoted) refl)))
 
-  -- the operands are in bounds where the words are read as a direction
+  -- if words are read as a direction, the operands are in bounds (`AreSound`), since a direction has no bound
   direction_sound : (ws : List WordText) → AreSound world (read_direction ws)
   unfolding read_direction
   direction_sound ws = after _ (AreOperandsOf world) (direction_at ws) _ (anything (direction_at ws)) (λ d _. tt)
 
-  -- the operands are in bounds where the words are read as a kind of structure
+  -- if words are read as a kind of structure or none, the world has the kind (`AreSound`)
   kind_sound : (ws : List WordText) → AreSound world (read_kind world ws)
   unfolding read_kind
   kind_sound [] = tt
   kind_sound (w ∷ ws) = after _ (AreOperandsOf world) (kind_at world (w ∷ ws)) _ (kind_holds world (w ∷ ws)) (λ kind h. h)
 
-  -- the operands are in bounds where the words are read as a skill
+  -- if words are read as a skill, the world has it (`AreSound`)
   skill_sound : (ws : List WordText) → AreSound world (read_skill world ws)
   unfolding read_skill
   skill_sound ws = after _ (AreOperandsOf world) (skill_at world ws) _ (skill_holds world ws) (λ skill h. h)
 
-  -- the operands are in bounds where the words are read as an item
+  -- if words are read as an item, the world has it (`AreSound`)
   item_sound : (ws : List WordText) → AreSound world (read_item world ws)
   unfolding read_item
   item_sound ws = after _ (AreOperandsOf world) (item_at world ws) _ (item_holds world ws) (λ item h. h)
 
-  -- what the words after a verb name is in bounds, whatever the shape
+  -- the operands that the words after a verb give are in bounds (`AreSound`), whatever the shape in the order table
   operands_sound : (shape : Shape) (ws : List WordText) → AreSound world (read_operands world shape ws)
   operands_sound shapes.Nothing ws = tt
   operands_sound shapes.Alias ws = alias_sound ws
@@ -290,7 +290,7 @@ module _ (world : WorldValue) where
   operands_sound shapes.Skill ws = skill_sound ws
   operands_sound shapes.Item ws = item_sound ws
 
-  -- the order that a verb and the words after it give is in bounds
+  -- the order that a verb and the words after it give has its numbers, names and things in bounds (`Sound`)
   pub said_sound : (verb : Verb) (ws : List WordText) → Sound world (said_by world verb ws)
   unfolding said_by
   said_sound verb ws = after (AreOperandsOf world) (IsOrderOf world) (read_operands world (row_of verb).shape ws) _ (operands_sound (row_of verb).shape ws) (λ os h. h)

@@ -26,13 +26,13 @@ Counted = Result (ℕ × List WordText) LineFault
 -- ---- the rules allow what the function gives
 
 module _ (world : WorldValue) (given : ℕ → Bool) (w : WordText) (ws : List WordText) where
-  -- the rules allow the step that the function gives a UNIT line
+  -- the rules (`WordsSay`) allow the step that `unit_step` gives a UNIT line
   unit_fits : (place : ReaderState) (r : Counted) → keyword_of w ≡ Some keywords.Unit → number_at ws ≡ r → WordsSay world place given w ws (unit_step given r)
   unfolding unit_step
   unit_fits place (Ok n) k h = unit_named k n.0 n.1 h refl
   unit_fits place (Err fault) k h = unit_faulty k fault h refl
 
-  -- the rules allow the step that the function gives an END line
+  -- the rules (`WordsSay`) allow the step that `end_step` gives an END line
   end_fits : (place : ReaderState) → keyword_of w ≡ Some keywords.End → WordsSay world place given w ws (end_step place given)
   unfolding end_step
   end_fits Nowhere k = end_alone k refl refl
@@ -40,19 +40,19 @@ module _ (world : WorldValue) (given : ℕ → Bool) (w : WordText) (ws : List W
   end_fits (Forming parent alias) k = block_closed k (At parent) refl refl
   end_fits (Skipping parent) k = block_closed k _ refl refl
 
-  -- the rules allow the function's step of a FORM line with an alias, whether the alias was given before or not
+  -- the rules (`WordsSay`) allow the step that `block_step` gives a FORM line with an alias, be it new or given before
   given_fits : (n : ℕ) (alias : ℕ) (rest : List WordText) (t : Bool) → keyword_of w ≡ Some keywords.Form → alias_at ws ≡ Ok (alias, rest) → given alias ≡ t → WordsSay world (At n) given w ws (block_step n given (Ok (alias, rest)))
   unfolding block_step
   given_fits n alias rest true k h g = rw g (form_again k n refl alias rest h g refl)
   given_fits n alias rest false k h g = rw g (form_new k n refl alias rest h g refl)
 
-  -- the rules allow the step that the function gives a FORM line outside of blocks
+  -- the rules (`WordsSay`) allow the step that `block_step` gives a FORM line outside of blocks, if a unit is named
   block_fits : (n : ℕ) (r : Counted) → keyword_of w ≡ Some keywords.Form → alias_at ws ≡ r → WordsSay world (At n) given w ws (block_step n given r)
   unfolding block_step
   block_fits n (Ok a) k h = given_fits n a.0 a.1 (given a.0) k h refl
   block_fits n (Err fault) k h = form_faulty k n refl fault h refl
 
-  -- the rules allow the step that the function gives a FORM line
+  -- the rules (`WordsSay`) allow the step that `form_step` gives a FORM line
   form_fits : (place : ReaderState) → keyword_of w ≡ Some keywords.Form → WordsSay world place given w ws (form_step place given ws)
   unfolding form_step
   form_fits Nowhere k = form_nowhere k refl refl
@@ -60,13 +60,13 @@ module _ (world : WorldValue) (given : ℕ → Bool) (w : WordText) (ws : List W
   form_fits (Forming parent alias) k = form_nested k (At parent) refl refl
   form_fits (Skipping parent) k = form_nested k _ refl refl
 
-  -- the rules allow the step that the function gives an order's line
+  -- the rules (`WordsSay`) allow the step with the effect that `order_effect` gives an order's line
   order_fits : (place : ReaderState) (verb : Verb) (t : Option UnitRef) (r : Result OrderValue LineFault) → keyword_of w ≡ Some (keywords.Order verb) → target place ≡ t → said_by world verb ws ≡ r → WordsSay world place given w ws (step (order_effect t r) place given)
   order_fits place verb None r k h e = order_nowhere verb k h refl
   order_fits place verb (Some unit) (Ok order_value) k h e = order_said verb k unit h order_value e refl
   order_fits place verb (Some unit) (Err fault) k h e = order_faulty verb k unit h fault e refl
 
-  -- the rules allow the step that the function gives a line by its keyword
+  -- the rules (`WordsSay`) allow the step that `keyword_step` gives a line by its first word
   words_fit : (place : ReaderState) (k : Option Keyword) → keyword_of w ≡ k → WordsSay world place given w ws (keyword_step world place given k ws)
   unfolding keyword_step
   words_fit place None h = unknown h refl
@@ -75,14 +75,14 @@ module _ (world : WorldValue) (given : ℕ → Bool) (w : WordText) (ws : List W
   words_fit place (Some keywords.Form) h = form_fits place h
   words_fit place (Some (keywords.Order verb)) h = order_fits place verb (target place) (said_by world verb ws) h refl refl
 
--- the rules allow the step that the function gives a line, whether its bytes are allowed or not
+-- the rules (`LineSays`) allow the step that `line_step` gives a line, whether its bytes are allowed or not
 tested_fits : (t : Bool) (l : List WordText) (world : WorldValue) (place : ReaderState) (given : ℕ → Bool) (line : List ℕ) → list_all is_plain line ≡ t → words line ≡ l → LineSays world place given line (cond t (words_step world place given l) (step (faulty BadByte) place given))
 unfolding words_step
 tested_fits false l world place given line a b = bad_byte a refl
 tested_fits true [] world place given line a b = no_word a b refl
 tested_fits true (w ∷ ws) world place given line a b = some_words a w ws b (words_fit world given w ws place (keyword_of w) refl)
 
--- the rules allow the step that the function `line_step` gives a line
+-- the rules (`LineSays`) allow the step that the function `line_step` gives a line
 pub line_fits : (world : WorldValue) (place : ReaderState) (given : ℕ → Bool) (line : List ℕ) → LineSays world place given line (line_step world place given line)
 unfolding line_step
 line_fits world place given line = tested_fits (list_all is_plain line) (words line) world place given line refl refl
@@ -90,7 +90,7 @@ line_fits world place given line = tested_fits (list_all is_plain line) (words l
 -- ---- the rules allow nothing else
 
 module _ (given : ℕ → Bool) where
-  -- the rule for END in a block gives what the function gives
+  -- for END in a block, the rule's step (the block is closed) is the one that `end_step` gives
   closed : (place out : ReaderState) → outer place ≡ Some out → step nothing out given ≡ end_step place given
   unfolding end_step
   closed Nowhere out h = cc
@@ -98,7 +98,7 @@ module _ (given : ℕ → Bool) where
   closed (Forming parent alias) out h = let e : out ≡ At parent = cc in ap (λ p. step nothing p given) e
   closed (Skipping parent) out h = let e : out ≡ outside parent = cc in ap (λ p. step nothing p given) e
 
-  -- the rule for END outside of blocks gives what the function gives
+  -- for END outside of blocks, the rule's step (EndAlone) is the one that `end_step` gives
   alone : (place : ReaderState) → outer place ≡ None → step (faulty EndAlone) place given ≡ end_step place given
   unfolding end_step
   alone Nowhere h = refl
@@ -106,7 +106,7 @@ module _ (given : ℕ → Bool) where
   alone (Forming parent alias) h = cc
   alone (Skipping parent) h = cc
 
-  -- the rule for FORM in a block gives what the function gives
+  -- for FORM in a block, the rule's step (NestedForm) is the one that `form_step` gives
   nested : (place out : ReaderState) (ws : List WordText) → outer place ≡ Some out → step (faulty NestedForm) place given ≡ form_step place given ws
   unfolding form_step
   nested Nowhere out ws h = cc
@@ -114,7 +114,7 @@ module _ (given : ℕ → Bool) where
   nested (Forming parent alias) out ws h = refl
   nested (Skipping parent) out ws h = refl
 
--- a step that the rules for words allow is the one that the function gives
+-- a step that the rules for a line with words (`WordsSay`) allow is the one that `keyword_step` gives
 words_only : (world : WorldValue) (place : ReaderState) (given : ℕ → Bool) (w : WordText) (ws : List WordText) (s : LineStep) → WordsSay world place given w ws s → s ≡ keyword_step world place given (keyword_of w) ws
 unfolding keyword_step unit_step form_step block_step
 words_only world place given w ws s (unit_named k n rest h e) = rw (k, h) e
@@ -131,7 +131,7 @@ words_only world place given w ws s (order_faulty verb k unit t fault h e) = rw 
 words_only world place given w ws s (order_said verb k unit t order_value h e) = rw (k, t, h) e
 words_only world place given w ws s (unknown k e) = rw k e
 
--- a step that the rules for a line allow is the one that the function gives
+-- a step that the rules for a line (`LineSays`) allow is the one that `line_step` gives
 pub line_only : (world : WorldValue) (place : ReaderState) (given : ℕ → Bool) (line : List ℕ) (s : LineStep) → LineSays world place given line s → s ≡ line_step world place given line
 unfolding line_step words_step
 line_only world place given line s (bad_byte a e) = rw a e
@@ -140,14 +140,15 @@ line_only world place given line s (some_words a w ws b r) = rw (a, b) (words_on
 
 -- ---- all lines
 
--- the rules for lines allow what the function gives for one line and the rest, whether the line is `#END` or not
+-- the rules for lines (`BodySays`) allow what `effects` gives for a line and those after it, whether the line is `#END`
+-- or not
 body_test : (t : Bool) (world : WorldValue) (n : ℕ) (place : ReaderState) (given : ℕ → Bool) (line : List ℕ) (rest : List (List ℕ)) (s : LineStep) (more : List (ℕ × Effect)) → begins (codes "#END") (words line) ≡ t → LineSays world place given line s
     → BodySays world (n + 1) s.place s.given rest (flat_map entry_of more) (flat_map fault_of more)
     → BodySays world n place given (line ∷ rest) (flat_map entry_of (cond t [] ((n, s.effect) ∷ more))) (flat_map fault_of (cond t [] ((n, s.effect) ∷ more)))
 body_test true world n place given line rest s more h r b = orders_ended n place given line rest h
 body_test false world n place given line rest s more h r b = one_line n place given line rest h s r _ _ b
 
--- the rules for lines allow the orders and faults that the function gives
+-- the rules for lines (`BodySays`) allow the orders and faulty lines that the function `effects` gives
 pub body_fits : (world : WorldValue) (n : ℕ) (place : ReaderState) (given : ℕ → Bool) (lines : List (List ℕ)) → BodySays world n place given lines (entries_from world n place given lines) (faults_from world n place given lines)
 unfolding effects
 body_fits world n place given [] = text_ended n place given
@@ -155,7 +156,7 @@ body_fits world n place given (line ∷ rest) =
     let s = line_step world place given line in
     body_test (begins (codes "#END") (words line)) world n place given line rest s _ refl (line_fits world place given line) (body_fits world (n + 1) s.place s.given rest)
 
--- orders and faulty lines that the rules allow for lines are those that the function gives
+-- orders and faulty lines that the rules for lines allow are those that `effects` gives; all but the world is implicit
 only_body : (world : WorldValue) {n : ℕ} {place : ReaderState} {given : ℕ → Bool} {lines : List (List ℕ)} {entries : List EntryValue} {faults : List FaultyLine} → BodySays world n place given lines entries faults → (entries ≡ entries_from world n place given lines) × (faults ≡ faults_from world n place given lines)
 unfolding effects
 only_body world (text_ended n place given) = (refl, refl)
@@ -165,6 +166,6 @@ only_body world (one_line n place given line rest h s r entries faults b) =
     let more = only_body world b in
     rw (h, ← e) (ap (λ l. entry_of (n, s.effect) ++ l) more.0, ap (λ l. fault_of (n, s.effect) ++ l) more.1)
 
--- orders and faulty lines that the rules allow for lines are those that the function gives
+-- orders and faulty lines that the rules for lines (`BodySays`) allow are those that the function `effects` gives
 pub body_only : (world : WorldValue) (n : ℕ) (place : ReaderState) (given : ℕ → Bool) (lines : List (List ℕ)) (entries : List EntryValue) (faults : List FaultyLine) → BodySays world n place given lines entries faults → (entries ≡ entries_from world n place given lines) × (faults ≡ faults_from world n place given lines)
 body_only world n place given lines entries faults b = only_body world b

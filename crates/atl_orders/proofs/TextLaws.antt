@@ -27,11 +27,11 @@ data Found (n : ℕ) (all : List (List ℕ)) : Type 0 where
   one : (before : List (List ℕ)) (header : List ℕ) (behind : List (List ℕ)) → HaveHeader all before header behind
       → header_from n all ≡ header_line (length before + n) behind (faction_of (words header)) → Found n all
 
--- k lines after line n + 1 is k + 1 lines after line n
+-- k + (n + 1) is (k + 1) + n: k lines after line n + 1 is k + 1 lines after line n
 later : (n k : ℕ) → k + (n + 1) ≡ suc k + n
 later n k = omega arith
 
--- no lines after line n is line n
+-- 0 + n is n: the first of lines that are numbered from n on has the number n
 from_none : (n : ℕ) → 0 + n ≡ n
 from_none n = omega arith
 
@@ -67,28 +67,28 @@ first_one n (line ∷ before) header behind a h = rw (All-head IsOutside line be
 
 -- ---- a whole text
 
--- the line after a header with k lines above it has the number k + 2
+-- k + 1 + 1 is k + 2: the line after a header with k lines above it has the number k + 2
 numbered : (k : ℕ) → k + 1 + 1 ≡ k + 2
 numbered k = omega arith
 
 module _ (world : WorldValue) (text : List ℕ) where
-  -- the rules allow what a text with a header gives, whether the header names a faction or not
+  -- the rules (`TextSays`) allow the result for a text with a header, whether the header names a faction or not
   headed_fits : (o : Option ℕ) → length text ≤ most_bytes → (before : List (List ℕ)) (header : List ℕ) (behind : List (List ℕ)) → HaveHeader (lines text) before header behind → faction_of (words header) ≡ o → TextSays world text (after_header world (header_line (length before + 1) behind o))
   headed_fits None s before header behind is f = bad_header s before header behind is f refl
   headed_fits (Some faction) s before header behind is f =
       rw (numbered (length before)) (mailing s before header behind is faction f _ _ (body_fits world (length before + 2) Nowhere no_alias behind) refl)
 
-  -- the rules allow what a text of allowed length gives, whether it has a header or not
+  -- the rules (`TextSays`) allow the result for a text of at most most_bytes bytes, whether it has a header or not
   found_fits : length text ≤ most_bytes → Found 1 (lines text) → TextSays world text (after_header world (header_from 1 (lines text)))
   found_fits s (none a e) = rw e (no_header s a refl)
   found_fits s (one before header behind is e) = rw e (headed_fits (faction_of (words header)) s before header behind is refl)
 
-  -- the rules allow what a text gives, whether it is too long or not
+  -- the rules (`TextSays`) allow the result for a text, whether it has more than most_bytes bytes or not
   sized_fits : (t : Bool) → nat_lt most_bytes (length text) ≡ t → TextSays world text (cond t (Err TooLong) (after_header world (header_from 1 (lines text))))
   sized_fits true h = too_long (grind (arith, nat_tests)) refl
   sized_fits false h = found_fits (grind (arith, nat_tests)) (found 1 (lines text))
 
-  -- the rules allow what the function `reading` gives for a text
+  -- the rules (`TextSays`) allow the result that the function `reading` gives for a text
   pub text_fits : TextSays world text (reading world text)
   unfolding reading
   text_fits = sized_fits (nat_lt most_bytes (length text)) refl
@@ -105,7 +105,7 @@ module _ (world : WorldValue) (text : List ℕ) where
   first_is : (before : List (List ℕ)) (header : List ℕ) (behind : List (List ℕ)) → HaveHeader (lines text) before header behind → header_from 1 (lines text) ≡ header_line (length before + 1) behind (faction_of (words header))
   first_is before header behind is = ap (header_from 1) is.whole ∙ first_one 1 before header behind is.first is.leads
 
-  -- a result that the rules allow for a text is the one that the function `reading` gives
+  -- a result that the rules (`TextSays`) allow for a text is the one that the function `reading` gives
   pub text_only : (read : Result Reading MailFault) → TextSays world text read → read ≡ reading world text
   unfolding reading
   text_only read (too_long h e) = rw (long_is h) e

@@ -74,7 +74,7 @@ unfolding units_of
 no_more front [] h = ap (λ l. Ok l) (append-nil front)
 no_more front (w ∷ ws) h = cc
 
--- the words after a number that was read are no more than were left
+-- after a unit is read from a word, with the words `left` behind it, no more words than these are left
 read_rest : (o : Option ℕ) (f : LineFault) (c : ℕ → UnitRef) (left : List WordText) (u : UnitRef) (rest : List WordText) → (or_fault f o >>= paired left >>= as_unit c) ≡ found u rest → length rest ≤ length left
 read_rest None f c left u rest h = cc
 read_rest (Some k) f c left u rest h = let here : UnitRef × List WordText = (c k, left) in let there : UnitRef × List WordText = (u, rest) in let e : here ≡ there = cc in omega (arith, ap (λ (p : UnitRef × List WordText). length p.1) e)

@@ -17,7 +17,7 @@ use Rattle.atl_orders.specs.Standing.{IsPartOf, EndsWith, EndsAt}
 
 -- ---- the index of the first element that passes a test, or the length
 
--- n, as an option that has n only if n is less than m, with the default m, is n, if n is at most m
+-- if n is at most m, then Some n where n is less than m, else None, is n by `unwrap_or` with the default m
 placed : (t : Bool) (n m : ℕ) → nat_lt n m ≡ t → n ≤ m → unwrap_or (cond t (Some n) None) m ≡ n
 placed true n m h l = refl
 placed false n m h l = grind (arith, nat_tests)
@@ -59,7 +59,7 @@ pub words-quoted : (bs : List ℕ) → words (quote ∷ bs) ≡ record { bytes =
 unfolding words_after
 words-quoted bs = ap (λ ws. record { bytes = before_first is_quote bs; quoted = true } ∷ ws) (words_after-drop (position_or_len is_quote bs + 1) bs ∙ ap words (sym (drop-drop 1 (position_or_len is_quote bs) bs)))
 
--- what follows a word of 1 + n bytes in a line, if its first byte b doesn't end words, is bs without its first n bytes
+-- in a line b ∷ bs, what follows a word of 1 + n bytes whose first byte b doesn't end words is bs without n bytes
 drop-bare : (t : Bool) (n b : ℕ) (bs : List ℕ) → t ≡ false → drop (cond (not t) (1 + n) 0 - 1) bs ≡ drop (cond (not t) (1 + n) 0) (b ∷ bs)
 drop-bare true n b bs h = absurd (true≢false h)
 drop-bare false n b bs h =
@@ -67,7 +67,7 @@ drop-bare false n b bs h =
     let more : 1 + n ≡ suc n = omega arith in
     rw (less, more) refl
 
--- a word without quotes, of which b is the first byte, ends at the first byte that ends words
+-- a line that begins with a byte b that doesn't end words has as its first word the bytes up to the first that does
 pub words-bare : (b : ℕ) (bs : List ℕ) → ends_word b ≡ false → words (b ∷ bs) ≡ record { bytes = before_first ends_word (b ∷ bs); quoted = false } ∷ words (drop (position_or_len ends_word (b ∷ bs)) (b ∷ bs))
 unfolding words_after
 words-bare b bs h =

@@ -44,7 +44,7 @@ fault_of (n, nothing) = []
 fault_of (n, faulty fault) = record { line = n; fault = fault } ∷ []
 fault_of (n, says unit order_value) = []
 
--- the number of the faction, from 1 to 9,999, that is the second word of a header
+-- the number of the faction, from 1 to 9,999, that is the second word of a header; None if that word is none
 abbrev pub faction_of : List WordText → Option ℕ
 faction_of [] = None
 faction_of (w ∷ []) = None

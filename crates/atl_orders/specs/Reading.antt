@@ -49,7 +49,7 @@ pub record LineStep : Type 0 where
   pub place : ReaderState
   pub given : ℕ → Bool
 
--- the unit that an order is for, in a state of the reader; None if no unit is named
+-- the unit that an order is for, in a state of the reader; None if no unit is named, or in a skipped block
 abbrev pub target : ReaderState → Option UnitRef
 target Nowhere = None
 target (At n) = Some (Number n)
@@ -97,7 +97,7 @@ abbrev pub effect_for : UnitRef → Result OrderValue LineFault → Effect
 effect_for unit (Ok order_value) = says unit order_value
 effect_for unit (Err fault) = faulty fault
 
--- the effect of an order's line: the order for the unit that is named, or a fault; NoUnit if no unit is named
+-- the effect of an order's line, given the unit that it is for: the order or a fault, and NoUnit if it is for no unit
 abbrev pub order_effect : Option UnitRef → Result OrderValue LineFault → Effect
 order_effect None order_value = faulty NoUnit
 order_effect (Some unit) order_value = effect_for unit order_value

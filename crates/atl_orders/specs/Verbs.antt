@@ -56,6 +56,6 @@ abbrev pub listed : List Verb
 listed =
     Name ∷ Guard ∷ Enter ∷ Leave ∷ Promote ∷ Give ∷ Pay ∷ Transfer ∷ Sell ∷ Buy ∷ Tax ∷ Recruit ∷ Quit ∷ Move ∷ Sail ∷ Build ∷ Teach ∷ Study ∷ Produce ∷ Work ∷ []
 
--- the verb whose keyword a word is, in any case; BOARD is read as ENTER
+-- the verb other than FORM whose keyword a word is, in any case; BOARD is read as ENTER, and None comes for other words
 abbrev pub verb_of : WordText → Option Verb
 verb_of w = if is_word (codes "BOARD") w then Some Enter else find (λ verb. is_word (keyword verb) w) listed

@@ -38,11 +38,11 @@ words_after zero (b ∷ bs) =
 abbrev pub words : List ℕ → List WordText
 words line = words_after zero line
 
--- whether a word is a keyword, ignoring ASCII case
+-- whether a word is the keyword `name`, ignoring ASCII case
 abbrev pub is_word : List ℕ → WordText → Bool
 is_word name w = str_eq_ignore_ascii_case w.bytes name
 
--- whether the first word of a line is a keyword, ignoring ASCII case
+-- whether the first word of a line is the keyword `name`, ignoring ASCII case
 abbrev pub begins : List ℕ → List WordText → Bool
 begins name [] = false
 begins name (w ∷ ws) = is_word name w

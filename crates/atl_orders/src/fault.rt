@@ -12,19 +12,19 @@ use std::fmt;
 /// See docs/FORMATS.md, "Line faults".
 #[derive(Drop, Clone, Copy, Debug, PartialEq, Eq)]
 pub enum LineFault {
-    /// No unit is named for the order.
+    /// No unit is named for the order or for FORM, or the order is in a skipped block.
     NoUnit = 1,
-    /// The first word is no keyword of an order.
+    /// The first word is none of UNIT, END and the keywords of orders.
     UnknownOrder = 2,
     /// A word is no number from 1 to `MOST_NUMBER`, or after GUARD no 0 or 1.
     BadNumber = 3,
-    /// No thing of the world has this name, or NAME has none of UNIT, FACTION, BUILDING and SHIP.
+    /// No item, skill or kind has the name, or NAME has none of UNIT, FACTION, BUILDING and SHIP.
     UnknownThing = 4,
-    /// The line ends too early.
+    /// The line ends before a word that the order, FORM or UNIT has to have.
     MissingWord = 5,
     /// The line has a byte other than tab and those from 32 to 126.
     BadByte = 6,
-    /// A word is no alias from 1 to `LAST_ALIAS`. Or the alias of a FORM is that of an earlier FORM
+    /// A word is no alias from 1 to `LAST_ALIAS`, or the alias of a FORM is that of an earlier FORM
     /// without fault.
     BadAlias = 7,
     /// A FORM is inside a block, and the block stays open.

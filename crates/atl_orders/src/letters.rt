@@ -1,6 +1,6 @@
 //! The bytes that mailings treat specially. See docs/RULES.md, "Reading a mailing".
 
-/// The tab. It separates words as the space does.
+/// The tab, which separates words as the space does.
 pub(crate) const TAB: u8 = b'\t';
 
 /// The line feed, at which a line ends.

@@ -264,10 +264,11 @@ fn read_body(alloc: Global, world: &World, text: &[u8], header: Header) -> Resul
     Ok(body)
 }
 
-/// Reads the orders of a mailing. The text may have any bytes; it is kept as it is. TooLong comes
-/// for more than `MOST_BYTES` bytes, else NoHeader if no line begins with `#ATLANTIS`, else
-/// BadHeader if the first that does names no faction from 1 to `LAST_FACTION`, and Memory at any
-/// point. A faulty line gives no order, and the other lines count.
+/// Reads a text as a mailing: its faction, its orders and its faulty lines, or why it is none. The
+/// text may have any bytes; it is kept as it is. TooLong comes for more than `MOST_BYTES` bytes,
+/// else NoHeader if no line begins with `#ATLANTIS`, else BadHeader if the first that does names
+/// no faction from 1 to `LAST_FACTION`, and Memory at any point. A faulty line gives no order, and
+/// the other lines count.
 /// See docs/RULES.md, "Reading a mailing".
 #[tactic(auto, unfolding(crate::specs::Mailing::reading))]
 pub fn read_mailing(alloc: Global, world: &World, text: &[u8]) -> Result<Mailing, MailFault>

@@ -23,7 +23,7 @@ pub fn word_at(line: &[u8]) -> Result<(Word<'_>, &[u8]), LineFault>
     next_word(line).ok_or(LineFault::MissingWord)
 }
 
-/// The next word as a number from 1 to `most`, and the rest of the line. Else MissingWord or
+/// The next word as a number from 1 to `most`, and the rest of the line; else MissingWord or
 /// `fault`.
 #[tactic(auto, unfolding(crate::specs::Operands::count_at))]
 fn count_at(line: &[u8], most: u32, fault: LineFault) -> Result<(u32, &[u8]), LineFault>
@@ -39,7 +39,7 @@ fn count_at(line: &[u8], most: u32, fault: LineFault) -> Result<(u32, &[u8]), Li
     }
 }
 
-/// The next word as a number from 1 to 999,999,999, and the rest of the line. Else MissingWord or
+/// The next word as a number from 1 to 999,999,999, and the rest of the line; else MissingWord or
 /// BadNumber.
 pub fn number_at(line: &[u8]) -> Result<(u32, &[u8]), LineFault>
     ensures { Gives (λ x. (x.0, words x.1.now)) result (number_at (words line.now)) }
@@ -47,7 +47,7 @@ pub fn number_at(line: &[u8]) -> Result<(u32, &[u8]), LineFault>
     count_at(line, MOST_NUMBER, LineFault::BadNumber)
 }
 
-/// The next word as an alias from 1 to 9,999, and the rest of the line. Else MissingWord or
+/// The next word as an alias from 1 to 9,999, and the rest of the line; else MissingWord or
 /// BadAlias.
 pub fn alias_at(line: &[u8]) -> Result<(u32, &[u8]), LineFault>
     ensures alias { Gives (λ x. (x.0, words x.1.now)) result (alias_at (words line.now)) }
@@ -56,7 +56,7 @@ pub fn alias_at(line: &[u8]) -> Result<(u32, &[u8]), LineFault>
     count_at(line, LAST_ALIAS, LineFault::BadAlias)
 }
 
-/// The next words as a unit (a number, or NEW and an alias), and the rest of the line. Else
+/// The next words as a unit (a number, or NEW and an alias), and the rest of the line; else
 /// MissingWord, BadNumber or BadAlias.
 #[tactic(auto, unfolding(crate::specs::Operands::unit_at))]
 pub fn unit_at(line: &[u8]) -> Result<(UnitRef, &[u8]), LineFault>
@@ -82,7 +82,7 @@ pub fn item_at(world: &World, line: &[u8]) -> Result<u16, LineFault>
         .ok_or(LineFault::UnknownThing)
 }
 
-/// The next words as an amount from 1 to 999,999,999 and the number of an item. Else MissingWord,
+/// The next words as an amount from 1 to 999,999,999 and the number of an item; else MissingWord,
 /// BadNumber or UnknownThing.
 #[tactic(auto, unfolding(crate::specs::Operands::amount_of_item_at))]
 pub fn amount_of_item_at(world: &World, line: &[u8]) -> Result<(u32, u16), LineFault>

@@ -37,8 +37,8 @@ pub struct Span {
     pub quoted: bool,
 }
 
-/// What the words after a verb name, with a name as an `N`: a span of the mailing's text. Numbers
-/// are from 1 to `MOST_NUMBER`; items, skills and kinds are by their numbers in the world.
+/// What the words after a verb name; a name is an `N`, by default a span of the text. Numbers are
+/// from 1 to `MOST_NUMBER`; items, skills and kinds are by their numbers in the world.
 /// See docs/RULES.md, "Orders".
 #[derive(Debug)]
 pub enum Operands<N = Span> {

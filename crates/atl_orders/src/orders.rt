@@ -56,8 +56,8 @@ fn read_unit(cursor: Cursor) -> Result<Operands, LineFault>
     Ok(Operands::Unit(unit))
 }
 
-/// Reads the operands of a verb that takes one unit or more, from all words up to the line's end.
-/// Else MissingWord, BadNumber or BadAlias.
+/// Reads the operands of a verb that takes one unit or more, from all words up to the line's end;
+/// else MissingWord, BadNumber or BadAlias.
 #[tactic(auto, unfolding(crate::specs::Orders::read_units, crate::specs::Operands::some_units_at))]
 fn read_units(alloc: Global, cursor: Cursor) -> Result<Result<Operands, LineFault>, AllocError>
     ensures { IfOk result (λ read.
@@ -72,7 +72,7 @@ fn read_units(alloc: Global, cursor: Cursor) -> Result<Result<Operands, LineFaul
     }
 }
 
-/// Reads the operands of a verb that takes a unit and a number. Else MissingWord, BadNumber or
+/// Reads the operands of a verb that takes a unit and a number; else MissingWord, BadNumber or
 /// BadAlias.
 #[tactic(auto, unfolding(crate::specs::Orders::read_unit_and_number))]
 fn read_unit_and_number(cursor: Cursor) -> Result<Operands, LineFault>
@@ -84,7 +84,7 @@ fn read_unit_and_number(cursor: Cursor) -> Result<Operands, LineFault>
     Ok(Operands::UnitAndNumber { to, number })
 }
 
-/// Reads the operands of a verb that takes a unit, an amount and an item. Else MissingWord,
+/// Reads the operands of a verb that takes a unit, an amount and an item; else MissingWord,
 /// BadNumber, BadAlias or UnknownThing.
 #[tactic(auto, unfolding(crate::specs::Orders::read_unit_and_goods))]
 fn read_unit_and_goods(world: &World, cursor: Cursor) -> Result<Operands, LineFault>
@@ -96,7 +96,7 @@ fn read_unit_and_goods(world: &World, cursor: Cursor) -> Result<Operands, LineFa
     Ok(Operands::UnitAndGoods { to, amount, item })
 }
 
-/// Reads the operands of a verb that takes an amount and an item. Else MissingWord, BadNumber or
+/// Reads the operands of a verb that takes an amount and an item; else MissingWord, BadNumber or
 /// UnknownThing.
 #[tactic(auto, unfolding(crate::specs::Orders::read_goods))]
 fn read_goods(world: &World, cursor: Cursor) -> Result<Operands, LineFault>
@@ -125,7 +125,7 @@ fn kind_of_name(word: Word) -> Option<NameKind>
     }
 }
 
-/// Reads the operands of NAME: what gets a new name, and the name. Else MissingWord, UnknownThing
+/// Reads the operands of NAME: what gets a new name, and the name; else MissingWord, UnknownThing
 /// or BadName.
 #[tactic(auto, using(crate::proofs::WordLaws::place_fits, crate::proofs::WordLaws::place_behind, crate::proofs::WordLaws::stands_shorter, crate::proofs::WordLaws::ends_shorter), unfolding(crate::specs::Orders::read_name))]
 fn read_name(cursor: Cursor) -> Result<Operands, LineFault>
@@ -190,7 +190,7 @@ fn read_item(world: &World, cursor: Cursor) -> Result<Operands, LineFault>
     Ok(Operands::Item(item))
 }
 
-/// Reads the words after a verb by the verb's shape in the order table. Else their first fault.
+/// Reads the words after a verb by the verb's shape in the order table; else their first fault.
 /// Only units take memory; after AllocError nothing is known of the words.
 fn read_operands(
     alloc: Global,

@@ -32,7 +32,7 @@ pub enum Keyword {
 /// The reader's state between two lines: which unit is named, and which block is open.
 #[derive(Drop, Clone, Copy, Debug, PartialEq, Eq)]
 pub enum ReaderState {
-    /// No unit is named.
+    /// No unit is named, and no block is open.
     Nowhere,
     /// The unit with this number is named, outside of blocks.
     At(u32),
@@ -75,7 +75,8 @@ fn keyword_of(word: Word) -> Option<Keyword>
     }
 }
 
-/// What a UNIT line gives, and the reader's next state, by the words after its keyword.
+/// What a UNIT line gives, and the reader's next state, by the words after UNIT: the unit is
+/// named, or after a fault none.
 #[tactic(auto, unfolding(crate::specs::Reading::unit_step))]
 fn unit_line(line: &[u8]) -> (LineResult, ReaderState)
     ensures { (given : _) (text : List ℕ) → unit_step given (number_at (words line.now))
@@ -104,8 +105,8 @@ fn end_line(place: ReaderState) -> (LineResult, ReaderState)
     }
 }
 
-/// What a FORM line gives, and the reader's next state, by the words after its keyword. A FORM
-/// without fault adds its alias to `aliases`.
+/// What a FORM line gives, its order or a fault, and the reader's next state, by the words after
+/// FORM. A FORM without fault adds its alias to `aliases`.
 #[tactic(auto, unfolding(crate::specs::Reading::form_step, crate::specs::Reading::block_step))]
 fn form_line(place: ReaderState, aliases: &mut Aliases, line: &[u8]) -> (LineResult, ReaderState)
     ensures { (text : List ℕ)
@@ -147,7 +148,8 @@ fn form_line(place: ReaderState, aliases: &mut Aliases, line: &[u8]) -> (LineRes
     }
 }
 
-/// The unit that an order is for, in a state of the reader; `None` if no unit is named.
+/// The unit that an order is for, in a state of the reader; `None` if no unit is named, or in a
+/// skipped block.
 fn target(place: ReaderState) -> Option<UnitRef>
     ensures { result ≡ target place }
 {
@@ -158,8 +160,8 @@ fn target(place: ReaderState) -> Option<UnitRef>
     }
 }
 
-/// What the line of an order gives: the order for the unit that is named, or a fault; NoUnit if no
-/// unit is named.
+/// What the line of an order gives: the order for the unit that is named or formed, or a fault;
+/// NoUnit if no unit is named, or in a skipped block.
 fn order_line(
     alloc: Global,
     world: &World,

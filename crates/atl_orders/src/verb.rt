@@ -67,7 +67,7 @@ pub enum Shape {
     Item,
 }
 
-/// A slot: verbs of which a unit carries out one order a month, the last such order in its mailing.
+/// A slot: verbs of which a mailing's last order for a unit counts, and no earlier one.
 #[derive(Drop, Clone, Copy, Debug, PartialEq, Eq)]
 pub enum Slot {
     /// The verbs that take the whole month.
@@ -150,7 +150,7 @@ impl Verb {
         self.row().keyword
     }
 
-    /// The verb whose keyword a word is, in any case, if an order's line can begin with it.
+    /// The verb other than FORM whose keyword a word is, in any case; `None` for any other word.
     fn listed(word: Word) -> Option<Verb>
         ensures { result ≡ find (λ verb. is_word (keyword verb) (word_text word.entry)) listed }
     {
@@ -160,8 +160,8 @@ impl Verb {
             .find(|verb| is_same(word.bytes, verb.keyword().as_bytes()))
     }
 
-    /// The verb whose keyword a word is, in any case; BOARD is read as ENTER. FORM is left out,
-    /// since it has lines of its own.
+    /// The verb whose keyword a word is, in any case, and ENTER for BOARD; `None` for other words.
+    /// FORM is left out, since it has lines of its own.
     pub fn of_word(word: Word) -> Option<Verb>
         ensures { result ≡ verb_of (word_text word.entry) }
     {

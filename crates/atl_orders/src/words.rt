@@ -34,7 +34,7 @@ pub struct Cursor<'a> {
     pub end: usize,
 }
 
-/// Whether a word is a keyword, ignoring ASCII case.
+/// Whether a word is the keyword `name`, ignoring ASCII case.
 pub fn is_same(word: &[u8], name: &[u8]) -> bool
     ensures { result ≡ str_eq_ignore_ascii_case word.now name.now }
 {
@@ -94,7 +94,7 @@ fn end_at(bytes: &[u8]) -> usize
     first_end(bytes).unwrap_or(bytes.len())
 }
 
-/// The word after an opening quotation mark, and what follows the closing one.
+/// The word after an opening quotation mark, and what follows the closing one, if there is one.
 fn quoted_word(after: &[u8]) -> (Word<'_>, &[u8])
     ensures words { words (quote ∷ after.now) ≡ word_text result.0 ∷ words result.1.now }
     ensures stands { IsPartOf after.now result.0.bytes.now result.0.behind }
@@ -149,7 +149,7 @@ pub fn next_word(line: &[u8]) -> Option<(Word<'_>, &[u8])>
     None
 }
 
-/// Whether the first word of a line is a keyword, ignoring ASCII case.
+/// Whether the first word of a line is the keyword `name`, ignoring ASCII case.
 pub fn begins(line: &[u8], name: &[u8]) -> bool
     ensures { result ≡ begins name.now (words line.now) }
 {
@@ -159,7 +159,7 @@ pub fn begins(line: &[u8], name: &[u8]) -> bool
     }
 }
 
-/// The number that a word writes in digits, if it is at most `most`.
+/// The number that a word writes in digits, if it is at most `most`; `None` for any other word.
 pub fn number(bytes: &[u8], most: u32) -> Option<u32>
     requires { most ≤ most_number }
     ensures { result ≡ number_of most bytes.now }

@@ -1,4 +1,4 @@
--- Laws of accounts: entries and things with equal numbers are equal, and account_cmp is a total order.
+-- Laws of accounts, each an entry with a thing: those with equal numbers are equal, and account_cmp is a total order.
 use Rattle.std.proofs.Common.{◌≡◌, ◌≢◌, ◌+◌, ℕ, zero, suc, true, false, Some, refl, sym, ap, ◌∙◌, ◌⊎◌, inl, inr, arith}
 use Rattle.std.specs.List.{slice_get}
 use Rattle.std.specs.declared.cmp.Ordering.TheVariants.{Less, Equal, Greater}
@@ -11,13 +11,13 @@ use Rattle.atl_records.specs.declared.books.Thing.TheVariants.{Money, People, It
 use Rattle.atl_records.specs.Books.{Account, account_cmp, all_entries, entry_index, thing_at, thing_index}
 use Rattle.atl_records.proofs.EveryEntryLaws.{entry_there}
 
--- the thing with number i has number i
+-- the thing that thing_at gives for the number i has the number i
 pub place_at : (i : ℕ) → thing_index (thing_at i) ≡ i
 place_at zero = refl
 place_at (suc zero) = refl
 place_at (suc (suc i)) = omega arith
 
--- the thing with the number of t is t
+-- thing_at gives for the number of thing t the thing t
 pub at_place : (t : Thing) → thing_at (thing_index t) ≡ t
 at_place Money = refl
 at_place People = refl
@@ -47,7 +47,7 @@ same_account e f t u entries things i = (same_entry e f entries i, same_thing t 
 
 -- ---- the order of accounts
 
--- account_cmp is a total order
+-- account_cmp, the order of accounts by entry and then by thing, is a total order
 pub account_total : IsTotalOrder account_cmp
 account_total = then_total (on_total (λ (a : Account). entry_index a.0) nat_cmp_total) (on_total (λ (a : Account). thing_index a.1) nat_cmp_total)
 
@@ -59,7 +59,7 @@ less_equal e = cc
 greater_equal : {P : Type 0} → Greater ≡ Equal → P
 greater_equal e = cc
 
--- accounts that compare equal are equal
+-- accounts (entries with things) that account_cmp calls equal are equal
 pub account_same : IsAntisymmetric account_cmp
 account_same a b is =
     elim (nat_cmp (entry_index a.0) (entry_index b.0)) as (λ o. nat_cmp (entry_index a.0) (entry_index b.0) ≡ o → ordering_then o (nat_cmp (thing_index a.1) (thing_index b.1)) ≡ Equal → a ≡ b) [
@@ -68,7 +68,7 @@ account_same a b is =
       | Greater ↦ λ _ e. greater_equal e
     ] refl is
 
--- two accounts are equal, or account_cmp doesn't call them equal
+-- two accounts (entries with things) are equal, or account_cmp doesn't call them equal
 pub cases_account : (a b : Account) → (a ≡ b) ⊎ (eq_by_cmp account_cmp a b ≡ false)
 cases_account a b =
     elim (account_cmp a b) as (λ o. account_cmp a b ≡ o → (a ≡ b) ⊎ (is_eq o ≡ false)) [
@@ -77,14 +77,14 @@ cases_account a b =
       | Greater ↦ λ _. inr refl
     ] refl
 
--- an account compares equal to itself
+-- account_cmp calls an account (an entry with a thing) equal to itself
 pub account_itself : (a : Account) → eq_by_cmp account_cmp a a ≡ true
 account_itself a = ap is_eq (tied_itself account_total a)
 
--- accounts with different entries do not compare equal
+-- account_cmp doesn't call accounts with different entries equal
 pub apart_entries : (a b : Account) → entry_index a.0 ≢ entry_index b.0 → eq_by_cmp account_cmp a b ≡ false
 apart_entries a b h = elim (cases_account a b) [ inl same ↦ absurd (h (ap (λ (c : Account). entry_index c.0) same)) | inr apart ↦ apart ]
 
--- accounts with different things do not compare equal
+-- account_cmp doesn't call accounts with different things equal
 pub apart_things : (a b : Account) → thing_index a.1 ≢ thing_index b.1 → eq_by_cmp account_cmp a b ≡ false
 apart_things a b h = elim (cases_account a b) [ inl same ↦ absurd (h (ap (λ (c : Account). thing_index c.1) same)) | inr apart ↦ apart ]

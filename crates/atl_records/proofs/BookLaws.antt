@@ -33,7 +33,7 @@ not_zero z h is = false≢true (sym h ∙ ap is_zero is)
 abbrev pub listed : ℤ → Option ℤ
 listed z = cond (is_zero z) None (Some z)
 
--- an amount is read back from how the books list it
+-- from how the books list an amount (`listed`), the amount is read back, with 0 for None
 pub amount_listed : (z : ℤ) → unwrap_or (listed z) (pos 0) ≡ z
 amount_listed z = elim (is_zero z) as (λ b. is_zero z ≡ b → unwrap_or (cond b None (Some z)) (pos 0) ≡ z) [ true ↦ λ is. sym (zero_is z is) | false ↦ λ _. refl ] refl
 
@@ -48,7 +48,7 @@ listed_some z x is =
 -- ---- an amount set
 
 module _ (books : BooksValue) (e : Entry) (t : Thing) (z : ℤ) where
-  -- once an amount is set, the books list it under its account if it isn't 0, and others as before
+  -- once an amount is set, the books list it under its entry and thing if it isn't 0, and all others as before
   pub get-with_amount : (a : Account) → get (with_amount books e t z).amounts a ≡ cond (eq_by_cmp account_cmp a (e, t)) (listed z) (get books.amounts a)
   get-with_amount a =
       elim (is_zero z) as (λ b. get (cond b (remove books.amounts (e, t)) (insert books.amounts (e, t) z)) a ≡ cond (eq_by_cmp account_cmp a (e, t)) (cond b None (Some z)) (get books.amounts a)) [
@@ -56,7 +56,7 @@ module _ (books : BooksValue) (e : Entry) (t : Thing) (z : ℤ) where
         | false ↦ get-insert account_total books.amounts (e, t) z a
       ]
 
-  -- once an amount is set, its account has it, and the other accounts have their amounts as before
+  -- once an amount is set under an entry and a thing, it is there, and all other amounts are as before
   pub amount-with_amount : (f : Entry) (u : Thing) → amount_in (with_amount books e t z) f u ≡ cond (eq_by_cmp account_cmp (f, u) (e, t)) z (amount_in books f u)
   amount-with_amount f u =
       ap (λ o. unwrap_or o (pos 0)) (get-with_amount (f, u)) ∙ elim (eq_by_cmp account_cmp (f, u) (e, t)) as (λ b. unwrap_or (cond b (listed z) (get books.amounts (f, u))) (pos 0) ≡ cond b z (amount_in books f u)) [
@@ -64,15 +64,15 @@ module _ (books : BooksValue) (e : Entry) (t : Thing) (z : ℤ) where
         | false ↦ refl
       ]
 
-  -- an account has the amount that was set for it
+  -- the amount that is set under an entry and a thing is there
   pub its_amount : amount_in (with_amount books e t z) e t ≡ z
   its_amount = amount-with_amount e t ∙ ap (λ b. cond b z (amount_in books e t)) (account_itself (e, t))
 
-  -- once an amount is set, the other accounts have their amounts as before
+  -- once an amount is set under an entry and a thing, each amount under another entry or thing is as before
   pub other_amount : (f : Entry) (u : Thing) → eq_by_cmp account_cmp (f, u) (e, t) ≡ false → amount_in (with_amount books e t z) f u ≡ amount_in books f u
   other_amount f u apart = amount-with_amount f u ∙ ap (λ b. cond b z (amount_in books f u)) apart
 
-  -- AreBooks still holds once an amount of one of the things is set
+  -- books of `things` things (`AreBooks`) still are that once an amount of one of these things is set
   pub AreBooks-with_amount : (things : ℕ) → AreBooks things books → thing_index t < things → AreBooks things (with_amount books e t z)
   AreBooks-with_amount things old there =
       record {
@@ -86,7 +86,7 @@ module _ (books : BooksValue) (e : Entry) (t : Thing) (z : ℤ) where
         ];
       }
 
--- AreBooks still holds once an amount of one of the things is booked
+-- books of `things` things (`AreBooks`) still are that once an amount of one of these things is booked
 pub AreBooks-after_booking : (things : ℕ) (books : BooksValue) (e : Entry) (t : Thing) (n : ℤ) → AreBooks things books → thing_index t < things → AreBooks things (after_booking books e t n)
 AreBooks-after_booking things books e t n old there = AreBooks-with_amount books e t (amount_in books e t +ℤ n) things old there
 
@@ -141,7 +141,7 @@ module _ (books : BooksValue) (e : Entry) (u : Thing) (n : ℤ) where
       let each : (f : Entry) → amount_in (after_booking books e u n) f u ≡ amount_in books f u +ℤ under e n f = raised in
       (λ i. sum_of (map (λ f. each f i) all_entries)) ∙ sum_of-raised (λ f. amount_in books f u) (under e n) all_entries ∙ ap (λ z. booked books u +ℤ z) (once e n)
 
-  -- a booking raises the sum of a thing's amounts by share_of
+  -- a booking of n for thing u raises the sum of thing t's amounts by n if t is u, and else by 0 (`share_of`)
   pub booked-after_booking : (t : Thing) → booked (after_booking books e u n) t ≡ booked books t +ℤ share_of t u n
   unfolding booked
   booked-after_booking t =
@@ -176,11 +176,11 @@ none_booked : (books : BooksValue) (t : Thing) → ((e : Entry) → amount_in bo
 unfolding booked
 none_booked books t none i = sum_of (map (λ e. none e i) all_entries)
 
--- the sum of each thing of empty books is 0
+-- in books that were just made (`no_amounts`) the sum of each thing's amounts is 0
 pub booked-no_amounts : (things : ℕ) (t : Thing) → booked (no_amounts things) t ≡ pos 0
 booked-no_amounts things t = none_booked (no_amounts things) t (λ e. amount-no_amounts things e t)
 
--- empty books satisfy AreBooks with the number of things that they were made for
+-- books that were just made for `things` things are books of that many things (`AreBooks`)
 pub AreBooks-no_amounts : (things : ℕ) → AreBooks things (no_amounts things)
 AreBooks-no_amounts things = record { count = refl; listed = λ e t amount is. none_some amount (sym (get-empty {X = ℤ} account_cmp (e, t)) ∙ is) }
 
@@ -195,7 +195,7 @@ module _ (things : ℕ) (books : BooksValue) (are : AreBooks things books) where
         | Some z ↦ λ is. ap (λ b. cond b None (Some z)) (sym (zero_not z (are.listed e t z is).1))
       ] refl
 
-  -- the amounts of a thing whose number is not below the number of things are 0
+  -- books of `things` things have an amount of 0 under each entry for a thing whose number is `things` or more
   pub none_past : (e : Entry) (t : Thing) → things ≤ thing_index t → amount_in books e t ≡ pos 0
   none_past e t past =
       elim (get books.amounts (e, t)) as (λ o. get books.amounts (e, t) ≡ o → unwrap_or o (pos 0) ≡ pos 0) [
@@ -203,7 +203,7 @@ module _ (things : ℕ) (books : BooksValue) (are : AreBooks things books) where
         | Some z ↦ λ is. let there = (are.listed e t z is).0 in absurd (omega arith)
       ] refl
 
-  -- the sum of a thing whose number is not below the number of things is 0
+  -- in books of `things` things, the sum of the amounts of a thing whose number is `things` or more is 0
   pub booked_past : (t : Thing) → things ≤ thing_index t → booked books t ≡ pos 0
   booked_past t past = none_booked books t (λ e. none_past e t past)
 
@@ -219,15 +219,15 @@ same_books things a b are also same =
 
 -- ---- how great the amounts are
 
--- an amount within bound, raised by n, is within each bound from bound + n on
+-- an amount from -bound to bound (`IsWithin`), raised by n, is within each bound from bound + n on
 grows : (z y : ℤ) (bound n more : ℕ) → y ≡ z +ℤ pos n → IsWithin bound z → bound + n ≤ more → IsWithin more y
 grows z y bound n more e h l = record { most = omega (arith, ints, h.most); least = omega (arith, ints, h.least) }
 
--- an amount within bound is within each bound from bound + n on
+-- an amount from -bound to bound (`IsWithin`) is within each bound from bound + n on
 stays : (z y : ℤ) (bound n more : ℕ) → y ≡ z → IsWithin bound z → bound + n ≤ more → IsWithin more y
 stays z y bound n more e h l = record { most = omega (arith, ints, h.most); least = omega (arith, ints, h.least) }
 
--- if all amounts are within bound, then all are within each bound from bound + n on once n is booked
+-- if all amounts are from -bound to bound (`IsWithin`), all are within each bound from bound + n on once n is booked
 pub IsWithin-after_booking : (books : BooksValue) (e : Entry) (u : Thing) (n bound more : ℕ) → ((f : Entry) (t : Thing) → IsWithin bound (amount_in books f t)) → bound + n ≤ more → (f : Entry) (t : Thing)
     → IsWithin more (amount_in (after_booking books e u (pos n)) f t)
 IsWithin-after_booking books e u n bound more old l f t =
@@ -236,6 +236,6 @@ IsWithin-after_booking books e u n bound more old l f t =
       | inr is ↦ stays _ _ bound n more is (old f t) l
     ]
 
--- an amount within a bound of at most 4 * 10^18 is small (`IsSmall`)
+-- an amount from -bound to bound, with a bound of at most 4 * 10^18, is from -2^62 - 1 to 2^62 (`IsSmall`)
 pub IsSmall-within : (z : ℤ) (bound : ℕ) → IsWithin bound z → bound ≤ 4000000000000000000 → IsSmall z
 IsSmall-within z bound h l = (omega (arith, ints, h.most), omega (arith, ints, h.least))

@@ -16,7 +16,7 @@ pub entry_there : (e : Entry) → slice_get all_entries (entry_index e) ≡ Some
 entry_there Founding = refl
 entry_there _ = refl
 
--- the entry with the number of e is e
+-- entry_numbered gives for the number of an entry e, which is its index plus 1, the entry e
 pub numbered_entry : (e : Entry) → entry_numbered (entry_index e + 1) ≡ Some e
 numbered_entry Founding = refl
 numbered_entry _ = refl

@@ -13,7 +13,7 @@ use Rattle.atl_tables.proofs.SumLaws.{chosen-cons}
 use Rattle.atl_records.specs.Every.{EachOf, Every, IsThere}
 use Rattle.std.proofs.lemmas.Bool.Decides.{nat_tests}
 
--- a truth value that holds is true
+-- a Bool that holds as a proposition (`T b`) is true
 pub is_true : (b : Bool) → T b → b ≡ true
 is_true true h = refl
 is_true false h = absurd h
@@ -42,7 +42,7 @@ module _ {V : Type 0} where
   abbrev at_or : FinMap nat_cmp V → ℕ → V → ℕ → Option V
   at_or m k v n = cond (is_eq (nat_cmp n k)) (Some v) (get m n)
 
-  -- a number that has a value by at_or has one in the map with v under k
+  -- if at_or gives a value for n, the map with v put under k has a value under n
   there_by : (m : FinMap nat_cmp V) (k n : ℕ) (v : V) → (x : V) × (at_or m k v n ≡ Some x) → IsThere (insert m k v) n
   there_by m k n v (x, is) = (x, get-insert nat_cmp_total m k v n ∙ is)
 
@@ -114,7 +114,7 @@ module _ {V : Type 0} where
   each_of P [] s h = tt
   each_of P (e ∷ es) s h = (h e.0 e.1 (first e es), each_of P es (and_parts _ _ s).1 (λ n v is. h n v (later e es n v s is)))
 
-  -- the entries of a map are sorted
+  -- the list of a map by number (`entries`) is sorted by number
   pub sorted : (m : FinMap nat_cmp V) → is_sorted nat_cmp (entries m) ≡ true
   sorted m = is_true _ (entries_sorted m)
 
@@ -126,7 +126,7 @@ module _ {V : Type 0} where
   pub each-from_every : (P : ℕ → V → Type 0) (m : FinMap nat_cmp V) → Every P m → EachOf P (entries m)
   each-from_every P m h = each_of P (entries m) (sorted m) (λ n v is. h n v (get-entries m n ∙ is))
 
-  -- a value found in a list, of which no entry passes a test, fails it
+  -- if no entry of a list has a value that passes a test, each value that is found in the list fails it
   fails : (p : V → Bool) (es : List (ℕ × V)) (n : ℕ) (v : V) → list_any (λ e. p e.1) es ≡ false → find nat_cmp n es ≡ Some v → p v ≡ false
   fails p [] n v h is = none_some v is
   fails p (e ∷ es) n v h is =
@@ -142,7 +142,7 @@ module _ {V : Type 0} where
       or_parts true b h = cc
       or_parts false b h = (refl, h)
 
-  -- no value passes a test that no entry passes
+  -- if no entry in a map's list has a value that passes a test, every value of the map fails it
   pub every-from_none : (p : V → Bool) (m : FinMap nat_cmp V) → list_any (λ e. p e.1) (entries m) ≡ false → Every (λ n v. p v ≡ false) m
   every-from_none p m h n v is = fails p (entries m) n v h (sym (get-entries m n) ∙ is)
 
@@ -157,11 +157,11 @@ module _ {V : Type 0} where
     abbrev Passing : List (ℕ × V) → ℕ → Type 0
     Passing es n = (v : V) × (find nat_cmp n es ≡ Some v) × (p v ≡ true)
 
-    -- a number with a value that passes in the rest of a sorted list has one in the whole list
+    -- a number under which a sorted list without its first entry has a value that passes has one in the whole list
     behind : (e : ℕ × V) (es : List (ℕ × V)) (n : ℕ) → is_sorted nat_cmp (e ∷ es) ≡ true → Passing es n → Passing (e ∷ es) n
     behind e es n s (v, is, h) = (v, later e es n v s is, h)
 
-    -- each chosen number has a value that passes, if each chosen number of the rest has
+    -- each chosen number of a sorted list has a value that passes, if so does each of the list without its first entry
     listed_in : (b : Bool) (e : ℕ × V) (es : List (ℕ × V)) → p e.1 ≡ b → is_sorted nat_cmp (e ∷ es) ≡ true → (d : ℕ) → ((i : ℕ) → i < length (chosen es) → Passing es (get_or (chosen es) i d))
         → (i : ℕ) → i < length (cond b (e.0 ∷ chosen es) (chosen es)) → Passing (e ∷ es) (get_or (cond b (e.0 ∷ chosen es) (chosen es)) i d)
     listed_in true e es t s d rest zero h = (e.1, first e es, t)

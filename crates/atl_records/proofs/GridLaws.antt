@@ -53,7 +53,7 @@ each_listed : (e : Entry) → list_any (λ d. entry_index d == entry_index e) al
 each_listed Founding = refl
 each_listed _ = refl
 
--- an account is among those of its entry with things from a to a + n, if its thing is
+-- an account is among those of its entry with the n things from number a on, if its thing is one of these
 any_under : (e : Entry) (t : Thing) (a n : ℕ) → a ≤ thing_index t → thing_index t < a + n → list_any (eq_by_cmp account_cmp (e, t)) (map (λ i. (e, thing_at i)) (range_with_len a n)) ≡ true
 any_under e t a zero l h = absurd (omega arith)
 any_under e t a (suc n) l h =
@@ -63,13 +63,13 @@ any_under e t a (suc n) l h =
       | inr apart ↦ or_later (eq_by_cmp account_cmp (e, t) (e, thing_at a)) others (any_under e t (a + 1) n (omega arith) (omega arith))
     ]
 
--- an account is among all accounts of the first things, if its thing is one of them
+-- an account is among the accounts of all entries with the things below `things`, if its thing is one of these
 pub any_accounts : (things : ℕ) (e : Entry) (t : Thing) → thing_index t < things → list_any (eq_by_cmp account_cmp (e, t)) (accounts things) ≡ true
 any_accounts things e t h = any_flat (eq_by_cmp account_cmp (e, t)) (accounts_under things) e all_entries (each_listed e) (any_under e t 0 things (omega arith) (omega arith))
 
 -- ---- the books that rows stand for
 
--- books that are `filled` list the given amount of each chosen account, and the other accounts as before
+-- books that are `filled` list the given amount of each chosen account (entry and thing) if not 0, and others as before
 get-filled : (amount : Account → ℤ) (chosen : List Account) (books : BooksValue) (a : Account) → get (filled amount chosen books).amounts a ≡ cond (list_any (eq_by_cmp account_cmp a) chosen) (listed (amount a)) (get books.amounts a)
 get-filled amount [] books a = refl
 get-filled amount (c ∷ others) books a =
@@ -83,16 +83,16 @@ get-filled amount (c ∷ others) books a =
           ap (λ b. cond b (listed (amount c)) old) apart ∙ get-filled amount others books a ∙ sym (ap (λ b. cond (b || later) (listed (amount a)) (get books.amounts a)) apart)
     ]
 
--- the cell of a thing without a row is 0
+-- each cell of a thing without a row is 0
 cell_past : (rows : List (List ℤ)) (a : Account) → length rows ≤ thing_index a.1 → cell rows a ≡ pos 0
 cell_past rows a past = ap (λ row. get_or row (entry_index a.0) (pos 0)) (get_or_past rows (thing_index a.1) [] past)
 
--- the books that rows stand for count as many things as there are rows
+-- the books that the code's rows stand for (`as_books`) have as many things as there are rows
 pub things-as_books : (rows : List (List ℤ)) → (as_books rows).things ≡ length rows
 unfolding as_books
 things-as_books rows = refl
 
--- the books that rows stand for list each cell that is not 0
+-- the books that the code's rows stand for (`as_books`) list each cell that is not 0, and no other
 get-as_books : (rows : List (List ℤ)) (a : Account) → get (as_books rows).amounts a ≡ listed (cell rows a)
 unfolding as_books
 get-as_books rows a =
@@ -106,11 +106,11 @@ get-as_books rows a =
           ]
     ]
 
--- an amount of the books that rows stand for is its cell
+-- each amount of the books that the code's rows stand for (`as_books`) is that in its cell
 pub amount-as_books : (rows : List (List ℤ)) (e : Entry) (t : Thing) → amount_in (as_books rows) e t ≡ cell rows (e, t)
 amount-as_books rows e t = ap (λ o. unwrap_or o (pos 0)) (get-as_books rows (e, t)) ∙ amount_listed (cell rows (e, t))
 
--- the books that rows stand for satisfy AreBooks, with as many things as rows
+-- the books that the code's rows stand for are books of as many things as there are rows (`AreBooks`)
 pub AreBooks-as_books : (rows : List (List ℤ)) → AreBooks (length rows) (as_books rows)
 AreBooks-as_books rows =
     record {
@@ -133,7 +133,7 @@ get_or-replicate_same n i a = elim (cases_lt i n) [ inl h ↦ get_or-replicate n
 abbrev no_row : List ℤ
 no_row = replicate entry_count (pos 0)
 
--- each cell of rows of 0 is 0
+-- each cell of rows in which each amount is 0 is 0, also of a thing without a row
 cell-replicate : (things : ℕ) (a : Account) → cell (replicate things no_row) a ≡ pos 0
 cell-replicate things a =
     elim (cases_lt (thing_index a.1) things) [
@@ -141,7 +141,7 @@ cell-replicate things a =
       | inr h ↦ let past : things ≤ thing_index a.1 = h in cell_past (replicate things no_row) a (rw length-replicate past)
     ]
 
--- rows of 0 stand for books in which every amount is 0
+-- rows in which each amount is 0 stand for books in which each amount is 0 (`no_amounts`)
 pub as_books-replicate : (things : ℕ) → as_books (replicate things (replicate entry_count (pos 0))) ≡ no_amounts things
 as_books-replicate things =
     let rows = replicate things no_row in
@@ -159,7 +159,7 @@ module _ (rows : List (List ℤ)) (grid : IsGrid rows) (e : Entry) (t : Thing) (
   wide : length (row_of rows t) ≡ entry_count
   wide = grid.wide (thing_index t) [] there
 
-  -- rows that are a grid still are once a cell is written
+  -- rows that are a grid, with entry_count amounts in each row, still are once a cell is written (`IsGrid`)
   pub IsGrid-with_cell : IsGrid (with_cell rows e t z)
   IsGrid-with_cell =
       record {
@@ -191,7 +191,7 @@ module _ (rows : List (List ℤ)) (grid : IsGrid rows) (e : Entry) (t : Thing) (
             ap (λ r. get_or r (entry_index a.0) (pos 0)) (get_or-set_other rows (thing_index t) (thing_index a.1) new [] apart) ∙ sym (ap choice (apart_things a (e, t) apart))
       ]
 
-  -- rows with a cell written stand for the books with that amount set
+  -- rows with z written into a cell stand for the books with z set under the cell's entry and thing
   pub as_books-with_cell : as_books (with_cell rows e t z) ≡ with_amount (as_books rows) e t z
   as_books-with_cell =
       same_value (as_books (with_cell rows e t z)) (with_amount (as_books rows) e t z) (things-as_books (with_cell rows e t z) ∙ length-set rows (thing_index t) new ∙ sym (things-as_books rows))
@@ -201,14 +201,14 @@ module _ (rows : List (List ℤ)) (grid : IsGrid rows) (e : Entry) (t : Thing) (
 
 -- ---- the sum of a row
 
--- a row is the list of its amounts by entries
+-- a row of entry_count amounts is the list of its amounts at the indices of all entries, in their order
 row_listed : (row : List ℤ) → length row ≡ entry_count → map (λ e. get_or row (entry_index e) (pos 0)) all_entries ≡ row
 row_listed row size =
     ext_get_or (pos 0) (map (λ e. get_or row (entry_index e) (pos 0)) all_entries) row (length-map all_entries (λ e. get_or row (entry_index e) (pos 0)) ∙ sym size) (λ i h.
     let small : i < entry_count = omega (arith, h, length-map all_entries (λ e. get_or row (entry_index e) (pos 0))) in
     get_or-map (λ e. get_or row (entry_index e) (pos 0)) all_entries i Founding (pos 0) small ∙ ap (λ k. get_or row k (pos 0)) (entry_in_place i small))
 
--- the sum of a thing's amounts is the sum of its row
+-- the sum of a thing's amounts in the books that rows stand for is the sum of the thing's row
 booked-as_books : (rows : List (List ℤ)) (t : Thing) → IsGrid rows → thing_index t < length rows → booked (as_books rows) t ≡ sum_of (row_of rows t)
 unfolding booked
 booked-as_books rows t grid there =
@@ -217,7 +217,7 @@ booked-as_books rows t grid there =
 
 -- ---- for the code of Books
 
--- a thing of the books has a row
+-- if rows stand for books, each thing of these books has a row
 pub grid_there : (rows : List (List ℤ)) (books : BooksValue) (t : Thing) → as_books rows ≡ books → thing_index t < books.things → thing_index t < length rows
 grid_there rows books t is there = let size = ap (λ (b : BooksValue). b.things) (sym is) ∙ things-as_books rows in omega (arith, size, there)
 
@@ -229,7 +229,7 @@ row_read rows t place row is at there = is ∙ ap (λ k. get_or rows k row) at �
 pub cell_read : (rows : List (List ℤ)) (e : Entry) (t : Thing) (place k : ℕ) (row : List ℤ) → row ≡ get_or rows place row → place ≡ thing_index t → k ≡ entry_index e → thing_index t < length rows → get_or row k (pos 0) ≡ cell rows (e, t)
 cell_read rows e t place k row is at entry there = let its = row_read rows t place row is at there in λ i. get_or (its i) (entry i) (pos 0)
 
--- an amount written at the indices of an account's row and column gives with_cell
+-- rows in which z is written at the indices of an account's row and column are those with z in its cell (`with_cell`)
 pub cell_written : (rows : List (List ℤ)) (e : Entry) (t : Thing) (place k : ℕ) (row : List ℤ) (x z : ℤ) → row ≡ get_or rows place row → place ≡ thing_index t → k ≡ entry_index e → x ≡ z → thing_index t < length rows → set rows place (set row k x) ≡ with_cell rows e t z
 cell_written rows e t place k row x z is at entry value there = let its = row_read rows t place row is at there in λ i. set rows (at i) (set (its i) (entry i) (value i))
 

@@ -10,12 +10,12 @@ use Rattle.atl_tables.proofs.CountLaws.{BeginsFrom, begins_later, begins_same}
 use Rattle.atl_records.specs.Limits.{most_u32}
 use Rattle.atl_records.specs.Levels.{greatest, days_for}
 
--- a number that passes is the greatest up to itself that passes
+-- a number that passes a test is the greatest up to itself that passes it
 pub greatest_here : (passes : ℕ → Bool) (n : ℕ) → passes n ≡ true → n ≡ greatest passes n
 greatest_here passes zero h = refl
 greatest_here passes (suc n) h = sym (ap (λ b. if b then suc n else greatest passes n) h)
 
--- the greatest up to a number that fails is the greatest up to the number before it
+-- if n fails a test, the greatest number up to n that passes it is the greatest up to n - 1
 pub greatest_below : (passes : ℕ → Bool) (n m : ℕ) → n ≡ m + 1 → passes n ≡ false → greatest passes n ≡ greatest passes m
 greatest_below passes zero m e h = absurd (omega arith)
 greatest_below passes (suc n) m e h = let same : n ≡ m = omega arith in ap (λ b. if b then suc n else greatest passes n) h ∙ ap (greatest passes) same
@@ -31,8 +31,8 @@ unreached_level_is_above_0 (suc n) men days h = omega arith
 pub added : (sum x rest whole all : ℕ) → whole ≡ x + rest → sum + whole ≡ all → (sum + x) + rest ≡ all
 added sum x rest whole all h e = omega (arith, h, e)
 
--- a bound of most_u32 * most_weight for each item below `low` on a sum still holds after the next item adds its x, with
--- some `next` in place of `low`; an item that no world has adds 0
+-- a sum of at most most_u32 * most_weight * low is, with the x of the next item of a sorted list, at most most_u32 *
+-- most_weight * next for some `next` of at most most_items; an item that no world has adds 0
 pub fits_next : (low sum x : ℕ) (e : ℕ × ℕ) (es : List (ℕ × ℕ)) → is_sorted nat_cmp (e ∷ es) ≡ true → low ≤ most_items → sum ≤ (most_u32 * most_weight) * low → low ≤ e.0 → x ≤ (most_u32 * most_weight) → (most_items ≤ e.0 → x ≡ 0)
     → (next : ℕ) × (next ≤ most_items) × (sum + x ≤ (most_u32 * most_weight) * next) × BeginsFrom next es
 fits_next low sum x e es sorted few fits from small far =

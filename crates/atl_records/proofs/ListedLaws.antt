@@ -1,4 +1,4 @@
--- Laws of the books' entries: they are the accounts in order, with the amounts that are not 0.
+-- Laws of the list of the books' amounts: it has the accounts in order, with the amounts that are not 0.
 use Rattle.std.proofs.Common.{◌≡◌, ℕ, zero, suc, ◌<◌, ◌+◌, ◌&&◌, ◌||◌, T, Bool, true, false, not, cond, List, [], ◌∷◌, ◌++◌, length, map, Option, Some, None, refl, sym, ap, subst, ◌∙◌, arith, inl, inr}
 use Rattle.std.specs.Prelude.{ℤ, ⊤, nat_lt}
 use Rattle.std.specs.List.{AllByRecursion, flat_map, list_all, list_any, range_with_len}
@@ -19,11 +19,11 @@ use Rattle.atl_records.proofs.GridLaws.{any_accounts}
 
 -- ---- sorted accounts
 
--- account a is less than each account of a list, by account_cmp
+-- account a (an entry with a thing) is less than each account of a list, by account_cmp
 abbrev pub Behind : Account → List Account → Type 0
 Behind a chosen = AllByRecursion (λ c. account_cmp a c ≡ Less) chosen
 
--- a list of accounts is strictly sorted by account_cmp
+-- a list of accounts (entries with things) is strictly sorted by account_cmp
 abbrev pub Rise : List Account → Type 0
 Rise [] = ⊤
 Rise (a ∷ others) = Behind a others × Rise others
@@ -42,7 +42,7 @@ all_append : {A : Type 0} (P : A → Type 0) (xs ys : List A) → AllByRecursion
 all_append P [] ys h k = k
 all_append P (x ∷ xs) ys h k = (h.0, all_append P xs ys h.1 k)
 
--- two sorted lists of accounts, each of the first less than all of the second, are sorted together
+-- two sorted lists of accounts, each account of the first less than all of the second, are one sorted list together
 rise_append : (xs ys : List Account) → Rise xs → Rise ys → AllByRecursion (λ x. Behind x ys) xs → Rise (xs ++ ys)
 rise_append [] ys h k all = k
 rise_append (x ∷ xs) ys h k all = (all_append (λ c. account_cmp x c ≡ Less) xs ys h.0 all.0, rise_append xs ys h.1 k all.1)
@@ -52,12 +52,12 @@ all_under : (P : Account → Type 0) (e : Entry) (numbers : List ℕ) → ((i : 
 all_under P e [] h = tt
 all_under P e (i ∷ numbers) h = (h i, all_under P e numbers h)
 
--- an entry's account with thing i is less than its accounts with things from a > i
+-- an entry's account with thing i is less than its accounts with the n things from number a on, if i is below a
 behind_under : (e : Entry) (i a n : ℕ) → i < a → Behind (e, thing_at i) (map (λ k. (e, thing_at k)) (range_with_len a n))
 behind_under e i a zero h = tt
 behind_under e i a (suc n) h = (less_thing e i a h, behind_under e i (a + 1) n (omega arith))
 
--- the accounts of an entry with the things from a to a + n are sorted
+-- the accounts of an entry with the n things from number a on are sorted
 under_rise : (e : Entry) (a n : ℕ) → Rise (map (λ i. (e, thing_at i)) (range_with_len a n))
 under_rise e a zero = tt
 under_rise e a (suc n) = (behind_under e a (a + 1) n (omega arith), under_rise e (a + 1) n)
@@ -68,7 +68,7 @@ are_rising [] = true
 are_rising (e ∷ es) = list_all (λ d. nat_lt (entry_index e) (entry_index d)) es && are_rising es
 
 module _ (things : ℕ) where
-  -- an account is less than all accounts of higher entries
+  -- an account is less than all accounts of entries with higher indices than its own
   behind_flat : (a : Account) (es : List Entry) → list_all (λ d. nat_lt (entry_index a.0) (entry_index d)) es ≡ true → Behind a (flat_map (accounts_under things) es)
   behind_flat a [] h = tt
   behind_flat a (d ∷ es) h =
@@ -86,12 +86,12 @@ module _ (things : ℕ) where
       rise_append (accounts_under things e) (flat_map (accounts_under things) es) (under_rise e 0 things) (flat_rise es parts.1)
       (all_under (λ x. Behind x (flat_map (accounts_under things) es)) e (range_with_len 0 things) (λ i. behind_flat (e, thing_at i) es parts.0))
 
-  -- the accounts of all entries with the first things are sorted by account_cmp
+  -- the accounts of all entries with the things whose numbers are below `things` are sorted by account_cmp
   accounts_rise : Rise (accounts things)
   unfolding are_rising
   accounts_rise = flat_rise all_entries refl
 
--- the entries of a map by accounts are sorted
+-- the list of a map from accounts to amounts (`entries`) is sorted by account_cmp
 pub amounts_sorted : (m : FinMap account_cmp ℤ) → is_sorted account_cmp (entries m) ≡ true
 amounts_sorted m = is_true _ (entries_sorted m)
 
@@ -123,7 +123,7 @@ module _ (amount : Account → ℤ) where
         | false ↦ ap (λ b. b && is_sorted account_cmp rest) (behind_listed c others h.0) ∙ sorted_listed others h.1
       ]
 
-  -- a chosen account is found with its amount where that is not 0, another is not found
+  -- in the listed amounts a chosen account is found with its amount if that isn't 0, and no other account is found
   find-listed : (a : Account) (chosen : List Account) → find account_cmp a (listed_of amount chosen) ≡ cond (list_any (eq_by_cmp account_cmp a) chosen) (listed (amount a)) None
   find-listed a [] = refl
   find-listed a (c ∷ others) =
@@ -145,7 +145,7 @@ module _ (amount : Account → ℤ) where
             ] ∙ sym (ap (λ b. cond (b || later) (listed (amount a)) None) apart)
       ]
 
--- the entries of the books are the amounts, where not 0, of all accounts in order
+-- the list of the books' amounts (`entries`) has those of all accounts in order, without the amounts that are 0
 pub entries-amounts : (things : ℕ) (books : BooksValue) → AreBooks things books → entries books.amounts ≡ listed_of (λ a. amount_in books a.0 a.1) (accounts things)
 entries-amounts things books are =
     let amount = λ (a : Account). amount_in books a.0 a.1 in
@@ -180,14 +180,14 @@ later_found e es a z h is =
     ]
 
 module _ (P : Account → ℤ → Type 0) where
-  -- if P holds of each amount found in a sorted list, it holds of each of its entries
+  -- if P holds of each account and amount found in a sorted list, it holds of each element of the list
   each_of : (es : List (Account × ℤ)) → is_sorted account_cmp es ≡ true → ((a : Account) (z : ℤ) → find account_cmp a es ≡ Some z → P a z) → AllByRecursion (λ x. P x.0 x.1) es
   each_of [] s h = tt
   each_of (e ∷ es) s h =
       let parts = and_parts (below_all account_cmp e.0 es) (is_sorted account_cmp es) s in
       (h e.0 e.1 (ap (λ b. cond b (Some e.1) (find account_cmp e.0 es)) (account_itself e.0)), each_of es parts.1 (λ a z is. h a z (later_found e es a z parts.0 is)))
 
-  -- if P holds of each entry of a list, it holds of each amount found in it
+  -- if P holds of each element of a list, it holds of each account and amount found in it
   found_of : (es : List (Account × ℤ)) (a : Account) (z : ℤ) → AllByRecursion (λ x. P x.0 x.1) es → find account_cmp a es ≡ Some z → P a z
   found_of [] a z h is = none_some z is
   found_of (e ∷ es) a z h is =
@@ -199,15 +199,15 @@ module _ (P : Account → ℤ → Type 0) where
         | inr apart ↦ found_of es a z h.1 (sym (ap (λ b. cond b (Some e.1) (find account_cmp a es)) apart) ∙ is)
       ]
     where
-      -- equal Some's have equal amounts
+      -- if Some x and Some y are equal, the amounts x and y are
       inside : (x y : ℤ) → Some x ≡ Some y → x ≡ y
       inside x y e = cc
 
-  -- if P holds of each amount of a map, it holds of each of its entries
+  -- if P holds of each account and amount of a map, it holds of each element of the map's list (`entries`)
   pub each_amount : (m : FinMap account_cmp ℤ) → ((a : Account) (z : ℤ) → get m a ≡ Some z → P a z) → AllByRecursion (λ x. P x.0 x.1) (entries m)
   each_amount m h = each_of (entries m) (amounts_sorted m) (λ a z is. h a z (get-entries m a ∙ is))
 
-  -- if P holds of each entry of a map, it holds of each amount
+  -- if P holds of each element of a map's list (`entries`), it holds of each account and amount of the map
   pub amount_of_each : (m : FinMap account_cmp ℤ) → AllByRecursion (λ x. P x.0 x.1) (entries m) → (a : Account) (z : ℤ) → get m a ≡ Some z → P a z
   amount_of_each m h a z is = found_of (entries m) a z h (sym (get-entries m a) ∙ is)
 
@@ -216,6 +216,6 @@ no_length : {A : Type 0} (xs : List A) → length xs ≡ 0 → xs ≡ []
 no_length [] h = refl
 no_length (x ∷ xs) h = absurd (omega arith)
 
--- the empty map has no entries
+-- the list of the empty map (`entries`) is empty
 pub entries-none : entries (empty {X = ℤ} {R = account_cmp}) ≡ []
 entries-none = no_length (entries (empty {X = ℤ} {R = account_cmp})) (sym (len-entries (empty {X = ℤ} {R = account_cmp})) ∙ len-empty account_cmp ℤ)

@@ -52,11 +52,11 @@ module _ {V : Type 0} (m : FinMap nat_cmp V) (k : ℕ) where
       less true x y h = omega arith
       less false x y h = omega arith
 
-  -- the sum over a map without k, and f of k's value, is the sum over the map
+  -- the sum of f over a map without number k, plus f of k's value, is the sum of f over the map
   pub sum_over-remove : (f : V → ℕ) (v : V) → get m k ≡ Some v → sum_over f (remove m k) + f v ≡ sum_over f m
   sum_over-remove f v is = sym (sum_over-insert_new f (remove m k) k v get-remove_same) ∙ ap (sum_over f) (sym (put_back m k v is))
 
--- if P holds of the value put under k, and of each value under another number, it holds of every value
+-- if P holds of the value put under k, and of each value under another number, it holds of every value of the new map
 pub every-insert_other : {V : Type 0} (P : ℕ → V → Type 0) (m : FinMap nat_cmp V) (k : ℕ) (v : V) → P k v → ((n : ℕ) (x : V) → n ≢ k → get m n ≡ Some x → P n x) → Every P (insert m k v)
 every-insert_other P m k v here others n x is =
     elim (nat_cmp n k) as (λ o. nat_cmp n k ≡ o → cond (is_eq o) (Some v) (get m n) ≡ Some x → P n x) [

@@ -11,11 +11,11 @@ pub record IsGrid (rows : List (List ℤ)) : Type 0 where
   pub few : length rows ≤ possible_things
   pub wide : All (λ row. length row ≡ entry_count) rows
 
--- the row of a thing, empty where there is none
+-- the row of a thing, empty for a thing without a row
 abbrev pub row_of : List (List ℤ) → Thing → List ℤ
 row_of rows t = slice_index_or rows (thing_index t) []
 
--- the amount in an account's row and column, 0 where there is none
+-- the amount in an account's row and column (its thing and its entry), 0 for a thing without a row
 abbrev pub cell : List (List ℤ) → Account → ℤ
 cell rows a = slice_index_or (row_of rows a.1) (entry_index a.0) (pos 0)
 
@@ -23,7 +23,7 @@ cell rows a = slice_index_or (row_of rows a.1) (entry_index a.0) (pos 0)
 abbrev pub with_cell : List (List ℤ) → Entry → Thing → ℤ → List (List ℤ)
 with_cell rows e t amount = slice_set rows (thing_index t) (slice_set (row_of rows t) (entry_index e) amount)
 
--- the accounts of an entry with each thing whose number is below `things`, by number
+-- the accounts of an entry with each thing whose number is below `things`, in the order of these numbers
 abbrev pub accounts_under : ℕ → Entry → List Account
 accounts_under things e = map (λ i. (e, thing_at i)) (range_with_len 0 things)
 
@@ -31,7 +31,7 @@ accounts_under things e = map (λ i. (e, thing_at i)) (range_with_len 0 things)
 abbrev pub accounts : ℕ → List Account
 accounts things = flat_map (accounts_under things) all_entries
 
--- the books with the amount of each account of a list set to what `amount` gives
+-- the books with the amount of each account (an entry with a thing) of a list set to what `amount` gives
 abbrev pub filled : (Account → ℤ) → List Account → BooksValue → BooksValue
 filled amount [] books = books
 filled amount (a ∷ others) books = with_amount (filled amount others books) a.0 a.1 (amount a)
@@ -40,6 +40,6 @@ filled amount (a ∷ others) books = with_amount (filled amount others books) a.
 unfoldable pub as_books : List (List ℤ) → BooksValue
 as_books rows = record { things = length rows; amounts = (filled (cell rows) (accounts (length rows)) (no_amounts (length rows))).amounts }
 
--- the accounts of a list with their amounts, without those whose amount is 0
+-- the accounts of a list (each an entry with a thing) with their amounts, without those whose amount is 0
 abbrev pub listed_of : (Account → ℤ) → List Account → List (Account × ℤ)
 listed_of amount chosen = filter (λ x. not (is_zero x.1)) (map (λ a. (a, amount a)) chosen)

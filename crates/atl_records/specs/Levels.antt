@@ -44,7 +44,7 @@ weight_of w item = option_map_or (λ x. x.weight) (slice_get w.items item) 0
 abbrev pub carry_of : WorldValue → ℕ → ℕ
 carry_of w item = option_map_or (λ x. x.carry) (slice_get w.items item) 0
 
--- what one piece of an item weighs or carries
+-- what one piece of an item weighs, or what it carries, as the measure says; 0 for an item that the world does not have
 abbrev pub measure_of : Measure → WorldValue → ℕ → ℕ
 measure_of Weight w item = weight_of w item
 measure_of Carry w item = carry_of w item

@@ -57,7 +57,7 @@ possible_things = 2 + (most_u16 + 1)
 abbrev pub most_map_entries : ℕ
 most_map_entries = most_u32 + 1
 
--- a bound on the money, and on the peasants, of all regions together at founding
+-- a bound on the money, and one on the peasants, of all regions together at founding
 abbrev pub most_founded : ℕ
 most_founded = 100000000000000
 
@@ -65,11 +65,11 @@ most_founded = 100000000000000
 abbrev pub most_structures : ℕ
 most_structures = 10000
 
--- the most by which a month changes an amount of the books, up or down
+-- a bound on how much a month changes an amount of the books, up or down
 abbrev pub most_in_month : ℕ
 most_in_month = 200000000000000
 
--- the most by which the joining of a faction changes an amount of the books
+-- a bound on how much the joining of a faction changes an amount of the books
 abbrev pub most_in_joining : ℕ
 most_in_joining = 1000000000
 

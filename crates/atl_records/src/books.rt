@@ -154,6 +154,7 @@ pub struct Books {
     rows: Vec<[i64; ENTRY_COUNT]>,
 }
 
+/// Contracts see the books as a `BooksValue`: how many things, and the amounts that are not 0.
 impl Model for Books {
     ghost use Rattle.atl_records.specs.Books.{BooksValue, books_code};
 

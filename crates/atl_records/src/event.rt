@@ -6,7 +6,7 @@ use atl_tables::{name_of, variants};
 use std::error::Error;
 use std::fmt;
 
-/// What an event reports on: an order, or a unit's upkeep.
+/// What an event reports on: an order, a unit's work without an order, or its upkeep.
 #[derive(Drop, Clone, Copy, Debug, PartialEq, Eq)]
 pub enum EventVerb {
     /// An order of a mailing, or the work of a unit without one.
@@ -35,9 +35,9 @@ impl EventVerb {
 pub enum EventFault {
     /// The unit isn't there, or is another faction's.
     NotYours = 1,
-    /// The unit or structure isn't in the same region, or not inside the same structure.
+    /// The other unit or the structure isn't in the region, or that unit isn't in the structure.
     NotHere = 2,
-    /// Less is held than the order asks for.
+    /// The unit holds too little for the order.
     NotEnough = 3,
     /// The receiver can't hold so much more.
     NoRoom = 4,
@@ -67,15 +67,15 @@ pub enum EventFault {
     StructureLimit = 16,
     /// There is no region in that direction, or none that the order (MOVE or SAIL) can enter.
     NoWay = 17,
-    /// The load is more than can be carried.
+    /// The goods are too heavy for the unit, or men and goods are too heavy for the ship.
     TooHeavy = 18,
-    /// The ship isn't complete.
+    /// The structure is no ship, or one that isn't complete.
     NotComplete = 19,
     /// The sailors are too few.
     NoCrew = 20,
     /// No unit of the list learns in the region.
     NotLearning = 21,
-    /// No unit of the list that learns has a level below the teacher's.
+    /// No unit of the list that learns in the region has a level below the teacher's.
     CannotTeach = 22,
     /// The unit can't pay the fee.
     NoFee = 23,
@@ -133,11 +133,11 @@ impl fmt::Display for EventFault {
 
 impl Error for EventFault {}
 
-/// The outcome of an order, or of a unit's upkeep: done, a fault, or men that starved.
+/// What came of an order, of work without one, or of upkeep: done, a fault, or men that starved.
 #[derive(Drop, Clone, Copy, Debug, PartialEq, Eq)]
 pub enum Outcome {
-    /// The order was carried out. The number is the one that the order's rule names (a unit that
-    /// was formed, or how many men, days, pieces or how much money), or 0 where it names none.
+    /// The order or the work was carried out. The number is the one that its rule names (a unit
+    /// that was formed, or how many men, days, pieces or how much money), or 0 where it names none.
     Done(u64),
     /// The order was not carried out, for the fault with this number (`EventFault::number`).
     Fault(u8),
@@ -145,18 +145,18 @@ pub enum Outcome {
     Starved(u64),
 }
 
-/// An event of a month: one order, or a unit's upkeep, and its outcome.
+/// An event of a month: an order, a unit's work without an order, or its upkeep, and the outcome.
 #[derive(Drop, Clone, Copy, Debug, PartialEq, Eq)]
 pub struct Event {
     /// The number of the faction whose report has the event: the one that wrote the order, or whose
     /// unit it is.
     pub faction: u32,
-    /// The number of the unit that the order is for, or 0 for an alias without a unit.
+    /// The number of the unit that the event is of, or 0 in the block of a FORM that failed.
     pub unit: u32,
-    /// The line of the mailing, counted from 1, or 0 where no line orders it.
+    /// The order's line in the mailing, counted from 1, or 0 for work without an order and upkeep.
     pub line: u32,
-    /// The order's verb, or upkeep.
+    /// The order's verb, WORK for work without an order, or upkeep.
     pub verb: EventVerb,
-    /// The outcome of the order or the upkeep.
+    /// What came of the order, the work or the upkeep.
     pub outcome: Outcome,
 }

@@ -18,7 +18,7 @@ pub struct Holding {
     guard: bool,
     // How many pieces of each item are held, where they are not 0.
     items: Numbered<u32>,
-    // The days of each skill over all men, where they are not 0.
+    // The days of each skill over all men, where they are not 0, or a stored row lists them with 0.
     days: Numbered<u32>,
 }
 
@@ -28,6 +28,7 @@ impl Drop for Holding {
     }
 }
 
+/// Contracts see a holding as a `HoldingValue`, with the same six fields.
 impl Model for Holding {
     ghost use Rattle.std.specs.Prelude.{◌≤◌};
     ghost use Rattle.atl_records.specs.Holdings.{HoldingValue, holding_code, IsHolding};
@@ -137,14 +138,14 @@ impl Holding {
         self.items.iter()
     }
 
-    /// The days of study over all men in each skill, where they are not 0, sorted by skill number.
+    /// The days of study over all men in each skill that is listed, sorted by skill number.
     pub fn days(&self) -> Entries<'_, u32>
         ensures { result ≡ map.entries self.now.days }
     {
         self.days.iter()
     }
 
-    /// The days of study of a skill over all men, 0 where it was never studied.
+    /// The days of study of a skill over all men, 0 where none are listed.
     pub fn days_of(&self, skill: u32) -> u32
         ensures { result ≡ amount_of self.now.days skill }
     {

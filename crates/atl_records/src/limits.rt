@@ -31,10 +31,10 @@ pub const MEN_LIMIT: u32 = 999_999;
 /// The most money, or pieces of one item, in a unit.
 pub const HOLDING_LIMIT: u32 = MOST_AMOUNT;
 
-/// The most by which a month changes an amount of the books, up or down.
+/// A bound on how much a month changes an amount of the books, up or down.
 pub const MOST_IN_MONTH: u128 = 200_000_000_000_000;
 
-/// The most by which the joining of a faction changes an amount of the books.
+/// A bound on how much the joining of a faction changes an amount of the books.
 pub const MOST_IN_JOINING: u128 = 1_000_000_000;
 
 /// The factor of the level formula: level `n` takes `n * (n + 1)` times this many days of each man.

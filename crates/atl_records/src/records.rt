@@ -64,7 +64,7 @@ impl Region {
     ghost use Rattle.std.specs.Prelude.{◌≡◌};
     ghost use Rattle.atl_records.specs.Holdings.{amount_of};
 
-    /// How many pieces of an item there are in stock, 0 where there is no market for it.
+    /// How many pieces of an item the region has in stock, 0 where none are listed.
     pub fn stock(&self, item: u32) -> u32
         ensures { result ≡ amount_of self.now.stocks item }
     {

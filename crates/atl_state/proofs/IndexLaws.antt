@@ -29,17 +29,17 @@ use Rattle.atl_state.specs.Index.{index_numbers, slots_of}
 pub some_none : {X : Type 0} (x : X) {P : Type 0} → Some x ≡ None → P
 some_none x e = cc
 
--- the numbers of the entries are strictly sorted
+-- the numbers of the index entries are strictly ascending
 abbrev IsSorted : List IndexEntry → Type 0
 IsSorted ps = IsStrictlySortedBy nat_cmp (index_numbers ps)
 
--- the map from numbers to slots that the index entries are
+-- the map from numbers to slots that the index entries stand for
 abbrev pub as_map : List IndexEntry → finmap.FinMap nat_cmp ℕ
 as_map ps = from_entries (slots_of ps)
 
 -- ---- lists with one more, and one less
 module _ {X : Type 0} where
-  -- an element removed and inserted again gives the list
+  -- removing an element of a list and inserting it again at its index gives the list
   put_back : (xs : List X) (i : ℕ) (d : X) → i < length xs → insert (remove xs i) i (get_or xs i d) ≡ xs
   put_back [] i d l = absurd (omega (arith, l))
   put_back (x ∷ xs) zero d l = refl
@@ -59,7 +59,7 @@ module _ {X Y : Type 0} (f : X → Y) where
   map-remove (y ∷ xs) zero = refl
   map-remove (y ∷ xs) (suc i) = ap (λ ys. f y ∷ ys) (map-remove xs i)
 
--- the keys of the entries as pairs are their numbers
+-- the first parts of the index entries as pairs of number and slot are the entries' numbers
 keys_are : (ps : List IndexEntry) → keys_of (slots_of ps) ≡ index_numbers ps
 keys_are [] = refl
 keys_are (p ∷ ps) = ap (λ ns. p.number ∷ ns) (keys_are ps)
@@ -84,14 +84,14 @@ module _ {X : Type 0} where
         | false ↦ λ _. refl
       ] refl
 
-  -- an entry with a new number, inserted at any index, is found, and others as before
+  -- an entry with a new number, inserted at any index of a list, is found under its number, and the others as before
   find-insert : (es : List (ℕ × X)) (i n : ℕ) (v : X) (q : ℕ) → find nat_cmp n es ≡ None → find nat_cmp q (insert es i (n, v)) ≡ cond (eq_by_cmp nat_cmp q n) (Some v) (find nat_cmp q es)
   find-insert es zero n v q h = refl
   find-insert [] (suc i) n v q h = refl
   find-insert (e ∷ es) (suc i) n v q h =
       ap (cond (eq_by_cmp nat_cmp q e.0) (Some e.1)) (find-insert es i n v q (rest_none _ _ _ h)) ∙ turned q n e.0 (Some v) (Some e.1) (find nat_cmp q es) (first_apart _ _ _ h)
 
-  -- an entry with a new number, inserted at any index, is put into the map
+  -- inserting an entry with a new number at any index of a list puts it into the map of the list
   from_entries-insert : (es : List (ℕ × X)) (i n : ℕ) (v : X) → finmap.get (from_entries {R = nat_cmp} es) n ≡ None → from_entries {R = nat_cmp} (insert es i (n, v)) ≡ finmap.insert (from_entries es) n v
   from_entries-insert es i n v h = finmap.same_map nat_cmp_total nat_cmp-IsAntisymmetric _ _ (λ q.
       finmap.get-from_entries nat_cmp_total (insert es i (n, v)) q ∙ find-insert es i n v q (sym (finmap.get-from_entries nat_cmp_total es n) ∙ h)
@@ -103,13 +103,13 @@ pub nothing : {X : Type 0} (o : Option X) → is_some o ≡ false → o ≡ None
 nothing None h = refl
 nothing (Some x) h = absurd (false≢true (sym h))
 
--- a number that no index entry has is not in the map
+-- a number that no index entry has is not in the map that the index entries stand for
 unlisted : (ps : List IndexEntry) (n : ℕ) → set.contains {R = nat_cmp} (set.from_list (index_numbers ps)) n ≡ false → finmap.get (as_map ps) n ≡ None
 unlisted ps n h =
     finmap.get-from_entries nat_cmp_total (slots_of ps) n
     ∙ nothing _ (is_some-find nat_cmp n (slots_of ps) ∙ ap (list_any (eq_by_cmp nat_cmp n)) (keys_are ps) ∙ sym (set.contains-from_list nat_cmp_total (index_numbers ps) n) ∙ h)
 
--- a number that is missing, and would be inserted at index i (BelongsAt), is not in the map
+-- a number that no index entry has, and that would be inserted at index i (BelongsAt), is not in the entries' map
 pub get-belongs : (ps : List IndexEntry) (n i : ℕ) → IsSorted ps → BelongsAt (index_numbers ps) n i → finmap.get (as_map ps) n ≡ None
 get-belongs ps n i s b = unlisted ps n (contains-belongs (index_numbers ps) n i s b)
 
@@ -117,71 +117,71 @@ get-belongs ps n i s b = unlisted ps n (contains-belongs (index_numbers ps) n i 
 taken : (t : set.FinSet nat_cmp) (n : ℕ) → set.contains (set.remove t n) n ≡ false
 taken t n = set.contains-remove nat_cmp_total t n n ∙ ap (λ b. not b && set.contains t n) (key_itself n)
 
--- a number whose entry is removed is not in the map
+-- once the entry of a number is removed from sorted index entries, their map doesn't have the number
 gone : (ps : List IndexEntry) (n i : ℕ) → IsSorted ps → IsAt (index_numbers ps) n i → finmap.get (as_map (remove ps i)) n ≡ None
 gone ps n i s h =
     unlisted (remove ps i) n (ap (λ ns. set.contains {R = nat_cmp} (set.from_list ns) n) (map-remove (λ (p : IndexEntry). p.number) ps i) ∙ ap (λ t. set.contains t n) (from_list-remove (index_numbers ps) n i s h) ∙ taken (set.from_list (index_numbers ps)) n)
 
--- the index of a number is below the length
+-- the index at which the index entries have a number (IsAt) is below how many entries there are
 inside : (ps : List IndexEntry) (n i : ℕ) → IsAt (index_numbers ps) n i → i < length ps
 inside ps n i h = let size = length-map ps (λ (p : IndexEntry). p.number) in let l = h.within in omega (arith, size, l)
 
--- the entry at a number's index has that number
+-- the index entry at the index of a number (IsAt) has that number
 number-stands : (ps : List IndexEntry) (n i : ℕ) (d : IndexEntry) → IsAt (index_numbers ps) n i → (get_or ps i d).number ≡ n
 number-stands ps n i d h =
     sym (get_or-map (λ (p : IndexEntry). p.number) ps i d d.number (inside ps n i h)) ∙ get_or_default (index_numbers ps) i d.number 0 h.within ∙ h.is
 
--- the map is the map without the entry of a number, with the slot of that entry put in again
+-- the map of the index entries is their map without a number's entry, with the slot of that entry put in again
 put_again : (ps : List IndexEntry) (n i : ℕ) (d : IndexEntry) → IsSorted ps → IsAt (index_numbers ps) n i → as_map ps ≡ finmap.insert (as_map (remove ps i)) n (get_or ps i d).slot
 put_again ps n i d s h =
     let p = get_or ps i d in
     sym (ap as_map (put_back ps i d (inside ps n i h))) ∙ ap from_entries (map-insert (λ (p : IndexEntry). (p.number, p.slot)) (remove ps i) i p)
     ∙ ap (λ k. from_entries (insert (slots_of (remove ps i)) i (k, p.slot))) (number-stands ps n i d h) ∙ from_entries-insert (slots_of (remove ps i)) i n p.slot (gone ps n i s h)
 
--- the map has under a number the slot of the entry at its index
+-- the map of sorted index entries has under a number the slot of the entry with this number
 pub get-stands : (ps : List IndexEntry) (n i : ℕ) (d : IndexEntry) → IsSorted ps → IsAt (index_numbers ps) n i → finmap.get (as_map ps) n ≡ Some (get_or ps i d).slot
 get-stands ps n i d s h = ap (λ m. finmap.get m n) (put_again ps n i d s h) ∙ there_itself (as_map (remove ps i)) n (get_or ps i d).slot
 
 -- ---- an entry that is inserted
--- inserting an entry where its number belongs puts it into the map
+-- inserting an index entry where its number belongs puts it into the map of the entries
 pub map-added : (ps : List IndexEntry) (n i k : ℕ) → IsSorted ps → BelongsAt (index_numbers ps) n i → as_map (insert ps i (record { number = n; slot = k })) ≡ finmap.insert (as_map ps) n k
 map-added ps n i k s b =
     ap from_entries (map-insert (λ (p : IndexEntry). (p.number, p.slot)) ps i (record { number = n; slot = k })) ∙ from_entries-insert (slots_of ps) i n k (get-belongs ps n i s b)
 
--- the entries stay sorted when one is inserted where its number belongs
+-- sorted index entries stay sorted when one is inserted where its number belongs
 pub rising-added : (ps : List IndexEntry) (n i k : ℕ) → IsSorted ps → BelongsAt (index_numbers ps) n i → IsSorted (insert ps i (record { number = n; slot = k }))
 rising-added ps n i k s b = rw (map-insert (λ (p : IndexEntry). p.number) ps i (record { number = n; slot = k })) (rising-insert (index_numbers ps) n i s b)
 
 -- ---- an entry that is removed
--- removing the entry at a number's index removes the number from the map
+-- removing the index entry with a number removes the number from the map of the entries
 pub map-without : (ps : List IndexEntry) (n i : ℕ) → IsSorted ps → IsAt (index_numbers ps) n i → as_map (remove ps i) ≡ finmap.remove (as_map ps) n
 map-without ps n i s h =
     let d : IndexEntry = record { number = 0; slot = 0 } in
     sym (ap (λ m. finmap.remove m n) (put_again ps n i d s h) ∙ taken_back (as_map (remove ps i)) n (get_or ps i d).slot (gone ps n i s h))
 
--- the entries stay sorted when one is removed
+-- sorted index entries stay sorted when one is removed
 pub rising-without : (ps : List IndexEntry) (n i : ℕ) → IsSorted ps → IsAt (index_numbers ps) n i → IsSorted (remove ps i)
 rising-without ps n i s h = rw (map-remove (λ (p : IndexEntry). p.number) ps i) (rising-remove (index_numbers ps) i s h.within)
 
--- removing a number that is not there changes nothing
+-- removing a number that no index entry has from the map of the entries changes nothing
 pub map-missing : (ps : List IndexEntry) (n i : ℕ) → IsSorted ps → BelongsAt (index_numbers ps) n i → as_map ps ≡ finmap.remove (as_map ps) n
 map-missing ps n i s b = sym (remove_none (as_map ps) n (get-belongs ps n i s b))
 
 -- ---- the whole index
--- the empty list of entries is sorted
+-- the empty list of index entries is sorted
 pub rising-none : IsSorted []
 rising-none = rising-empty
 
--- the entries of the map are the index entries as pairs
+-- the list of the map that sorted index entries stand for has these entries as pairs of number and slot
 pub entries-places : (ps : List IndexEntry) → IsSorted ps → finmap.entries (as_map ps) ≡ slots_of ps
 entries-places ps s = entries_of (slots_of ps) (rw (keys_are ps) s)
 
--- the map has as many numbers as there are index entries
+-- the map that sorted index entries stand for has as many numbers as there are entries
 pub len-places : (ps : List IndexEntry) → IsSorted ps → finmap.len (as_map ps) ≡ length ps
 len-places ps s = len_of (slots_of ps) (rw (keys_are ps) s) ∙ length-map ps (λ (p : IndexEntry). (p.number, p.slot))
 
 -- ---- the index that a search gives: of a number, or where it belongs
--- where the binary search finds an index, the number is at it
+-- if the binary search for a number finds an index, the index entry there has the number (IsAt)
 pub found-by_search : (ps : List IndexEntry) (n : ℕ) (r : Result ℕ ℕ) → IsSearchInRange r (length ps) → IsBinarySearchResult (λ p. nat_cmp p.number n) ps r → IfOk r (λ i. IsAt (index_numbers ps) n i)
 found-by_search ps n (Ok i) l h =
     let d : IndexEntry = record { number = 0; slot = 0 } in
@@ -192,7 +192,7 @@ found-by_search ps n (Ok i) l h =
     }
 found-by_search ps n (Err i) l h = tt
 
--- sorted entries are sorted for the binary search
+-- sorted index entries have first the numbers below n, then n, then those above it, as the binary search requires
 searchable : (ps : List IndexEntry) (n : ℕ) → IsSorted ps → IsNonDecreasingBy (λ (p : IndexEntry). ordering_index (nat_cmp p.number n)) ps
 searchable ps n s = searchable_from_sorted nat_cmp_total (λ (p : IndexEntry). p.number) ps n (λ k d low h.
     let ns = index_numbers ps in
@@ -201,7 +201,7 @@ searchable ps n s = searchable_from_sorted nat_cmp_total (λ (p : IndexEntry). p
     let up = Less-from_sorted nat_cmp ns k (k + 1) d.number s (omega arith) (omega arith) in
     ap is_lt (λ i. nat_cmp (sym (at (k + 1) h) i) (sym (at k (omega arith)) i)) ∙ ap is_lt (nat_cmp_total.antisymm (get_or ns (k + 1) d.number) (get_or ns k d.number)) ∙ ap (λ r. is_lt (ordering_reverse r)) up)
 
--- where the binary search finds no index, the number belongs at the one that it gives
+-- if the binary search doesn't find a number, the number belongs at the index that it gives (BelongsAt)
 pub missing-by_search : (ps : List IndexEntry) (n : ℕ) (r : Result ℕ ℕ) → IsSorted ps → IsSearchInRange r (length ps) → IsBinarySearchResult (λ p. nat_cmp p.number n) ps r → IfErr r (λ i. BelongsAt (index_numbers ps) n i)
 missing-by_search ps n (Ok i) s l h = tt
 missing-by_search ps n (Err i) s l h =
@@ -215,7 +215,7 @@ missing-by_search ps n (Err i) s l h =
       behind = λ k m w. let more = ranked (get_or ps k d).number n Greater (sym (parts.1 k d m (omega (arith, w, size)))) in let same = at k (omega (arith, w, size)) in omega (arith, more, same);
     }
 
--- a number above that of the last entry belongs at the end
+-- a number above that of the last of sorted index entries belongs at their end (BelongsAt)
 pub BelongsAt-above : (ps : List IndexEntry) (p : IndexEntry) (n : ℕ) → IsSorted ps → slice_get ps (length ps - 1) ≡ Some p → p.number < n → BelongsAt (index_numbers ps) n (length ps)
 BelongsAt-above ps p n s is above =
     record {
@@ -224,19 +224,19 @@ BelongsAt-above ps p n s is above =
       behind = λ k m w. absurd (omega (arith, size, m, w));
     }
   where
-    -- the numbers of the entries
+    -- the numbers of the index entries
     ns : List ℕ
     ns = index_numbers ps
 
-    -- there are as many numbers as entries
+    -- there are as many numbers as index entries
     size : length ns ≡ length ps
     size = length-map ps (λ (p : IndexEntry). p.number)
 
-    -- the index of the last entry
+    -- the place of the last index entry in the list
     last : ℕ
     last = length ps - 1
 
-    -- the index of the last entry is below the length
+    -- the place of the last index entry is below the list's length
     some : last < length ps
     some = slice_get_within ps last p is
 

@@ -56,7 +56,7 @@ held_booked w word c Money = omega (arith, ints)
 held_booked w word c People = refl
 held_booked w word c (Item i) = none w word c i (grind (arith, nat_tests)) (grind (arith, nat_tests))
 
--- the campaign still balances once a faction joined, if the next unit's number has no unit
+-- the books still balance once a faction joined, if no unit has the next unit's number
 pub joined-balances : (w : WorldValue) (name pass : List ℕ) (word : ℕ) (c : CampaignValue) → get c.units c.next_unit ≡ None → Balances c → Balances (joined w name pass word c)
 unfolding joined total
 joined-balances w name pass word c free h t =
@@ -66,11 +66,11 @@ joined-balances w name pass word c free h t =
     ∙ ap (λ z. z +ℤ share_of t People (pos 1)) (sym (booked-after_booking c.books Joining Money (pos w.rules.start_money) t))
     ∙ sym (booked-after_booking one Joining People (pos 1) t)
 
--- the bound on amounts of a campaign in range is at most 4 * 10^18
+-- the bound on amounts of the books (`amount_bound`) is at most 4 * 10^18 if a campaign's numbers are in range
 amounts_small : (w : WorldValue) (c : CampaignValue) → AreInRange w c → amount_bound c ≤ 4000000000000000000
 amounts_small w c numbers = omega (arith, numbers.month, numbers.few_factions)
 
--- the money and the people booked under Joining in a sound campaign are small amounts (IsSmall)
+-- the money and the people booked under Joining in a sound campaign are from -2^62 - 1 to 2^62 (IsSmall)
 pub joining_small : (w : WorldValue) (c : CampaignValue) → IsSound w c → IsSmall (amount_in c.books Joining Money) × IsSmall (amount_in c.books Joining People)
 joining_small w c sound =
     let small = amounts_small w c sound.steady.numbers in
@@ -90,11 +90,11 @@ few f u n h = (grind (arith, nat_tests), grind (arith, nat_tests), grind (arith,
 pub room : (c : CampaignValue) → is_full c ≡ false → (len c.factions < last_faction) × (len c.units < most_units) × (c.next_unit ≤ last_unit)
 room c h = few (len c.factions) (len c.units) c.next_unit h
 
--- numbers from n on still have no value once a value is put below n
+-- if the numbers from n on have no value in a map, they still have none once a value is put below n
 still_free : {V : Type 0} (m : FinMap nat_cmp V) (n k : ℕ) (v : V) → ((q : ℕ) → n ≤ q → get m q ≡ None) → k < n → (q : ℕ) → n ≤ q → get (insert m k v) q ≡ None
 still_free m n k v free below q h = get-insert_other m k q v (λ same. omega arith) ∙ free q h
 
--- a numbered map is numbered once a value is put under the next number
+-- a map numbered from 1 without a gap (IsNumbered) stays so once a value is put under the next number
 still_numbered : {V : Type 0} (m : FinMap nat_cmp V) (n : ℕ) (v : V) → IsNumbered m n → IsNumbered (insert m n v) (n + 1)
 still_numbered m n v old = record {
   first = get-insert_other m n 0 v (λ same. omega (arith, old.count)) ∙ old.first;
@@ -125,23 +125,23 @@ untaken c name h n f is same =
     absurd (true≢false (sym equal ∙ differs))
 
 module _ (w : WorldValue) (name pass : List ℕ) (word : ℕ) (c : CampaignValue) where
-  -- the new faction
+  -- the faction that joins
   abbrev member : Faction
   member = new_faction c.next_faction name pass
 
-  -- the first unit of the new faction
+  -- the first unit of the faction that joins
   abbrev unit : Unit
   unit = first_unit w word c
 
-  -- the factions with the new one
+  -- the campaign's factions, and the one that joins
   abbrev factions : FinMap nat_cmp Faction
   factions = insert c.factions c.next_faction member
 
-  -- the units with the first one of the new faction
+  -- the campaign's units, and the first one of the faction that joins
   abbrev units : FinMap nat_cmp Unit
   units = insert c.units c.next_unit unit
 
-  -- a campaign in range that is not full is still in range once a faction joined
+  -- in a campaign that isn't full, counts and numbers stay in their ranges (AreInRange) once a faction joined
   joined-numbers : is_full c ≡ false → IsWorld w → AreNumbered c → AreInRange w c → AreInRange w (joined w name pass word c)
   unfolding joined
   joined-numbers full world next old =
@@ -162,7 +162,7 @@ module _ (w : WorldValue) (name pass : List ℕ) (word : ℕ) (c : CampaignValue
         books = AreBooks-after_booking (things_of w) one Joining People (pos 1) (AreBooks-after_booking (things_of w) c.books Joining Money (pos w.rules.start_money) old.books (omega arith)) (omega arith);
       }
 
-  -- a campaign that a faction joined has good names, if the new ones are good and the name is free
+  -- names and pass texts still keep their rules (AreNamed) once a faction joined, if its own do and its name is free
   joined-names : is_full c ≡ false → name_taken c name ≡ false → IsTrue (name_ok name) → IsTrue (pass_ok pass) → AreNamed c → AreNamed (joined w name pass word c)
   unfolding joined
   joined-names full free named passes old =
@@ -206,7 +206,7 @@ module _ (w : WorldValue) (name pass : List ℕ) (word : ℕ) (c : CampaignValue
         posts = posted-there (λ n. there-insert c.factions c.next_faction n member) old.posts;
       }
 
-  -- a campaign that a faction joined is numbered, with the next numbers one higher
+  -- once a faction joined, factions and structures still are numbered without a gap, and units below their next number
   joined-next : AreNumbered c → AreNumbered (joined w name pass word c)
   unfolding joined
   joined-next old = record {
@@ -221,15 +221,15 @@ module _ (w : WorldValue) (name pass : List ℕ) (word : ℕ) (c : CampaignValue
   joined-days old = every-insert (λ n u. Every (λ s days. (1 ≤ days) × (days ≤ most_days * u.holding.men)) u.holding.days) c.units c.next_unit unit (every-empty (λ s days. (1 ≤ days) × (days ≤ most_days * 1))) old
 
   module _ (next : AreNumbered c) where
-    -- the next faction's number has no faction
+    -- no faction has the next faction number yet
     free_faction : get c.factions c.next_faction ≡ None
     free_faction = next.factions.free c.next_faction (omega arith)
 
-    -- the next unit's number has no unit
+    -- no unit has the next unit number yet
     free_unit : get c.units c.next_unit ≡ None
     free_unit = next.units c.next_unit (omega arith)
 
-    -- each faction that was there has the same units
+    -- each faction that was there before another joined still has the same units
     same_units : (n : ℕ) (f : Faction) → get c.factions n ≡ Some f → numbers_of n units ≡ numbers_of n c.units
     same_units n f is = numbers_where-insert_other (λ (u : Unit). u.faction == n) c.units c.next_unit unit free_unit (other_key c.factions c.next_faction n f free_faction is)
 
@@ -238,13 +238,13 @@ module _ (w : WorldValue) (name pass : List ℕ) (word : ℕ) (c : CampaignValue
     unfolding joined
     joined-gone old = every-insert (λ n f. f.gone ≡ true → numbers_of n units ≡ []) c.factions c.next_faction member (λ e. absurd (false≢true e)) (λ n f is gone. same_units n f is ∙ old n f is gone)
 
-    -- the new faction has a unit
+    -- the faction that joins has a unit
     own_unit : numbers_of c.next_faction units ≡ [] → false ≡ true
     own_unit none =
         let same : (c.next_faction == c.next_faction) ≡ true = grind (arith, nat_tests) in
         some_put c.next_unit (numbers_of c.next_faction c.units) (sym (numbers_where-insert_new (λ (u : Unit). u.faction == c.next_faction) c.units c.next_unit unit free_unit same) ∙ none)
 
-    -- factions without units are gone, once a faction joined
+    -- all factions without units are still gone when a faction joins
     joined-none : UnitlessAreGone c → UnitlessAreGone (joined w name pass word c)
     unfolding joined
     joined-none old = every-insert (λ n f. numbers_of n units ≡ [] → f.gone ≡ true) c.factions c.next_faction member own_unit (λ n f is none. old n f is (sym (same_units n f is) ∙ none))
@@ -257,12 +257,12 @@ module _ (w : WorldValue) (name pass : List ℕ) (word : ℕ) (c : CampaignValue
       ownerless = λ none. every-insert (λ m u. u.structure ≢ n) c.units c.next_unit unit (λ same. none_some s (sym next.structures.first ∙ ap (get c.structures) same ∙ is)) (o.ownerless none);
     }
 
-    -- mail is still good when a faction joins
+    -- each mailing is still one of a faction that is there and not gone (IsMail) when a faction joins
     joined-mail : IsMail c → IsMail (joined w name pass word c)
     unfolding joined
     joined-mail old n text is = let (own, active) = old n text is in let (f, there, stays) = active in (own, (f, still_there c.factions c.next_faction n member f free_faction there, stays))
 
-  -- what is on water is still afloat when a faction joins
+  -- when a faction joins, units on water are still inside ships, and structures there are complete ships (AreAfloat)
   joined-water : IsWorld w → AreAfloat w c → AreAfloat w (joined w name pass word c)
   unfolding joined
   joined-water world old =
@@ -279,12 +279,12 @@ module _ (w : WorldValue) (name pass : List ℕ) (word : ℕ) (c : CampaignValue
   joined-guarded old = every-insert (λ n u. Every (λ m v. guards u ≡ true → guards v ≡ true → u.region ≡ v.region → u.faction ≡ v.faction) units) c.units c.next_unit unit (λ m v is e. absurd (true≢false (sym e)))
       (λ n u is. every-insert (λ m v. guards u ≡ true → guards v ≡ true → u.region ≡ v.region → u.faction ≡ v.faction) c.units c.next_unit unit (λ _ e. absurd (true≢false (sym e))) (old n u is))
 
-  -- every unit has men, once a faction joined
+  -- every unit still has men when a faction joins
   joined-men : HaveMen c → HaveMen (joined w name pass word c)
   unfolding joined
   joined-men old = every-insert (λ n u. 1 ≤ u.holding.men) c.units c.next_unit unit (omega arith) old
 
-  -- amounts of the books are within their bound, once a faction joined
+  -- the amounts of the books are still within their bound (`amount_bound`) when a faction joins
   joined-amounts : IsWorld w → AreNumbered c → AreAmountsWithin c → AreAmountsWithin (joined w name pass word c)
   unfolding joined
   joined-amounts world next old =
@@ -294,7 +294,7 @@ module _ (w : WorldValue) (name pass : List ℕ) (word : ℕ) (c : CampaignValue
       (IsWithin-after_booking c.books Joining Money w.rules.start_money (amount_bound c) (amount_bound c + w.rules.start_money) old (omega arith)) (omega (arith, more, world.rules.start_money))
 
   module _ (full : is_full c ≡ false) (free : name_taken c name ≡ false) (named : IsTrue (name_ok name)) (passes : IsTrue (pass_ok pass)) (world : IsWorld w) where
-    -- a campaign stays steady when a faction joins
+    -- a campaign stays steady when a faction joins, if the join is not refused
     joined-steady : IsSteady w c → IsSteady w (joined w name pass word c)
     joined-steady old = record {
       numbers = joined-numbers full world old.next old.numbers;

@@ -14,7 +14,7 @@ use Rattle.std.proofs.lemmas.List.{get_or_default, take_more, take-append-drop}
 use Rattle.std.proofs.lemmas.List.Folds.{list_any-append}
 use Rattle.std.proofs.lemmas.Map.Keys.{IsDistinct-head, IsDistinct-tail, IsDistinct-push, sorted_from_all_adjacent}
 
--- if P holds of each element of a list, it holds of one in the middle
+-- if P holds of each element of a list, it holds of x in the midst of the list
 at_middle : {K : Type 0} (P : K → Type 0) (front rest : List K) (x : K) → AllByRecursion P (front ++ x ∷ rest) → P x
 at_middle P [] rest x h = h.0
 at_middle P (y ∷ front) rest x h = at_middle P front rest x h.1
@@ -82,7 +82,7 @@ module _ {A B : Type 0} (f : A → B) (e : B → B → Bool) where
   IsDistinct-of_map [] h = tt
   IsDistinct-of_map (x ∷ xs) h = (each_of_map x xs h.0, IsDistinct-of_map xs h.1)
 
--- an answer that decides P decides Q, if P and Q follow from each other
+-- if P and Q follow from each other, a result that tells whether P holds, if it is Ok, tells whether Q does
 pub IfOk-decided : {E P Q : Type 0} (r : Result Bool E) → (P → Q) → (Q → P) → IfOk r (λ yes. Decides yes P) → IfOk r (λ yes. Decides yes Q)
 IfOk-decided (Ok answer) there back h = (λ e. there (h.0 e), λ q. h.1 (back q))
 IfOk-decided (Err x) there back h = tt

@@ -40,7 +40,7 @@ module _ (w : WorldValue) (c : CampaignValue) (n : ℕ) (u : Unit) (is : get c.u
   abbrev left : FinMap nat_cmp Unit
   left = remove c.units n
 
-  -- the campaign without unit n, and with these structures
+  -- the campaign without unit n, and with the given structures in place of its own
   abbrev reduced : FinMap nat_cmp Structure → CampaignValue
   reduced structures = record c { units = left; structures = structures }
 
@@ -52,24 +52,24 @@ module _ (w : WorldValue) (c : CampaignValue) (n : ℕ) (u : Unit) (is : get c.u
     pub owned : Every (λ k x. IsOwned (reduced structures) k x) structures
 
   module _ (structures : FinMap nat_cmp Structure) (re : AreReowned structures) where
-    -- the campaign without unit n, and with these reowned structures
+    -- the campaign without unit n, and with structures that differ at most in owners (AreReowned)
     abbrev after : CampaignValue
     after = reduced structures
 
-    -- if P holds of every structure, whoever owns it, it holds of the reowned structures
+    -- if P holds of every structure, whoever owns it, it holds of structures that differ at most in owners (AreReowned)
     every_owned : (P : ℕ → Structure → Type 0) → ((k o : ℕ) (y : Structure) → P k y → P k (owned_by o y)) → Every P c.structures → Every P structures
     every_owned P free old k x there = let (y, o, was, same) = re.back k x there in subst (P k) same (free k o y (old k y was))
 
-    -- a number without a structure has none among the reowned structures
+    -- a number without a structure has none among structures that differ at most in owners (AreReowned)
     none_kept : (k : ℕ) → get c.structures k ≡ None → get structures k ≡ None
     none_kept k none = by_option (get structures k) refl
       where
-        -- a number without a structure has none in the reowned ones, by what these have under it
+        -- a number without a structure has none among the AreReowned ones, whatever these have under it
         by_option : (o : Option Structure) → get structures k ≡ o → o ≡ None
         by_option None e = refl
         by_option (Some x) e = let (y, p, was, same) = re.back k x e in none_some y (sym none ∙ was)
 
-    -- the numbers of the campaign stay in range once unit n is removed
+    -- counts and numbers stay in their ranges (AreInRange) once unit n is removed
     numbers_left : AreInRange w c → AreInRange w after
     numbers_left old = record {
       month = old.month;
@@ -86,7 +86,7 @@ module _ (w : WorldValue) (c : CampaignValue) (n : ℕ) (u : Unit) (is : get c.u
       books = old.books;
     }
 
-    -- everything that the remaining units name still exists
+    -- all that the other units name by number still exists once unit n is removed
     placed_left : AreKnown w c → Every (λ k v. IsPlaced w after v) left
     placed_left old k v there =
         let p = old.units k v (still c.units n k v there).1 in
@@ -98,7 +98,7 @@ module _ (w : WorldValue) (c : CampaignValue) (n : ℕ) (u : Unit) (is : get c.u
           skills = p.skills;
         }
 
-    -- everything that the structures name still exists once unit n is removed
+    -- all that the structures name by number still exists once unit n is removed
     built_left : AreKnown w c → Every (λ k s. IsBuilt w after s) structures
     built_left old k x there =
         let (y, o, was, same) = re.back k x there in
@@ -121,7 +121,7 @@ module _ (w : WorldValue) (c : CampaignValue) (n : ℕ) (u : Unit) (is : get c.u
         none_left : (k : ℕ) → get c.units k ≡ None → get left k ≡ None
         none_left k none = by_option (get left k) refl
           where
-            -- a number without a unit has none among the units left, by what these have under it
+            -- a number without a unit has none among the units left, whatever these have under it
             by_option : (o : Option Unit) → get left k ≡ o → o ≡ None
             by_option None e = refl
             by_option (Some x) e = none_some x (sym none ∙ (still c.units n k x e).1)
@@ -132,7 +132,7 @@ module _ (w : WorldValue) (c : CampaignValue) (n : ℕ) (u : Unit) (is : get c.u
         let test = λ (v : Unit). v.faction == m in
         nothing_listed test left (every-remove c.units n (λ k v. test v ≡ false) (none_passing test c.units (old m f there gone)))
 
-    -- what is on water is still afloat once unit n is removed
+    -- units on water are still inside ships, and structures there complete ships (AreAfloat), once unit n is removed
     water_left : AreAfloat w c → AreAfloat w after
     water_left old = record {
       units = λ k v there sea.
@@ -142,7 +142,7 @@ module _ (w : WorldValue) (c : CampaignValue) (n : ℕ) (u : Unit) (is : get c.u
       structures = every_owned (λ k s. is_land_at w s.region ≡ false → (is_ship w s ≡ true) × (s.done ≡ size_of w s.kind)) (λ k o y h. h) old.structures;
     }
 
-    -- the campaign stays steady without the unit, with reowned structures
+    -- the campaign stays steady without unit n, and with structures that differ at most in owners (AreReowned)
     pub steady_left : IsSteady w c → IsSteady w after
     steady_left old = record {
       numbers = numbers_left old.numbers;
@@ -165,7 +165,7 @@ module _ (w : WorldValue) (c : CampaignValue) (n : ℕ) (u : Unit) (is : get c.u
   -- ---- who owns the structures
 
   module _ (old : AreOwned c) (low : Every (λ k v. 1 ≤ k) c.units) where
-    -- a structure that the unit owns is the one that it is inside
+    -- a structure that unit n owns is the one that it is inside
     owns_own : (k : ℕ) (x : Structure) → get c.structures k ≡ Some x → x.owner ≡ n → u.structure ≡ k
     owns_own k x there own =
         let least = low n u is in
@@ -173,7 +173,7 @@ module _ (w : WorldValue) (c : CampaignValue) (n : ℕ) (u : Unit) (is : get c.u
         let one : Some v ≡ Some u = sym at ∙ ap (get c.units) own ∙ is in
         sym (ap (λ o. structure_in o u) one) ∙ inside
 
-    -- a structure that unit n does not own still has a good owner (IsOwned) once unit n is removed
+    -- a structure that unit n does not own still has its owner inside, or no unit inside (IsOwned), once n is removed
     still_owned : (k : ℕ) (x : Structure) (structures : FinMap nat_cmp Structure) → get c.structures k ≡ Some x → x.owner ≢ n → IsOwned (reduced structures) k x
     still_owned k x structures there apart =
         let o = old k x there in
@@ -182,7 +182,8 @@ module _ (w : WorldValue) (c : CampaignValue) (n : ℕ) (u : Unit) (is : get c.u
           ownerless = λ none. every-remove c.units n (λ m v. v.structure ≢ k) (o.ownerless none);
         }
 
-    -- if unit n does not own the structure that it is inside, all owners stay good once it is removed (AreReowned)
+    -- if unit n does not own the structure that it is inside, each structure has its owner inside, or nobody, once n is
+    -- removed (AreReowned)
     as_they_were : is_owned_by (get c.structures u.structure) n ≡ false → AreReowned c.structures
     as_they_were free = record {
       count = refl;
@@ -204,13 +205,13 @@ module _ (w : WorldValue) (c : CampaignValue) (n : ℕ) (u : Unit) (is : get c.u
             owner_in (Some z) d = z.owner
             owner_in None d = d.owner
 
-        -- no structure is owned by n
+        -- no structure is owned by unit n
         not_owner : (k : ℕ) (x : Structure) → get c.structures k ≡ Some x → x.owner ≡ n → ⊥
         not_owner k x there own = owner_test (get c.structures u.structure) x (ap (get c.structures) (owns_own k x there own) ∙ there) own free
 
     -- for a unit that owns the structure that it is inside
     module _ (mine : Structure) (here : get c.structures u.structure ≡ Some mine) (some_place : u.structure ≢ 0) where
-      -- the next owner of the structure: the first other unit inside, or 0
+      -- the next owner of unit n's structure: the first other unit inside, or 0
       abbrev next : ℕ
       next = heir c u.structure n
 
@@ -218,7 +219,7 @@ module _ (w : WorldValue) (c : CampaignValue) (n : ℕ) (u : Unit) (is : get c.u
       abbrev handed_on : FinMap nat_cmp Structure
       handed_on = insert c.structures u.structure (owned_by next mine)
 
-      -- the units inside the structure
+      -- the units inside unit n's structure
       abbrev among : List ℕ
       among = numbers_inside u.structure c.units
 
@@ -235,11 +236,11 @@ module _ (w : WorldValue) (c : CampaignValue) (n : ℕ) (u : Unit) (is : get c.u
       is_same : (k : ℕ) → not (k == n) ≡ false → k ≡ n
       is_same k t = let e : (k == n) ≡ true = not-false (k == n) t in grind (arith, nat_tests)
 
-      -- units inside have numbers from 1
+      -- the units inside unit n's structure have numbers from 1 on
       listed_low : (k : ℕ) → IsListed k among → 1 ≤ k
       listed_low k h = let (v, at, inside) = listed_is_inside u.structure c.units k h in low k v at
 
-      -- unit n's structure with its next owner has a good owner among the units left, or none (IsOwned)
+      -- the next owner of unit n's structure is one of the units left inside, or 0 if none is left (IsOwned)
       heir_owns : IsOwned (reduced handed_on) u.structure (owned_by next mine)
       heir_owns =
           let first = first_of (λ k. not (k == n)) among listed_low in
@@ -253,7 +254,7 @@ module _ (w : WorldValue) (c : CampaignValue) (n : ℕ) (u : Unit) (is : get c.u
                 apart (is_same k (first.1 none k (inside_is_listed u.structure c.units some_place k v at within)));
           }
 
-      -- once unit n's structure has its next owner, all structures have good owners among the units left (AreReowned)
+      -- once unit n's structure has its next owner, each structure is owned by a unit left inside, or 0 (AreReowned)
       as_handed_on : AreReowned handed_on
       as_handed_on = record {
         count = same_len c.structures u.structure mine (owned_by next mine) here;
@@ -281,16 +282,16 @@ module _ (w : WorldValue) (c : CampaignValue) (n : ℕ) (u : Unit) (is : get c.u
   abbrev gone_from : CampaignValue
   gone_from = record c { units = left }
 
-  -- without_unit removes unit n and hands its structure to the heir
+  -- without_unit removes unit n, and hands the structure that n owned to its next owner (`heir`)
   without-known : without_unit c n ≡ after_handover gone_from u.structure n (heir c u.structure n)
   unfolding without_unit
   without-known = ap (without_unit_at c n) is
 
-  -- the campaign stays steady without the unit, with its structure handed to the heir
+  -- the campaign stays steady without unit n, with the structure that n owned handed to its next owner (`heir`)
   steady_handed : IsSteady w c → IsSteady w (after_handover gone_from u.structure n (heir c u.structure n))
   steady_handed old = by_owner (get c.structures u.structure) refl
     where
-      -- all units have numbers from 1
+      -- all units have numbers from 1 on
       low : Every (λ k v. 1 ≤ k) c.units
       low k v there = (old.numbers.units k v there).0
 
@@ -311,7 +312,7 @@ module _ (w : WorldValue) (c : CampaignValue) (n : ℕ) (u : Unit) (is : get c.u
   pub steady-without : IsSteady w c → IsSteady w (without_unit c n)
   steady-without old = subst (IsSteady w) (sym without-known) (steady_handed old)
 
-  -- removing a unit lowers each total by what the unit held
+  -- removing unit n lowers the total of each thing by what the unit held of it
   pub total-without : (t : Thing) → total (without_unit c n) t + unit_amount t u.holding ≡ total c t
   unfolding total
   total-without t =
@@ -321,12 +322,12 @@ module _ (w : WorldValue) (c : CampaignValue) (n : ℕ) (u : Unit) (is : get c.u
       regrouped : (a b s h : ℕ) → a + h ≡ b → (a + s) + h ≡ b + s
       regrouped a b s h e = omega arith
 
-      -- a total loses what the unit held, whether its structure gets another owner or not
+      -- the total of a thing loses what unit n held of it, whether n's structure gets another owner or not
       by_test : (b : Bool) → total (if b then with_owner gone_from u.structure (heir c u.structure n) else gone_from) t + unit_amount t u.holding ≡ total c t
       by_test true = regrouped _ _ _ _ (sum_over-remove c.units n (λ (x : Unit). unit_amount t x.holding) u is)
       by_test false = regrouped _ _ _ _ (sum_over-remove c.units n (λ (x : Unit). unit_amount t x.holding) u is)
 
-  -- the campaign d has the units of c without n, and the other parts of c but for structures
+  -- the campaign d has the units of c without n, and the factions, regions, books, month and reports of c
   pub record IsOnlyReduced (d : CampaignValue) : Type 0 where
     pub units : d.units ≡ remove c.units n
     pub factions : d.factions ≡ c.factions
@@ -335,7 +336,7 @@ module _ (w : WorldValue) (c : CampaignValue) (n : ℕ) (u : Unit) (is : get c.u
     pub month : d.month ≡ c.month
     pub reports : d.reports ≡ c.reports
 
-  -- removing a unit changes units and structures alone
+  -- removing unit n changes no faction, region, report or amount of the books, and not the month
   pub only_reduced : IsOnlyReduced (without_unit c n)
   only_reduced = subst IsOnlyReduced (sym without-known) (by_test (is_owned_by (get c.structures u.structure) n))
     where
@@ -360,7 +361,7 @@ marks-structure f c n =
 pub marks-after_handover : (c : MarkedCampaign) (s from to : ℕ) → MarksChanges c (handed_marked c s from to)
 marks-after_handover c s from to = by_test (is_owned_by (get c.value.structures s) from)
   where
-    -- MarksChanges holds, whether the structure gets another owner or not
+    -- all that changes is marked (MarksChanges), whether the structure gets another owner or not
     by_test : (b : Bool) → MarksChanges c (if b then record { value = with_owner c.value s to; marks = mark_structure c s } else c)
     by_test true = marks-structure (owned_by to) c s
     by_test false = marks-refl c
@@ -369,7 +370,7 @@ marks-after_handover c s from to = by_test (is_owned_by (get c.value.structures 
 pub marks-taken : (c : MarkedCampaign) (n : ℕ) → MarksChanges c (taken_marked c n)
 marks-taken c n = by_unit (get c.value.units n) refl
   where
-    -- MarksChanges holds, whether unit n is there or not
+    -- all that changes is marked (MarksChanges), whether unit n is there or not
     by_unit : (o : Option Unit) → get c.value.units n ≡ o → MarksChanges c (taken_marked c n)
     by_unit None is = subst (MarksChanges c) (taken_none c n is) (marks-refl c)
     by_unit (Some u) is =

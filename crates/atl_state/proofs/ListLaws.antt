@@ -1,4 +1,5 @@
--- Laws of the lists of units by region, faction and structure: they stay right as units are added, changed and removed.
+-- Laws of the lists of units by region, faction and structure: they have just the units of each as units come, change
+-- and go.
 use Rattle.std.proofs.Common.{◌≡◌, ◌≢◌, ◌==◌, ℕ, true, false, cond, Option, Some, None, List, [], map, filter, refl, sym, ap, subst, ◌∙◌, arith, inl, inr}
 use Rattle.std.specs.declared.cmp.Ordering.TheVariants.{Less, Equal, Greater}
 use Rattle.std.specs.Prelude.{Result, Ok, Err, OnOk, OnErr, unwrap_or}
@@ -25,7 +26,7 @@ itself k = elim (nat_cmp k k) as (λ o. nat_cmp k k ≡ o → is_eq o ≡ true) 
   | Greater ↦ λ e. let l = ranked k k Greater (sym e) in absurd (omega arith)
 ] refl
 
--- a removed unit is not there
+-- a unit that is removed is not found any more
 gone : (units : FinMap nat_cmp Unit) (k : ℕ) → get (remove units k) k ≡ None
 gone units k = get-remove nat_cmp_total units k k ∙ ap (λ b. cond b None (get units k)) (itself k)
 
@@ -40,7 +41,7 @@ by_key lists k xs P here there r =
     ] refl)
 
 module _ (belongs_to : Unit → ℕ) where
-  -- the lists are right once a new unit's number is put into the list under its key
+  -- the lists have just the units of each key (AreLists), also a new one once its number is put into its key's list
   pub AreLists-added : (units : FinMap nat_cmp Unit) (lists : FinMap nat_cmp (List ℕ)) (k : ℕ) (u : Unit) → get units k ≡ None → AreLists belongs_to units lists
       → AreLists belongs_to (insert units k u) (insert lists (belongs_to u) (put_number k (list_of lists (belongs_to u))))
   AreLists-added units lists k u fresh old =
@@ -49,12 +50,12 @@ module _ (belongs_to : Unit → ℕ) where
       (ap (put_number k) (old own) ∙ sym (numbers_where-insert_new (λ v. belongs_to v == own) units k u fresh (same_number own)))
       (λ r ne. old r ∙ sym (numbers_where-insert_other (λ v. belongs_to v == r) units k u fresh (other_number own r ne)))
 
-  -- the lists stay right when a unit changes and its key does not
+  -- the lists still have just the units of each key (AreLists) when a unit changes and its key does not
   pub AreLists-kept : (units : FinMap nat_cmp Unit) (lists : FinMap nat_cmp (List ℕ)) (k : ℕ) (u v : Unit) → get units k ≡ Some u → belongs_to u ≡ belongs_to v → AreLists belongs_to units lists → AreLists belongs_to (insert units k v) lists
   AreLists-kept units lists k u v is same old r =
       old r ∙ sym (numbers_where-insert_known (λ w. belongs_to w == r) units k u v is (ap (λ q. q == r) same))
 
-  -- the lists are right once a new unit is taken out of its list again
+  -- if the lists have just the units of each key with u (AreLists), they do without u once it is taken out of its list
   AreLists-undone : (units : FinMap nat_cmp Unit) (lists : FinMap nat_cmp (List ℕ)) (k : ℕ) (u : Unit) → get units k ≡ None → AreLists belongs_to (insert units k u) lists
       → AreLists belongs_to units (insert lists (belongs_to u) (take_number k (list_of lists (belongs_to u))))
   AreLists-undone units lists k u fresh old =
@@ -63,7 +64,7 @@ module _ (belongs_to : Unit → ℕ) where
       (ap (take_number k) (old own ∙ numbers_where-insert_new (λ v. belongs_to v == own) units k u fresh (same_number own)) ∙ taken_put k _)
       (λ r ne. old r ∙ numbers_where-insert_other (λ v. belongs_to v == r) units k u fresh (other_number own r ne))
 
-  -- the lists are right once a removed unit's number is taken out of the list under its key
+  -- the lists have just the units of each key (AreLists) once a removed one's number is taken out of its key's list
   pub AreLists-removed : (units : FinMap nat_cmp Unit) (lists : FinMap nat_cmp (List ℕ)) (k : ℕ) (u : Unit) → get units k ≡ Some u → AreLists belongs_to units lists
       → AreLists belongs_to (remove units k) (insert lists (belongs_to u) (take_number k (list_of lists (belongs_to u))))
   AreLists-removed units lists k u is old =
@@ -71,17 +72,19 @@ module _ (belongs_to : Unit → ℕ) where
 
 -- ---- lists under a key, and those of the same numbers
 
--- lists with the same numbers under each key are right too
+-- if lists have just the units of each key (AreLists), so do lists with the same numbers under each key
 pub AreLists-same : (belongs_to : Unit → ℕ) (units : FinMap nat_cmp Unit) (old new : FinMap nat_cmp (List ℕ)) → SameLists new old → AreLists belongs_to units old → AreLists belongs_to units new
 AreLists-same belongs_to units old new same is k = same k ∙ is k
 
 module _ (belongs_to : Unit → ℕ) (units : FinMap nat_cmp Unit) (old new : FinMap nat_cmp (List ℕ)) (n key : ℕ) where
-  -- the lists are right with a new unit, whose number is put into the list under its key
+  -- if the lists `new` are `old` with a new unit's number put into the list of its key, `key`, they have just the units
+  -- of each key (AreLists)
   pub AreLists-came : (u : Unit) → belongs_to u ≡ key → get units n ≡ None → new ≡ insert old key (put_number n (list_of old key)) → AreLists belongs_to units old → AreLists belongs_to (insert units n u) new
   AreLists-came u own fresh put is =
       subst (λ l. AreLists belongs_to (insert units n u) l) (sym (put ∙ ap (λ k. insert old k (put_number n (list_of old k))) (sym own))) (AreLists-added belongs_to units old n u fresh is)
 
-  -- the lists are right without a unit, whose number is taken out of the list under its key
+  -- if the lists `new` are `old` with a removed unit's number taken out of the list of its key, `key`, they have just
+  -- the units of each key (AreLists)
   pub AreLists-went : (u : Unit) → belongs_to u ≡ key → get units n ≡ Some u → SameLists new (insert old key (take_number n (list_of old key))) → AreLists belongs_to units old → AreLists belongs_to (remove units n) new
   AreLists-went u own there same is =
       AreLists-same belongs_to (remove units n) (insert old key (take_number n (list_of old key))) new same
@@ -95,7 +98,7 @@ listed_else lists k xs r = by_key lists k xs (λ q ys. k ≢ q → ys ≡ list_o
 pub listed_there : (lists : FinMap nat_cmp (List ℕ)) (k : ℕ) (xs : List ℕ) → list_of (insert lists k xs) k ≡ xs
 listed_there lists k xs = ap (λ o. unwrap_or o []) (get-insert nat_cmp_total lists k xs k ∙ ap (λ b. cond b (Some xs) (get lists k)) (itself k))
 
--- lists that are right are right again once a number is put into the list under a key and taken out again
+-- lists that have just the units of each key (AreLists) do so again once a number is put into one and taken out again
 pub AreLists-undone_at : (belongs_to : Unit → ℕ) (units : FinMap nat_cmp Unit) (old mid new : FinMap nat_cmp (List ℕ)) (n key : ℕ) → mid ≡ insert old key (put_number n (list_of old key)) → SameLists new (insert mid key (take_number n (list_of mid key)))
     → AreLists belongs_to units old → AreLists belongs_to units new
 AreLists-undone_at belongs_to units old mid new n key put same is =
@@ -137,22 +140,23 @@ module _ (units : FinMap nat_cmp Unit) (lists : FinMap nat_cmp (List ℕ)) (are 
   whole : FinMap nat_cmp (List ℕ)
   whole = insert lists 0 outside
 
-  -- the whole lists are right by structure, 0 too
+  -- the lists `whole` have just the units of each structure number, and under 0 those inside no structure
   whole_listed : AreLists (λ u. u.structure) units whole
   unfolding whole outside
   whole_listed = by_key lists 0 outside (λ r xs. xs ≡ numbers_where (λ u. u.structure == r) units) refl (λ r ne. rw (other_number r 0 (λ e. ne (sym e))) at (are r))
 
-  -- the lists by structure are the whole ones, but with an empty list under 0
+  -- the lists by structure are those of `whole`, but with an empty list under 0
   whole_bare : AreBare lists whole
   unfolding whole
   whole_bare = by_key lists 0 outside (λ r xs. list_of lists r ≡ cond (r == 0) [] xs) (are 0) (λ r ne. rw (other_number r 0 (λ e. ne (sym e))) refl)
 
--- lists that are right by structure, with an empty list under 0, are right lists of units inside
+-- lists with just the units of each structure number, but none under 0, are lists of the units inside (AreInsideLists)
 bare_inside : (units : FinMap nat_cmp Unit) (some all : FinMap nat_cmp (List ℕ)) → AreBare some all → AreLists (λ u. u.structure) units all → AreInsideLists units some
 bare_inside units some all bare are k = bare k ∙ ap (cond (k == 0) []) (are k)
 
 module _ (units : FinMap nat_cmp Unit) (old new : FinMap nat_cmp (List ℕ)) (n key : ℕ) (u : Unit) (own : u.structure ≡ key) where
-  -- the lists by structure are right with a new unit, which is put into the list of its structure if it has one
+  -- the lists by structure have just the units inside (AreInsideLists), also a new one once it is put into the list of
+  -- its structure, if it is inside one
   pub AreInsideLists-came : get units n ≡ None → new ≡ listed_apart old n key 0 → AreInsideLists units old → AreInsideLists (insert units n u) new
   AreInsideLists-came fresh put is =
       let all = whole units old is in
@@ -160,7 +164,8 @@ module _ (units : FinMap nat_cmp Unit) (old new : FinMap nat_cmp (List ℕ)) (n 
       (bare_inside (insert units n u) _ (insert all key (put_number n (list_of all key))) (bare_put (put_number n) old all key (whole_bare units old is))
       (AreLists-came (λ v. v.structure) units all _ n key u own fresh refl (whole_listed units old is)))
 
-  -- the lists by structure are right without a unit, which is taken out of the list of its structure if it had one
+  -- the lists by structure have just the units inside (AreInsideLists) once one that is removed is taken out of its
+  -- structure's list, if it is inside one
   pub AreInsideLists-went : get units n ≡ Some u → SameLists new (unlisted_apart old n key 0) → AreInsideLists units old → AreInsideLists (remove units n) new
   AreInsideLists-went there same is k =
       let all = whole units old is in
@@ -168,13 +173,13 @@ module _ (units : FinMap nat_cmp Unit) (old new : FinMap nat_cmp (List ℕ)) (n 
       ∙ bare_inside (remove units n) _ (insert all key (take_number n (list_of all key))) (bare_put (take_number n) old all key (whole_bare units old is))
       (AreLists-went (λ v. v.structure) units all _ n key u own there (λ r. refl) (whole_listed units old is)) k
 
--- the lists by structure stay right when a unit changes and its structure does not
+-- the lists by structure still have just the units inside (AreInsideLists) when a unit changes, but not its structure
 AreInsideLists-kept : (units : FinMap nat_cmp Unit) (lists : FinMap nat_cmp (List ℕ)) (n : ℕ) (u v : Unit) → get units n ≡ Some u → u.structure ≡ v.structure → AreInsideLists units lists → AreInsideLists (insert units n v) lists
 AreInsideLists-kept units lists n u v there same is =
     bare_inside (insert units n v) lists (whole units lists is) (whole_bare units lists is) (AreLists-kept (λ w. w.structure) units _ n u v there same (whole_listed units lists is))
 
 -- ---- nobody is listed
--- empty lists are right where there are no units
+-- where there are no units, empty lists have just the units of each key (AreLists)
 nobody_listed : (belongs_to : Unit → ℕ) → AreLists belongs_to empty empty
 nobody_listed belongs_to k = ap (λ o. unwrap_or o []) (get-empty nat_cmp k) ∙ sym (ap (λ es. map (λ e. e.0) (filter (λ e. belongs_to e.1 == k) es)) entries-empty)
 
@@ -185,7 +190,7 @@ nobody_bare k = elim (k == 0) as (λ b. list_of empty k ≡ cond b [] (list_of e
   | false ↦ refl
 ]
 
--- the empty lists by region, faction and structure are right where there are no units
+-- where there are no units, empty lists by region, faction and structure have just the units of each (AreUnitLists)
 pub AreUnitLists-nobody : AreUnitLists empty (record { by_region = empty; by_faction = empty; by_structure = empty })
 AreUnitLists-nobody = record {
   regions = nobody_listed (λ u. u.region);
@@ -195,7 +200,8 @@ AreUnitLists-nobody = record {
 
 -- ---- units that change, or come and go again
 
--- all lists stay right when a unit changes, but not its region, faction or structure
+-- the lists by region, faction and structure still have just the units of each (AreUnitLists) when a unit changes, but
+-- none of these three
 pub AreUnitLists-kept : (units : FinMap nat_cmp Unit) (lists : UnitLists) (n : ℕ) (u v : Unit) → get units n ≡ Some u → list_keys_of u ≡ list_keys_of v → AreUnitLists units lists → AreUnitLists (insert units n v) lists
 AreUnitLists-kept units lists n u v is same old = record {
   regions = AreLists-kept (λ w. w.region) units lists.by_region n u v is (ap (λ (l : ListKeys). l.region) same) old.regions;
@@ -207,7 +213,8 @@ AreUnitLists-kept units lists n u v is same old = record {
 put_there : (units : FinMap nat_cmp Unit) (n : ℕ) (u : Unit) → get (insert units n u) n ≡ Some u
 put_there units n u = get-insert nat_cmp_total units n u n ∙ ap (λ b. cond b (Some u) (get units n)) (itself n)
 
--- all lists are right once a new unit is put into them and taken out again
+-- the lists by region, faction and structure have just the units of each (AreUnitLists) again once a new unit is put
+-- into them and taken out again
 pub AreUnitLists-back : (units : FinMap nat_cmp Unit) (n : ℕ) (u : Unit) (l : ListKeys) (old mid new : UnitLists) → get units n ≡ None → list_keys_of u ≡ l → ListsUnit n l old mid → UnlistsUnit n l mid new → AreUnitLists units old → AreUnitLists units new
 AreUnitLists-back units n u l old mid new fresh own puts takes is =
     subst (λ (m : FinMap nat_cmp Unit). AreUnitLists m new) (taken_back units n u fresh) (takes (insert units n u) u own (put_there units n u) (puts units u own fresh is))
@@ -215,7 +222,7 @@ AreUnitLists-back units n u l old mid new fresh own puts takes is =
 -- ---- a unit that is listed elsewhere
 
 module _ (belongs_to : Unit → ℕ) where
-  -- the lists are right once a unit's number is moved from one key to another
+  -- the lists have just the units of each key (AreLists) once a unit whose key changed is moved to its new key's list
   AreLists-moved : (units : FinMap nat_cmp Unit) (lists : FinMap nat_cmp (List ℕ)) (k : ℕ) (u v : Unit) → get units k ≡ Some u → belongs_to u ≢ belongs_to v → AreLists belongs_to units lists
       → AreLists belongs_to (insert units k v) (insert (insert lists (belongs_to v) (put_number k (list_of lists (belongs_to v)))) (belongs_to u) (take_number k (list_of lists (belongs_to u))))
   AreLists-moved units lists k u v is apart old =
@@ -227,7 +234,7 @@ module _ (belongs_to : Unit → ℕ) where
       (λ _. ap (put_number k) (old to) ∙ sym (numbers_where-gained (λ w. belongs_to w == to) units k u v is (other_number from to apart) (same_number to)))
       (λ q ne2 ne3. old q ∙ sym (numbers_where-insert_known (λ w. belongs_to w == q) units k u v is (other_number from q ne3 ∙ sym (other_number to q ne2)))) r ne)
 
-  -- the lists are right once a unit's number is moved, whether its keys differ or not
+  -- the lists have just the units of each key (AreLists) once a changed unit is moved, whether its keys differ or not
   relisted : (units : FinMap nat_cmp Unit) (lists : FinMap nat_cmp (List ℕ)) (k : ℕ) (u v : Unit) → get units k ≡ Some u → AreLists belongs_to units lists
       → AreLists belongs_to (insert units k v) (unlisted_apart (listed_apart lists k (belongs_to v) (belongs_to u)) k (belongs_to u) (belongs_to v))
   relisted units lists k u v is old =
@@ -238,7 +245,8 @@ module _ (belongs_to : Unit → ℕ) where
         | inr apart ↦ rw (other_number from to apart, other_number to from (λ e. apart (sym e)), listed_else lists to (put_number k (list_of lists to)) from (λ e. apart (sym e))) (AreLists-moved units lists k u v is apart old)
       ]
 
-  -- the lists are right once a unit whose key changes is moved from the old key's list to the new key's
+  -- if the lists `new` are `old` with a changed unit moved from the list of its old key to that of its new one, they
+  -- have just the units of each key (AreLists)
   pub AreLists-relisted : (units : FinMap nat_cmp Unit) (old mid new : FinMap nat_cmp (List ℕ)) (n from to : ℕ) (u v : Unit) → get units n ≡ Some u → belongs_to u ≡ from → belongs_to v ≡ to → mid ≡ listed_apart old n to from → SameLists new (unlisted_apart mid n from to)
       → AreLists belongs_to units old → AreLists belongs_to (insert units n v) new
   AreLists-relisted units old mid new n from to u v is own goes put same lists =
@@ -247,7 +255,8 @@ module _ (belongs_to : Unit → ℕ) where
       (subst (λ q. AreLists belongs_to (insert units n v) (unlisted_apart (listed_apart old n to q) n q to)) own
       (subst (λ q. AreLists belongs_to (insert units n v) (unlisted_apart (listed_apart old n q (belongs_to u)) n (belongs_to u) q)) goes (relisted units old n u v is lists))))
 
-  -- the lists are right once a number is put under a key and taken out again, or neither where the key is `other`
+  -- lists that have just the units of each key (AreLists) do so again once a number is put under a key and taken out
+  -- again, or neither where the key is `other`
   pub AreLists-apart : (units : FinMap nat_cmp Unit) (old mid new : FinMap nat_cmp (List ℕ)) (n key other : ℕ) → mid ≡ listed_apart old n key other → SameLists new (unlisted_apart mid n key other) → AreLists belongs_to units old → AreLists belongs_to units new
   AreLists-apart units old mid new n key other put same is =
       elim (key == other) as (λ b. mid ≡ cond b old (insert old key (put_number n (list_of old key))) → SameLists new (cond b mid (insert mid key (take_number n (list_of mid key)))) → AreLists belongs_to units new) [
@@ -255,7 +264,8 @@ module _ (belongs_to : Unit → ℕ) where
         | false ↦ λ p s. AreLists-undone_at belongs_to units old mid new n key p s is
       ] put same
 
--- the lists by structure are right once a unit is moved from its old structure's list to its new structure's
+-- the lists by structure have just the units inside (AreInsideLists) once a unit is moved from its old structure's list
+-- to its new one's
 pub AreInsideLists-relisted : (units : FinMap nat_cmp Unit) (old new : FinMap nat_cmp (List ℕ)) (n from to : ℕ) (u v : Unit) → get units n ≡ Some u → u.structure ≡ from → v.structure ≡ to → SameLists new (relisted_inside old n from to)
     → AreInsideLists units old → AreInsideLists (insert units n v) new
 AreInsideLists-relisted units old new n from to u v is own goes same lists =
@@ -272,16 +282,18 @@ AreInsideLists-relisted units old new n from to u v is own goes same lists =
           (AreLists-relisted (λ w. w.structure) units all put taken n from to u v is own goes (rw (other_number to from (λ e. apart (sym e))) refl) (λ r. rw (other_number from to apart) refl) (whole_listed units old lists)) k)
     ]
 
--- all lists stay right when unit n, if it is there, changes, but not its region, faction or structure
+-- the lists by region, faction and structure still have just the units of each (AreUnitLists) when unit n, if it is
+-- there, changes, but none of these three
 pub AreUnitLists-changed : (f : Unit → Unit) → ((u : Unit) → list_keys_of u ≡ list_keys_of (f u)) → (units : FinMap nat_cmp Unit) (lists : UnitLists) (n : ℕ) → AreUnitLists units lists → AreUnitLists (changed f units n) lists
 AreUnitLists-changed f stays units lists n is = by_unit (get units n) refl
   where
-    -- all lists stay right, whether unit n is there or not
+    -- the lists still have just the units of each region, faction and structure, whether unit n is there or not
     by_unit : (o : Option Unit) → get units n ≡ o → AreUnitLists (changed_at f units n o) lists
     by_unit None e = is
     by_unit (Some u) e = AreUnitLists-kept units lists n u (f u) e (stays u) is
 
--- all lists stay right when unit n changes, but not its region, faction or structure, or memory runs out
+-- the lists by region, faction and structure still have just the units of each (AreUnitLists) when unit n changes, but
+-- none of these three, or memory runs out and nothing changes
 pub AreUnitLists-set : {A E : Type 0} (r : Result A E) (f : Unit → Unit) → ((u : Unit) → list_keys_of u ≡ list_keys_of (f u)) → (old new : FinMap nat_cmp Unit) (lists : UnitLists) (n : ℕ) → OnOk r (new ≡ changed f old n) → OnErr r (new ≡ old)
     → AreUnitLists old lists → AreUnitLists new lists
 AreUnitLists-set (Ok a) f stays old new lists n put same is = subst (λ (units : FinMap nat_cmp Unit). AreUnitLists units lists) (sym put) (AreUnitLists-changed f stays old lists n is)

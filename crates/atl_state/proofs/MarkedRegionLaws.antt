@@ -21,7 +21,7 @@ nothing_marked room = record { numbers = set.empty; room = room }
 abbrev cleared : RoomySet → RoomySet
 cleared marks = record marks { numbers = set.empty }
 
--- the dirty set with region n, if that region is there
+-- the dirty set with region n added, if that region is there
 abbrev marking : FinMap nat_cmp Region → RoomySet → ℕ → RoomySet
 marking regions marks n = record marks { numbers = marked_with marks.numbers n (get regions n) }
 
@@ -33,16 +33,18 @@ within-none = record { stocks_within = λ q e. e; items_within = nothing }
     nothing : (q : ℕ) → is_some (get {X = FinMap nat_cmp (Prim.Unit {0})} {R = nat_cmp} empty q) ≡ true → set.contains {R = nat_cmp} set.empty q ≡ true
     nothing q e = absurd (false≢true (sym (ap is_some (get-empty nat_cmp q)) ∙ e))
 
--- without regions, empty dirty sets without room satisfy the invariant AreRegions
+-- without regions, empty dirty sets without room have room for all marks, and mark no stock (AreRegions)
 pub AreRegions-none : AreRegions empty (nothing_marked 0) (nothing_marked 0) (nothing_marked 0) empty
 AreRegions-none = record { within = within-none; rows_fit = Room-empty Region; markets_fit = Room-empty Region; stocks_fit = Room-empty Region }
 
--- empty dirty sets that have room for all regions satisfy the invariant AreRegions
+-- empty dirty sets with room for as many numbers as there are regions have room for all marks, and mark no stock
+-- (AreRegions)
 pub AreRegions-of : (regions : FinMap nat_cmp Region) → AreRegions regions (nothing_marked (len regions)) (nothing_marked (len regions)) (nothing_marked (len regions)) empty
 AreRegions-of regions = record { within = within-none; rows_fit = Room-of regions; markets_fit = Room-of regions; stocks_fit = Room-of regions }
 
 module _ (regions : FinMap nat_cmp Region) (rows markets stocks : RoomySet) (items : Things) (h : AreRegions regions rows markets stocks items) where
-  -- the regions' invariant AreRegions still holds once all dirty sets are emptied
+  -- once all dirty sets are emptied, all marks still have room, and each region with a marked stock is marked
+  -- (AreRegions)
   pub AreRegions-without_marks : AreRegions regions (cleared rows) (cleared markets) (cleared stocks) empty
   AreRegions-without_marks = record {
     within = within-none;
@@ -51,12 +53,14 @@ module _ (regions : FinMap nat_cmp Region) (rows markets stocks : RoomySet) (ite
     stocks_fit = Room-unmarked regions stocks.numbers stocks.room h.stocks_fit;
   }
 
-  -- the regions' invariant AreRegions still holds once a region's row is marked
+  -- once a region's row is marked, all marks still have room, and each region with a marked stock is marked
+  -- (AreRegions)
   pub AreRegions-row : (n : ℕ) → AreRegions regions (marking regions rows n) markets stocks items
   AreRegions-row n = record { within = h.within; rows_fit = Room-put regions rows.numbers rows.room n (get regions n) refl h.rows_fit; markets_fit = h.markets_fit; stocks_fit = h.stocks_fit }
 
   module _ (n : ℕ) (r : Region) (is : get regions n ≡ Some r) where
-    -- the regions' invariant AreRegions still holds once one stock of a region, and so the region, is marked
+    -- once one stock of a region, and so the region, is marked, all marks still have room, and each region with a
+    -- marked stock is marked (AreRegions)
     pub AreRegions-item : (group : FinMap nat_cmp (Prim.Unit {0})) → AreRegions regions rows (marking regions markets n) stocks (insert items n group)
     AreRegions-item group = record {
       within = subst (λ o. AreStocksWithin (marked_with markets.numbers n o) stocks.numbers (insert items n group)) (sym is) (record {
@@ -68,7 +72,8 @@ module _ (regions : FinMap nat_cmp Region) (rows markets stocks : RoomySet) (ite
       stocks_fit = h.stocks_fit;
     }
 
-    -- the regions' invariant AreRegions still holds once all stocks of a region, and so the region, are marked
+    -- once all stocks of a region, and so the region, are marked, all marks still have room, and each region with a
+    -- marked stock is marked (AreRegions)
     pub AreRegions-stocks : AreRegions regions rows (marking regions markets n) (marking regions stocks n) items
     AreRegions-stocks = record {
       within = subst (λ o. AreStocksWithin (marked_with markets.numbers n o) (marked_with stocks.numbers n o) items) (sym is) (record {
@@ -80,7 +85,8 @@ module _ (regions : FinMap nat_cmp Region) (rows markets stocks : RoomySet) (ite
       stocks_fit = Room-put regions stocks.numbers stocks.room n (get regions n) refl h.stocks_fit;
     }
 
-  -- the regions' invariant AreRegions still holds once the region under a number is replaced by another
+  -- once the region under a number is replaced by another, all marks still have room, and each region with a marked
+  -- stock is marked (AreRegions)
   pub AreRegions-over : (n : ℕ) (r s : Region) → get regions n ≡ Some r → AreRegions (insert regions n s) rows markets stocks items
   AreRegions-over n r s is = record {
     within = h.within;

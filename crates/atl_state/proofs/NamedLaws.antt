@@ -1,4 +1,4 @@
--- Laws of the campaign assembled from rows: good names from rows with good names, and amounts within their bound.
+-- Laws of the campaign assembled from rows: names keep their rule if they do in the rows, and amounts their bound.
 use Rattle.std.proofs.Common.{◌≡◌, ℕ, suc, ◌≤◌, ◌+◌, ◌*◌, ◌&&◌, List, [], ◌∷◌, Bool, true, false, cond, not, map, Some, sym, ap, subst, ◌∙◌, arith, inl, inr}
 use Rattle.std.specs.Prelude.{ℤ, pos, negsuc}
 use Rattle.std.specs.List.{list_all, AllByRecursion, IsDistinct}
@@ -42,7 +42,7 @@ same_text a b = eq_by_cmp (slice_cmp nat_cmp) a b
 text_itself : (a : List ℕ) → same_text a a ≡ true
 text_itself a = (eq_by_cmp_equiv nat_list_cmp_total).refl a
 
--- equal Some's have equal factions
+-- if Some f and Some g are equal, the factions f and g are
 some_same : (f g : Faction) → Some f ≡ Some g → f ≡ g
 some_same f g e = cc
 
@@ -81,21 +81,21 @@ module _ (m : FinMap nat_cmp Faction) where
 
 -- ---- amounts
 
--- an amount that passes the test is_within is within the bound
+-- an amount that passes the test is_within is from -bound to bound (IsWithin)
 is_in : (bound : ℕ) (z : ℤ) → is_within bound z ≡ true → IsWithin bound z
 is_in bound (pos n) h = let most : n ≤ bound = from_le n bound h in record { most = omega (arith, ints); least = omega (arith, ints) }
 is_in bound (negsuc n) h = let most : suc n ≤ bound = from_le (suc n) bound h in record { most = omega (arith, ints); least = omega (arith, ints) }
 
--- each amount of the books is within the bound
+-- each amount of the books is from -bound to bound (IsWithin)
 abbrev AreBelow : ℕ → BooksValue → Type 0
 AreBelow bound books = (e : Entry) (t : Thing) → IsWithin bound (amount_in books e t)
 
--- amounts stay within the bound once one within it is set
+-- all amounts of books that are from -bound to bound stay so once such an amount is set
 below-with : (bound : ℕ) (books : BooksValue) (e : Entry) (t : Thing) (z : ℤ) → IsWithin bound z → AreBelow bound books → AreBelow bound (with_amount books e t z)
 below-with bound books e t z here old f u =
     subst (IsWithin bound) (sym (amount-with_amount books e t z f u)) (elim (eq_by_cmp account_cmp (f, u) (e, t)) as (λ b. IsWithin bound (cond b z (amount_in books f u))) [ true ↦ here | false ↦ old f u ])
 
--- amounts stay within the bound once rows within it are read
+-- all amounts of books that are from -bound to bound stay so once rows with such amounts are read
 below-put : (things bound : ℕ) (rows : List StoredBooks) (books : BooksValue) → AreBooks things books → AllByRecursion (IsBooked things) rows → AllByRecursion (λ r. IsWithin bound r.amount) rows → AreBelow bound books → AreBelow bound (put_amounts rows books)
 below-put things bound [] books are booked here old = old
 below-put things bound (r ∷ rows) books are booked here old =
@@ -103,7 +103,7 @@ below-put things bound (r ∷ rows) books are booked here old =
     subst (λ b. AreBelow bound (put_amounts rows b)) (sym (with_booked_row things books r are booked.0))
     (below-put things bound rows (with_amount books a.0 a.1 r.amount) (AreBooks-with_amount books a.0 a.1 r.amount things are (account_there things r booked.0)) booked.1 here.1 (below-with bound books a.0 a.1 r.amount here.0 old))
 
--- the amounts of empty books are within each bound
+-- the amounts of books that were just made (`no_amounts`), which are 0, are from -bound to bound for each bound
 below-none : (things bound : ℕ) → AreBelow bound (no_amounts things)
 below-none things bound e t = subst (IsWithin bound) (sym (amount-no_amounts things e t)) (record { most = omega (arith, ints); least = omega (arith, ints) })
 
@@ -112,7 +112,7 @@ module _ (f : Format) (w : WorldValue) (p : Parts) (k : RowsKeep f w p) where
   factions : FinMap nat_cmp Faction
   factions = by_number (λ r. as_u32 r.number) faction_of p.factions
 
-  -- the campaign assembled from rows has good names, if the rows keep the rule of names
+  -- in the campaign assembled from rows, names and pass texts keep their rules (AreNamed), if they do in the rows
   pub AreNamed-said : AreRowsNamed p → AreNamed (campaign_of w p)
   unfolding campaign_of
   AreNamed-said h =
@@ -134,19 +134,20 @@ module _ (f : Format) (w : WorldValue) (p : Parts) (k : RowsKeep f w p) where
         structures = by_number-every (λ r. as_u32 r.number) structure_of (λ n s. name_ok s.name ≡ true) (λ r. name_ok r.name) (λ r e. e) p.structures outer.1;
       }
 
-  -- the bound on amounts is the same for the campaign and for the rows
+  -- the bound on amounts of the books of the campaign assembled from rows (`amount_bound`) is that of the rows
+  -- (`books_bound`)
   same_bound : amount_bound (campaign_of w p) ≡ books_bound p
   unfolding campaign_of
   same_bound = ap (λ n. most_in_month * (as_u32 (campaign_row_of p).month + 1) + most_in_joining * n) (same_count (λ r. as_u32 r.number) faction_of p.factions (factions_apart f w p k))
 
-  -- the amounts of the assembled books are within the rows' bound
+  -- the amounts of the books assembled from rows are within the bound that the rows give (`books_bound`)
   below : AreBelow (books_bound p) (put_amounts p.books (no_amounts (things_of w)))
   below =
       below-put (things_of w) (books_bound p) p.books (no_amounts (things_of w)) (AreBooks-no_amounts (things_of w)) (all_booked f w p k)
       (each_passes (books_in_range (books_bound p)) (λ r. IsWithin (books_bound p) r.amount) (λ r h. is_in (books_bound p) r.amount (and_parts (not (is_zero r.amount)) (is_within (books_bound p) r.amount) h).1) p.books (ranges f w p k).books)
       (below-none (things_of w) (books_bound p))
 
-  -- the amounts of the assembled campaign are within its bound
+  -- the amounts of the books of the campaign assembled from rows are within their bound (`amount_bound`)
   pub AreAmountsWithin-said : AreAmountsWithin (campaign_of w p)
   unfolding campaign_of
   AreAmountsWithin-said e t = subst (λ bound. IsWithin bound (amount_in (put_amounts p.books (no_amounts (things_of w))) e t)) (sym same_bound) (below e t)

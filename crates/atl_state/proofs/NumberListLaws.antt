@@ -9,7 +9,7 @@ use Rattle.atl_records.specs.Every.{EachOf, Every}
 use Rattle.atl_state.specs.Owners.{first_or_zero}
 use Rattle.atl_records.proofs.EveryLaws.{every-from_each, passes-listed}
 
--- the number is on the list
+-- the number k is on a list
 abbrev pub IsListed : ℕ → List ℕ → Type 0
 IsListed k [] = ⊥
 IsListed k (n ∷ ns) = (k ≡ n) ⊎ IsListed k ns
@@ -20,7 +20,7 @@ place_in k d [] h = absurd h
 place_in k d (n ∷ ns) (inl same) = (0, omega arith, sym same)
 place_in k d (n ∷ ns) (inr rest) = let (i, l, at) = place_in k d ns rest in (suc i, omega arith, at)
 
--- of numbers from 1 on, the first that passes a test is on the list, and is 0 only if none passes
+-- of numbers from 1 on, `first_or_zero` of those that pass a test is on the list and passes, or is 0 and none passes
 pub first_of : (q : ℕ → Bool) (ns : List ℕ) → ((k : ℕ) → IsListed k ns → 1 ≤ k) →
     (first_or_zero (filter q ns) ≢ 0 → IsListed (first_or_zero (filter q ns)) ns × (q (first_or_zero (filter q ns)) ≡ true))
     × (first_or_zero (filter q ns) ≡ 0 → (k : ℕ) → IsListed k ns → q k ≡ false)

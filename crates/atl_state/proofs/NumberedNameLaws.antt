@@ -1,4 +1,4 @@
--- Laws of default names: a word and a number, as `Unit 7`, are a good name.
+-- Laws of default names: a word and a number, as `Unit 7`, keep the rule of names.
 use Rattle.std.proofs.Common.{◌≡◌, ℕ, ◌+◌, ◌-◌, ◌%◌, ◌≤◌, ◌<◌, ◌==◌, ◌^◌, not, true, false, List, [], ◌∷◌, ◌++◌, length, get_or, codes, decimal, refl, sym, ap, ◌∙◌, arith, length-append, append_assoc, lit≤}
 use Rattle.std.specs.List.{list_all}
 use Rattle.std.specs.Cmp.Derive.{both_true}
@@ -63,7 +63,7 @@ module _ (word : List ℕ) (front : IsFront word) where
       let end : get_or bs (length (word ++ digits)) 0 ≡ last = ap (λ l. get_or l (length (word ++ digits)) 0) (sym whole) ∙ get_or-append_seam (word ++ digits) last [] 0 in
       both_true (ap not first) (ap (λ i. not (get_or bs i 0 == 32)) place ∙ ap (λ b. not (b == 32)) end ∙ ap not other)
 
-  -- a word that can be the front of a name (IsFront), followed by a number up to last_unit, is a good name
+  -- a word that can be the front of a name (IsFront), followed by a number up to last_unit, keeps the rule of names
   pub numbered_name_ok : (n : ℕ) → n ≤ last_unit → name_ok (word ++ decimal n) ≡ true
   numbered_name_ok n h =
       let e = decimal_ends n (omega arith) in
@@ -72,6 +72,6 @@ module _ (word : List ℕ) (front : IsFront word) where
       both_true (both_true (short (word ++ decimal n) (omega (arith, size, front.some)) (omega (arith, size, few, front.few))) (ap (λ ds. has_no_edge_space (word ++ ds)) e.is ∙ open_ends e.front e.last e.least))
       (list_all-append is_name_byte word (decimal n) ∙ both_true front.bytes (all_digits (decimal n) e))
 
--- `Unit ` followed by a number up to last_unit is a good name
+-- `Unit ` followed by a number up to last_unit keeps the rule of names
 pub unit_name_ok : (n : ℕ) → n ≤ last_unit → name_ok (codes "Unit " ++ decimal n) ≡ true
 unit_name_ok n h = numbered_name_ok (codes "Unit ") (record { bytes = refl; begins = refl; some = lit≤ tt; few = lit≤ tt }) n h

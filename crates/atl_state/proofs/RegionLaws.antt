@@ -33,7 +33,7 @@ module _ (w : WorldValue) (c : CampaignValue) (regions : FinMap nat_cmp Region) 
 
   module _ (few : len regions ≡ len c.regions) (there : (n : ℕ) → IsThere c.regions n ↔ IsThere regions n)
       (within : Every (λ n r. IsRegion w n r) regions) (marketed : Every (λ n r. AreOfMarkets w n r.stocks) regions) (booked : AreBooks (things_of w) books) where
-    -- the campaign stays in range with other regions and books that are in range
+    -- counts and numbers stay in range (AreInRange) with other regions and books that are in range
     stocked-numbers : AreInRange w c → AreInRange w stocked
     stocked-numbers old = record {
       month = old.month;
@@ -50,7 +50,7 @@ module _ (w : WorldValue) (c : CampaignValue) (regions : FinMap nat_cmp Region) 
       books = booked;
     }
 
-    -- all that is named by number exists, if the regions have the same numbers, and stocks of their markets only
+    -- all that is named by number exists with other regions of the same numbers, with stocks of their markets only
     stocked-known : AreKnown w c → AreKnown w stocked
     stocked-known old = record {
       regions = λ n. (λ h. (old.regions n).0 ((there n).1 h), λ h. (there n).0 ((old.regions n).1 h));
@@ -60,7 +60,8 @@ module _ (w : WorldValue) (c : CampaignValue) (regions : FinMap nat_cmp Region) 
       posts = old.posts;
     }
 
-    -- the campaign stays steady with other regions and books that are good
+    -- the campaign stays steady with other regions of the same numbers, in range and with stocks of their markets only,
+    -- and with other books of the world's things
     stocked-steady : IsSteady w c → IsSteady w stocked
     stocked-steady old = record {
       numbers = stocked-numbers old.numbers;
@@ -77,7 +78,7 @@ module _ (w : WorldValue) (c : CampaignValue) (regions : FinMap nat_cmp Region) 
 -- ---- a region
 
 module _ {V : Type 0} where
-  -- a map has as many values once one is replaced
+  -- a map has as many values as before once one is replaced
   pub same_len : (m : FinMap nat_cmp V) (n : ℕ) (u v : V) → get m n ≡ Some u → len (insert m n v) ≡ len m
   same_len m n u v is = len-insert nat_cmp_total m n v ∙ ap (λ o. cond (is_some o) (len m) (len m + 1)) is
 
@@ -103,11 +104,11 @@ module _ {V : Type 0} where
   pub changed-known : (f : V → V) (m : FinMap nat_cmp V) (n : ℕ) (v : V) → get m n ≡ Some v → changed f m n ≡ insert m n (f v)
   changed-known f m n v is = ap (changed_at f m n) is
 
--- a region stays in range with other peasants, up to the limit
+-- a region's peasants, money and stocks stay in range (IsRegion) with another number of peasants, up to most_amount
 pub IsRegion-peasants : {w : WorldValue} {n : ℕ} (r : Region) (peasants : ℕ) → peasants ≤ most_amount → IsRegion w n r → IsRegion w n (record r { peasants = peasants })
 IsRegion-peasants r peasants few old = record { peasants = few; money = old.money; stocks = old.stocks }
 
--- a region stays in range with other money, up to the limit
+-- a region's peasants, money and stocks stay in range (IsRegion) with other money, up to most_amount
 pub IsRegion-money : {w : WorldValue} {n : ℕ} (r : Region) (money : ℕ) → money ≤ most_amount → IsRegion w n r → IsRegion w n (record r { money = money })
 IsRegion-money r money few old = record { peasants = old.peasants; money = few; stocks = old.stocks }
 
@@ -129,7 +130,7 @@ module _ (f : Region → Region) (c : CampaignValue) (n : ℕ) (r : Region) (is 
   regrouped : (u a b p q : ℕ) → a + p ≡ b + q → (u + a) + p ≡ (u + b) + q
   regrouped u a b p q h = omega arith
 
-  -- changing region n changes each total by what the region then has more or less of the thing
+  -- changing region n changes the total of each thing by what the region then has more or less of it
   pub total-region : (t : Thing) → total (region_changed f c n) t + region_amount t r ≡ total c t + region_amount t (f r)
   unfolding total
   total-region t =
@@ -145,7 +146,7 @@ pub steady-amount : (w : WorldValue) (c : CampaignValue) (e : Entry) (t : Thing)
 steady-amount w c e t n there old =
     stocked-steady w c c.regions (after_booking c.books e t n) refl (λ k. (λ h. h, λ h. h)) old.numbers.regions old.known.markets (AreBooks-after_booking (things_of w) c.books e t n old.numbers.books there) old
 
--- no total changes when an amount is booked
+-- booking an amount doesn't change the total that regions and units have of any thing
 pub total-amount : (c : CampaignValue) (e : Entry) (u t : Thing) (n : ℤ) → total (with_amount c e u n) t ≡ total c t
 unfolding total
 total-amount c e u t n = refl

@@ -11,24 +11,24 @@ use Rattle.atl_records.specs.Grids.{accounts_under, listed_of}
 use Rattle.atl_records.proofs.BookLaws.{zero_not}
 use Rattle.atl_state.specs.Rows.{has_row, amounts_rows, books_row, amount_rows, rows_of_sort, rows_under}
 
--- pos m ≡ pos n gives m ≡ n
+-- numbers m and n that are equal as integers (pos m, pos n) are equal
 same_size : {m n : ℕ} → pos m ≡ pos n → m ≡ n
 same_size e = cc
 
--- rows that show their amounts
+-- for rows of which `shown` gives the amount that `row` made them with
 module _ {R : Type 0} (shown : R → ℤ) (row : ℕ → ℕ → R) (shows : (thing amount : ℕ) → shown (row thing amount) ≡ pos amount) where
-  -- an amount that is not 0 gives one row, before those of the rest
+  -- of a list of things with amounts, a first amount that is not 0 gives one row, in front of those of the others
   pub amount_rows_one : (thing amount : ℕ) (es : List (ℕ × ℕ)) → amount ≢ 0 → amount_rows shown row ((thing, amount) ∷ es) ≡ row thing amount ∷ amount_rows shown row es
   amount_rows_one thing amount es h =
       ap (λ b. cond (not b) (row thing amount ∷ amount_rows shown row es) (amount_rows shown row es)) (ap is_zero (shows thing amount) ∙ zero_not (pos amount) (λ e. h (same_size e)))
 
--- an amount that is not 0 of a unit's goods gives one row, before those of the rest
+-- of a unit's items, or of its days of skills, a first amount other than 0 gives one row, in front of the others' rows
 pub sort_rows_one : (n sort thing amount : ℕ) (es : List (ℕ × ℕ)) → amount ≢ 0 → rows_of_sort n sort ((thing, amount) ∷ es) ≡ has_row n sort thing amount ∷ rows_of_sort n sort es
 sort_rows_one n sort = amount_rows_one (λ r. r.amount) (has_row n sort) (λ i a. refl)
 
 -- ---- rows of the books
 
--- the rows of two lists of accounts, one after the other, are the rows of both lists together
+-- the rows of the books for two lists of accounts (entries with things), one after the other, are those for both lists
 pub rows_under-append : (books : BooksValue) (some others : List Account) → rows_under books (some ++ others) ≡ rows_under books some ++ rows_under books others
 rows_under-append books [] others = refl
 rows_under-append books (a ∷ some) others =
@@ -40,26 +40,26 @@ rows_under-append books (a ∷ some) others =
       | false ↦ ap (λ rows. books_row a.0 a.1 z ∷ rows) (rows_under-append books some others)
     ]
 
--- the rows of one account are its row, or none if its amount is 0
+-- the rows of the books for one account (an entry with a thing) are its row, or none if its amount is 0
 rows_under_one : (books : BooksValue) (a : Account) → rows_under books (a ∷ []) ≡ cond (not (is_zero (amount_in books a.0 a.1))) (books_row a.0 a.1 (amount_in books a.0 a.1) ∷ []) []
 rows_under_one books a = elim (is_zero (amount_in books a.0 a.1)) as (λ b. amounts_rows (cond (not b) ((a, amount_in books a.0 a.1) ∷ []) []) ≡ cond (not b) (books_row a.0 a.1 (amount_in books a.0 a.1) ∷ []) []) [ true ↦ refl | false ↦ refl ]
 
--- the rows of an entry for n + 1 things are those for n things, followed by those of its account of thing n
+-- the rows of an entry of the books for n + 1 things are those for n things, and then those for thing n, one or none
 more_under : (books : BooksValue) (entry : Entry) (n : ℕ) → rows_under books (accounts_under (n + 1) entry) ≡ rows_under books (accounts_under n entry) ++ rows_under books ((entry, thing_at n) ∷ [])
 more_under books entry n = ap (rows_under books) (map-range_with_len_more (λ i. (entry, thing_at i)) 0 n n (omega arith)) ∙ rows_under-append books (accounts_under n entry) ((entry, thing_at n) ∷ [])
 
--- the rows of an entry for n + 1 things are those for n things and the row of thing n, if its amount is not 0
+-- the rows of an entry of the books for n + 1 things are those for n things and thing n's row, if its amount is not 0
 pub rows_under-some : (books : BooksValue) (entry : Entry) (n : ℕ) → amount_in books entry (thing_at n) ≢ pos 0 → rows_under books (accounts_under (n + 1) entry) ≡ rows_under books (accounts_under n entry) ++ books_row entry (thing_at n) (amount_in books entry (thing_at n)) ∷ []
 rows_under-some books entry n h =
     let z = amount_in books entry (thing_at n) in
     more_under books entry n ∙ ap (λ rows. rows_under books (accounts_under n entry) ++ rows) (rows_under_one books (entry, thing_at n) ∙ ap (λ b. cond (not b) (books_row entry (thing_at n) z ∷ []) []) (zero_not z h))
 
--- the rows of an entry for n + 1 things are those for n things, if the amount of thing n is 0
+-- the rows of an entry of the books for n + 1 things are those for n things, if the amount of thing n is 0
 pub rows_under-none : (books : BooksValue) (entry : Entry) (n : ℕ) → amount_in books entry (thing_at n) ≡ pos 0 → rows_under books (accounts_under (n + 1) entry) ≡ rows_under books (accounts_under n entry)
 rows_under-none books entry n h =
     more_under books entry n ∙ ap (λ rows. rows_under books (accounts_under n entry) ++ rows) (rows_under_one books (entry, thing_at n) ∙ ap (λ z. cond (not (is_zero z)) (books_row entry (thing_at n) z ∷ []) []) h) ∙ append-nil (rows_under books (accounts_under n entry))
 
--- the rows written and those still to come are together the same before and after the rows of one entry are written
+-- the rows of the books written so far and those still to come are together as before once one entry's are written
 pub entry_added : (books : BooksValue) (things : ℕ) (x : Entry) (now rest : List Entry) (before after all : List StoredBooks) → now ≡ x ∷ rest → after ≡ before ++ rows_under books (accounts_under things x)
     → before ++ rows_under books (flat_map (accounts_under things) now) ≡ all → after ++ rows_under books (flat_map (accounts_under things) rest) ≡ all
 entry_added books things x now rest before after all next is so_far =

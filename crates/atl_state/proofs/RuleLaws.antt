@@ -21,7 +21,7 @@ use Rattle.atl_records.proofs.EveryLaws.{none_some, every-from_each, each-from_e
 pub Decides-there : {V : Type 0} (m : FinMap nat_cmp V) (n : ℕ) (b : Bool) → b ≡ is_some (get m n) → Decides b (IsThere m n)
 Decides-there {V} m n b is = (λ e. found (get m n) (sym is ∙ e), λ there. is ∙ ap is_some there.1)
   where
-    -- an option that is Some has a value
+    -- an option of which is_some is true is Some of a value
     found : (o : Option V) → is_some o ≡ true → (v : V) × (o ≡ Some v)
     found None e = absurd (false≢true e)
     found (Some v) e = (v, refl)
@@ -69,12 +69,12 @@ module _ {V : Type 0} (P : ℕ → V → Type 0) where
 
 -- ---- the numbers that come next
 
--- a number that is not there has no value
+-- a look-up of a number that a map doesn't have (IsThere) gives None
 pub free_from : {V : Type 0} (m : FinMap nat_cmp V) (n : ℕ) → ¬ (IsThere m n) → get m n ≡ None
 free_from {V} m n none = elim (get m n) as (λ o. get m n ≡ o → o ≡ None) [ None ↦ λ _. refl | Some v ↦ λ is. absurd (none (v, is)) ] refl
 
 module _ {V : Type 0} (m : FinMap nat_cmp V) (next : ℕ) where
-  -- the number is from `least` to below next
+  -- a number is from `least` to `next` - 1
   abbrev Between : ℕ → ℕ → V → Type 0
   Between least n v = (least ≤ n) × (n < next)
 

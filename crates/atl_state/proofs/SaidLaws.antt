@@ -55,12 +55,12 @@ use Rattle.atl_state.proofs.OrderLaws.{Apart, HasNumber, Apart-keys, rows_order,
 min_less : (n m : ℕ) → min n m < m → min n m ≡ n
 min_less n m h = grind arith
 
--- a number of a row that is read as one below most_u32 is read as it is
+-- a number of a row that is read as one below most_u32 fits 32 bits, so it is read as it is (IsWhole)
 pub whole_below : (z : ℤ) → as_u32 z < most_u32 → IsWhole z
 whole_below (pos n) h = ap pos (sym (min_less n most_u32 h))
 whole_below (negsuc n) h = absurd (omega arith)
 
--- a number of a row that is read as one below most_u16 is read as it is
+-- a number of a row that is read as one of 16 bits, below most_u16, is that number
 whole16 : (z : ℤ) → as_u16 z < most_u16 → z ≡ pos (as_u16 z)
 whole16 (pos n) h = ap pos (sym (min_less n most_u16 h))
 whole16 (negsuc n) h = absurd (omega arith)
@@ -72,7 +72,7 @@ flag_whole (pos (suc zero)) h = refl
 flag_whole (pos (suc (suc n))) h = let most = from_le (suc (suc n)) 1 (and_parts (nat_le 0 (suc (suc n))) (nat_le (suc (suc n)) 1) h).1 in absurd (omega arith)
 flag_whole (negsuc n) h = absurd (false≢true h)
 
--- if two keys of one number differ, and the numbers are read as they are, different numbers are read
+-- if two keys of one number each differ, and both numbers fit 32 bits (IsWhole), different numbers are read
 pub one_apart : (x y : ℤ) → IsWhole x → IsWhole y → same (one_key x) (one_key y) ≡ false → as_u32 y ≢ as_u32 x
 one_apart x y a b d e =
     let one : x ≡ y = a ∙ ap pos (sym e) ∙ sym b in
@@ -88,7 +88,7 @@ none_or_below m zero most every there = omega arith
 none_or_below m (suc n) most every there = there_below m (suc n) most every (there (λ e. absurd (omega arith)))
 
 -- ---- the rules that are needed
--- rules that rows keep, by which they are just the rows of the campaign assembled from them
+-- rows keep the rules by which they are just the rows of the campaign assembled from them (`campaign_of`)
 pub record RowsKeep (f : Format) (w : WorldValue) (p : Parts) : Type 0 where
   pub world : IsWorld w
   pub one : is_one_campaign_row f p.campaign ≡ true
@@ -137,7 +137,7 @@ all_forall : {R : Type 0} (P : ℕ → R → Type 0) (rows : List R) → ((n : �
 all_forall P [] h = tt
 all_forall P (r ∷ rows) h = (λ n. (h n).0, all_forall P rows (λ n. (h n).1))
 
--- an option that is Some has a value
+-- an option of which is_some is true is Some of a value
 some_there : {V : Type 0} (o : Option V) → is_some o ≡ true → (v : V) × (o ≡ Some v)
 some_there None h = absurd (false≢true h)
 some_there (Some v) h = (v, refl)
@@ -147,24 +147,24 @@ or_cases : (b c : Bool) → (b || c) ≡ true → (b ≡ true) ⊎ (c ≡ true)
 or_cases true c h = inl refl
 or_cases false c h = inr h
 
--- a number that is read as it is, and as at least 1, is not 0
+-- a number of a row that fits 32 bits (IsWhole), and is read as at least 1, is not 0
 whole_not_zero : (z : ℤ) → IsWhole z → 1 ≤ as_u32 z → is_zero z ≡ false
 whole_not_zero (pos n) whole h = let apart : n ≢ 0 = λ e. let zero_read : as_u32 (pos n) ≡ 0 = ap (λ m. as_u32 (pos m)) e in omega arith in grind (arith, nat_tests)
 whole_not_zero (negsuc n) whole h = refl
 
--- a row of goods passes the test (is_of) of being of its own unit and kind
+-- a row of goods passes the test (is_of) of being of the unit and of the sort (items or skills) that it names
 is_of_itself : (h : StoredHas) → is_of (as_u32 h.unit) (as_u32 h.sort) h ≡ true
 is_of_itself h =
     let unit : (as_u32 h.unit == as_u32 h.unit) ≡ true = grind (arith, nat_tests) in
     let sort : (as_u32 h.sort == as_u32 h.sort) ≡ true = grind (arith, nat_tests) in
     ap (λ b. b && (as_u32 h.sort == as_u32 h.sort)) unit ∙ sort
 
--- the size of a kind that may be missing is at most most_size
+-- the size of a kind, or most_size where there is no kind, is at most most_size
 size_small : (o : Option Kind) → ((x : Kind) → o ≡ Some x → x.size ≤ most_size) → option_map_or (λ (x : Kind). x.size) o most_size ≤ most_size
 size_small None h = omega arith
 size_small (Some x) h = h x refl
 
--- the size of each kind, and most_size for none, is at most most_size
+-- the size of each kind of the world is at most most_size, which is also given for a kind that the world doesn't have
 pub small_size : (w : WorldValue) → IsWorld w → (kind : ℕ) → size_of w kind ≤ most_size
 small_size w world kind = size_small (slice_get w.kinds kind) (λ x is. (world.kinds kind x is).size)
 
@@ -175,16 +175,16 @@ market_there : (regions : FinMap nat_cmp RegionPlan) (i : ℕ) (n : ℕ) (o : Op
 market_there regions i n None is e = absurd (false≢true e)
 market_there regions i n (Some q) is e = let found = some_there (get q.markets i) e in (q, found.0, is, found.1)
 
--- the limit of a market that may be missing is at most most_amount
+-- the limit of a market, or most_amount where there is no market, is at most most_amount
 limit_small : (o : Option Market) → ((m : Market) → o ≡ Some m → m.limit ≤ most_amount) → option_map_or (λ (m : Market). m.limit) o most_amount ≤ most_amount
 limit_small None h = omega arith
 limit_small (Some m) h = h m refl
 
--- the limit of each market, and most_amount for none, is at most most_amount
+-- the limit of each market of the world is at most most_amount, which is also given where there is no market
 pub small_limit : (w : WorldValue) → IsWorld w → (n i : ℕ) → stock_limit w n i ≤ most_amount
 small_limit w world n i = limit_small (market_of w n i) (λ m is. of_market (market_there w.regions i n (get w.regions n) refl (ap is_some is)) m is)
   where
-    -- equal Some's have equal markets
+    -- if Some a and Some b are equal, the markets a and b are
     some_same : (a b : Market) → Some a ≡ Some b → a ≡ b
     some_same a b e = cc
 
@@ -206,7 +206,7 @@ module _ (f : Format) (w : WorldValue) (p : Parts) (k : RowsKeep f w p) where
   ranges = number_ranges w p k.range.numbers
 
   -- ---- factions
-  -- the number in a faction's row in range is read as it is, and at most last_faction
+  -- the number in a faction's row in range fits 32 bits (IsWhole), and is at most last_faction
   faction_number : (r : StoredFaction) → faction_in_range r ≡ true → (IsWhole r.number) × (as_u32 r.number ≤ last_faction)
   faction_number r h = let range = from_range 1 last_faction r.number (omega arith) (and_parts (is_from 1 last_faction r.number) (is_from 0 1 r.gone) h).0 in (range.0, range.2)
 
@@ -234,7 +234,7 @@ module _ (f : Format) (w : WorldValue) (p : Parts) (k : RowsKeep f w p) where
   unfolding campaign_of
   few_regions n there = let known = (k.known.regions n).0 there in (k.world.regions n known.0 known.1).number_most
 
-  -- the numbers in the rows of regions are read as they are
+  -- the numbers in the rows of regions fit 32 bits, so they are read as they are (IsWhole)
   regions_whole : AllByRecursion (λ r. IsWhole r.number) p.regions
   regions_whole =
       each_so (λ r. IsThere (by_number (λ r. as_u32 r.number) (region_of p.markets) p.regions) (as_u32 r.number)) (λ r. IsWhole r.number) (λ r there. let few = few_regions (as_u32 r.number) there in whole_below r.number (omega arith)) p.regions
@@ -259,7 +259,7 @@ module _ (f : Format) (w : WorldValue) (p : Parts) (k : RowsKeep f w p) where
       (each_with (λ r. IsWhole r.number) (λ r. region_in_range r ≡ true) (λ r. region_row (as_u32 r.number) (region_of p.markets r) ≡ r) same_region p.regions regions_whole (each_passes region_in_range (λ r. region_in_range r ≡ true) (λ r h. h) p.regions ranges.regions))
 
   -- ---- units and structures: their numbers
-  -- the number in a unit's row in range is read as it is, and at most last_unit
+  -- the number in a unit's row in range fits 32 bits (IsWhole), and is at most last_unit
   unit_number : (r : StoredUnit) → unit_in_range r ≡ true → (IsWhole r.number) × (as_u32 r.number ≤ last_unit)
   unit_number r h = let range = from_range 1 last_unit r.number (omega arith) (unit_ranges r h).number in (range.0, range.2)
 
@@ -271,7 +271,7 @@ module _ (f : Format) (w : WorldValue) (p : Parts) (k : RowsKeep f w p) where
   few_units : Every (λ n u. n ≤ last_unit) (by_number (λ r. as_u32 r.number) (unit_of p.has) p.units)
   few_units = by_number-every (λ r. as_u32 r.number) (unit_of p.has) (λ n u. n ≤ last_unit) unit_in_range (λ r h. (unit_number r h).1) p.units ranges.units
 
-  -- the number in a structure's row in range is read as it is, and at most most_structures
+  -- the number in a structure's row in range fits 32 bits (IsWhole), and is at most most_structures
   structure_number : (r : StoredStructure) → structure_in_range w r ≡ true → (IsWhole r.number) × (as_u32 r.number ≤ most_structures)
   structure_number r h = let range = from_range 1 most_structures r.number (omega arith) (and_parts (is_from 1 most_structures r.number) (is_from 1 (size_of w (as_u16 r.kind)) r.done) h).0 in (range.0, range.2)
 
@@ -342,7 +342,7 @@ module _ (f : Format) (w : WorldValue) (p : Parts) (k : RowsKeep f w p) where
       (each_passes (structure_in_range w) (λ r. structure_in_range w r ≡ true) (λ r h. h) p.structures ranges.structures) structures_built)
 
   -- ---- mail and reports
-  -- the numbers in the rows of mail are read as they are
+  -- the faction numbers in the rows of mail fit 32 bits, so they are read as they are (IsWhole)
   mail_whole : AllByRecursion (λ r. IsWhole r.faction) p.mail
   unfolding campaign_of
   mail_whole =
@@ -357,7 +357,7 @@ module _ (f : Format) (w : WorldValue) (p : Parts) (k : RowsKeep f w p) where
       (Apart-keys mail_key (λ r. as_u32 r.faction) same (λ r. IsWhole r.faction) (λ r s. one_apart r.faction s.faction) p.mail mail_whole k.range.keys.mail)
       (each_so (λ r. IsWhole r.faction) (λ r. mail_row (as_u32 r.faction) r.text ≡ r) (λ r whole. λ i. record { faction = sym whole i; text = r.text }) p.mail mail_whole)
 
-  -- the numbers in the rows of reports are read as they are
+  -- the faction numbers in the rows of reports fit 32 bits, so they are read as they are (IsWhole)
   reports_whole : AllByRecursion (λ r. IsWhole r.faction) p.reports
   unfolding campaign_of
   reports_whole =
@@ -377,11 +377,11 @@ module _ (f : Format) (w : WorldValue) (p : Parts) (k : RowsKeep f w p) where
   abbrev units : FinMap nat_cmp Unit
   units = by_number (λ r. as_u32 r.number) (unit_of p.has) p.units
 
-  -- a row of goods in range: a skill's days (kind 1), or an item (kind 0) from 1 to holding_limit
+  -- a row of goods is of a skill's days (sort 1), or of an item (sort 0) with an amount from 1 to holding_limit
   abbrev SortOf : StoredHas → Type 0
   SortOf h = (as_u32 h.sort ≡ 1) ⊎ ((as_u32 h.sort ≡ 0) × (is_from 1 holding_limit h.amount ≡ true))
 
-  -- a row of goods in range has its kind read as it is, and is of kind 1, or of kind 0 with an amount in range (SortOf)
+  -- a row of goods in range has a sort of 32 bits, and is of skills, or of items with an amount in range (SortOf)
   sort_of : (h : StoredHas) → has_in_range h ≡ true → IsWhole h.sort × SortOf h
   sort_of h e =
       elim (or_cases (is_from 1 1 h.sort) (is_from 0 0 h.sort && is_from 1 holding_limit h.amount) e) [
@@ -404,11 +404,11 @@ module _ (f : Format) (w : WorldValue) (p : Parts) (k : RowsKeep f w p) where
   their_men : Every (λ n u. u.holding.men ≤ men_limit) units
   their_men = by_number-every (λ r. as_u32 r.number) (unit_of p.has) (λ n u. u.holding.men ≤ men_limit) unit_in_range (λ r h. (in_range 1 men_limit most_u32 r.men (omega arith) (unit_ranges r h).men).1) p.units ranges.units
 
-  -- the thing of a row of goods is among what the rows say unit n has of this kind
+  -- the item or skill of a row of goods is among what all rows of goods of this sort (0 items, 1 skills) give unit n
   abbrev ThingThere : ℕ → ℕ → StoredHas → Type 0
   ThingThere n sort h = IsThere (things_had n sort p.has) (as_u32 h.thing)
 
-  -- the thing of each row of goods is among what the rows say its unit has of its kind
+  -- the item or skill of each row of goods is among what all rows of goods of its sort (items or skills) give its unit
   things_there : AllByRecursion (λ h. (n : ℕ) → (sort : ℕ) → is_of n sort h ≡ true → ThingThere n sort h) p.has
   things_there = all_forall (λ n h. (sort : ℕ) → is_of n sort h ≡ true → ThingThere n sort h) p.has (λ n. all_forall (λ sort h. is_of n sort h ≡ true → ThingThere n sort h) p.has (λ sort.
       unkept (is_of n sort) (ThingThere n sort) p.has (rows_there (λ h. as_u32 h.thing) (λ h. as_u32 h.amount) (filter (is_of n sort) p.has))))
@@ -434,12 +434,12 @@ module _ (f : Format) (w : WorldValue) (p : Parts) (k : RowsKeep f w p) where
       let below = placed.items thing v at in
       omega arith
 
-  -- the kind of a row of goods in range is 1 or 0
+  -- the sort of a row of goods in range (SortOf) is 1 (skills) or 0 (items)
   either_sort : (h : StoredHas) → SortOf h → (as_u32 h.sort ≡ 1) ⊎ (as_u32 h.sort ≡ 0)
   either_sort h (inl skill) = inl skill
   either_sort h (inr item) = inr item.0
 
-  -- the key of a row of goods in range, whose unit exists, is read as it is
+  -- the unit, sort and thing of a row of goods in range, whose unit exists, fit 32 bits (IsKeyed)
   keyed : (h : StoredHas) → (IsThere units (as_u32 h.unit)) × (has_in_range h ≡ true) → ((n : ℕ) → (sort : ℕ) → is_of n sort h ≡ true → ThingThere n sort h) → IsKeyed h
   keyed h (there, range) thing =
       let unit_few = there_below units (as_u32 h.unit) last_unit few_units there in
@@ -455,20 +455,20 @@ module _ (f : Format) (w : WorldValue) (p : Parts) (k : RowsKeep f w p) where
   all_placed : AllByRecursion Placed p.has
   all_placed = each_with (λ h. IsThere units (as_u32 h.unit)) (λ h. has_in_range h ≡ true) Placed (λ h a b. (a, b)) p.has held_units (each_passes has_in_range (λ h. has_in_range h ≡ true) (λ h e. e) p.has ranges.has)
 
-  -- the key of each row of goods is read as it is
+  -- the unit, sort and thing of each row of goods fit 32 bits (IsKeyed)
   all_keyed : AllByRecursion IsKeyed p.has
   all_keyed = each_with Placed (λ h. (n : ℕ) → (sort : ℕ) → is_of n sort h ≡ true → ThingThere n sort h) IsKeyed keyed p.has all_placed things_there
 
-  -- a row's amount is found under its thing among what the rows say unit n has of this kind
+  -- the amount of a row of goods is found under its item or skill among what all rows of this sort give unit n
   abbrev IsFound : ℕ → ℕ → StoredHas → Type 0
   IsFound n sort h = get (things_had n sort p.has) (as_u32 h.thing) ≡ Some (as_u32 h.amount)
 
-  -- the amount of each row of goods is found under its thing among what the rows say its unit has
+  -- the amount of each row of goods is found under its item or skill among what all rows of its sort give its unit
   all_found : AllByRecursion (λ h. (n : ℕ) → (sort : ℕ) → is_of n sort h ≡ true → IsFound n sort h) p.has
   all_found = all_forall (λ n h. (sort : ℕ) → is_of n sort h ≡ true → IsFound n sort h) p.has (λ n. all_forall (λ sort h. is_of n sort h ≡ true → IsFound n sort h) p.has (λ sort.
       unkept (is_of n sort) (IsFound n sort) p.has (rows_found (λ h. as_u32 h.thing) (λ h. as_u32 h.amount) (filter (is_of n sort) p.has) (things_apart n sort p.has all_keyed k.range.keys.has))))
 
-  -- the amount of a row of goods is read as it is and is not 0
+  -- the amount of a row of goods fits 32 bits (IsWhole) and is not 0
   exact_of : (h : StoredHas) → IsThere units (as_u32 h.unit) → SortOf h → ((n : ℕ) → (sort : ℕ) → is_of n sort h ≡ true → IsFound n sort h) → IsWhole h.amount × (is_zero h.amount ≡ false)
   unfolding campaign_of
   exact_of h there (inl skill) found =
@@ -482,23 +482,23 @@ module _ (f : Format) (w : WorldValue) (p : Parts) (k : RowsKeep f w p) where
       let range = from_range 1 holding_limit h.amount (omega arith) item.1 in
       (range.0, whole_not_zero h.amount range.0 range.1)
 
-  -- a row of goods in range whose unit exists (Placed), with its key read as it is
+  -- the unit of a row of goods exists, the row is in range (Placed), and its unit, sort and thing fit 32 bits (IsKeyed)
   abbrev KeyedPlaced : StoredHas → Type 0
   KeyedPlaced h = IsKeyed h × Placed h
 
-  -- a row of goods has key and amount read as they are, with an amount other than 0
+  -- the unit, sort, thing and amount of a row of goods fit 32 bits, and the amount is not 0 (IsExact)
   exact : (h : StoredHas) → KeyedPlaced h → ((n : ℕ) → (sort : ℕ) → is_of n sort h ≡ true → IsFound n sort h) → IsExact h
   exact h (keys, (there, range)) found = let amount = exact_of h there (sort_of h range).1 found in record { keys = keys; amount = amount.0; some = amount.1 }
 
-  -- the key and amount of each row of goods are read as they are, with an amount other than 0
+  -- the unit, sort, thing and amount of each row of goods fit 32 bits, and the amount is not 0 (IsExact)
   all_exact : AllByRecursion IsExact p.has
   all_exact = each_with KeyedPlaced (λ h. (n : ℕ) → (sort : ℕ) → is_of n sort h ≡ true → IsFound n sort h) IsExact exact p.has (each_with IsKeyed Placed KeyedPlaced (λ h a b. (a, b)) p.has all_keyed all_placed) all_found
 
-  -- a row of goods in range is of a unit that has a row, and of kind 0 or 1
+  -- a row of goods in range is of a unit that has a row, and of sort 0 (items) or 1 (skills)
   of_units : (h : StoredHas) → Placed h → IsOfUnits p.units h
   of_units h (there, range) = (row_of (λ r. as_u32 r.number) (unit_of p.has) p.units (as_u32 h.unit) there, turned h (sort_of h range).1)
     where
-      -- a row of goods of kind 1 or 0 is of kind 0 or 1
+      -- a row of goods in range (SortOf) is of sort 0 (items) or 1 (skills)
       turned : (h : StoredHas) → SortOf h → (as_u32 h.sort ≡ 0) ⊎ (as_u32 h.sort ≡ 1)
       turned h (inl skill) = inr skill
       turned h (inr item) = inl item.0
@@ -512,7 +512,7 @@ module _ (f : Format) (w : WorldValue) (p : Parts) (k : RowsKeep f w p) where
   abbrev regions : FinMap nat_cmp Region
   regions = by_number (λ r. as_u32 r.number) (region_of p.markets) p.regions
 
-  -- a row of a market in range has key and stock read as they are, with a stock other than 0
+  -- the region, item and stock of a row of a market in range fit 32 bits, and the stock is not 0 (IsExact)
   exact_market : (m : StoredMarket) → is_of_market w m ≡ true → market_in_range w m ≡ true → market.IsExact m
   exact_market m named range =
       let found = market_there w.regions (as_u32 m.item) (as_u32 m.region) (get w.regions (as_u32 m.region)) refl named in
@@ -524,7 +524,7 @@ module _ (f : Format) (w : WorldValue) (p : Parts) (k : RowsKeep f w p) where
       let stock = from_range 1 (stock_limit w (as_u32 m.region) (as_u32 m.item)) m.stock (omega (arith, limit_few)) range in
       record { keys = record { region = whole_below m.region (omega arith); item = whole_below m.item (omega arith) }; stock = stock.0; some = whole_not_zero m.stock stock.0 stock.1 }
 
-  -- the key and stock of each row of a market are read as they are, with a stock other than 0
+  -- the region, item and stock of each row of a market fit 32 bits, and the stock is not 0 (IsExact)
   exact_markets : AllByRecursion market.IsExact p.markets
   exact_markets =
       each_with (λ m. is_of_market w m ≡ true) (λ m. market_in_range w m ≡ true) market.IsExact exact_market p.markets (each_passes (is_of_market w) (λ m. is_of_market w m ≡ true) (λ m e. e) p.markets k.stocked)
@@ -551,11 +551,11 @@ module _ (f : Format) (w : WorldValue) (p : Parts) (k : RowsKeep f w p) where
 
   -- ---- the books
 
-  -- a number that passes the test nat_lt is below the other
+  -- if the test nat_lt of m and n is true, m is below n
   below_of : (m n : ℕ) → nat_lt m n ≡ true → m < n
   below_of m n h = grind (arith, nat_tests)
 
-  -- a format has at most entry_count entries
+  -- the books have at most entry_count entries in each format
   few_entries : (g : Format) → entries_in g ≤ entry_count
   few_entries First = omega arith
   few_entries Second = omega arith

@@ -33,7 +33,7 @@ by_number q n P same apart =
     ] refl
 
 module _ {V : Type 0} where
-  -- the value in the slot, where there is a slot
+  -- the value in slot k of a slab for Some k, if the slot has one; None for None
   abbrev pub through : slab.Slab V → Option ℕ → Option V
   through s None = None
   through s (Some k) = slab.get s k
@@ -43,19 +43,19 @@ module _ {V : Type 0} where
   find_entry_step n q None rest h = absurd (false≢true h)
   find_entry_step n q (Some v) rest h = refl
 
-  -- following a choice between two slots gives the choice between their values
+  -- the value in the slot that is chosen (`through`) is the choice between the values in the two slots
   through_cond : (b : Bool) (s : slab.Slab V) (k : ℕ) (o : Option ℕ) → cond b (slab.get s k) (through s o) ≡ through s (cond b (Some k) o)
   through_cond true s k o = refl
   through_cond false s k o = refl
 
-  -- looking up a number in the entries is looking up its slot, and following it
+  -- a look-up of a number among the entries with values gives the value in the slot that the index entries have for it
   find_lodged : (s : slab.Slab V) (q : ℕ) (es : List (ℕ × ℕ)) → AreInUse es s → find nat_cmp q (slot_entries es s) ≡ through s (find nat_cmp q es)
   find_lodged s q [] h = refl
   find_lodged s q (e ∷ es) h =
       find_entry_step e.0 q (slab.get s e.1) (slot_entries es s) h.0 ∙ ap (cond (eq_by_cmp nat_cmp q e.0) (slab.get s e.1)) (find_lodged s q es h.1)
       ∙ through_cond (eq_by_cmp nat_cmp q e.0) s e.1 (find nat_cmp q es)
 
-  -- each slot that a number leads to is in use
+  -- each slot that a number of the index leads to is in use
   pub all_in_use : (i : FinMap nat_cmp ℕ) (s : slab.Slab V) → HaveOwnSlots i s → AreInUse (entries i) s
   all_in_use i s held = each-from_every (λ n k. is_some (slab.get s k) ≡ true) i held.in_use
 
@@ -66,7 +66,7 @@ module _ {V : Type 0} where
       ∙ find_lodged s q (entries i) (all_in_use i s held)
       ∙ ap (through s) (sym (get-entries i q))
 
-  -- following the slot of a number gives its value in the map of values
+  -- the value in the slot that a number leads to (`through`) is the number's value in the map of values
   pub value_under : (i : FinMap nat_cmp ℕ) (s : slab.Slab V) (m : FinMap nat_cmp V) (n : ℕ) (o : Option ℕ) → HaveOwnSlots i s → values_of i s ≡ m → o ≡ get i n → through s o ≡ get m n
   value_under i s m n o held is there = ap (through s) there ∙ sym (get_values i s held n) ∙ ap (λ v. get v n) is
 
@@ -75,7 +75,7 @@ module _ {V : Type 0} where
   empty_slot None h e = false≢true h
   empty_slot (Some x) h e = some_none x e
 
-  -- a number whose slot, followed, gives no value has no slot
+  -- a number for which the index and the slab give no value (`through`) leads to no slot
   leads_nowhere : (i : FinMap nat_cmp ℕ) (s : slab.Slab V) (n : ℕ) (o : Option ℕ) → get i n ≡ o → HaveOwnSlots i s → through s o ≡ None → o ≡ None
   leads_nowhere i s n None e held h = refl
   leads_nowhere i s n (Some k) e held h = absurd (empty_slot (slab.get s k) (held.in_use n k e) h)
@@ -99,7 +99,7 @@ module _ {V : Type 0} where
   kept s t k x (Some j) u h = u.others j (h j refl)
 
   -- ---- a value changed in its slot
-  -- numbers still lead to distinct slots in use when the value in one changes
+  -- the numbers of an index still lead to distinct slots in use (HaveOwnSlots) when the value in one changes
   pub HaveOwnSlots-changed : (i : FinMap nat_cmp ℕ) (s t : slab.Slab V) (k : ℕ) (x : V) → slab.Updates s t k (Some x) → HaveOwnSlots i s → HaveOwnSlots i t
   HaveOwnSlots-changed i s t k x u held = record {
     in_use = λ n j h. elim (cases_eq j k) [
@@ -119,7 +119,7 @@ module _ {V : Type 0} where
       ∙ sym (get-insert nat_cmp_total (values_of i s) n x q ∙ ap (cond (eq_by_cmp nat_cmp q n) (Some x)) (get_values i s held q)))
 
   -- ---- a value put in
-  -- numbers still lead to distinct slots in use when a vacant slot is used for a number
+  -- the numbers of an index still lead to distinct slots in use (HaveOwnSlots) when a vacant slot is used for a number
   pub HaveOwnSlots-added : (i : FinMap nat_cmp ℕ) (s t : slab.Slab V) (n k : ℕ) (x : V) → slab.Updates s t k (Some x) → slab.get s k ≡ None → HaveOwnSlots i s → HaveOwnSlots (insert i n k) t
   HaveOwnSlots-added i s t n k x u vacant held = record {
     in_use = λ m j h. by_number m n (λ b. cond b (Some k) (get i m) ≡ Some j → is_some (slab.get t j) ≡ true)
@@ -148,7 +148,7 @@ module _ {V : Type 0} where
       ∙ sym (get-insert nat_cmp_total (values_of i s) n x q ∙ ap (cond (eq_by_cmp nat_cmp q n) (Some x)) (get_values i s held q)))
 
   -- ---- a value taken out
-  -- numbers still lead to distinct slots in use when a number and its slot are given up
+  -- the numbers of an index still lead to distinct slots in use (HaveOwnSlots) when a number and its slot are given up
   pub HaveOwnSlots-removed : (i : FinMap nat_cmp ℕ) (s t : slab.Slab V) (n k : ℕ) → slab.Updates s t k None → get i n ≡ Some k → HaveOwnSlots i s → HaveOwnSlots (remove i n) t
   HaveOwnSlots-removed i s t n k u is held = record {
     in_use = λ m j h. by_number m n (λ b. cond b None (get i m) ≡ Some j → is_some (slab.get t j) ≡ true)
@@ -177,7 +177,7 @@ module _ {V : Type 0} where
   pub nothing_changed : (i : FinMap nat_cmp ℕ) (s t : slab.Slab V) → slab.SameValues s t → values_of i t ≡ values_of i s
   nothing_changed i s t same = ap from_entries (lodged_same (entries i) s t same)
 
-  -- numbers still lead to distinct slots in use in a slab with the same values
+  -- the numbers of an index lead to distinct slots in use (HaveOwnSlots) in a slab with the same values too
   pub HaveOwnSlots-same : (i : FinMap nat_cmp ℕ) (s t : slab.Slab V) → slab.SameValues s t → HaveOwnSlots i s → HaveOwnSlots i t
   HaveOwnSlots-same i s t same held = record { in_use = λ n k h. ap is_some (same k) ∙ held.in_use n k h; by_one = held.by_one }
 
@@ -199,11 +199,11 @@ module _ {V : Type 0} where
   pub written : (s : slab.Slab V) (k : ℕ) (x : V) → is_some (slab.get s k) ≡ true → slab.Updates s (slab.with_value s k x) k (Some x)
   written s k x h = record { changed = get_or-set_same s.slots k (Some x) None (inside s k h); others = λ j ne. get_or-set_other s.slots k j (Some x) None ne }
 
--- the empty map of numbers gives the empty map of values
+-- an empty index gives the empty map of values
 pub no_values : {V : Type 0} (s : slab.Slab V) → values_of empty s ≡ empty
 no_values s = rw (entries-empty {X = ℕ}) refl
 
--- the empty map of numbers satisfies HaveOwnSlots: each of its numbers leads to a slot of its own
+-- an empty index has no number, so each of its numbers leads to a slot of its own (HaveOwnSlots)
 pub HaveOwnSlots-empty : {V : Type 0} (s : slab.Slab V) → HaveOwnSlots empty s
 HaveOwnSlots-empty s = record {
   in_use = λ n k h. some_none k (sym h ∙ get-empty nat_cmp n);
@@ -220,29 +220,32 @@ module _ {V : Type 0} where
       let one : counts (is_some (slab.get s k)) ≡ counts true = ap counts h in
       omega (arith, change, one)
 
-  -- the arena's invariant IsArena still holds once a new number leads to a slot that was vacant
+  -- once a new number leads to a slot that was vacant, each number still has a slot of its own, and no other slot is in
+  -- use (IsArena)
   pub IsArena-added : (i : FinMap nat_cmp ℕ) (s t : slab.Slab V) (n k : ℕ) (x : V) → slab.Updates s t k (Some x) → slab.get s k ≡ None → slab.slab_len t ≡ slab.slab_len s + 1 → get i n ≡ None → IsArena i s → IsArena (insert i n k) t
   IsArena-added i s t n k x u vacant more fresh held =
       let same = held.none_idle in
       let size : len (insert i n k) ≡ len i + 1 = len-insert nat_cmp_total i n k ∙ ap (λ o. cond (is_some o) (len i) (len i + 1)) fresh in
       record { slots_used = HaveOwnSlots-added i s t n k x u vacant held.slots_used; none_idle = omega (arith, same, size, more) }
 
-  -- the arena's invariant IsArena still holds once a number and its slot are given up
+  -- once a number and its slot are given up, each number still has a slot of its own, and no other slot is in use
+  -- (IsArena)
   pub IsArena-removed : (i : FinMap nat_cmp ℕ) (s t : slab.Slab V) (n k : ℕ) → slab.Updates s t k None → slab.slab_len t + 1 ≡ slab.slab_len s → get i n ≡ Some k → IsArena i s → IsArena (remove i n) t
   IsArena-removed i s t n k u less is held =
       let same = held.none_idle in
       let size : len (remove i n) ≡ len i - 1 = len-remove nat_cmp_total i n ∙ ap (λ o. cond (is_some o) (len i - 1) (len i)) is in
       record { slots_used = HaveOwnSlots-removed i s t n k u is held.slots_used; none_idle = omega (arith, same, size, less) }
 
-  -- the arena's invariant IsArena still holds when the value in a slot in use changes
+  -- when the value in a slot changes, each number still has a slot of its own, and no other slot is in use (IsArena)
   pub IsArena-changed : (i : FinMap nat_cmp ℕ) (s : slab.Slab V) (k : ℕ) (w : V) → is_some (slab.get s k) ≡ true → IsArena i s → IsArena i (slab.with_value s k w)
   IsArena-changed i s k w used held = record { slots_used = HaveOwnSlots-changed i s (slab.with_value s k w) k w (written s k w used) held.slots_used; none_idle = len_written s k w used ∙ held.none_idle }
 
-  -- the arena's invariant IsArena still holds for a slab with the same values and as many slots in use
+  -- each number has a slot of its own, and no other slot is in use (IsArena), in a slab with the same values too, if it
+  -- has as many slots in use
   pub IsArena-same : (i : FinMap nat_cmp ℕ) (s t : slab.Slab V) → slab.SameValues s t → slab.slab_len t ≡ slab.slab_len s → IsArena i s → IsArena i t
   IsArena-same i s t same as_many held = record { slots_used = HaveOwnSlots-same i s t same held.slots_used; none_idle = as_many ∙ held.none_idle }
 
-  -- the empty map of numbers and a slab without slots are an arena
+  -- an empty index and a slab without slots are an arena: no slot is in use without a number (IsArena)
   pub IsArena-empty : (s : slab.Slab V) → s.slots ≡ [] → IsArena empty s
   IsArena-empty s none = record { slots_used = HaveOwnSlots-empty s; none_idle = ap (count_by is_some) none ∙ sym (len-empty nat_cmp ℕ) }
 
@@ -251,7 +254,7 @@ pub on_err : {A E P : Type 0} (r : Result A E) → P → OnErr r P
 on_err (Ok a) p = tt
 on_err (Err e) p = p
 
--- two loans of one number that give back the same are the same
+-- two loans under one number are equal if they make the same of each value that is given back
 pub lent_same : {N W D E : Type 0} (n : N) (F G : W → D) → ((w : W) → F w ≡ G w) → ◌≡◌ {A = (N × (W → D)) ⊎ E} (inl (n, F)) (inl (n, G))
 lent_same n F G h j = inl (n, λ w. h w j)
 
@@ -268,7 +271,7 @@ keys_rise [] h = tt
 keys_rise (e ∷ es) h = (rise e.0 es (and_parts _ _ h).0, keys_rise es (and_parts _ _ h).1)
 
 module _ {V : Type 0} (s : slab.Slab V) where
-  -- with a slot in use put in front, the entries' numbers have its number in front
+  -- putting the entry of number n, whose slot is in use, in front of entries puts n in front of their numbers
   key_step : (n : ℕ) (o : Option V) (rest : List (ℕ × V)) → is_some o ≡ true → keys_of (slot_entry_at n o rest) ≡ n ∷ keys_of rest
   key_step n None rest h = absurd (false≢true h)
   key_step n (Some v) rest h = refl
@@ -282,7 +285,7 @@ module _ {V : Type 0} (s : slab.Slab V) where
   pub entries_values : (i : FinMap nat_cmp ℕ) → HaveOwnSlots i s → entries (values_of i s) ≡ slot_entries (entries i) s
   entries_values i held = entries_of (slot_entries (entries i) s) (rw (keys_lodged (entries i) (all_in_use i s held)) (keys_rise (entries i) (sorted i)))
 
-  -- there are as many values as numbers
+  -- the map of values has as many values as the index has numbers
   pub len_values : (i : FinMap nat_cmp ℕ) → HaveOwnSlots i s → len (values_of i s) ≡ len i
   len_values i held =
       len-entries (values_of i s) ∙ ap length (entries_values i held)

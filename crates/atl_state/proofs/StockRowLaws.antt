@@ -18,42 +18,43 @@ use Rattle.atl_state.proofs.GroupLaws.{gathered, lines_order}
 use Rattle.atl_state.proofs.HasLaws.{IsWhole, same, ties_itself}
 use Rattle.atl_state.proofs.OrderLaws.{Apart, HasNumber, each_so, flat_order}
 
--- a row of a market whose region and item are read as they are: both fit 32 bits
+-- the region and the item of a row of a market fit 32 bits, so both are read as they are
 pub record IsKeyed (m : StoredMarket) : Type 0 where
   pub region : IsWhole m.region
   pub item : IsWhole m.item
 
--- a row of a market whose key and stock are read as they are, with a stock other than 0
+-- the region, the item and the stock of a row of a market fit 32 bits, and the stock is not 0
 pub record IsExact (m : StoredMarket) : Type 0 where
   pub keys : IsKeyed m
   pub stock : IsWhole m.stock
   pub some : is_zero m.stock ≡ false
 
--- the item's number in a row, as it is read
+-- the item's number in a row of a market, as it is read
 abbrev item_of : StoredMarket → ℕ
 item_of m = as_u32 m.item
 
--- the stock in a row, as it is read
+-- the stock in a row of a market, as it is read
 abbrev stock_of : StoredMarket → ℕ
 stock_of m = as_u32 m.stock
 
--- whether a row is of region n
+-- whether a row of a market is of region n
 abbrev pub is_in : ℕ → StoredMarket → Bool
 is_in n m = as_u32 m.region == n
 
--- a row of region n whose key is read as it is
+-- a row of a market is of region n, and its region and item fit 32 bits (IsKeyed)
 abbrev IsStockIn : ℕ → StoredMarket → Type 0
 IsStockIn n m = IsKeyed m × (is_in n m ≡ true)
 
--- a row that is read as one of region n, and as it is, has n as its region
+-- a row of a market that is of region n (IsStockIn) has n as its region
 its_region : (n : ℕ) (m : StoredMarket) → IsStockIn n m → m.region ≡ pos n
 its_region n m (keys, of) = keys.region ∙ ap pos (is_same (as_u32 m.region) n of)
 
--- the row written for region n and the item and stock read from a row of region n is that row, if read as they are
+-- the row that is written for region n, and the item and stock read from a row of region n, is that row, if the stock
+-- fits 32 bits (IsWhole)
 same_row : (n : ℕ) (m : StoredMarket) → IsStockIn n m → IsWhole m.stock → market_row n (item_of m) (stock_of m) ≡ m
 same_row n m here stock = λ i. record { region = sym (its_region n m here) i; item = sym here.0.item i; stock = sym stock i }
 
--- rows of one region and item have the same key
+-- rows of markets of one region and item have the same key
 same_key : (n : ℕ) (m k : StoredMarket) → IsStockIn n m → IsStockIn n k → item_of m ≡ item_of k → ◌≡◌ {A = Key} (market_key k) (market_key m)
 same_key n m k a b e =
     let region = its_region n k b ∙ sym (its_region n m a) in
@@ -70,7 +71,7 @@ stock_order n markets all d =
     lines_order item_of stock_of (market_row n) (λ m. not (is_zero m.stock)) (filter (is_in n) markets) (items_apart n markets (each_so IsExact IsKeyed (λ m one. one.keys) markets all) d)
     (each_so (λ m. IsExact m × (is_in n m ≡ true)) (λ m. (market_row n (item_of m) (stock_of m) ≡ m) × (not (is_zero m.stock) ≡ true)) (λ m here. (same_row n m (here.0.keys, here.1) here.0.stock, ap not here.0.some)) (filter (is_in n) markets) (group.all_mine market_key same ties_itself item_of (is_in n) IsExact markets all))
 
--- the rows of a region's stocks
+-- the rows of `market` that are written for a region's stocks
 abbrev region_lines : ℕ × Region → List StoredMarket
 region_lines e = stock_rows e.0 (entries e.1.stocks)
 

@@ -14,7 +14,7 @@ use Rattle.atl_state.specs.Totals.{total}
 later : (a b n : ℕ) → (a + n) + b ≡ (a + b) + n
 later a b n = omega arith
 
--- a new unit raises each total by what it holds of the thing
+-- a new unit raises the total of each thing by what it holds of the thing
 pub total-with_unit : (c : CampaignValue) (n : ℕ) (u : Unit) (t : Thing) → get c.units n ≡ None → total (with_unit c n u) t ≡ total c t + unit_amount t u.holding
 unfolding total
 total-with_unit c n u t fresh =

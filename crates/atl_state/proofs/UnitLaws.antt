@@ -35,11 +35,11 @@ pub within_both : (g r : set.FinSet nat_cmp) (n : ℕ) → ((q : ℕ) → set.co
 within_both g r n h q e =
     set.contains-insert nat_cmp_total r n q ∙ either (eq_by_cmp nat_cmp q n) (set.contains g q) (set.contains r q) (h q) (sym (set.contains-insert nat_cmp_total g n q) ∙ e)
 
--- if all that is marked is in a set, it is in the set with n added
+-- if all that `marked` is true of is in a set, it is in the set with n added
 pub within_more : (marked : ℕ → Bool) (r : set.FinSet nat_cmp) (n : ℕ) → ((q : ℕ) → marked q ≡ true → set.contains r q ≡ true) → (q : ℕ) → marked q ≡ true → set.contains (set.insert r n) q ≡ true
 within_more marked r n h q e = set.contains-insert nat_cmp_total r n q ∙ more (eq_by_cmp nat_cmp q n) (set.contains r q) (h q e)
 
--- if all units with things are in a set, they still are once one more unit is added to both
+-- if all units that a map has things of are in a set, they still are once one more unit is added to both
 pub within_things : {V : Type 0} (g : FinMap nat_cmp V) (r : set.FinSet nat_cmp) (n : ℕ) (v : V) → ((q : ℕ) → is_some (get g q) ≡ true → set.contains r q ≡ true) → (q : ℕ) → is_some (get (insert g n v) q) ≡ true → set.contains (set.insert r n) q ≡ true
 within_things g r n v h q e =
     set.contains-insert nat_cmp_total r n q ∙ either_there (eq_by_cmp nat_cmp q n) v (get g q) (set.contains r q) (h q) (sym (ap is_some (get-insert nat_cmp_total g n v q)) ∙ e)
@@ -91,7 +91,7 @@ module _ (marks rows goods : set.FinSet nat_cmp) (items skills : Things) (n : �
 
 -- ---- units
 
--- the dirty set with number n
+-- the dirty set with number n added
 abbrev marking : RoomySet → ℕ → RoomySet
 marking marks n = record marks { numbers = set.insert marks.numbers n }
 
@@ -103,20 +103,21 @@ cleared marks = record marks { numbers = set.empty }
 abbrev nothing_marked : ℕ → RoomySet
 nothing_marked room = record { numbers = set.empty; room = room }
 
--- without units, empty dirty sets without room satisfy the invariant AreUnits
+-- without units, empty dirty sets without room have room for all marks, and mark no part of a unit (AreUnits)
 pub AreUnits-none : AreUnits empty (nothing_marked 0) (nothing_marked 0) (nothing_marked 0) empty empty
 AreUnits-none = record { within = within-none; marks_fit = Room-empty Unit; rows_fit = Room-empty Unit; goods_fit = Room-empty Unit }
 
--- empty dirty sets that have room for all units satisfy the invariant AreUnits
+-- empty dirty sets with room for as many numbers as there are units have room for all marks, and mark no part of a unit
+-- (AreUnits)
 pub AreUnits-of : (units : FinMap nat_cmp Unit) → AreUnits units (nothing_marked (len units)) (nothing_marked (len units)) (nothing_marked (len units)) empty empty
 AreUnits-of units = record { within = within-none; marks_fit = Room-of units; rows_fit = Room-of units; goods_fit = Room-of units }
 
 module _ (units : FinMap nat_cmp Unit) (marks rows goods : RoomySet) (items skills : Things) where
-  -- the invariant AreUnits holds of the units and their dirty sets before a change
+  -- before a change, there is room for all marks of units, and each unit with a marked part is marked (AreUnits)
   abbrev Before : Type 0
   Before = AreUnits units marks rows goods items skills
 
-  -- the units' invariant AreUnits still holds once all dirty sets are emptied
+  -- once all dirty sets are emptied, all marks still have room, and each unit with a marked part is marked (AreUnits)
   pub AreUnits-without_marks : Before → AreUnits units (cleared marks) (cleared rows) (cleared goods) empty empty
   AreUnits-without_marks h = record {
     within = within-none;
@@ -125,7 +126,8 @@ module _ (units : FinMap nat_cmp Unit) (marks rows goods : RoomySet) (items skil
     goods_fit = Room-unmarked units goods.numbers goods.room h.goods_fit;
   }
 
-  -- the units' invariant AreUnits still holds once a lent unit is replaced, and marked with its row and its goods
+  -- once a lent unit is replaced, and marked with its row and its goods, all marks still have room, and each unit with
+  -- a marked part is marked (AreUnits)
   pub AreUnits-lent : (n : ℕ) (u w : Unit) → get units n ≡ Some u → Before → AreUnits (insert units n w) (marking marks n) (marking rows n) (marking goods n) items skills
   AreUnits-lent n u w is h = record {
     within = within-whole marks.numbers rows.numbers goods.numbers items skills n h.within;
@@ -134,7 +136,8 @@ module _ (units : FinMap nat_cmp Unit) (marks rows goods : RoomySet) (items skil
     goods_fit = Room-lent units goods.numbers goods.room n (Some u) w is refl h.goods_fit;
   }
 
-  -- the units' invariant AreUnits still holds once a unit's row is changed and marked
+  -- once a unit's row is changed and marked, all marks still have room, and each unit with a marked part is marked
+  -- (AreUnits)
   pub AreUnits-row : (n : ℕ) (u w : Unit) → get units n ≡ Some u → Before → AreUnits (insert units n w) (marking marks n) (marking rows n) goods items skills
   AreUnits-row n u w is h = record {
     within = within-row marks.numbers rows.numbers goods.numbers items skills n h.within;
@@ -143,7 +146,8 @@ module _ (units : FinMap nat_cmp Unit) (marks rows goods : RoomySet) (items skil
     goods_fit = Room-over units goods.numbers goods.room n w (ap is_some is) h.goods_fit;
   }
 
-  -- the units' invariant AreUnits still holds once an item of a unit is changed and marked
+  -- once an item of a unit is changed and marked, all marks still have room, and each unit with a marked part is marked
+  -- (AreUnits)
   pub AreUnits-item : (n : ℕ) (u w : Unit) (group : FinMap nat_cmp (Prim.Unit {0})) → get units n ≡ Some u → Before → AreUnits (insert units n w) (marking marks n) rows goods (insert items n group) skills
   AreUnits-item n u w group is h = record {
     within = within-item marks.numbers rows.numbers goods.numbers items skills n h.within group;
@@ -152,7 +156,8 @@ module _ (units : FinMap nat_cmp Unit) (marks rows goods : RoomySet) (items skil
     goods_fit = Room-over units goods.numbers goods.room n w (ap is_some is) h.goods_fit;
   }
 
-  -- the units' invariant AreUnits still holds once a skill of a unit is changed and marked
+  -- once a skill of a unit is changed and marked, all marks still have room, and each unit with a marked part is marked
+  -- (AreUnits)
   pub AreUnits-skill : (n : ℕ) (u w : Unit) (group : FinMap nat_cmp (Prim.Unit {0})) → get units n ≡ Some u → Before → AreUnits (insert units n w) (marking marks n) rows goods items (insert skills n group)
   AreUnits-skill n u w group is h = record {
     within = within-skill marks.numbers rows.numbers goods.numbers items skills n h.within group;
@@ -161,7 +166,8 @@ module _ (units : FinMap nat_cmp Unit) (marks rows goods : RoomySet) (items skil
     goods_fit = Room-over units goods.numbers goods.room n w (ap is_some is) h.goods_fit;
   }
 
-  -- the units' invariant AreUnits still holds once unit n, found as `o`, is removed and marked
+  -- once unit n, found as `o`, is removed and marked, all marks still have room, and each unit with a marked part is
+  -- marked (AreUnits)
   gone_at : (n : ℕ) (o : Option Unit) → get units n ≡ o → is_some o ≡ true → Before → AreUnits (remove units n) (marking marks n) (marking rows n) (marking goods n) items skills
   gone_at n None is there h = absurd (false≢true there)
   gone_at n (Some u) is there h = record {
@@ -171,7 +177,7 @@ module _ (units : FinMap nat_cmp Unit) (marks rows goods : RoomySet) (items skil
     goods_fit = Room-without units goods.numbers goods.room n (Some u) is h.goods_fit;
   }
 
-  -- the units' invariant AreUnits still holds once a unit is removed and marked
+  -- once a unit is removed and marked, all marks still have room, and each unit with a marked part is marked (AreUnits)
   pub AreUnits-gone : (n : ℕ) → is_some (get units n) ≡ true → Before → AreUnits (remove units n) (marking marks n) (marking rows n) (marking goods n) items skills
   AreUnits-gone n there h = gone_at n (get units n) refl there h
 
@@ -194,7 +200,8 @@ fits-new units marks more n w h = fits-inserted units more.numbers more.room n w
 HasRoom-added : (units : FinMap nat_cmp Unit) (marks more : RoomySet) (n : ℕ) (w : Unit) → IsWider units marks more → HasRoomForMarks (insert units n w) (marking more n)
 HasRoom-added units marks more n w h = Room-inserted units more.numbers more.room n w (room_inserted units marks more n w h)
 
--- the units' invariant AreUnits still holds once a new unit is added and marked in wider dirty sets
+-- once a new unit is added, and marked in dirty sets with room for one more, all marks still have room, and each unit
+-- with a marked part is marked (AreUnits)
 pub AreUnits-added : (units : FinMap nat_cmp Unit) (marks rows goods marks2 rows2 goods2 : RoomySet) (items skills : Things) (n : ℕ) (w : Unit) → IsWider units marks marks2 → IsWider units rows rows2 → IsWider units goods goods2
     → AreUnits units marks rows goods items skills → AreUnits (insert units n w) (marking marks2 n) (marking rows2 n) (marking goods2 n) items skills
 AreUnits-added units marks rows goods marks2 rows2 goods2 items skills n w wider wider2 wider3 h = record {

@@ -6,7 +6,7 @@ use Rattle.atl_state.specs.declared.index.IndexEntry.{IndexEntry}
 use Rattle.atl_state.proofs.IndexLaws.{get-stands, get-belongs}
 use Rattle.atl_state.proofs.index.Index.get.Goals as goal
 
--- the default of a look-up by an index that is never past the end
+-- an index entry with number 0 and slot 0, the default of a look-up by an index that is never past the end
 abbrev none : IndexEntry
 none = record { number = 0; slot = 0 }
 

@@ -12,7 +12,7 @@ invariant_of-self c =
     let stands : IsAt (index_numbers places) c.args.number c.in-Ok.place = rw c.as_slice-places.ensures at c.in-Ok.ensures.found in
     rw c.remove.ensures (rising-without places c.args.number c.in-Ok.place c.self.invariant stands)
 
--- the default of a look-up by an index that is never past the end
+-- an index entry with number 0 and slot 0, the default of a look-up by an index that is never past the end
 abbrev none : IndexEntry
 none = record { number = 0; slot = 0 }
 

@@ -16,18 +16,18 @@ HaveOwners c = Every (HasOwnerInside c) c.structures
 abbrev AreWithOwners : CampaignValue → Type 0
 AreWithOwners c = Every (λ m u. (s : Structure) → get c.structures u.structure ≡ Some s → s.owner ≢ 0) c.units
 
--- if each owner is a unit inside or 0, and no unit is inside an ownerless structure, all owners are good (AreOwned)
+-- if each owner is a unit inside or 0, and no unit is inside an ownerless structure, owners keep their rule (AreOwned)
 together : (c : CampaignValue) → HaveOwners c → AreWithOwners c → AreOwned c
 together c owned with n s is = record {
   owned = (owned n s is).owned;
   ownerless = λ none m u there same. with m u there s (ap (get c.structures) same ∙ is) none;
 }
 
--- in a campaign with good owners, the owner of each structure is a unit inside it, or 0
+-- if owners keep their rule (AreOwned), the owner of each structure is a unit inside it, or 0
 have_owners : (c : CampaignValue) → AreOwned c → HaveOwners c
 have_owners c all n s is = record { owned = (all n s is).owned }
 
--- in a campaign with good owners, each structure that a unit is inside has an owner
+-- if owners keep their rule (AreOwned), each structure that a unit is inside has an owner
 are_with_owners : (c : CampaignValue) → AreOwned c → AreWithOwners c
 are_with_owners c all m u there s is none = (all u.structure s is).ownerless none m u there (λ i. u.structure)
 

@@ -5,7 +5,7 @@ use Rattle.atl_records.specs.declared.records.Unit.{Unit}
 use Rattle.atl_records.proofs.EveryLaws.{none_some}
 use Rattle.atl_state.proofs.rules.owners.is_owner_inside.Goals as goal
 
--- equal Some's have equal units
+-- if Some u and Some v are equal, the units u and v are
 same_unit : (u v : Unit) → Some u ≡ Some v → u ≡ v
 same_unit u v e = cc
 
