@@ -12,7 +12,7 @@ pub len_none : {V : Type 0} (m : FinMap nat_cmp V) → m ≡ empty → len m ≡
 len_none {V} m e = ap len e ∙ len-empty nat_cmp V
 
 module _ {V : Type 0} (number : V → ℕ) where
-  -- a map of values by their numbers has no more entries than there are values
+  -- the map of a list of values, each under its own number, has no more entries than the list has values
   pub few : (vs : List V) → len (by_number number vs) ≤ length vs
   few [] = omega (arith, len-empty nat_cmp V)
   few (v ∷ vs) = omega (arith, one_more (by_number number vs) (number v) v, few vs)

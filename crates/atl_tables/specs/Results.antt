@@ -3,7 +3,7 @@ use Rattle.std.specs.Prelude.{◌≡◌, Option, Some, None, Result, Ok, Err}
 use Rattle.atl_tables.specs.declared.fault.WorldFault.{WorldFault}
 use Rattle.atl_tables.specs.declared.fault.WorldFault.TheVariants.{Memory}
 
--- an error is the fault of the conditions; or it is Memory, and the conditions may hold or not
+-- an error is the first fault of the conditions; or it is Memory, and the conditions may hold or not
 abbrev pub Stops : WorldFault → Option WorldFault → Type 0
 Stops Memory fault = Unit {0}
 Stops e fault = fault ≡ Some e

@@ -36,8 +36,8 @@ pub(crate) trait Element: Drop {
         ensures sound { IfOk result is_sound };
 }
 
-/// The i-th element of the array at the path `key`, else WrongType if it is no table, or the first
-/// fault of its keys.
+/// The i-th element of the array at the path `key`, else the fault WrongType if it is no table, or
+/// the first fault of its keys.
 fn one_element<E: Element>(
     alloc: Global,
     key: &str,
@@ -74,8 +74,8 @@ fn elements<E: Element>(alloc: Global, key: &str, values: &Array) -> Result<Vec<
     Ok(read)
 }
 
-/// The 1 to `most` elements of the array under a key of the document, else Missing, WrongType or
-/// OutOfRange of the array, or the first fault of an element.
+/// The 1 to `most` elements of the array under a key of the document, else the fault Missing,
+/// WrongType or OutOfRange of the array, or the first fault of an element.
 #[tactic(auto, unfolding(crate::specs::Arrays::list_conditions, crate::specs::Arrays::list_of, crate::specs::Keys::array_at))]
 pub(crate) fn list<E: Element>(
     alloc: Global,
@@ -100,8 +100,8 @@ pub(crate) fn list<E: Element>(
 }
 
 /// The at most `most` elements of the array under a key of a table, none if the key is missing,
-/// else WrongType or OutOfRange of the array, whose path is `array`, or the first fault of an
-/// element.
+/// else the fault WrongType or OutOfRange of the array, whose path is `array`, or the first fault
+/// of an element.
 #[tactic(auto, unfolding(crate::specs::Arrays::list_conditions, crate::specs::Arrays::list_of, crate::specs::Keys::optional_array_at))]
 pub(crate) fn optional_list<E: Element>(
     alloc: Global,

@@ -137,8 +137,8 @@ fn other_item(items: &[ItemDraft], i: usize, name: &Text) -> Option<u16>
     }
 }
 
-/// The number of the item that the i-th item is made of, `None` where the file names none, else
-/// UnknownName if no item has the name or the first that has it is the i-th itself.
+/// The number of the item that the i-th item is made of, `None` where the file names none, else the
+/// fault UnknownName if no item has the name or the first that has it is the i-th itself.
 fn raw_item(
     alloc: Global,
     items: &[ItemDraft],

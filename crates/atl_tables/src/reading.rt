@@ -116,7 +116,7 @@ fn tables(alloc: Global, format: Format, document: &Table) -> Result<WorldDraft,
 }
 
 /// Checks that no two terrains, no two items, no two skills and no two kinds have the same name,
-/// else gives TwoNames.
+/// else gives the fault TwoNames.
 #[tactic(auto, unfolding(crate::specs::World::titles_differ))]
 fn titles_differ(alloc: Global, all: &WorldDraft) -> Result<(), WorldFault>
     ensures { Gives (λ u. u) result (first_fault (titles_differ all.now)) (tt {0}) }
@@ -128,7 +128,7 @@ fn titles_differ(alloc: Global, all: &WorldDraft) -> Result<(), WorldFault>
 }
 
 /// Checks that names of terrains, items, skills and kinds, numbers of regions, keys of one output
-/// and market items of one region are unique, else gives TwoNames.
+/// and market items of one region are unique, else gives the fault TwoNames.
 #[tactic(auto, unfolding(crate::specs::World::names_differ))]
 fn names_differ(alloc: Global, all: &WorldDraft) -> Result<(), WorldFault>
     ensures { Gives (λ u. u) result (first_fault (names_differ all.now)) (tt {0}) }
@@ -140,7 +140,7 @@ fn names_differ(alloc: Global, all: &WorldDraft) -> Result<(), WorldFault>
 }
 
 /// The parts of the world that the tables describe, except its skills, with names looked up, else
-/// UnknownName at the first name that nothing has.
+/// the fault UnknownName at the first name that nothing has.
 #[tactic(auto, unfolding(crate::specs::World::names_are_known))]
 fn resolve(alloc: Global, all: &WorldDraft) -> Result<WorldParts, WorldFault>
     requires { IsWorldDraft all.now }
@@ -189,7 +189,8 @@ fn land(
     Ok(numbers)
 }
 
-/// Makes the world of its parts, if the terrain of some region is land, else gives NoLand.
+/// Makes the world of its parts, if the terrain of some region is land, else gives the fault
+/// NoLand.
 fn with_land(
     alloc: Global,
     rules: Rules,
@@ -215,7 +216,7 @@ fn with_land(
 }
 
 /// Makes the world of its parts, if neighbours are mutual and the terrain of some region is land,
-/// else gives BadNeighbour or NoLand.
+/// else gives the fault BadNeighbour or NoLand.
 #[tactic(auto, unfolding(crate::specs::World::neighbours_are_mutual))]
 fn join(alloc: Global, all: WorldDraft, parts: WorldParts) -> Result<World, WorldFault>
     requires all { IsWorldDraft all }

@@ -103,7 +103,8 @@ impl Element for RegionBasics {
     }
 }
 
-/// The numbers of a region's neighbours on its four sides, else WrongType or OutOfRange of a side.
+/// The numbers of a region's neighbours on its four sides, else the fault WrongType or OutOfRange
+/// of a side.
 #[tactic(auto, unfolding(crate::specs::RegionTable::side_keys, crate::specs::RegionTable::sides_from))]
 fn read_sides(alloc: Global, at: &str, table: &Table) -> Result<Sides, WorldFault>
     ensures { Gives (λ s. s) result (first_fault (side_keys at.now (table_view table.now)))
@@ -176,7 +177,8 @@ pub(crate) fn without_markets(
     Ok(drafts)
 }
 
-/// Checks that no two markets of a region are of the same item, else gives TwoNames at the second.
+/// Checks that no two markets of a region are of the same item, else gives the fault TwoNames at
+/// the second.
 impl HasUniqueNames for RegionDraft {
     ghost no_twins = { duplicate_market_items };
 

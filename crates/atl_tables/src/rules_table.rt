@@ -153,8 +153,8 @@ impl Element for MenRules {
     }
 }
 
-/// The names of the skills of observation, stealth and sailing in the table `[rules]`, else
-/// WrongType at the first key that isn't a text.
+/// The names of the skills of observation, stealth and sailing in the table `[rules]`, else the
+/// fault WrongType at the first key that isn't a text.
 #[tactic(auto, unfolding(crate::specs::RulesTable::skill_names_at, crate::specs::Keys::optional_text_at))]
 fn skill_names(alloc: Global, at: &str, table: &Table) -> Result<SkillNames, WorldFault>
     ensures { Gives (λ s. s) result
@@ -194,8 +194,8 @@ impl Element for RulesDraft {
     }
 }
 
-/// The table `[rules]` of the document as read, else Missing or WrongType of the table, or the
-/// first fault of its keys.
+/// The table `[rules]` of the document as read, else the fault Missing or WrongType of the table,
+/// or the first fault of its keys.
 #[tactic(auto, unfolding(crate::specs::RulesTable::rules_conditions, crate::specs::RulesTable::rules_in))]
 pub(crate) fn rules(alloc: Global, document: &Table) -> Result<RulesDraft, WorldFault>
     ensures value { Gives (λ r. r) result (first_fault (rules_conditions (table_view document.now)))
@@ -206,8 +206,8 @@ pub(crate) fn rules(alloc: Global, document: &Table) -> Result<RulesDraft, World
     RulesDraft::read(alloc, "rules", table)
 }
 
-/// The rules of the world, with skills by number, else UnknownName at the first key whose skill
-/// isn't there.
+/// The rules of the world, with skills by number, else the fault UnknownName at the first key whose
+/// skill isn't there.
 #[tactic(auto, unfolding(crate::specs::RulesTable::rules_known, crate::specs::RulesTable::rules_of))]
 pub(crate) fn resolve_rules(alloc: Global, all: &WorldDraft) -> Result<Rules, WorldFault>
     requires { IsWorldDraft all.now }

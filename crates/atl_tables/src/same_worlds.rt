@@ -35,6 +35,7 @@ fn are_same<T: Comparable>(things: &[T], others: &[T]) -> bool
     true
 }
 
+/// Compares all fields of two terrains, the names byte by byte.
 impl Comparable for Terrain {
     fn is_same(&self, other: &Terrain) -> bool {
         self.name.is_same(&other.name)
@@ -43,18 +44,21 @@ impl Comparable for Terrain {
     }
 }
 
+/// Compares all fields of two items, the names byte by byte.
 impl Comparable for Item {
     fn is_same(&self, other: &Item) -> bool {
         self.name.is_same(&other.name) && agree!(self other: weight carry skill level raw raw_count)
     }
 }
 
+/// Compares the names of two skills, byte by byte, and their fees.
 impl Comparable for Skill {
     fn is_same(&self, other: &Skill) -> bool {
         self.name.is_same(&other.name) && self.fee == other.fee
     }
 }
 
+/// Compares all fields of two kinds of structures, the names byte by byte.
 impl Comparable for Kind {
     fn is_same(&self, other: &Kind) -> bool {
         self.name.is_same(&other.name)

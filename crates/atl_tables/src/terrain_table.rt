@@ -139,7 +139,8 @@ impl Draft for TerrainDraft {
     }
 }
 
-/// Checks that no two keys of a terrain's output are equal, else gives TwoNames at the second.
+/// Checks that no two keys of a terrain's output are equal, else gives the fault TwoNames at the
+/// second.
 impl HasUniqueNames for TerrainDraft {
     ghost no_twins = { duplicate_output_keys };
 

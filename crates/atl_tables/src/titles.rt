@@ -54,7 +54,7 @@ pub(crate) fn is_new(
 }
 
 /// Checks that no two elements of the array at a path have equal titles, ignoring ASCII case, else
-/// gives TwoNames at the second.
+/// gives the fault TwoNames at the second.
 pub(crate) fn no_duplicate_names<T: Titled>(
     alloc: Global,
     array: &str,
@@ -80,14 +80,14 @@ pub(crate) trait HasUniqueNames: Drop {
     // The conditions that no two names in the i-th table of its array are equal.
     ghost no_twins: { ℕ → Self → Conditions };
 
-    /// Checks that the i-th table of its array holds no two equal names, else gives TwoNames at the
-    /// second.
+    /// Checks that the i-th table of its array holds no two equal names, else gives the fault
+    /// TwoNames at the second.
     fn no_duplicates_inside(&self, alloc: Global, i: usize) -> Result<(), WorldFault>
         ensures { Gives (λ u. u) result (first_fault (no_twins i self.now)) (tt {0}) };
 }
 
-/// Checks that no table of an array holds two equal names, else gives TwoNames at the second of two
-/// in the first table that does.
+/// Checks that no table of an array holds two equal names, else gives the fault TwoNames at the
+/// second of two in the first table that does.
 pub(crate) fn no_duplicates_inside<T: HasUniqueNames>(
     alloc: Global,
     holders: &[T],
@@ -116,7 +116,8 @@ pub(crate) fn number_of<T: Titled>(items: &[T], name: &Text) -> Option<u16>
     None
 }
 
-/// The number of the thing that the name under a key refers to, else UnknownName at the key's path.
+/// The number of the thing that the name under a key refers to, else the fault UnknownName at the
+/// key's path.
 pub(crate) fn known<T: Titled>(
     alloc: Global,
     items: &[T],
@@ -137,8 +138,8 @@ pub(crate) fn known<T: Titled>(
     }
 }
 
-/// The number of the thing that the name under a key refers to, `None` without a name, else
-/// UnknownName at the key's path.
+/// The number of the thing that the name under a key refers to, `None` without a name, else the
+/// fault UnknownName at the key's path.
 pub(crate) fn known_number_or_none<T: Titled>(
     alloc: Global,
     items: &[T],
