@@ -30,7 +30,7 @@ put_back s n h = same _ _ (λ q.
 contains-removed : (s : Numbers) (n : ℕ) → set.contains (set.remove s n) n ≡ false
 contains-removed s n = set.contains-remove nat_cmp_total s n n ∙ ap (λ b. not b && set.contains s n) (key_itself n)
 
--- a set with a number that is new has one number more
+-- a set with a new number put in has one number more than before
 len-new : (s : Numbers) (n : ℕ) → set.contains s n ≡ false → set.len (set.insert s n) ≡ set.len s + 1
 len-new s n h = set.len-insert nat_cmp_total s n ∙ ap (λ b. cond b (set.len s) (set.len s + 1)) h
 

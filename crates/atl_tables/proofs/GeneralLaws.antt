@@ -6,7 +6,7 @@ use Rattle.std.specs.FinMap.{FinMap, insert, len, len-insert, contains_key}
 use Rattle.std.proofs.lemmas.Bool.{false_from_ne_true}
 use Rattle.std.proofs.lemmas.Bool.Decides.{nat_tests}
 
--- a truth value that holds is true
+-- a truth value that holds (`T`) is equal to true
 pub is_true : (b : Bool) → T b → b ≡ true
 is_true true h = refl
 is_true false h = absurd h

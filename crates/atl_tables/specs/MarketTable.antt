@@ -55,7 +55,7 @@ market_from at t = record {
 abbrev pub market_path : List ℕ → List ℕ
 market_path at = path at (codes "market")
 
--- the conditions on the array of the markets of a region, which may be missing
+-- the conditions on the array of a region's markets, which may be missing, and on the keys of each market
 unfoldable pub markets_keys : List ℕ → Members → Conditions
 markets_keys at t = list_conditions market_keys (market_path at) (optional_array_at most_markets (market_path at) (codes "market") t)
 

@@ -33,7 +33,7 @@ in_byte_order (member key d ms) = put_key key d (in_byte_order ms)
 abbrev pub amount_at : List ℕ → List ℕ × Data → Result ℕ WorldFault
 amount_at at (key, d) = integer_in_range (path at key) 0 most_amount (as_integer d)
 
--- the conditions on the amounts of all entries
+-- the conditions that the amount of each entry is a number from 0 to most_amount
 abbrev pub amounts_keys : List ℕ → List (List ℕ × Data) → Conditions
 amounts_keys at es = map (λ e. fault_of (amount_at at e)) es
 

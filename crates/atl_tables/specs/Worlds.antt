@@ -164,8 +164,8 @@ pub record HasNeighbours (regions : FinMap nat_cmp RegionPlan) (number : ℕ) (n
   pub east : LeadsBack regions (λ q. q.west) number e
   pub west : LeadsBack regions (λ q. q.east) number w
 
--- What is true of every world: its parts are in bounds, neighbours are mutual, names of each kind of thing differ,
--- there are not too many of each, and some region is land.
+-- What is true of every world: its parts are in their ranges, neighbours are mutual, names of each kind of thing
+-- differ, there are not too many of each, and some region is land.
 pub record IsWorld (w : WorldValue) : Type 0 where
   pub rules : AreRules (length w.skills) w.rules
   pub terrains : (i : ℕ) (t : Terrain) → slice_get w.terrains i ≡ Some t → IsTerrain (length w.items) t

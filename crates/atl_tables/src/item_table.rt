@@ -163,7 +163,7 @@ fn raw_item(
     }
 }
 
-/// Looks up the skill and the raw item of a table `[[item]]`.
+/// Makes the item of a table `[[item]]`, with its skill and its raw item looked up by name.
 impl Draft for ItemDraft {
     type Record = Item;
 

@@ -144,7 +144,7 @@ impl Titled for KindDraft {
     }
 }
 
-/// Looks up the material and the skills of a table `[[kind]]`.
+/// Makes the kind of a table `[[kind]]`, with its material and its skills looked up by name.
 impl Draft for KindDraft {
     type Record = Kind;
 

@@ -55,7 +55,8 @@ fn is_named(name: &[u8], word: &[u8], quoted: bool) -> bool
     true
 }
 
-/// The index of the first item, skill or kind of a list that a word names, `None` if there is none.
+/// The index of the first item, skill or kind of a list that a word names, ignoring ASCII case,
+/// `None` if there is none.
 fn index_named<T: Titled>(things: &[T], word: &[u8], quoted: bool) -> Option<usize>
     ensures value { result ≡ index_named T.title_of things.now word.now quoted }
     ensures within { IfSome result (λ i. i < length things.now) }

@@ -93,7 +93,7 @@ fn read_regions(
 }
 
 /// All tables of the document as a format reads them, with names not looked up yet, else the first
-/// Missing, WrongType or OutOfRange.
+/// fault Missing, WrongType or OutOfRange.
 #[tactic(auto, unfolding(crate::specs::World::keys_conditions, crate::specs::World::tables_of))]
 fn tables(alloc: Global, format: Format, document: &Table) -> Result<WorldDraft, WorldFault>
     ensures value { Gives (λ t. t) result
