@@ -11,7 +11,7 @@ use Rattle.atl_tables.proofs.GeneralLaws.{key_itself, same_key}
 use Rattle.atl_tables.proofs.SetLaws.{same, remove_absent, union-empty, union-insert, len-within, len-below, without_first, rest_holds}
 use Rattle.atl_tables.proofs.MarkLaws.{contains-stands}
 
--- a set of numbers
+-- a finite set of natural numbers
 abbrev Numbers : Type 0
 Numbers = set.FinSet nat_cmp
 
@@ -26,11 +26,11 @@ put_back s n h = same _ _ (λ q.
       | false ↦ λ _. refl
     ] refl)
 
--- a number that was taken out is not in the set
+-- a set with n taken out doesn't contain n
 contains-removed : (s : Numbers) (n : ℕ) → set.contains (set.remove s n) n ≡ false
 contains-removed s n = set.contains-remove nat_cmp_total s n n ∙ ap (λ b. not b && set.contains s n) (key_itself n)
 
--- a set with a number that is new has one number more
+-- a set with a new number put in has one number more than before
 len-new : (s : Numbers) (n : ℕ) → set.contains s n ≡ false → set.len (set.insert s n) ≡ set.len s + 1
 len-new s n h = set.len-insert nat_cmp_total s n ∙ ap (λ b. cond b (set.len s) (set.len s + 1)) h
 
@@ -38,7 +38,7 @@ len-new s n h = set.len-insert nat_cmp_total s n ∙ ap (λ b. cond b (set.len s
 len-put_back : (s : Numbers) (n : ℕ) → set.contains s n ≡ true → set.len s ≡ set.len (set.remove s n) + 1
 len-put_back s n h = ap set.len (sym (put_back s n h)) ∙ len-new (set.remove s n) n (contains-removed s n)
 
--- what is in a set without n is in the set
+-- each number of a set without n is in the whole set
 was_there : (s : Numbers) (n q : ℕ) → set.contains (set.remove s n) q ≡ true → set.contains s q ≡ true
 was_there s n q e = (and_parts (not (eq_by_cmp nat_cmp q n)) (set.contains s q) (sym (set.contains-remove nat_cmp_total s n q) ∙ e)).1
 
@@ -62,12 +62,12 @@ union-remove s t n = same _ _ (λ q.
 
 -- ---- how many numbers two sets have
 
--- where "a or b" is false, both are
+-- if "a or b" is false, both a and b are false
 neither : (a b : Bool) → (a || b) ≡ false → (a ≡ false) × (b ≡ false)
 neither true b h = absurd (false≢true (sym h))
 neither false b h = (refl, h)
 
--- the union of sets with no number in common has as many as both together, if a list has all numbers of the second
+-- if a list has all numbers of t, the union of s and t, which share no number, has as many numbers as both together
 len-apart_by : (ks : List ℕ) (s t : Numbers) → ((q : ℕ) → set.contains t q ≡ true → list_any (eq_by_cmp nat_cmp q) ks ≡ true) → ((q : ℕ) → set.contains t q ≡ true → set.contains s q ≡ false) → set.len (set.union s t) ≡ set.len s + set.len t
 len-apart_by [] s t all apart =
     let none : t ≡ set.empty = same t set.empty (λ q. false_from_ne_true _ (λ e. false≢true (all q e)) ∙ sym (set.contains-empty nat_cmp q)) in
@@ -127,6 +127,7 @@ apart_remove s t n h = record {
   apart = λ q e. set.contains-remove nat_cmp_total t n q ∙ ap (λ b. not (eq_by_cmp nat_cmp q n) && b) (h.apart q (was_there s n q e)) ∙ and_false _;
 }
   where
+    -- a law of truth values: "b and false" is false
     and_false : (b : Bool) → (b && false) ≡ false
     and_false true = refl
     and_false false = refl
@@ -141,9 +142,9 @@ none_recent s room recent h = record { apart = apart_empty s; fits = let none : 
 pub no_marks : (room recent : ℕ) → AreMarks (record { numbers = set.empty; room = room }) (record { numbers = set.empty; room = recent })
 no_marks room recent = none_recent set.empty room recent (let none : set.len {R = nat_cmp} set.empty ≡ 0 = set.len-empty nat_cmp in omega (arith, none))
 
--- a number n is marked, where v is the set of all marks: those of m and the recent ones of l
+-- a number n is to be marked, where v is the set of all marks: those of m and the recent ones of l
 module _ (m l v : RoomySet) (n : ℕ) (seen : ◌≡◌ {A = RoomySet} (record { numbers = set.union m.numbers l.numbers; room = m.room }) v) (marks : AreMarks m l) where
-  -- a number that isn't marked is in neither set
+  -- if n isn't marked (in v), it is neither in m nor in l
   in_neither : set.contains v.numbers n ≡ false → (set.contains m.numbers n ≡ false) × (set.contains l.numbers n ≡ false)
   in_neither h = neither _ _ (sym (set.contains-union nat_cmp_total m.numbers l.numbers n) ∙ ap (λ (w : RoomySet). set.contains w.numbers n) seen ∙ h)
 
@@ -151,7 +152,7 @@ module _ (m l v : RoomySet) (n : ℕ) (seen : ◌≡◌ {A = RoomySet} (record {
   pub fits_recent : set.contains v.numbers n ≡ false → set.len l.numbers < l.room → set.len (set.insert l.numbers n) ≤ l.room
   fits_recent missing room = let more = len-new l.numbers n (in_neither missing).1 in omega (arith, more, room)
 
-  -- if n isn't marked, and there is room for all marks and n, marks stay in two sets with n put among the recent ones
+  -- if n isn't marked, and m has room for all marks and n, m and l with n put into l are marks in two sets (`AreMarks`)
   pub one_recent : set.contains v.numbers n ≡ false → set.len (set.insert v.numbers n) ≤ v.room → AreMarks m (record l { numbers = set.insert l.numbers n })
   one_recent missing h =
       let more = len-new v.numbers n missing in
@@ -161,7 +162,7 @@ module _ (m l v : RoomySet) (n : ℕ) (seen : ◌≡◌ {A = RoomySet} (record {
       let recent = len-new l.numbers n (in_neither missing).1 in
       record { apart = apart_insert m.numbers l.numbers n marks.apart (in_neither missing).0; fits = omega (arith, more, all, size, room, recent, h) }
 
-  -- if there is room for all marks and n, they are marks in two sets with all of them put into the first
+  -- if there is room for all marks and n, all of them in one set and none recent are marks in two sets (`AreMarks`)
   pub one_more : set.len (set.insert v.numbers n) ≤ v.room → AreMarks (record { numbers = set.insert (set.union m.numbers l.numbers) n; room = m.room }) (record { numbers = set.empty; room = l.room })
   one_more h = none_recent (set.insert (set.union m.numbers l.numbers) n) m.room l.room
       (let size = ap (λ (w : RoomySet). set.len (set.insert w.numbers n)) seen in let room = ap (λ (w : RoomySet). w.room) seen in omega (arith, size, room, h))

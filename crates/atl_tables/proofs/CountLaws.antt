@@ -16,7 +16,7 @@ below k q h =
     ] refl h
 
 module _ {V : Type 0} where
-  -- the first of the entries has the number n or a greater one
+  -- the first of the entries, if there is one, has the number n or a greater one
   abbrev pub BeginsFrom : ℕ → List (ℕ × V) → Type 0
   BeginsFrom n [] = Unit {0}
   BeginsFrom n (e ∷ es) = n ≤ e.0
@@ -25,17 +25,17 @@ module _ {V : Type 0} where
   pub sorted_rest : (e : ℕ × V) (es : List (ℕ × V)) → is_sorted nat_cmp (e ∷ es) ≡ true → is_sorted nat_cmp es ≡ true
   sorted_rest e es h = (and_parts _ _ h).1
 
-  -- in sorted entries, the entry after one with a number from n on has a number from n + 1 on
+  -- in sorted entries, the entry after one whose number is at least n has a number that is at least n + 1
   pub begins_later : (n : ℕ) (e : ℕ × V) (es : List (ℕ × V)) → is_sorted nat_cmp (e ∷ es) ≡ true → n ≤ e.0 → BeginsFrom (n + 1) es
   begins_later n e [] h l = tt
   begins_later n e (f ∷ es) h l = omega (arith, l, below e.0 f.0 (and_parts _ _ (and_parts _ _ h).0).0)
 
-  -- in sorted entries, the entry after one with a number from n on has a number from n on
+  -- in sorted entries, the entry after one whose number is at least n has a number that is at least n
   pub begins_same : (n : ℕ) (e : ℕ × V) (es : List (ℕ × V)) → is_sorted nat_cmp (e ∷ es) ≡ true → n ≤ e.0 → BeginsFrom n es
   begins_same n e [] h l = tt
   begins_same n e (f ∷ es) h l = omega (arith, l, below e.0 f.0 (and_parts _ _ (and_parts _ _ h).0).0)
 
-  -- all entries have numbers from 0 on
+  -- the first of any entries has a number that is at least 0
   pub begins_zero : (es : List (ℕ × V)) → BeginsFrom 0 es
   begins_zero [] = tt
   begins_zero (e ∷ es) = omega arith

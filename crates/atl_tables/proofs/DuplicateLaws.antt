@@ -46,7 +46,7 @@ module _ {A : Type 0} (title : A → List ℕ) where
   abbrev is_before : A → List A → Bool
   is_before x front = list_any (λ y. same_name (title y) (title x)) front
 
-  -- if the condition that has a fault where a test b is true holds, b is false
+  -- if the condition whose fault is f where b is true, and which else holds, has no fault, b is false
   by_test : (b : Bool) (f : WorldFault) → first_fault (cond b (Some f) None ∷ []) ≡ None → b ≡ false
   by_test true f h = absurd (cc)
   by_test false f h = refl
@@ -83,7 +83,7 @@ pub names_kept : {A B : Type 0} (f : A → B) (n : A → List ℕ) (m : B → Li
 names_kept f n m h [] = refl
 names_kept f n m h (x ∷ xs) = rw (h x, names_kept f n m h xs) refl
 
--- the names of terrains, items, skills and kinds differ, if the conditions on duplicates hold
+-- the names of terrains, items, skills and kinds differ, if the conditions on these names hold (`titles_differ`)
 titles_have_names : (all : WorldDraft) → first_fault (titles_differ all) ≡ None → ThingNamesDiffer all
 unfolding titles_differ
 titles_have_names all h =
@@ -100,7 +100,7 @@ titles_have_names all h =
       kinds = differ (λ d. d.name) (codes "kind") (codes "name") all.kinds (back_none skills kinds behind_items);
     }
 
--- the names of terrains, items, skills and kinds differ, if all conditions on duplicates hold
+-- the names of terrains, items, skills and kinds differ, if all conditions on names and numbers hold (`names_differ`)
 pub thing_names_differ : (all : WorldDraft) → first_fault (names_differ all) ≡ None → ThingNamesDiffer all
 unfolding names_differ
 thing_names_differ all h = titles_have_names all (front_none (titles_differ all) (duplicate_numbers all.regions ++ (each duplicate_output_keys 0 all.terrains ++ each duplicate_market_items 0 all.regions)) h)

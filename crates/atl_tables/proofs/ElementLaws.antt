@@ -24,7 +24,7 @@ module _ (conditions : List ℕ → Members → Conditions) (key : List ℕ) (i 
   pub ends : (e : WorldFault) → first_fault (elements_conditions conditions key i (item d ds)) ≡ total → Stops e (first_fault (element_conditions conditions (element_path key i) d)) → Stops e total
   ends e so_far one = subst (Stops e) so_far (stops_on e (element_conditions conditions (element_path key i) d) (elements_conditions conditions key (i + 1) ds) one)
 
--- `front` and then the values of all elements is the same list as `front` with the first value appended and the others
+-- `front` and then the values of the elements d and ds is the same list as `front`, d's value x and then those of ds
 pub one_more : {A : Type 0} (record_of : List ℕ → Members → A) (key : List ℕ) (i : ℕ) (d : Data) (ds : Items) (front : List A) (x : A) (total : List A) → front ++ elements_of record_of key i (item d ds) ≡ total
     → record_of (element_path key i) (element_table (element_path key i) d) ≡ x → (front ++ x ∷ []) ++ elements_of record_of key (i + 1) ds ≡ total
 one_more record_of key i d ds front x total so_far one =

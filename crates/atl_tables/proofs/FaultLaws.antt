@@ -29,7 +29,7 @@ pub stops_on : (e : WorldFault) (fs gs : Conditions) → Stops e (first_fault fs
 stops_on Memory fs gs h = tt
 stops_on e fs gs h = kept e fs gs h
 
--- if the first of two lists has no fault, an error that is the fault of the second is that of the joined list
+-- if the first of two lists of conditions has no fault, an error that is the fault of the second is that of both joined
 pub stops_after : (e : WorldFault) (fs gs : Conditions) → first_fault fs ≡ None → Stops e (first_fault gs) → Stops e (first_fault (fs ++ gs))
 stops_after e fs gs h s = subst (Stops e) (sym (passes fs gs h)) s
 

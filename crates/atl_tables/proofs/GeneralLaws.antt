@@ -6,7 +6,7 @@ use Rattle.std.specs.FinMap.{FinMap, insert, len, len-insert, contains_key}
 use Rattle.std.proofs.lemmas.Bool.{false_from_ne_true}
 use Rattle.std.proofs.lemmas.Bool.Decides.{nat_tests}
 
--- a truth value that holds is true
+-- a truth value that holds (`T`) is equal to true
 pub is_true : (b : Bool) → T b → b ≡ true
 is_true true h = refl
 is_true false h = absurd h
@@ -31,15 +31,15 @@ equal_turned a b = grind (arith, nat_tests)
 
 -- ---- keys
 
--- a key is equal to itself by comparison
+-- a key compares as equal to itself
 pub key_itself : (n : ℕ) → eq_by_cmp nat_cmp n n ≡ true
 key_itself n = unsigned_tied n n ∙ equal_itself n
 
--- whether two keys are equal by comparison is the test `==` of the numbers, in the other order
+-- two keys q and r compare as equal exactly if the test r == q is true
 pub key_turned : (q r : ℕ) → eq_by_cmp nat_cmp q r ≡ (r == q)
 key_turned q r = unsigned_tied q r ∙ equal_turned q r
 
--- two keys that are equal by comparison are the same number
+-- two keys that compare as equal are the same number
 pub same_key : (q r : ℕ) → eq_by_cmp nat_cmp q r ≡ true → q ≡ r
 same_key q r test = is_equal q r (sym (unsigned_tied q r) ∙ test)
 

@@ -12,13 +12,13 @@ pub len_none : {V : Type 0} (m : FinMap nat_cmp V) → m ≡ empty → len m ≡
 len_none {V} m e = ap len e ∙ len-empty nat_cmp V
 
 module _ {V : Type 0} (number : V → ℕ) where
-  -- a map of values by their numbers has no more entries than there are values
+  -- the map of a list of values, each under its own number, has no more entries than the list has values
   pub few : (vs : List V) → len (by_number number vs) ≤ length vs
   few [] = omega (arith, len-empty nat_cmp V)
   few (v ∷ vs) = omega (arith, one_more (by_number number vs) (number v) v, few vs)
 
   module _ (P : ℕ → V → Type 0) where
-    -- if P holds of u at its number, and of the entry o under n, P holds of the entry under n after u is put in
+    -- if P holds of u at its number, and of the entry under n, P holds of the entry under n once u is put in
     one : (b : Bool) (n : ℕ) (u v : V) (o : Option V) → (n == number u) ≡ b → P (number u) u → (o ≡ Some v → P n v) → cond b (Some u) o ≡ Some v → P n v
     one true n u v o e here rest h =
         let same : u ≡ v = cc in

@@ -16,12 +16,12 @@ module _ {V W : Type 0} (f : V → W) where
   abbrev at_each : List (ℕ × V) → List (ℕ × W)
   at_each es = map (λ e. (e.0, f e.1)) es
 
-  -- a number is below all numbers of the mapped entries if it is below those of the entries
+  -- a number is below all numbers of the mapped entries exactly if it is below those of the entries
   below_all-map : (k : ℕ) (es : List (ℕ × V)) → below_all nat_cmp k (at_each es) ≡ below_all nat_cmp k es
   below_all-map k [] = refl
   below_all-map k (e ∷ es) = ap (λ b. is_lt (nat_cmp k e.0) && b) (below_all-map k es)
 
-  -- mapped entries are sorted if the entries are
+  -- mapped entries are sorted exactly if the entries are
   is_sorted-map : (es : List (ℕ × V)) → is_sorted nat_cmp (at_each es) ≡ is_sorted nat_cmp es
   is_sorted-map [] = refl
   is_sorted-map (e ∷ es) = ap (λ b. b && is_sorted nat_cmp (at_each es)) (below_all-map e.0 es) ∙ ap (λ b. below_all nat_cmp e.0 es && b) (is_sorted-map es)
@@ -60,17 +60,17 @@ above : (k q : ℕ) → is_lt (nat_cmp k q) ≡ true → nat_cmp q k ≡ Greater
 above k q h = nat_cmp_total.antisymm q k ∙ ap ordering_reverse (is_less (nat_cmp k q) h)
 
 module _ {W : Type 0} where
-  -- a number that is below the numbers of all entries is below that of an entry in their middle
+  -- if q is below the numbers of all entries, the number k of an entry in their middle compares as Greater than q
   below_last : (q : ℕ) (es fs : List (ℕ × W)) (k : ℕ) (w : W) → below_all nat_cmp q (es ++ (k, w) ∷ fs) ≡ true → nat_cmp k q ≡ Greater
   below_last q [] fs k w h = above q k (and_parts _ _ h).0
   below_last q (e ∷ es) fs k w h = below_last q es fs k w (and_parts _ _ h).1
 
-  -- an entry that comes after all of the entries `es` is put in at their end
+  -- an entry that comes after the entries `es` in a sorted list is put in at their end
   put_last : (es fs : List (ℕ × W)) (k : ℕ) (w : W) → is_sorted nat_cmp (es ++ (k, w) ∷ fs) ≡ true → put nat_cmp k w es ≡ es ++ (k, w) ∷ []
   put_last [] fs k w h = refl
   put_last (e ∷ es) fs k w h =
       ap (λ o. by_order o ((k, w) ∷ e ∷ es) ((e.0, w) ∷ es) (e ∷ put nat_cmp k w es)) (below_last e.0 es fs k w (and_parts _ _ h).0) ∙ ap (λ xs. e ∷ xs) (put_last es fs k w (and_parts _ _ h).1)
 
-  -- a map that is built in the order of another one gets its next entry at the end
+  -- if the entries of n are those of m, then (k, w), then fs, m with w put in under k has (k, w) as its last entry
   pub insert_last : (m n : FinMap nat_cmp W) (k : ℕ) (w : W) (fs : List (ℕ × W)) → entries m ++ (k, w) ∷ fs ≡ entries n → entries (insert m k w) ≡ entries m ++ (k, w) ∷ []
   insert_last m n k w fs h = entries-insert nat_cmp_total m k w ∙ put_last (entries m) fs k w (is_true _ (subst (λ es. T (is_sorted nat_cmp es)) (sym h) (entries_sorted n)))

@@ -19,7 +19,7 @@ use Rattle.atl_tables.proofs.SetLaws.{same, insert_twice, insert_undone, contain
 abbrev IsRising : List ℕ → Type 0
 IsRising xs = IsStrictlySortedBy nat_cmp xs
 
--- what holds of two numbers that are equal, and of a lesser and a greater one, holds of any two
+-- P holds, if it follows from a = b, from a < b and from b < a
 by_cases : {P : Type 0} (a b : ℕ) → (a ≡ b → P) → (a < b → P) → (b < a → P) → P
 by_cases a b alike less more = elim (cases_order a b) [ inl e ↦ alike e | inr r ↦ elim r [ inl l ↦ less l | inr m ↦ more m ] ]
 
@@ -54,6 +54,7 @@ rising-insert xs n i s b = sorted_from_strictly_increasing (insert xs i n) (λ k
     let rises = below_from_sorted xs (k - 1) k 0 s (omega (arith, m)) (omega (arith, l, size)) in
     omega (arith, here, next, rises)))
   where
+    -- a number j above another one is (j - 1) + 1
     one_back : (j i : ℕ) → i < j → j ≡ j - 1 + 1
     one_back j i m = omega arith
 
@@ -79,7 +80,7 @@ rising-remove xs i s within = sorted_from_strictly_increasing (remove xs i) (λ 
     omega (arith, here, next, rises)))
 
 -- ---- how many numbers the set of a list has
--- a number that is less than all of a list is not in it
+-- a number that is less than all numbers of a list is not in the list
 apart : (x : ℕ) (xs : List ℕ) → AllByRecursion (λ y. nat_cmp x y ≡ Less) xs → list_any (eq_by_cmp nat_cmp x) xs ≡ false
 apart x [] h = refl
 apart x (y ∷ xs) h = ap (λ r. is_eq r || list_any (eq_by_cmp nat_cmp x) xs) h.0 ∙ apart x xs h.1
@@ -109,7 +110,7 @@ from_list-insert xs n i = sym (moved (n ∷ xs) (insert xs i n) (IsPermutation-i
 from_list-put_back : (xs : List ℕ) (n i : ℕ) → IsAt xs n i → set.from_list {R = nat_cmp} xs ≡ set.insert (set.from_list (remove xs i)) n
 from_list-put_back xs n i h = moved xs (n ∷ remove xs i) (IsPermutation-remove xs i n h.within (sym (get_or_default xs i n 0 h.within ∙ h.is)))
 
--- the number at an index of a list is in its set
+-- the number n at an index of a list is in the set of the list
 pub contains-stands : (xs : List ℕ) (n i : ℕ) → IsAt xs n i → set.contains {R = nat_cmp} (set.from_list xs) n ≡ true
 contains-stands xs n i h = ap (λ s. set.contains s n) (from_list-put_back xs n i h) ∙ contains_inserted (set.from_list (remove xs i)) n
 
@@ -117,7 +118,7 @@ contains-stands xs n i h = ap (λ s. set.contains s n) (from_list-put_back xs n 
 pub len-belongs : (xs : List ℕ) (n i : ℕ) → IsRising xs → BelongsAt xs n i → set.len {R = nat_cmp} (set.insert (set.from_list xs) n) ≡ length xs + 1
 len-belongs xs n i s b = ap set.len (sym (from_list-insert xs n i)) ∙ len-rising (insert xs i n) (rising-insert xs n i s b) ∙ length-insert xs i n b.within
 
--- a number that belongs at an index of a sorted list is not in its set
+-- a number that belongs at an index of a sorted list (`BelongsAt`) is not in the set of the list
 pub contains-belongs : (xs : List ℕ) (n i : ℕ) → IsRising xs → BelongsAt xs n i → set.contains {R = nat_cmp} (set.from_list xs) n ≡ false
 contains-belongs xs n i s b = false_from_ne_true _ (λ e.
     let more = len-belongs xs n i s b in
@@ -142,7 +143,7 @@ unfolding IsStrictlySortedBy
 rising-empty = tt
 
 -- ---- the index that a binary search returns
--- of two elements of a sorted list the later is no less
+-- of two elements of a sorted list the later one is no less than the earlier one
 not_falling : (xs : List ℕ) → IsRising xs → (i j : ℕ) → i ≤ j → j < length xs → get_or xs i 0 ≤ get_or xs j 0
 not_falling xs s i j l m = non_decreasing_from_sorted xs s i j 0 l m
 

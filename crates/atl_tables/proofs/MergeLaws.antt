@@ -30,7 +30,7 @@ merged xs ys = sorted_merge nat_cmp true xs ys
 abbrev step : ℕ → List ℕ → (List ℕ → List ℕ) → List ℕ → List ℕ
 step x xs on ys = merge_step nat_cmp true x xs on ys
 
--- what holds of each of three lists, by the order of two numbers, holds of the one that is chosen by it
+-- if P holds of xs on Less, of ys on Equal and of zs on Greater, P holds of the one that the ordering k chooses
 by_rank : (P : List ℕ → Type 0) (k : Ordering) (xs ys zs : List ℕ) → (k ≡ Less → P xs) → (k ≡ Equal → P ys) → (k ≡ Greater → P zs) → P (match_ordering k xs ys zs)
 by_rank P Less xs ys zs a b c = a refl
 by_rank P Equal xs ys zs a b c = b refl
@@ -84,7 +84,7 @@ module _ (P : ℕ → Type 0) where
 abbrev Above : ℕ → List ℕ → Type 0
 Above x ys = AllByRecursion (λ y. nat_cmp x y ≡ Less) ys
 
--- what is above y is above x, if x is less than y
+-- if x is less than y, a list whose numbers are all greater than y has only numbers greater than x
 above_lower : (x y : ℕ) (ys : List ℕ) → nat_cmp x y ≡ Less → Above y ys → Above x ys
 above_lower x y [] l a = tt
 above_lower x y (z ∷ ys) l a = (nat_cmp_total.trans x y z l a.0, above_lower x y ys l a.1)
@@ -100,7 +100,7 @@ rising-step x xs s h (y ∷ ys) t = by_rank IsRising (nat_cmp x y) _ _ _
     let less : nat_cmp y x ≡ Less = nat_cmp_total.antisymm y x ∙ ap ordering_reverse e in
     (all-merged (λ z. nat_cmp y z ≡ Less) (x ∷ xs) ys (less, above_lower y x xs less s.0) t.0, rising-step x xs s h ys t.1))
 
--- two sorted lists merged are sorted
+-- two sorted lists merged into one are sorted, without duplicates
 pub rising-merged : (xs ys : List ℕ) → IsRising xs → IsRising ys → IsRising (merged xs ys)
 unfolding IsStrictlySortedBy
 rising-merged [] ys s t = t
@@ -213,7 +213,7 @@ all_put xs ys now all own left none kept h =
     sym (take-append-drop own now) ∙ ap (λ zs. zs ++ drop own now) (kept ∙ sym (ap (merged (take own xs)) none_left ∙ merged_alone (take own xs)))
     ∙ ap (λ k. merged (take own xs) (take left ys) ++ drop k now) (sym there) ∙ h
 
--- a is at most b, if P holds, and a false test would follow from P and b below a
+-- a is at most b, if P holds, and P together with b < a would make a false test true
 pub not_above : (P : Type 0) (a b : ℕ) → (P × (b < a) → IsTrue false) → P → a ≤ b
 not_above P a b h p = elim (cases_order a b) [
   | inl e ↦ omega (arith, e)

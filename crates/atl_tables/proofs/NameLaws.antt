@@ -8,11 +8,11 @@ use Rattle.std.specs.Str.{IsUtf8}
 use Rattle.atl_tables.specs.Lookup.{name_of}
 use Rattle.atl_tables.specs.Names.{is_name_byte, is_pass_byte, name_ok, pass_ok}
 
--- a byte of names is ASCII
+-- a byte that may be in a name is below 128, so it is ASCII
 small_name : (b : ℕ) → is_name_byte b ≡ true → b < 128
 small_name b h = grind (arith, nat_tests)
 
--- a byte of pass texts is ASCII
+-- a byte that may be in a pass text is below 128, so it is ASCII
 small_pass : (b : ℕ) → is_pass_byte b ≡ true → b < 128
 small_pass b h = grind (arith, nat_tests)
 
@@ -22,11 +22,11 @@ all_small p small [] h i = omega arith
 all_small p small (b ∷ bs) h zero = small b (and_parts _ _ h).0
 all_small p small (b ∷ bs) h (suc i) = all_small p small bs (and_parts _ _ h).1 i
 
--- a name is UTF-8
+-- a text that keeps the rule of names is UTF-8
 pub name_ok-IsUtf8 : (bs : List ℕ) → name_ok bs ≡ true → IsUtf8 bs
 name_ok-IsUtf8 bs h = IsUtf8-from_ascii bs (all_small is_name_byte small_name bs (and_parts _ _ h).1)
 
--- a pass text is UTF-8
+-- a text that keeps the rule of pass texts is UTF-8
 pub pass_ok-IsUtf8 : (bs : List ℕ) → pass_ok bs ≡ true → IsUtf8 bs
 pass_ok-IsUtf8 bs h = IsUtf8-from_ascii bs (all_small is_pass_byte small_pass bs (and_parts _ _ h).1)
 

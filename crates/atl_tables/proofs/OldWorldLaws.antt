@@ -20,12 +20,12 @@ use Rattle.atl_tables.specs.declared.world.RegionPlan.{RegionPlan}
 use Rattle.atl_tables.proofs.MadeLaws.{get-mapped}
 use Rattle.atl_tables.proofs.HasNumberLaws.{at_number}
 
--- an option stays as it is under an f that doesn't change its value
+-- an option mapped by f stays as it is, if f doesn't change its value
 unchanged : {V : Type 0} (f : V → V) (o : Option V) → ((v : V) → o ≡ Some v → f v ≡ v) → option_map f o ≡ o
 unchanged f None same = refl
 unchanged f (Some v) same = ap Some (same v refl)
 
--- a map stays as it is under an f that changes no value
+-- a map with f applied to each value stays as it is, if f changes no value of the map
 mapped_same : {V : Type 0} (f : V → V) (m : FinMap nat_cmp V) → ((n : ℕ) (v : V) → get m n ≡ Some v → f v ≡ v) → mapped f m ≡ m
 mapped_same f m same = same_map nat_cmp_total nat_cmp-IsAntisymmetric _ _ (λ n. get-mapped f m n ∙ unchanged f (get m n) (same n))
 

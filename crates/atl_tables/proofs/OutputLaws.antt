@@ -16,7 +16,7 @@ use Rattle.atl_tables.specs.declared.output_table.Output.{Output}
 abbrev pub pairs : List (String Global × Value) → List (List ℕ × Data)
 pairs es = map (λ e. (string_bytes e.0, view e.1)) es
 
--- a key that is before all others is put in front
+-- `put_key` puts a key that is before all keys of the entries in front of them
 put_first : (k : String Global) (d : Data) (es : List (String Global × Value)) → is_before (string_bytes k) (members_view es) ≡ true → put_key (string_bytes k) d (pairs es) ≡ (string_bytes k, d) ∷ pairs es
 put_first k d [] h = refl
 put_first k d (e ∷ es) h = rw h refl

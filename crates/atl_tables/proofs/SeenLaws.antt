@@ -24,12 +24,12 @@ unfolding same_name
 has_more seen grown lowered name put same other =
     rw same at (btree_set_updates_text (string_bytes lowered) seen grown true put (map to_ascii_lowercase other)) ∙ or_of (same_name name other) (has_name seen other)
 
--- if a name isn't new to a set, it was there before
+-- a law of truth values: if `new` is "not there", and is false, `there` is true
 there_before : (new there : Bool) → new ≡ not there → new ≡ false → there ≡ true
 there_before new true said h = refl
 there_before new false said h = sym h ∙ said
 
--- if a name is new to a set, it wasn't there before
+-- a law of truth values: if `new` is "not there", and is true, `there` is false
 not_before : (new there : Bool) → new ≡ not there → new ≡ true → there ≡ false
 not_before new true said h = sym h ∙ said
 not_before new false said h = refl

@@ -102,7 +102,7 @@ swapped true true c = refl
 swapped true false c = refl
 swapped false b c = refl
 
--- the union with the empty set is the set
+-- the union of a set with the empty set is the set
 pub union-empty : (s : set.FinSet nat_cmp) → set.union s set.empty ≡ s
 union-empty s = same _ _ (λ q. set.contains-union nat_cmp_total s set.empty q ∙ ap (λ b. set.contains s q || b) (set.contains-empty nat_cmp q) ∙ nothing_more _)
 
@@ -128,7 +128,7 @@ at_most : (b : Bool) (n : ℕ) → cond b n (n + 1) ≤ n + 1
 at_most true n = omega arith
 at_most false n = omega arith
 
--- the union of a set with the numbers of a list has at most as many as both together
+-- the union of a set with the numbers of a list has at most as many numbers as the set and the list have together
 pub len-union : (s : set.FinSet nat_cmp) (ks : List ℕ) → set.len (set.union s (set.from_list ks)) ≤ set.len s + length ks
 len-union s [] = let e : set.len (set.union s set.empty) ≡ set.len s = ap set.len (union-empty s) in omega (arith, e)
 len-union s (k ∷ ks) =

@@ -27,7 +27,7 @@ under : (e a b c d : ℕ) → a + b ≡ c + d → (e + a) + b ≡ (e + c) + d
 under e a b c d h = omega arith
 
 module _ {X : Type 0} where
-  -- in the second branch of a choice, another choice by the same test gives its second branch
+  -- in the second branch of a choice, another choice by the same test b gives its own second branch
   twice : (b : Bool) (x y z : Option X) → cond b x z ≡ cond b x (cond b y z)
   twice true x y z = refl
   twice false x y z = refl
@@ -63,7 +63,7 @@ module _ {X : Type 0} where
   abbrev weighed : (f : X → ℕ) → List (ℕ × X) → ℕ
   weighed f es = sum_by (λ e. f e.1) es
 
-  -- an entry with a new number adds the f of its value to the sum
+  -- an entry with a new number and the value v, put into entries, adds f v to the sum of f over them
   put_new : (f : X → ℕ) (k : ℕ) (v : X) (es : List (ℕ × X)) → find nat_cmp k es ≡ None → weighed f (put nat_cmp k v es) ≡ weighed f es + f v
   put_new f k v [] h = omega arith
   put_new f k v (e ∷ es) h =
@@ -74,7 +74,7 @@ module _ {X : Type 0} where
         | Greater ↦ λ g. more e (put nat_cmp k v es) ∙ later (f e.1) _ (weighed f es) (f v) (put_new f k v es g) ∙ ap (λ n. n + f v) (sym (more e es))
       ] h
 
-  -- the sum with v under k, with f u added, is the sum with u under k, with f v added
+  -- the sum of f over entries with v put in under k, plus f u, is the sum with u put in under k, plus f v
   put_either : (f : X → ℕ) (k : ℕ) (u v : X) (es : List (ℕ × X)) → weighed f (put nat_cmp k v es) + f u ≡ weighed f (put nat_cmp k u es) + f v
   put_either f k u v [] = omega arith
   put_either f k u v (e ∷ es) =
@@ -85,11 +85,11 @@ module _ {X : Type 0} where
         | Greater ↦ ap (λ n. n + f u) (more e (put nat_cmp k v es)) ∙ under (f e.1) _ (f u) _ (f v) (put_either f k u v es) ∙ ap (λ n. n + f v) (sym (more e (put nat_cmp k u es)))
       ]
 
-  -- a new value adds its f to the sum over a map
+  -- a value v put in under a new number adds f v to the sum of f over a map
   pub sum_over-insert_new : (f : X → ℕ) (m : FinMap nat_cmp X) (k : ℕ) (v : X) → get m k ≡ None → sum_over f (insert m k v) ≡ sum_over f m + f v
   sum_over-insert_new f m k v h = ap (sum_by (λ e. f e.1)) (entries-insert nat_cmp_total m k v) ∙ put_new f k v (entries m) (sym (get-entries m k) ∙ h)
 
-  -- if v replaces u in a map, the new sum with f u added is the old sum with f v added
+  -- if v replaces u in a map, the new sum of f over the map, plus f u, is the old sum plus f v
   pub sum_over-insert_known : (f : X → ℕ) (m : FinMap nat_cmp X) (k : ℕ) (u v : X) → get m k ≡ Some u → sum_over f (insert m k v) + f u ≡ sum_over f m + f v
   sum_over-insert_known f m k u v h =
       ap (λ n. sum_over f n + f u) (put_over m k v)
@@ -103,7 +103,7 @@ module _ {X : Type 0} where
   abbrev chosen : (p : X → Bool) → List (ℕ × X) → List ℕ
   chosen p es = map (λ e. e.0) (filter (λ e. p e.1) es)
 
-  -- the numbers of the entries that pass, with the first entry e if b is true
+  -- the numbers of the passing entries of es, with e in front if b is true, are theirs with e's in front if b is true
   chosen-cond : (p : X → Bool) (b : Bool) (e : ℕ × X) (es : List (ℕ × X)) → map (λ e. e.0) (cond b (e ∷ filter (λ e. p e.1) es) (filter (λ e. p e.1) es)) ≡ cond b (e.0 ∷ chosen p es) (chosen p es)
   chosen-cond p true e es = refl
   chosen-cond p false e es = refl

@@ -65,6 +65,7 @@ module _ {V : Type 0} where
   pub held-cleared : (v : FinMap nat_cmp V) (m : set.FinSet nat_cmp) → held (empty {X = V} {R = nat_cmp}) (held v m) ≡ held v m
   held-cleared v m = same _ _ (λ q. contains-held empty (held v m) q ∙ ap (λ o. set.contains (held v m) q || is_some o) (get-empty {X = V} nat_cmp q) ∙ nothing_more (set.contains (held v m) q))
     where
+      -- a law of truth values: "b or false" is b
       nothing_more : (b : Bool) → (b || false) ≡ b
       nothing_more true = refl
       nothing_more false = refl
@@ -98,11 +99,11 @@ module _ {V : Type 0} where
       let l = len-within (set.insert m n) (held v (set.insert m n)) (λ q e. contains-held v (set.insert m n) q ∙ first _ _ e) in
       omega (arith, all, l, room)
 
-  -- room stays enough if all marks are cleared
+  -- room for marks stays enough (`Room`) if all marks are cleared
   pub Room-unmarked : (v : FinMap nat_cmp V) (m : set.FinSet nat_cmp) (r : ℕ) → Room v m r → Room v set.empty r
   Room-unmarked v m r = fewer v v m set.empty r (λ q e. either (set.contains m q) (is_some (get v q)) (ap (λ b. b || is_some (get v q)) (sym (set.contains-empty nat_cmp q)) ∙ e))
 
-  -- room stays enough if the value and the mark of a number are taken out
+  -- room for marks stays enough (`Room`) if the value and the mark of a number are taken out
   pub Room-taken : (v : FinMap nat_cmp V) (m : set.FinSet nat_cmp) (r n : ℕ) → Room v m r → Room (remove v n) (set.remove m n) r
   Room-taken v m r n = fewer v (remove v n) m (set.remove m n) r (λ q e. at n q (λ b. ((not b && set.contains m q) || is_some (cond b None (get v q))) ≡ true → (set.contains m q || is_some (get v q)) ≡ true) (λ _ h. absurd (false≢true h)) (λ h. h)
       (ap (λ b. b || is_some (cond (eq_by_cmp nat_cmp q n) None (get v q))) (sym (set.contains-remove nat_cmp_total m n q)) ∙ ap (λ o. set.contains (set.remove m n) q || is_some o) (sym (get-remove nat_cmp_total v n q)) ∙ e))
@@ -124,32 +125,32 @@ module _ {V : Type 0} where
   pub fits-inserted : (v : FinMap nat_cmp V) (m : set.FinSet nat_cmp) (r n : ℕ) (x : V) → set.len m + len (insert v n x) ≤ r → set.len (set.insert m n) ≤ r
   fits-inserted v m r n x h = fits-marked (insert v n x) m r n (ap is_some (there_itself v n x)) (Room-all (insert v n x) m r h)
 
-  -- room is enough after a value is put in and marked, if it is at least the number of marks and of values together
+  -- room for marks is enough after a value is put in and marked, if it is at least all marks and values together
   pub Room-inserted : (v : FinMap nat_cmp V) (m : set.FinSet nat_cmp) (r n : ℕ) (x : V) → set.len m + len (insert v n x) ≤ r → Room (insert v n x) (set.insert m n) r
   Room-inserted v m r n x h = rw (held-marked (insert v n x) m n (ap is_some (there_itself v n x))) (Room-all (insert v n x) m r h)
 
-  -- room stays enough if a number is marked that has a value
+  -- room for marks stays enough (`Room`) if a number is marked in case that it has a value
   pub Room-put : (v : FinMap nat_cmp V) (m : set.FinSet nat_cmp) (r n : ℕ) (o : Option V) → get v n ≡ o → Room v m r → Room v (marked_with m n o) r
   Room-put v m r n None e h = h
   Room-put v m r n (Some x) e h = rw (held-marked v m n (ap is_some e)) h
 
-  -- room stays enough if the value under a number, if there is one, is taken out and the number marked
+  -- room for marks stays enough (`Room`) if a value, where there is one, is taken out and its number marked
   pub Room-without : (v : FinMap nat_cmp V) (m : set.FinSet nat_cmp) (r n : ℕ) (o : Option V) → get v n ≡ o → Room v m r → Room (remove v n) (marked_with m n o) r
   Room-without v m r n None e h = rw (remove_none v n e) h
   Room-without v m r n (Some x) e h = rw (held-removed v m n (ap is_some e)) h
 
-  -- room stays enough if the value under a number is replaced and the number marked
+  -- room for marks stays enough (`Room`) if the value under a number is replaced and the number marked
   pub Room-lent : (v : FinMap nat_cmp V) (m : set.FinSet nat_cmp) (r n : ℕ) (o : Option V) (x : V) → get v n ≡ o → is_some o ≡ true → Room v m r → Room (insert v n x) (marked_with m n o) r
   Room-lent v m r n None x e s h = absurd (false≢true s)
   Room-lent v m r n (Some y) x e s h = rw (held-lent v m n x (ap is_some e)) h
 
-  -- room stays enough if the value under a number is replaced
+  -- room for marks stays enough (`Room`) if the value under a number is replaced, and no mark changes
   pub Room-over : (v : FinMap nat_cmp V) (m : set.FinSet nat_cmp) (r n : ℕ) (x : V) → is_some (get v n) ≡ true → Room v m r → Room (insert v n x) m r
   Room-over v m r n x s = fewer v (insert v n x) m m r (λ q e.
       at n q (λ b. (set.contains m q || is_some (cond b (Some x) (get v q))) ≡ true → (set.contains m q || is_some (get v q)) ≡ true) (λ same _. there v m n q s same) (λ h. h)
       (ap (λ o. set.contains m q || is_some o) (sym (get-insert nat_cmp_total v n x q)) ∙ e))
 
-  -- room stays enough if all values are taken out and marked
+  -- room for marks stays enough (`Room`) if all values are taken out and their numbers marked
   pub Room-cleared : (v : FinMap nat_cmp V) (m : set.FinSet nat_cmp) (r : ℕ) → Room v m r → Room empty (held v m) r
   Room-cleared v m r h = rw (held-cleared v m) h
 
@@ -159,22 +160,22 @@ module _ {V : Type 0} where
   same_parts : (v w : FinMap nat_cmp V) (m n : set.FinSet nat_cmp) → v ≡ w → m ≡ n → ◌≡◌ {A = MarkedMapValue V} (record { values = v; marks = m }) (record { values = w; marks = n })
   same_parts v w m n p q = λ i. record { values = p i; marks = q i }
 
-  -- to take out the value o under n, if there is one, and mark n, is `without_value_at`
+  -- the map without n's value o, with n marked if o has a value, is what `without_value_at` gives
   pub without_value_is : (c : MarkedMapValue V) (n : ℕ) (o : Option V) → get c.values n ≡ o → ◌≡◌ {A = MarkedMapValue V} (record { values = remove c.values n; marks = marked_with c.marks n o }) (without_value_at c n o)
   without_value_is c n None e = same_parts _ _ _ _ (remove_none c.values n e) refl
   without_value_is c n (Some x) e = refl
 
-  -- a new value, put in and taken out again, leaves values and marks as they were, where b says whether n was marked
+  -- a value put in under a new number n and taken out again leaves the map as it was; b says whether n was marked
   undone : (c : MarkedMapValue V) (n : ℕ) (x : V) (b : Bool) → get c.values n ≡ None → set.contains c.marks n ≡ b → taken_out (with_value c n x) n b ≡ c
   undone c n x true fresh h =
       ap (without_value_at (with_value c n x) n) (there_itself c.values n x)
       ∙ same_parts _ _ _ _ (taken_back c.values n x fresh) (insert_twice (set.insert c.marks n) n (contains_inserted c.marks n) ∙ insert_twice c.marks n h)
   undone c n x false fresh h = same_parts _ _ _ _ (taken_back c.values n x fresh) (insert_undone c.marks n h)
 
-  -- a value put in under a number without one, and taken out again, leaves values and marks as they were
+  -- a value put in under a number without one, and taken out again, leaves the values and the marks as they were
   pub taken_out-undone : (c : MarkedMapValue V) (n : ℕ) (x : V) → get c.values n ≡ None → taken_out (with_value c n x) n (set.contains c.marks n) ≡ c
   taken_out-undone c n x fresh = undone c n x (set.contains c.marks n) fresh refl
 
--- an empty map with nothing marked needs no room
+-- for an empty map with nothing marked, room for 0 marks is enough
 pub Room-empty : (V : Type 0) → set.len (held (empty {X = V} {R = nat_cmp}) set.empty) ≤ 0
 Room-empty V = Room-all (empty {X = V}) set.empty 0 (let a : set.len {R = nat_cmp} set.empty ≡ 0 = set.len-empty nat_cmp in let b : len (empty {X = V} {R = nat_cmp}) ≡ 0 = len-empty nat_cmp V in omega (arith, a, b))

@@ -1,4 +1,4 @@
--- The world that good tables give is a world (`IsWorld`): its parts are in bounds at each index.
+-- The world that tables in their ranges give is a world (`IsWorld`), if names differ and neighbours are mutual.
 use Rattle.std.proofs.Common.{◌≡◌, ◌<◌, ℕ, zero, suc, List, [], ◌∷◌, length, map, Some, refl, subst, sym, arith}
 use Rattle.std.specs.List.{All, slice_get}
 use Rattle.std.proofs.lemmas.List.{length-map}
@@ -29,7 +29,7 @@ mapped_indices P Q f then [] all i y h = absurd (cc)
 mapped_indices P Q f then (x ∷ xs) all zero y h = let same : f x ≡ y = cc in subst Q same (then x (All-head P x xs all))
 mapped_indices P Q f then (x ∷ xs) all (suc i) y h = mapped_indices P Q f then xs (All-tail P x xs all) i y h
 
--- the world of tables in bounds is a world, if names differ, neighbours are mutual, and there is land
+-- tables in their ranges give a world that keeps `IsWorld`, if names differ, neighbours are mutual, and there is land
 pub is_world : (all : WorldDraft) → IsWorldDraft all → AreWorldPartsOf all (world_parts_of all) → ThingNamesDiffer all → All (λ d. HasNeighbours (regions_of all) d.place.number d.sides.north d.sides.south d.sides.east d.sides.west) all.regions → 0 < length (land_of (world_of_tables all)) → IsWorld (world_of_tables all)
 unfolding world_of_tables regions_of region_of terrain_of item_of kind_of
 is_world all tables parts names back land =

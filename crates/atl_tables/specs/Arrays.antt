@@ -9,16 +9,16 @@ use Rattle.atl_tables.specs.declared.fault.WorldFault.{WorldFault}
 abbrev pub element_table : List ℕ → Data → Members
 element_table at d = value_or no_members (typed at (as_table d))
 
--- the conditions on one element of an array: it is a table, else WrongType; and its keys have no fault
+-- the conditions on one element of an array: it is a table, else the fault WrongType; and its keys have no fault
 abbrev pub element_conditions : (List ℕ → Members → Conditions) → List ℕ → Data → Conditions
 element_conditions conditions at d = fault_of (typed at (as_table d)) ∷ conditions at (element_table at d)
 
--- the conditions on all elements of an array, of which the first has the index i
+-- the conditions on the elements of an array from the index i on, in their order; `key` is the path of the array
 abbrev pub elements_conditions : (List ℕ → Members → Conditions) → List ℕ → ℕ → Items → Conditions
 elements_conditions conditions key i no_items = []
 elements_conditions conditions key i (item d ds) = element_conditions conditions (element_path key i) d ++ elements_conditions conditions key (i + 1) ds
 
--- the value of each element of an array, of which the first has the index i
+-- the values of the elements of an array from the index i on, in their order; `key` is the path of the array
 abbrev pub elements_of : {A : Type 0} → (List ℕ → Members → A) → List ℕ → ℕ → Items → List A
 elements_of record_of key i no_items = []
 elements_of record_of key i (item d ds) = record_of (element_path key i) (element_table (element_path key i) d) ∷ elements_of record_of key (i + 1) ds

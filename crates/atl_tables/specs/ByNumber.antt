@@ -31,7 +31,7 @@ market_of w region item = option_and_then (λ p. get p.markets item) (get w.regi
 abbrev pub is_ship : WorldValue → (kind : ℕ) → Bool
 is_ship w kind = option_map_or (λ k. k.ship) (slice_get w.kinds kind) false
 
--- the size of a complete structure of a kind, by the kind's number; the largest size if there is no such kind
+-- the size of a complete structure of a kind, by the kind's number; most_size if there is no such kind
 abbrev pub size_of : WorldValue → (kind : ℕ) → ℕ
 size_of w kind = option_map_or (λ k. k.size) (slice_get w.kinds kind) most_size
 

@@ -24,7 +24,7 @@ use Rattle.atl_tables.specs.declared.terrain_table.Economy.{Economy}
 use Rattle.atl_tables.specs.declared.terrain_table.TerrainDraft.{TerrainDraft}
 use Rattle.atl_tables.specs.declared.world.Skill.{Skill}
 
--- each price of the table `[rules]` is in its range
+-- `maintenance`, `tax_per_man` and `recruit_price` of the table `[rules]` are in their ranges
 pub record ArePrices (p : Prices) : Type 0 where
   pub maintenance_least : 1 ≤ p.maintenance
   pub maintenance : p.maintenance ≤ most_per_head
@@ -32,14 +32,14 @@ pub record ArePrices (p : Prices) : Type 0 where
   pub recruit_price_least : 1 ≤ p.recruit_price
   pub recruit_price : p.recruit_price ≤ most_price
 
--- each key on peasants of the table `[rules]` is in its range
+-- `recruit_fraction`, `growth` and `income` of the table `[rules]` are in their ranges
 pub record ArePeasantRules (p : PeasantRules) : Type 0 where
   pub recruit_fraction_least : 1 ≤ p.recruit_fraction
   pub recruit_fraction : p.recruit_fraction ≤ most_fraction
   pub growth : p.growth ≤ most_growth
   pub income : p.income ≤ most_per_head
 
--- each key on men of the table `[rules]` is in its range
+-- `start_money`, `man_weight` and `man_carry` of the table `[rules]` are in their ranges
 pub record AreMenRules (m : MenRules) : Type 0 where
   pub start_money : m.start_money ≤ most_amount
   pub man_weight : m.man_weight ≤ most_weight
@@ -136,7 +136,7 @@ pub record AreThingDrafts (t : ThingDrafts) : Type 0 where
   pub few_skills : length t.skills ≤ most_skills
   pub few_kinds : length t.kinds ≤ most_kinds
 
--- all tables of a world file have their numbers in range, and there are no more of each than a world may have
+-- all tables of a world file have names by the rule, numbers in range, and no more of each than a world may have
 pub record IsWorldDraft (t : WorldDraft) : Type 0 where
   pub rules : AreRulesDraft t.rules
   pub terrains : All IsTerrainDraft t.terrains

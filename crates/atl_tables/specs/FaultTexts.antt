@@ -23,7 +23,7 @@ fault_number fault = (fault_number_and_name fault).0
 abbrev pub fault_name : WorldFault → List ℕ
 fault_name fault = (fault_number_and_name fault).1
 
--- the path of the key that a fault is about; NotToml, NoLand and Memory have none
+-- the path of the key, table, array or element that a fault is about; NotToml, NoLand and Memory have none
 abbrev pub fault_path : WorldFault → Option (List ℕ)
 fault_path (Missing p) = Some p
 fault_path (WrongType p) = Some p

@@ -23,7 +23,7 @@ first_fault [] = None
 first_fault (None ∷ fs) = first_fault fs
 first_fault (Some f ∷ fs) = Some f
 
--- a result: the fault if there is one, else the value
+-- the result of a call: the fault if there is one (Some), else the value x
 abbrev pub unless : {A : Type 0} → Option WorldFault → A → Result A WorldFault
 unless None x = Ok x
 unless (Some f) x = Err f

@@ -21,7 +21,7 @@ making_at = do
   raw_count ← number_or_key 1 1 most_raw_count (codes "raw_count")
   says (record { skill = skill; level = level; raw = raw; raw_count = raw_count })
 
--- all keys of a table `[[item]]`, in order
+-- all keys of a table `[[item]]`, in order: name, weight, what it carries, and what making one takes
 unfoldable pub item_at : Table ItemDraft
 item_at = do
   name ← name_key (codes "name")
@@ -38,7 +38,7 @@ item_keys = conditions_of item_at
 abbrev pub item_from : List ℕ → Members → ItemDraft
 item_from = value_of item_at
 
--- the number of an item, unless it is i: an item isn't made of itself
+-- the number of an item as it is, but None if it is i: the i-th item isn't made of itself
 abbrev pub other_than : ℕ → Option ℕ → Option ℕ
 other_than i None = None
 other_than i (Some n) = if n == i then None else Some n

@@ -22,7 +22,7 @@ conditions_of table at t = (table at t).conditions
 abbrev pub value_of : {A : Type 0} → Table A → List ℕ → Members → A
 value_of table at t = (table at t).value
 
--- reads some keys, and then further keys; how these are read may depend on the value of the first
+-- reads some keys, and then further keys; how the further ones are read may depend on the value of the first
 infixl 10 ◌>>=◌
 abbrev pub ◌>>=◌ : {A B : Type 0} → Table A → (A → Table B) → Table B
 first >>= next = λ at t. record {

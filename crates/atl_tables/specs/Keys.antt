@@ -40,7 +40,7 @@ abbrev pub optional : {A : Type 0} → (Data → Result A WorldFault) → Option
 optional read None = Ok None
 optional read (Some d) = some_of (read d)
 
--- the value x of Some x; for None, which says that the value has the wrong type, WrongType
+-- the value x if it has the right type (Some x), else (None) the fault WrongType at the path p
 abbrev pub typed : {A : Type 0} → List ℕ → Option A → Result A WorldFault
 typed p None = Err (WrongType p)
 typed p (Some x) = Ok x
@@ -50,56 +50,56 @@ abbrev pub within : ℕ → ℕ → ℤ → Option ℕ
 within least most (pos n) = if nat_le least n && nat_le n most then Some n else None
 within least most (negsuc n) = None
 
--- the value x of Some x; for None, which says that the value is out of its range, OutOfRange
+-- the value x if it is in its range (Some x), else (None) the fault OutOfRange at the path p
 abbrev pub in_range : {A : Type 0} → List ℕ → Option A → Result A WorldFault
 in_range p None = Err (OutOfRange p)
 in_range p (Some x) = Ok x
 
--- an integer from least to most, else WrongType (it is no integer) or OutOfRange
+-- an integer from least to most, else the fault WrongType (it is no integer) or OutOfRange
 abbrev pub integer_in_range : List ℕ → ℕ → ℕ → Option ℤ → Result ℕ WorldFault
 integer_in_range p least most None = Err (WrongType p)
 integer_in_range p least most (Some z) = in_range p (within least most z)
 
--- a text that keeps the rule of names, else WrongType (it is no text) or OutOfRange
+-- a text that keeps the rule of names, else the fault WrongType (it is no text) or OutOfRange
 abbrev pub named : List ℕ → Option (List ℕ) → Result (List ℕ) WorldFault
 named p None = Err (WrongType p)
 named p (Some s) = if name_ok s then Ok s else Err (OutOfRange p)
 
 -- ---- keys of a table
--- the number under a key, from least to most, else Missing, WrongType or OutOfRange
+-- the number under a key, from least to most, else the fault Missing, WrongType or OutOfRange
 unfoldable pub number_at : ℕ → ℕ → List ℕ → List ℕ → Members → Result ℕ WorldFault
 number_at least most key at t = present (path at key) (λ d. integer_in_range (path at key) least most (as_integer d)) (get_member key t)
 
--- the name under a key, else Missing, WrongType or OutOfRange
+-- the name under a key, else the fault Missing, WrongType or OutOfRange
 unfoldable pub name_at : List ℕ → List ℕ → Members → Result (List ℕ) WorldFault
 name_at key at t = present (path at key) (λ d. named (path at key) (as_str d)) (get_member key t)
 
--- the text under a key, else Missing or WrongType
+-- the text under a key, else the fault Missing or WrongType
 unfoldable pub text_at : List ℕ → List ℕ → Members → Result (List ℕ) WorldFault
 text_at key at t = present (path at key) (λ d. typed (path at key) (as_str d)) (get_member key t)
 
--- the truth value under a key, else Missing or WrongType
+-- the truth value under a key, else the fault Missing or WrongType
 unfoldable pub flag_at : List ℕ → List ℕ → Members → Result Bool WorldFault
 flag_at key at t = present (path at key) (λ d. typed (path at key) (as_bool d)) (get_member key t)
 
--- the number under a key, from least to most, or the default if the key is missing; else WrongType or OutOfRange
+-- the number under a key, from least to most, or the default if it is missing; else the fault WrongType or OutOfRange
 unfoldable pub number_or_at : ℕ → ℕ → ℕ → List ℕ → List ℕ → Members → Result ℕ WorldFault
 number_or_at default least most key at t = or_else default (λ d. integer_in_range (path at key) least most (as_integer d)) (get_member key t)
 
--- the number under a key, from least to most, None if the key is missing; else WrongType or OutOfRange
+-- the number under a key, from least to most, None if the key is missing; else the fault WrongType or OutOfRange
 unfoldable pub optional_number_at : ℕ → ℕ → List ℕ → List ℕ → Members → Result (Option ℕ) WorldFault
 optional_number_at least most key at t = optional (λ d. integer_in_range (path at key) least most (as_integer d)) (get_member key t)
 
--- the text under a key, None if the key is missing; else WrongType
+-- the text under a key, None if the key is missing; else the fault WrongType
 unfoldable pub optional_text_at : List ℕ → List ℕ → Members → Result (Option (List ℕ)) WorldFault
 optional_text_at key at t = optional (λ d. typed (path at key) (as_str d)) (get_member key t)
 
--- the table under a key, empty if the key is missing; else WrongType
+-- the table under a key, empty if the key is missing; else the fault WrongType
 unfoldable pub optional_table_at : List ℕ → List ℕ → Members → Result Members WorldFault
 optional_table_at key at t = or_else no_members (λ d. typed (path at key) (as_table d)) (get_member key t)
 
 -- ---- tables and arrays
--- the table under a key of the document, else Missing or WrongType
+-- the table under a key of the document, else the fault Missing or WrongType
 unfoldable pub table_at : List ℕ → Members → Result Members WorldFault
 table_at key doc = present key (λ d. typed key (as_table d)) (get_member key doc)
 
@@ -108,15 +108,15 @@ abbrev pub count_of : Items → ℕ
 count_of no_items = 0
 count_of (item d ds) = suc (count_of ds)
 
--- an array of least to most elements, else WrongType (it is no array) or OutOfRange
+-- an array of least to most elements, else the fault WrongType (it is no array) or OutOfRange
 abbrev pub array_of_size : List ℕ → ℕ → ℕ → Option Items → Result Items WorldFault
 array_of_size key least most None = Err (WrongType key)
 array_of_size key least most (Some ds) = if nat_le least (count_of ds) && nat_le (count_of ds) most then Ok ds else Err (OutOfRange key)
 
--- the array under a key of the document, of 1 to most elements, else Missing, WrongType or OutOfRange
+-- the array under a key of the document, of 1 to most elements, else the fault Missing, WrongType or OutOfRange
 unfoldable pub array_at : ℕ → List ℕ → Members → Result Items WorldFault
 array_at most key doc = present key (λ d. array_of_size key 1 most (as_array d)) (get_member key doc)
 
--- the array under a key of a table, of 0 to most elements, empty if the key is missing; `array` is its path
+-- the array under a key, of 0 to most elements, empty if missing, else the fault WrongType or OutOfRange at `array`
 unfoldable pub optional_array_at : ℕ → List ℕ → List ℕ → Members → Result Items WorldFault
 optional_array_at most array key t = or_else no_items (λ d. array_of_size array 0 most (as_array d)) (get_member key t)

@@ -30,7 +30,7 @@ purpose_at = do
   helps ← optional_text_key (codes "helps")
   says (record { capacity = capacity; crew = crew; helps = helps })
 
--- all keys of a table `[[kind]]`, in order
+-- all keys of a table `[[kind]]`, in order: name, whether it is a ship, what building takes, what it is good for
 unfoldable pub kind_at : Table KindDraft
 kind_at = do
   name ← name_key (codes "name")

@@ -2,11 +2,11 @@
 use Prim.Native.Char.{code}
 use Rattle.std.specs.Prelude.{ℕ}
 
--- the space, the first printable byte
+-- the space, the first printable byte of ASCII
 abbrev pub space : ℕ
 space = code " "
 
--- the tilde, the last printable byte
+-- the tilde, the last printable byte of ASCII
 abbrev pub tilde : ℕ
 tilde = code "~"
 

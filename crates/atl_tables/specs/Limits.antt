@@ -47,11 +47,11 @@ abbrev pub most_name_bytes : ℕ
 most_name_bytes = 40
 
 -- ---- the ranges of the world file's keys
--- the largest amount of money of one man or peasant a month
+-- the most money of one man or peasant a month: maintenance and tax of a man, income of a peasant
 abbrev pub most_per_head : ℕ
 most_per_head = 1000
 
--- the largest price, wage or fee
+-- the largest price of a recruit or an item, wage of a month, and fee of a month of study
 abbrev pub most_price : ℕ
 most_price = 1000000
 
@@ -59,7 +59,7 @@ most_price = 1000000
 abbrev pub most_fraction : ℕ
 most_fraction = 1000
 
--- the largest `growth`: births in a hundred peasants
+-- the largest `growth`: the most births in a month, in percent of the peasants
 abbrev pub most_growth : ℕ
 most_growth = 100
 
@@ -75,6 +75,6 @@ last_level = 5
 abbrev pub most_raw_count : ℕ
 most_raw_count = 1000
 
--- the largest size and the largest crew of a structure
+-- the largest size of a structure, in material, and the largest crew, in men times levels
 abbrev pub most_size : ℕ
 most_size = 999999

@@ -14,23 +14,23 @@ use Rattle.atl_tables.specs.declared.market_table.MarketDraft.{MarketDraft}
 use Rattle.atl_tables.specs.declared.world_draft.WorldDraft.{WorldDraft}
 use Rattle.atl_tables.specs.declared.world.Market.{Market}
 
--- the key `price`, from 1 to most_price
+-- the key `price` of a market, from 1 to most_price: what a unit pays for one item
 abbrev pub price_at : Key ℕ
 price_at = number_at 1 most_price (codes "price")
 
--- the key `pays`, from 1 to most_price
+-- the key `pays` of a market, from 1 to most_price: what it pays a unit for one item
 abbrev pub pays_at : Key ℕ
 pays_at = number_at 1 most_price (codes "pays")
 
--- the key `limit`, from 0 to most_amount
+-- the key `limit` of a market, from 0 to most_amount: its largest stock
 abbrev pub limit_at : Key ℕ
 limit_at = number_at 0 most_amount (codes "limit")
 
--- the key `restock`, from 0 to most_amount
+-- the key `restock` of a market, from 0 to most_amount: what comes into its stock in a month
 abbrev pub restock_at : Key ℕ
 restock_at = number_at 0 most_amount (codes "restock")
 
--- the conditions on the keys of a table `[[region.market]]`
+-- the conditions on the keys of a table `[[region.market]]`: item, price, pays, limit and restock
 unfoldable pub market_keys : List ℕ → Members → Conditions
 market_keys at t =
     fault_of (text_at (codes "item") at t)
@@ -55,7 +55,7 @@ market_from at t = record {
 abbrev pub market_path : List ℕ → List ℕ
 market_path at = path at (codes "market")
 
--- the conditions on the array of the markets of a region, which may be missing
+-- the conditions on the array of a region's markets, which may be missing, and on the keys of each market
 unfoldable pub markets_keys : List ℕ → Members → Conditions
 markets_keys at t = list_conditions market_keys (market_path at) (optional_array_at most_markets (market_path at) (codes "market") t)
 
@@ -67,7 +67,7 @@ markets_from at t = list_of market_from (market_path at) (optional_array_at most
 abbrev pub duplicate_items : List ℕ → List MarketDraft → Conditions
 duplicate_items at ds = no_twins (λ d. d.item) (market_path at) (codes "item") ds
 
--- the condition that the key `item` of a market names an item of the world; else UnknownName
+-- the condition that the key `item` of a market names an item of the world; else the fault UnknownName
 unfoldable pub market_known : WorldDraft → MarketDraft → Conditions
 market_known all d = known (path d.place (codes "item")) (item_number all d.item) ∷ []
 

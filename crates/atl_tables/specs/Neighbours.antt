@@ -23,7 +23,7 @@ abbrev pub neighbour : List ℕ → FinMap nat_cmp RegionPlan → Direction → 
 neighbour p regions opposite number None = None
 neighbour p regions opposite number (Some m) = if is_number number (option_and_then (beside opposite) (get regions m)) then None else Some (BadNeighbour p)
 
--- the conditions on the four neighbours of the i-th region of the file
+-- the conditions that each of the four neighbours of the i-th region of the file has this region on its opposite side
 unfoldable pub neighbours_at : FinMap nat_cmp RegionPlan → ℕ → RegionDraft → Conditions
 neighbours_at regions i d =
     neighbour (path (element_path (codes "region") i) (codes "north")) regions South d.place.number d.sides.north

@@ -29,11 +29,11 @@ in_byte_order no_members = []
 in_byte_order (member key d ms) = put_key key d (in_byte_order ms)
 
 -- ---- each key with its amount
--- the amount under a key, from 0 to most_amount, of the table at a path; else WrongType or OutOfRange
+-- the amount under a key, from 0 to most_amount, of the table at a path; else the fault WrongType or OutOfRange
 abbrev pub amount_at : List ℕ → List ℕ × Data → Result ℕ WorldFault
 amount_at at (key, d) = integer_in_range (path at key) 0 most_amount (as_integer d)
 
--- the conditions on the amounts of all entries
+-- the conditions that the amount of each entry is a number from 0 to most_amount
 abbrev pub amounts_keys : List ℕ → List (List ℕ × Data) → Conditions
 amounts_keys at es = map (λ e. fault_of (amount_at at e)) es
 
@@ -56,11 +56,11 @@ output_at = λ at t. record {
   value = amounts_from (output_path at) (in_byte_order (output_table at t));
 }
 
--- the condition that no key before the i-th is equal to the i-th, ignoring ASCII case; else TwoNames
+-- the condition that no key before the i-th is equal to the i-th, ignoring ASCII case; else the fault TwoNames
 unfoldable pub duplicate_key_at : List ℕ → List Output → ℕ → Output → Conditions
 duplicate_key_at at all i o = (if list_any (λ p. same_name p.item o.item) (take i all) then Some (TwoNames (path at o.item)) else None) ∷ []
 
--- the condition that a key names an item; else UnknownName
+-- the condition that a key names an item; else the fault UnknownName
 unfoldable pub known_key_at : WorldDraft → List ℕ → ℕ → Output → Conditions
 known_key_at all at i o = known (path at o.item) (item_number all o.item) ∷ []
 

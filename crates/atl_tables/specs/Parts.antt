@@ -10,7 +10,7 @@ use Rattle.atl_tables.specs.TerrainTable.{terrain_of}
 use Rattle.atl_tables.specs.declared.reading.WorldParts.{WorldParts}
 use Rattle.atl_tables.specs.declared.world_draft.WorldDraft.{WorldDraft}
 
--- the parts of the world that the tables of a file describe
+-- the parts of the world that the tables of a file describe, except its skills, which the tables have as they are
 abbrev pub world_parts_of : WorldDraft → WorldParts
 world_parts_of all = record {
   rules = rules_of all;
@@ -20,7 +20,7 @@ world_parts_of all = record {
   regions = map (region_of all) all.regions;
 }
 
--- each part of a world is in bounds, given how many terrains, items and skills the file has
+-- the parts of a world are in their ranges, and refer only to terrains, items and skills that the file has
 pub record AreWorldPartsOf (all : WorldDraft) (p : WorldParts) : Type 0 where
   pub rules : AreRules (length all.skills) p.rules
   pub terrains : EachIndex (λ i x. IsTerrain (length all.items) x) p.terrains

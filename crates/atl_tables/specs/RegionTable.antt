@@ -15,15 +15,15 @@ use Rattle.atl_tables.specs.declared.region_table.Sides.{Sides}
 use Rattle.atl_tables.specs.declared.world_draft.WorldDraft.{WorldDraft}
 use Rattle.atl_tables.specs.declared.world.RegionPlan.{RegionPlan}
 
--- the key `number`, from 1 to last_region
+-- the key `number` of a region, from 1 to last_region
 abbrev pub region_number_at : Key ℕ
 region_number_at = number_at 1 last_region (codes "number")
 
--- the key `peasants`, from 0 to most_amount
+-- the key `peasants` of a region, from 0 to most_amount: its peasants at founding
 abbrev pub peasants_at : Key ℕ
 peasants_at = number_at 0 most_amount (codes "peasants")
 
--- the key `money`, from 0 to most_amount
+-- the key `money` of a region, from 0 to most_amount: its money at founding
 abbrev pub money_at : Key ℕ
 money_at = number_at 0 most_amount (codes "money")
 

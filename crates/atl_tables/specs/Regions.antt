@@ -11,7 +11,7 @@ use Rattle.atl_tables.specs.Keys.{path, element_path}
 abbrev pub has_number : ℕ → List RegionDraft → Bool
 has_number n ds = list_any (λ d. n == d.place.number) ds
 
--- the condition that no region before the i-th has the number of the i-th; else TwoNames
+-- the condition that no region before the i-th has the number of the i-th; else the fault TwoNames
 unfoldable pub duplicate_number_at : List RegionDraft → ℕ → RegionDraft → Conditions
 duplicate_number_at all i d = (if has_number d.place.number (take i all) then Some (TwoNames (path (element_path (codes "region") i) (codes "number"))) else None) ∷ []
 

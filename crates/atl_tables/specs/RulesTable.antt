@@ -47,7 +47,7 @@ skill_names_at = do
   sailing ← optional_text_key (codes "sailing")
   says (record { observation = observation; stealth = stealth; sailing = sailing })
 
--- all keys of the table `[rules]`, in order
+-- all keys of the table `[rules]`, in order: those on prices, on peasants, on men, and the names of skills
 unfoldable pub rules_at : Table RulesDraft
 rules_at = do
   prices ← part prices_at

@@ -6,7 +6,7 @@ use Rattle.std.specs.List.{list_any}
 use Rattle.std.specs.declared.string.String.{String}
 use Rattle.atl_tables.specs.Names.{same_name}
 
--- whether a set of names has a name that is equal to another one, ignoring ASCII case
+-- whether a set of names, all in lower case, has a given name, ignoring ASCII case
 abbrev pub has_name : {Z : Type 0} → BTreeSet (String Z) → List ℕ → Bool
 has_name seen name = contains_text seen (map to_ascii_lowercase name)
 

@@ -7,7 +7,7 @@ use Rattle.atl_tables.specs.KeyByKey.{Table, conditions_of, value_of, ◌>>=◌,
 use Rattle.atl_tables.specs.Limits.{most_price}
 use Rattle.atl_tables.specs.declared.world.Skill.{Skill}
 
--- all keys of a table `[[skill]]`, in order
+-- all keys of a table `[[skill]]`, in order: name and fee
 unfoldable pub skill_at : Table Skill
 skill_at = do
   name ← name_key (codes "name")

@@ -1,7 +1,7 @@
 -- Steps that may fail, one after another. The first error is the result.
 use Rattle.std.specs.Prelude.{Result, Ok, Err}
 
--- the result of the next step on the value of a result; or the error of the result
+-- what the next step gives for the value of a result; if the result is an error, that error
 infixl 10 ◌>>=◌
 abbrev pub ◌>>=◌ : {A B E : Type 0} → Result A E → (A → Result B E) → Result B E
 (Ok x) >>= next = next x

@@ -22,7 +22,7 @@ economy_at = do
   peasant_limit ← number_key 0 most_amount (codes "peasant_limit")
   says (record { wage = wage; places = places; money_limit = money_limit; peasant_limit = peasant_limit })
 
--- all keys of a table `[[terrain]]`, in order
+-- all keys of a table `[[terrain]]`, in order: name, whether it is land, wage, work places and limits, and output
 unfoldable pub terrain_at : Table TerrainDraft
 terrain_at = do
   name ← name_key (codes "name")

@@ -10,7 +10,7 @@ use Rattle.atl_tables.specs.Keys.{path, element_path}
 use Rattle.atl_tables.specs.Names.{same_name}
 
 module _ {A : Type 0} (title : A → List ℕ) where
-  -- the condition that no element before the i-th has the name of the i-th; else TwoNames, at the key of the name
+  -- the condition that no element before the i-th has the name of the i-th; else the fault TwoNames at the name's key
   unfoldable pub no_twin_before : List ℕ → List ℕ → List A → ℕ → A → Conditions
   no_twin_before array key all i x = (if list_any (λ y. same_name (title y) (title x)) (take i all) then Some (TwoNames (path (element_path array i) key)) else None) ∷ []
 
@@ -34,12 +34,12 @@ item_number all name = number_of (λ d. d.name) all.items name
 abbrev pub skill_number : WorldDraft → List ℕ → Option ℕ
 skill_number all name = number_of (λ s. s.name) all.skills name
 
--- the fault UnknownName, if a name at the path p has no number
+-- the condition that a name has a number (Some), else the fault UnknownName at the path p
 abbrev pub known : List ℕ → Option ℕ → Option WorldFault
 known p None = Some (UnknownName p)
 known p (Some n) = None
 
--- the fault UnknownName at the path p, if there is a name and `number` finds no number for it
+-- the condition that `number` finds the number of a name, if there is a name, else the fault UnknownName at the path p
 abbrev pub known_number_or_none : List ℕ → (List ℕ → Option ℕ) → Option (List ℕ) → Option WorldFault
 known_number_or_none p number None = None
 known_number_or_none p number (Some name) = known p (number name)

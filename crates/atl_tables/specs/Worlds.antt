@@ -51,7 +51,7 @@ world_code =
 abbrev pub is_land : List Terrain → RegionPlan → Bool
 is_land terrains plan = option_map_or (λ t. t.land) (slice_get terrains plan.terrain) false
 
--- the numbers of the regions with land, in ascending order
+-- the numbers of the regions whose terrain is land, in ascending order
 abbrev pub land_of : WorldValue → List ℕ
 land_of w = numbers_where (is_land w.terrains) w.regions
 
@@ -71,7 +71,7 @@ beside East p = p.east
 beside West p = p.west
 
 -- ---- what is true of every world: numbers are in their ranges, and the number of a thing is below how many there are
--- the rules are in bounds, in a world that has `skills` skills
+-- the numbers of the rules are in their ranges, and the skills that they refer to are below `skills`
 pub record AreRules (skills : ℕ) (r : Rules) : Type 0 where
   pub maintenance_least : 1 ≤ r.maintenance
   pub maintenance : r.maintenance ≤ most_per_head
@@ -89,7 +89,7 @@ pub record AreRules (skills : ℕ) (r : Rules) : Type 0 where
   pub stealth : IfSome r.stealth (λ s. s < skills)
   pub sailing : IfSome r.sailing (λ s. s < skills)
 
--- a terrain is in bounds, in a world that has `items` items: its output has an amount for each of them
+-- a terrain keeps the rule of names and its ranges, and its output has an amount for each of `items` items
 pub record IsTerrain (items : ℕ) (t : Terrain) : Type 0 where
   pub name : name_ok t.name ≡ true
   pub wage_least : 1 ≤ t.wage
@@ -100,7 +100,7 @@ pub record IsTerrain (items : ℕ) (t : Terrain) : Type 0 where
   pub outputs : length t.output ≡ items
   pub output : All (λ amount. amount ≤ most_amount) t.output
 
--- the i-th item is in bounds, in a world that has `items` items and `skills` skills; its raw item is another one
+-- the i-th item keeps the rule of names and its ranges; its skill is below `skills`, its raw item below `items`, not i
 pub record IsItem (items skills i : ℕ) (x : Item) : Type 0 where
   pub name : name_ok x.name ≡ true
   pub weight : x.weight ≤ most_weight
@@ -113,12 +113,12 @@ pub record IsItem (items skills i : ℕ) (x : Item) : Type 0 where
   pub raw_count_least : 1 ≤ x.raw_count
   pub raw_count : x.raw_count ≤ most_raw_count
 
--- a skill is in bounds: its name keeps the rule of names, and its fee is at most most_price
+-- a skill's name keeps the rule of names, and its fee is at most most_price
 pub record IsSkill (s : Skill) : Type 0 where
   pub name : name_ok s.name ≡ true
   pub fee : s.fee ≤ most_price
 
--- a kind of structure is in bounds, in a world that has `items` items and `skills` skills
+-- a kind keeps the rule of names and its ranges; its material is below `items`, and its skills are below `skills`
 pub record IsKind (items skills : ℕ) (k : Kind) : Type 0 where
   pub name : name_ok k.name ≡ true
   pub material : k.material < items
@@ -131,7 +131,7 @@ pub record IsKind (items skills : ℕ) (k : Kind) : Type 0 where
   pub crew : k.crew ≤ most_size
   pub helps : IfSome k.helps (λ s. s < skills)
 
--- a market is in bounds and trades the item `number`, in a world that has `items` items
+-- a market trades the item `number`, which is below `items`, and its prices, limit and restock are in their ranges
 pub record IsMarket (items number : ℕ) (m : Market) : Type 0 where
   pub number_is : m.item ≡ number
   pub item : m.item < items
@@ -142,7 +142,7 @@ pub record IsMarket (items number : ℕ) (m : Market) : Type 0 where
   pub limit : m.limit ≤ most_amount
   pub restock : m.restock ≤ most_amount
 
--- the region with this number is in bounds, in a world that has `terrains` terrains and `items` items
+-- a region has this number, a name by the rule, numbers and markets in their ranges, and a terrain below `terrains`
 pub record IsRegionPlan (terrains items number : ℕ) (p : RegionPlan) : Type 0 where
   pub number_is : p.number ≡ number
   pub number_least : 1 ≤ number
@@ -164,8 +164,8 @@ pub record HasNeighbours (regions : FinMap nat_cmp RegionPlan) (number : ℕ) (n
   pub east : LeadsBack regions (λ q. q.west) number e
   pub west : LeadsBack regions (λ q. q.east) number w
 
--- What is true of every world: its parts are in bounds, neighbours are mutual, names of each kind of thing differ,
--- there are not too many of each, and some region is land.
+-- What is true of every world: its parts are in their ranges, neighbours are mutual, names of each kind of thing
+-- differ, there are not too many of each, and some region is land.
 pub record IsWorld (w : WorldValue) : Type 0 where
   pub rules : AreRules (length w.skills) w.rules
   pub terrains : (i : ℕ) (t : Terrain) → slice_get w.terrains i ≡ Some t → IsTerrain (length w.items) t

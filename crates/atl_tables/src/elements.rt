@@ -27,8 +27,8 @@ pub(crate) trait Element: Drop {
     // What is true of each value that was read.
     ghost is_sound: { Self → Type 0 };
 
-    /// What a table at a path describes, or the first fault of its keys. `Memory` may come at any
-    /// point.
+    /// Reads the value that a table at a path describes, or gives the first fault of its keys, or
+    /// `Memory` if memory runs out.
     fn read(alloc: Global, at: &str, table: &Table) -> Result<Self, WorldFault>
         ensures value { Gives (λ x. x) result
             (first_fault (conditions at.now (table_view table.now)))
@@ -36,7 +36,8 @@ pub(crate) trait Element: Drop {
         ensures sound { IfOk result is_sound };
 }
 
-/// The i-th element of the array at the path `key`, else WrongType or the first fault of its table.
+/// The i-th element of the array at the path `key`, else the fault WrongType if it is no table, or
+/// the first fault of its keys.
 fn one_element<E: Element>(
     alloc: Global,
     key: &str,
@@ -57,7 +58,7 @@ fn one_element<E: Element>(
     }
 }
 
-/// All elements of the array at the path `key`, else the first fault of an element.
+/// All elements of the array at the path `key`, in order, else the first fault of an element.
 fn elements<E: Element>(alloc: Global, key: &str, values: &Array) -> Result<Vec<E>, WorldFault>
     ensures value { Gives (λ v. v.items) result
         (first_fault (elements_conditions E.conditions key.now 0 (array_view values.now)))
@@ -73,7 +74,7 @@ fn elements<E: Element>(alloc: Global, key: &str, values: &Array) -> Result<Vec<
     Ok(read)
 }
 
-/// The elements of the array under a key of the document, 1 to `most` of them. Else Missing,
+/// The 1 to `most` elements of the array under a key of the document, else the fault Missing,
 /// WrongType or OutOfRange of the array, or the first fault of an element.
 #[tactic(auto, unfolding(crate::specs::Arrays::list_conditions, crate::specs::Arrays::list_of, crate::specs::Keys::array_at))]
 pub(crate) fn list<E: Element>(
@@ -98,9 +99,9 @@ pub(crate) fn list<E: Element>(
     }
 }
 
-/// The elements of the array under a key of a table, at most `most`, none if the key is missing.
-/// Else WrongType or OutOfRange of the array, whose path is `array`, or the first fault of an
-/// element.
+/// The at most `most` elements of the array under a key of a table, none if the key is missing,
+/// else the fault WrongType or OutOfRange of the array, whose path is `array`, or the first fault
+/// of an element.
 #[tactic(auto, unfolding(crate::specs::Arrays::list_conditions, crate::specs::Arrays::list_of, crate::specs::Keys::optional_array_at))]
 pub(crate) fn optional_list<E: Element>(
     alloc: Global,

@@ -9,21 +9,22 @@ use std::alloc::{AllocError, AllocFailed};
 use std::error::Error;
 use std::fmt;
 
-/// Why a world file describes no world: its first fault, or that memory ran out. Most faults have
-/// the path of a key, as `rules.growth`. See docs/FORMATS.md, "Faults of a world file".
+/// Why a world file describes no world: its first fault, or that memory ran out. Most faults have a
+/// path, as `rules.growth`. See docs/FORMATS.md, "Faults of a world file".
 #[derive(Drop, Debug)]
 pub enum WorldFault {
     /// The text is no TOML.
     NotToml,
     /// A key, a table or an array that is needed isn't there.
     Missing(Text),
-    /// The value under a key is of another type than the key needs.
+    /// The value under a key, or an element of an array, is of another type than is needed there.
     WrongType(Text),
     /// A number or a name breaks its rule, or an array has too few or too many elements.
     OutOfRange(Text),
     /// A name or a number that must be unique comes twice; the path is that of the second.
     TwoNames(Text),
-    /// A name refers to nothing: no thing of the world has this name.
+    /// A name refers to nothing: no thing of the sort that is needed has it, or an item's `raw`
+    /// names the item itself.
     UnknownName(Text),
     /// A region's neighbour isn't there, or doesn't have the region on its opposite side.
     BadNeighbour(Text),
@@ -68,8 +69,8 @@ impl WorldFault {
         self.number_and_name().1
     }
 
-    /// The path of the key that the fault is about, as `rules.growth`. `NotToml`, `NoLand` and
-    /// `Memory` have none.
+    /// The path of the key, table, array or element that the fault is about, as `rules.growth`;
+    /// `None` for `NotToml`, `NoLand` and `Memory`.
     pub fn path(&self) -> Option<&Text>
         ensures { option_copied result ≡ fault_path self.now }
     {
@@ -85,8 +86,8 @@ impl WorldFault {
     }
 }
 
-/// Writes the fault's number, name and path, as `3 WrongType rules.growth`. Without a number or a
-/// path it leaves them out.
+/// Writes the fault's number (`Memory` has none), its name, and its path if it has one, as
+/// `3 WrongType rules.growth`.
 impl fmt::Display for WorldFault {
     fn fmt<W: fmt::Write>(&self, f: &mut fmt::Formatter<W>) -> fmt::Result {
         let name = self.name();
@@ -98,6 +99,7 @@ impl fmt::Display for WorldFault {
     }
 }
 
+/// Lets a caller handle a world fault as any `Error`; its text is what `Display` writes.
 impl Error for WorldFault {}
 
 /// A failed allocation becomes the fault `Memory`.

@@ -16,8 +16,8 @@ pub(crate) trait HasNumber: Drop {
         ensures { result ≡ place_of self.now };
 }
 
-/// Makes a map of a vector's values, each under its own number. Of two values with the same number
-/// the first counts.
+/// Makes a map of a vector's values, each under its own number; of those with the same number the
+/// map has the first.
 pub(crate) fn by_number<T: HasNumber>(
     alloc: Global,
     values: Vec<T>,

@@ -58,7 +58,8 @@ impl Drop for ItemDraft {
     }
 }
 
-/// Reads the keys of a table `[[item]]` for what making one takes.
+/// Reads the keys `skill`, `level`, `raw` and `raw_count` of a table `[[item]]`: what making one
+/// takes.
 impl Element for Recipe {
     ghost conditions = { conditions_of making_at };
 
@@ -81,7 +82,8 @@ impl Element for Recipe {
     }
 }
 
-/// Reads a whole table `[[item]]`.
+/// Reads all keys of a table `[[item]]`: its name, what it weighs and carries, what making one
+/// takes.
 impl Element for ItemDraft {
     ghost conditions = { item_keys };
 
@@ -113,7 +115,8 @@ impl Titled for ItemDraft {
     }
 }
 
-/// The number of the first item with a name, unless it is the i-th item; else `None`.
+/// The number of the first item with a name, `None` if no item has it or the first is the i-th
+/// item.
 #[tactic(auto, unfolding(crate::specs::Titles::number_of))]
 fn other_item(items: &[ItemDraft], i: usize, name: &Text) -> Option<u16>
     requires { length items.now ≤ most_numbered }
@@ -134,8 +137,8 @@ fn other_item(items: &[ItemDraft], i: usize, name: &Text) -> Option<u16>
     }
 }
 
-/// The number of the raw item of the i-th item, `None` where the file names none. UnknownName
-/// where no item has the name, or the i-th is the first that has it.
+/// The number of the item that the i-th item is made of, `None` where the file names none, else the
+/// fault UnknownName if no item has the name or the first that has it is the i-th itself.
 fn raw_item(
     alloc: Global,
     items: &[ItemDraft],
@@ -160,7 +163,7 @@ fn raw_item(
     }
 }
 
-/// Looks up the skill and the raw item of a table `[[item]]`.
+/// Makes the item of a table `[[item]]`, with its skill and its raw item looked up by name.
 impl Draft for ItemDraft {
     type Record = Item;
 

@@ -14,14 +14,14 @@ use std::alloc::{AllocError, Global};
 use toml::value::Array;
 use toml::{Table, Value};
 
-/// The path of a key of the table at a path, as `rules.growth`.
+/// The path of a key of the table at the path `at`, as `rules.growth`.
 pub(crate) fn path(alloc: Global, at: &str, key: &str) -> Result<Text, AllocError>
     ensures { IfOk result (λ text. text ≡ path at.now key.now) }
 {
     Ok(Text::from_string(format!(in alloc; "{at}.{key}")?))
 }
 
-/// The path of the i-th element of an array, as `region[0]`.
+/// The path of the i-th element of the array at the path `key`, as `region[0]`.
 pub(crate) fn element_path(alloc: Global, key: &str, i: usize) -> Result<Text, AllocError>
     ensures { IfOk result (λ text. text ≡ element_path key.now i) }
 {
@@ -35,7 +35,7 @@ pub(crate) fn member<'a>(table: &'a Table, key: &str) -> Option<&'a Value>
     table.get(key)
 }
 
-/// An integer as a number of 32 bits, if it is from `least` to `most`.
+/// An integer as a number of 32 bits, `None` if it isn't from `least` to `most`.
 fn within(least: u32, most: u32, number: i64) -> Option<u32>
     ensures value { result ≡ within least most number }
     ensures least { IfSome result (λ n. least ≤ n) }
@@ -52,7 +52,8 @@ fn within(least: u32, most: u32, number: i64) -> Option<u32>
     }
 }
 
-/// A value as a number from `least` to `most`, else WrongType or OutOfRange.
+/// A value as a number from `least` to `most`, else the fault WrongType or OutOfRange at the path
+/// of its key.
 pub(crate) fn integer_in_range(
     alloc: Global,
     least: u32,
@@ -75,7 +76,7 @@ pub(crate) fn integer_in_range(
     }
 }
 
-/// The number under a key, from `least` to `most`, else Missing, WrongType or OutOfRange.
+/// The number under a key, from `least` to `most`, else the fault Missing, WrongType or OutOfRange.
 #[tactic(auto, unfolding(crate::specs::Keys::number_at))]
 pub(crate) fn number(
     alloc: Global,
@@ -96,8 +97,8 @@ pub(crate) fn number(
     }
 }
 
-/// The number under a key, from `least` to `most`, or `default` if the key is missing. Else
-/// WrongType or OutOfRange.
+/// The number under a key, from `least` to `most`, or `default` if the key is missing, else the
+/// fault WrongType or OutOfRange.
 #[tactic(auto, unfolding(crate::specs::Keys::number_or_at))]
 pub(crate) fn number_or(
     alloc: Global,
@@ -121,8 +122,8 @@ pub(crate) fn number_or(
     }
 }
 
-/// The number under a key, from `least` to `most`, `None` if the key is missing. Else WrongType or
-/// OutOfRange.
+/// The number under a key, from `least` to `most`, `None` if the key is missing, else the fault
+/// WrongType or OutOfRange.
 #[tactic(auto, unfolding(crate::specs::Keys::optional_number_at))]
 pub(crate) fn optional_number(
     alloc: Global,
@@ -144,7 +145,8 @@ pub(crate) fn optional_number(
     }
 }
 
-/// The name under a key, else Missing, WrongType, or OutOfRange if it breaks the rule of names.
+/// The name under a key, else the fault Missing, WrongType, or OutOfRange if it breaks the rule of
+/// names.
 #[tactic(auto, unfolding(crate::specs::Keys::name_at))]
 pub(crate) fn name(alloc: Global, key: &str, at: &str, table: &Table) -> Result<Text, WorldFault>
     ensures value { Reads (λ t. t) result (name_at key.now at.now (table_view table.now)) }
@@ -164,7 +166,7 @@ pub(crate) fn name(alloc: Global, key: &str, at: &str, table: &Table) -> Result<
     }
 }
 
-/// A value as a text, else WrongType.
+/// A copy of the text that a value is, else the fault WrongType at the path of its key.
 fn text_value(alloc: Global, key: &str, at: &str, value: &Value) -> Result<Text, WorldFault>
     ensures { Reads (λ t. t) result (typed (path at.now key.now) (as_str (view value.now))) }
 {
@@ -174,7 +176,7 @@ fn text_value(alloc: Global, key: &str, at: &str, value: &Value) -> Result<Text,
     }
 }
 
-/// The text under a key, else Missing or WrongType.
+/// The text under a key, else the fault Missing or WrongType.
 #[tactic(auto, unfolding(crate::specs::Keys::text_at))]
 pub(crate) fn text(alloc: Global, key: &str, at: &str, table: &Table) -> Result<Text, WorldFault>
     ensures { Reads (λ t. t) result (text_at key.now at.now (table_view table.now)) }
@@ -185,7 +187,7 @@ pub(crate) fn text(alloc: Global, key: &str, at: &str, table: &Table) -> Result<
     }
 }
 
-/// The text under a key, `None` if the key is missing; else WrongType.
+/// The text under a key, `None` if the key is missing, else the fault WrongType.
 #[tactic(auto, unfolding(crate::specs::Keys::optional_text_at))]
 pub(crate) fn optional_text(
     alloc: Global,
@@ -204,7 +206,7 @@ pub(crate) fn optional_text(
     }
 }
 
-/// The truth value under a key, else Missing or WrongType.
+/// The truth value under a key, else the fault Missing or WrongType.
 #[tactic(auto, unfolding(crate::specs::Keys::flag_at))]
 pub(crate) fn flag(alloc: Global, key: &str, at: &str, table: &Table) -> Result<bool, WorldFault>
     ensures { Reads (λ b. b) result (flag_at key.now at.now (table_view table.now)) }
@@ -218,7 +220,7 @@ pub(crate) fn flag(alloc: Global, key: &str, at: &str, table: &Table) -> Result<
     }
 }
 
-/// The table under a key of the document, else Missing or WrongType.
+/// The table under a key of the document, else the fault Missing or WrongType.
 #[tactic(auto, unfolding(crate::specs::Keys::table_at))]
 pub(crate) fn table<'a>(
     alloc: Global,
@@ -244,7 +246,8 @@ fn count(array: &Array) -> usize
     array.len()
 }
 
-/// A value as an array of `least` to `most` elements, else WrongType or OutOfRange.
+/// A value as an array of `least` to `most` elements, else the fault WrongType or OutOfRange at the
+/// path `key`.
 pub(crate) fn array_of_size<'a>(
     alloc: Global,
     least: usize,

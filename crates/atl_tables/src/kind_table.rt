@@ -65,7 +65,8 @@ impl Drop for KindDraft {
     }
 }
 
-/// Reads the keys of a table `[[kind]]` for what building a structure takes.
+/// Reads the keys `material`, `size`, `skill` and `level` of a table `[[kind]]`: what building
+/// takes.
 impl Element for Building {
     ghost conditions = { conditions_of building_at };
 
@@ -88,7 +89,8 @@ impl Element for Building {
     }
 }
 
-/// Reads the keys of a table `[[kind]]` for what a structure is good for.
+/// Reads the keys `capacity`, `crew` and `helps` of a table `[[kind]]`, all of which may be
+/// missing.
 impl Element for Purpose {
     ghost conditions = { conditions_of purpose_at };
 
@@ -109,7 +111,8 @@ impl Element for Purpose {
     }
 }
 
-/// Reads a whole table `[[kind]]`.
+/// Reads all keys of a table `[[kind]]`: its name, whether it is a ship, what building one takes,
+/// and what it is good for.
 impl Element for KindDraft {
     ghost conditions = { kind_keys };
 
@@ -141,7 +144,7 @@ impl Titled for KindDraft {
     }
 }
 
-/// Looks up the material and the skills of a table `[[kind]]`.
+/// Makes the kind of a table `[[kind]]`, with its material and its skills looked up by name.
 impl Draft for KindDraft {
     type Record = Kind;
 

@@ -1,10 +1,10 @@
 //! The bytes that names and words of orders treat specially.
 //! See docs/RULES.md, "Names and pass texts" and "Names in orders".
 
-/// The space, the first printable byte. A name neither begins nor ends with it.
+/// The space, the first printable byte of ASCII. A name neither begins nor ends with it.
 pub const SPACE: u8 = b' ';
 
-/// The tilde, the last printable byte.
+/// The tilde, the last printable byte of ASCII.
 pub const TILDE: u8 = b'~';
 
 /// The quotation mark, between two of which a word may be. No name has one.

@@ -37,7 +37,8 @@ pub fn letter_of(byte: u8, quoted: bool) -> u8
     }
 }
 
-/// Whether a word means a name, ignoring ASCII case. In a word without quotes `_` is a space.
+/// Whether a word means a given name: they are equal but for ASCII case, where `_` in a word
+/// without quotes is a space.
 #[tactic(auto, using(crate::proofs::LookupLaws::other_length, crate::proofs::LookupLaws::same_letter, crate::proofs::LookupLaws::other_letter, crate::proofs::LookupLaws::end_of_both))]
 fn is_named(name: &[u8], word: &[u8], quoted: bool) -> bool
     ensures { result ≡ str_eq_ignore_ascii_case name.now (name_of word.now quoted) }
@@ -54,7 +55,8 @@ fn is_named(name: &[u8], word: &[u8], quoted: bool) -> bool
     true
 }
 
-/// The index of the first item, skill or kind of a list that a word names, `None` if there is none.
+/// The index of the first item, skill or kind of a list that a word names, ignoring ASCII case,
+/// `None` if there is none.
 fn index_named<T: Titled>(things: &[T], word: &[u8], quoted: bool) -> Option<usize>
     ensures value { result ≡ index_named T.title_of things.now word.now quoted }
     ensures within { IfSome result (λ i. i < length things.now) }

@@ -27,6 +27,8 @@ impl<V: Drop> Drop for MarkedMap<V> {
     }
 }
 
+/// Contracts see the map as its values by number with the set of the marked numbers. There is
+/// always room for a mark on each value.
 impl<V> Model for MarkedMap<V> {
     ghost use Rattle.atl_tables.specs.MarkedMaps.{MarkedMapValue, marked_map_code};
     ghost use Rattle.atl_tables.specs.RoomySets.{HasRoomForMarks};
@@ -75,8 +77,8 @@ impl<V: Drop> MarkedMap<V> {
         }
     }
 
-    /// Puts a value under a number that has none, and marks the number. Without memory nothing
-    /// changes.
+    /// Puts a value under a number that has none, and marks the number; without memory it changes
+    /// nothing.
     pub fn insert(&mut self, number: u32, value: V) -> Result<(), AllocError>
         requires { map.get self.old.values number ≡ None }
         ensures ok { OnOk result (self.new ≡ with_value self.old number value) }
@@ -95,8 +97,8 @@ impl<V: Drop> MarkedMap<V> {
         }
     }
 
-    /// Puts a value under a number, in place of any that is there, and marks the number. Without
-    /// memory nothing changes.
+    /// Puts a value under a number, in place of any that is there, and marks the number; without
+    /// memory it changes nothing.
     pub fn put(&mut self, number: u32, value: V) -> Result<(), AllocError>
         ensures ok { OnOk result (self.new ≡ with_value self.old number value) }
         ensures err { OnErr result (self.new ≡ self.old) }
@@ -119,8 +121,8 @@ impl<V: Drop> MarkedMap<V> {
         self.values.remove(number);
     }
 
-    /// Takes out a value that was inserted, if it is there, to undo the insert. The number stays
-    /// marked only if `was_marked` says that it was marked before the insert. It takes no memory.
+    /// Undoes an insert: takes out the value, if it is there, and clears the number's mark unless
+    /// `was_marked` says that the number was marked before the insert. It takes no memory.
     pub fn take_out(&mut self, number: u32, was_marked: bool)
         ensures { self.new ≡ taken_out self.old number was_marked }
     {

@@ -6,7 +6,8 @@ use std::cmp::Ordering;
 use std::marker::Model;
 use std::slice::Iter;
 
-/// The marked numbers that are left to come, in ascending order.
+/// An iterator over the marked numbers of a `Marks`, in ascending order: those that are left to
+/// come.
 #[derive(Drop)]
 pub struct MarkedNumbers<'a> {
     // What is left of the numbers that are merged already.
@@ -15,6 +16,7 @@ pub struct MarkedNumbers<'a> {
     pub(crate) recent: Iter<'a, u32>,
 }
 
+/// Contracts see the iterator as the list of the numbers left to come, in ascending order.
 impl<'a> Model for MarkedNumbers<'a> {
     ghost use Rattle.std.specs.Prelude.{List, ℕ, true};
     ghost use Rattle.std.specs.Ordering.{nat_cmp};
@@ -26,6 +28,7 @@ impl<'a> Model for MarkedNumbers<'a> {
     ghost view = { λ a. sorted_merge nat_cmp true (iter_rest a.numbers) (iter_rest a.recent) };
 }
 
+/// Gives the least of the numbers left to come; one that is in both lists comes once.
 impl<'a> Iterator for MarkedNumbers<'a> {
     type Item = u32;
 
@@ -53,7 +56,7 @@ impl<'a> Iterator for MarkedNumbers<'a> {
     }
 }
 
-/// Takes the next number from an iterator over a slice.
+/// Takes the next number from an iterator over a slice, `None` at its end.
 fn next_of(numbers: &mut Iter<'_, u32>) -> Option<u32>
     ensures { YieldsFirstBy (λ n. n) iter_rest numbers.old result numbers.new }
 {

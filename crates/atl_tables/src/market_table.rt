@@ -45,7 +45,7 @@ impl Drop for MarketDraft {
     }
 }
 
-/// Reads a whole table `[[region.market]]`.
+/// Reads all keys of a table `[[region.market]]`, and keeps the table's path.
 impl Element for MarketDraft {
     ghost conditions = { market_keys };
 
@@ -72,8 +72,8 @@ impl Element for MarketDraft {
     }
 }
 
-/// The markets of the region at a path, in the order of the file, which may be none. Else the first
-/// fault of a market.
+/// The markets of the region at a path, at most `MOST_MARKETS` in the order of the file, else the
+/// first fault of their array or of one of them.
 #[tactic(auto, unfolding(crate::specs::MarketTable::markets_keys, crate::specs::MarketTable::markets_from))]
 pub(crate) fn markets(
     alloc: Global,
@@ -97,7 +97,7 @@ impl Titled for MarketDraft {
     }
 }
 
-/// Looks up the item of a table `[[region.market]]`.
+/// Makes the market of a table `[[region.market]]`, with its item looked up by name.
 impl Draft for MarketDraft {
     type Record = Market;
 

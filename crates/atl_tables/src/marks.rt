@@ -13,7 +13,8 @@ use crate::sorted_numbers::SortedNumbers;
 use std::alloc::{AllocError, Global};
 use std::marker::Model;
 
-/// The most recent numbers of a `Marks`: those marked last and not merged into the others yet.
+/// How many numbers a `Marks` holds at most in its second list, of those that were marked last and
+/// aren't merged into the first list yet.
 const RECENT_LIMIT: usize = 512;
 
 /// A set of marked numbers, with room for more. To mark a number for which there is room takes no
@@ -31,6 +32,8 @@ impl Drop for Marks {
     }
 }
 
+/// Contracts see the marks as the set of the marked numbers with its room: how many numbers it can
+/// hold without taking memory.
 impl Model for Marks {
     ghost use Rattle.std.specs.FinSet as set;
     ghost use Rattle.atl_tables.specs.RoomySets.{RoomySet, roomy_set_code};
@@ -65,7 +68,7 @@ impl Marks {
         Ok(Marks { numbers, recent })
     }
 
-    /// Makes room for `more` further numbers. Without memory for it the numbers stay the same, and
+    /// Makes room for `more` further numbers; without memory for it the numbers stay the same, and
     /// the room is no less.
     pub fn make_room(&mut self, more: usize) -> Result<(), AllocError>
         ensures numbers { self.new.numbers ≡ self.old.numbers }
@@ -97,8 +100,8 @@ impl Marks {
         }
     }
 
-    /// Marks a number if it has a value; there is room to mark each number with a value. It takes
-    /// no memory.
+    /// Marks a number if the map `values` has a value under it; there is room for a mark on each
+    /// value. It takes no memory.
     pub fn mark_present<V: Drop>(&mut self, values: &Numbered<V>, number: u32)
         requires { HasRoomForMarks values.now self.old }
         ensures { self.new ≡ record self.old
@@ -110,7 +113,8 @@ impl Marks {
         }
     }
 
-    /// Marks each number that has a value; there is room for that. It takes no memory.
+    /// Marks each number under which the map `values` has a value; there is room for all of them.
+    /// It takes no memory.
     pub fn mark_all<V: Drop>(&mut self, values: &Numbered<V>)
         requires { HasRoomForMarks values.now self.old }
         ensures { self.new ≡ record self.old { numbers = held values.now self.old.numbers } }

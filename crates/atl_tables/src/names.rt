@@ -29,7 +29,8 @@ fn is_pass_byte(byte: u8) -> bool
     SPACE < byte && byte <= TILDE
 }
 
-/// Whether the name that a word means neither begins nor ends with a space.
+/// Whether a word, with `_` as a space unless the word is quoted, neither begins nor ends with a
+/// space.
 fn has_no_edge_space(word: &[u8], quoted: bool) -> bool
     ensures { result ≡ has_no_edge_space (name_of word.now quoted) }
 {
@@ -41,7 +42,7 @@ fn has_no_edge_space(word: &[u8], quoted: bool) -> bool
     first != SPACE && last != SPACE
 }
 
-/// Whether the name that a word means has only bytes that may be in a name.
+/// Whether a word, with `_` as a space unless the word is quoted, has only bytes allowed in a name.
 fn are_name_bytes(word: &[u8], quoted: bool) -> bool
     ensures { result ≡ list_all is_name_byte (name_of word.now quoted) }
 {
@@ -57,8 +58,8 @@ fn are_pass_bytes(text: &[u8]) -> bool
     text.iter().all(|byte| is_pass_byte(*byte))
 }
 
-/// Whether the name that a word means keeps the rule of names. In a word without quotes `_` is a
-/// space. It takes no memory. See docs/RULES.md, "Names and pass texts".
+/// Whether a word, with `_` as a space unless the word is quoted, keeps the rule of names. It takes
+/// no memory. See docs/RULES.md, "Names and pass texts".
 pub fn word_ok(word: &[u8], quoted: bool) -> bool
     ensures { result ≡ name_ok (name_of word.now quoted) }
 {

@@ -37,8 +37,8 @@ fn is_number(number: u32, other: Option<u32>) -> bool
     }
 }
 
-/// Checks that a region's neighbour, if it has one, has the region on its opposite side. Else
-/// BadNeighbour.
+/// Checks that a region's neighbour on one side, if it has one, has the region on the side
+/// `opposite`, else gives the fault BadNeighbour at the key of the side.
 fn neighbour(
     alloc: Global,
     key: &str,
@@ -63,8 +63,8 @@ fn neighbour(
     }
 }
 
-/// Checks that each neighbour of the i-th region of the file has this region on its opposite side.
-/// Else BadNeighbour at the first neighbour that hasn't.
+/// Checks that each neighbour of the i-th region of the file has this region on its opposite side,
+/// else gives the fault BadNeighbour at the first side whose neighbour hasn't.
 #[tactic(auto, unfolding(crate::specs::Neighbours::neighbours_at))]
 fn neighbours_of(
     alloc: Global,
@@ -88,8 +88,8 @@ fn neighbours_of(
     neighbour(alloc, "west", at, regions, East, number, sides.west)
 }
 
-/// Checks that the neighbours of all regions are mutual. Else BadNeighbour at the first neighbour
-/// that isn't, in the order of the file.
+/// Checks that each neighbour of each region has the region on its opposite side, else gives the
+/// fault BadNeighbour at the first side whose neighbour hasn't, in the order of the file.
 pub(crate) fn mutual_neighbours(
     alloc: Global,
     regions: &Numbered<RegionPlan>,

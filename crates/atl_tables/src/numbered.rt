@@ -14,6 +14,7 @@ pub struct Numbered<V> {
     entries: BTreeMap<u32, V>,
 }
 
+/// Contracts see a `Numbered` as a finite map from numbers to values.
 impl<V> Model for Numbered<V> {
     ghost Value = { map.FinMap nat_cmp V };
 
@@ -51,7 +52,8 @@ impl<V: Drop> Numbered<V> {
         self.entries.get_mut(&number)
     }
 
-    /// Puts a value under a number, in place of any that is there. Without memory nothing changes.
+    /// Puts a value under a number, in place of any that is there; without memory it changes
+    /// nothing.
     pub fn insert(&mut self, number: u32, value: V) -> Result<(), AllocError>
         ensures ok { OnOk result (self.new ≡ map.insert self.old number value) }
         ensures err { OnErr result (self.new ≡ self.old) }
@@ -94,7 +96,7 @@ impl<V: Drop> Numbered<V> {
 impl<V: Drop> Numbered<Numbered<V>> {
     ghost use Rattle.atl_tables.specs.Groups.{group_of};
 
-    /// The value under a number in the group under another number, `None` if there is none.
+    /// The value under a number in the inner map under the number `group`, `None` if there is none.
     pub fn get_under(&self, group: u32, number: u32) -> Option<&V>
         ensures { option_copied result ≡ map.get (group_of self.now group) number }
     {
@@ -104,8 +106,8 @@ impl<V: Drop> Numbered<Numbered<V>> {
         }
     }
 
-    /// Puts a value under a number of the group under another number. It replaces any value that is
-    /// there, and adds the group if it is missing. Without memory nothing changes.
+    /// Puts a value under a number in the inner map under the number `group`, in place of any that
+    /// is there, and adds the inner map if it is missing; without memory it changes nothing.
     pub fn insert_under(
         &mut self,
         alloc: Global,
@@ -135,6 +137,7 @@ pub struct Entries<'a, V> {
     inner: btree_map::Iter<'a, u32, V>,
 }
 
+/// Contracts see the iterator as the list of the numbers and values that are left to come.
 impl<'a, V> Model for Entries<'a, V> {
     ghost use Rattle.std.specs.Prelude.{List, ℕ};
 
@@ -143,6 +146,7 @@ impl<'a, V> Model for Entries<'a, V> {
     ghost view = { λ a. a.inner };
 }
 
+/// Gives the lowest number left to come, with its value.
 impl<'a, V> Iterator for Entries<'a, V> {
     type Item = (u32, &'a V);
 

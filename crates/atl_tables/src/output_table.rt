@@ -31,8 +31,8 @@ pub struct Output {
     pub amount: u32,
 }
 
-/// The entries of a table `output`, in byte order of their keys. Else WrongType or OutOfRange at
-/// the first bad amount.
+/// The entries of a table `output`, in byte order of their keys, else the fault WrongType or
+/// OutOfRange at the first bad amount.
 fn amounts(alloc: Global, at: &str, table: &Table) -> Result<Sequence<Output>, WorldFault>
     ensures value { Gives (λ v. v) result
         (first_fault (amounts_keys at.now (in_byte_order (table_view table.now))))
@@ -49,8 +49,8 @@ fn amounts(alloc: Global, at: &str, table: &Table) -> Result<Sequence<Output>, W
     Ok(outputs)
 }
 
-/// The output of the terrain at a path, in byte order of its keys, empty if the file has none. Else
-/// the first fault of the table.
+/// The output of the terrain at a path, in byte order of its keys, empty if the file has none, else
+/// the fault WrongType if `output` is no table, or the first fault of an amount.
 #[tactic(auto, unfolding(crate::specs::OutputTable::output_at, crate::specs::OutputTable::in_byte_order, crate::specs::Keys::optional_table_at))]
 pub(crate) fn outputs(
     alloc: Global,
@@ -74,8 +74,8 @@ pub(crate) fn outputs(
     }
 }
 
-/// Checks that no two keys of an output are equal, ignoring ASCII case. Else TwoNames at the
-/// second.
+/// Checks that no two keys of an output are equal, ignoring ASCII case, else gives the fault
+/// TwoNames at the second.
 pub(crate) fn no_duplicate_keys(
     alloc: Global,
     at: &str,
@@ -93,7 +93,8 @@ pub(crate) fn no_duplicate_keys(
     Ok(())
 }
 
-/// Checks that each key of an output names an item, else UnknownName at the first that doesn't.
+/// Checks that each key of an output names an item, else gives the fault UnknownName at the first
+/// that doesn't.
 pub(crate) fn known_keys(
     alloc: Global,
     all: &WorldDraft,
@@ -111,7 +112,7 @@ pub(crate) fn known_keys(
     Ok(())
 }
 
-/// How much of the item with a name an output gives in a month, 0 if no key names the item.
+/// How much of the item with a given name an output gives in a month, 0 if no key names the item.
 #[tactic(auto, unfolding(crate::specs::OutputTable::amount_of))]
 fn amount_of(outputs: &[Output], item: &Text) -> u32
     requires { All IsOutput outputs.now }

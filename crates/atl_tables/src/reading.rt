@@ -32,7 +32,8 @@ use crate::world_draft::{WorldDraft, resolve_all};
 use std::alloc::{AllocError, Global};
 use toml::Table;
 
-/// The parts of a world, with names looked up and the regions in the order of the file.
+/// The parts of a world except its skills, with names looked up and the regions in the order of the
+/// file.
 #[derive(Drop)]
 pub struct WorldParts {
     pub rules: Rules,
@@ -42,7 +43,7 @@ pub struct WorldParts {
     pub regions: Sequence<RegionPlan>,
 }
 
-/// The tables of items, skills and kinds, which a world file may leave out.
+/// The tables of items, skills and kinds as read, each of which a world file may leave out.
 #[derive(Drop)]
 pub struct ThingDrafts {
     pub items: Sequence<ItemDraft>,
@@ -50,7 +51,8 @@ pub struct ThingDrafts {
     pub kinds: Sequence<KindDraft>,
 }
 
-/// The tables of items, skills and kinds of the document, else the first fault of a key.
+/// The tables of items, skills and kinds of the document, else the first fault of an array or a
+/// key.
 #[tactic(auto, unfolding(crate::specs::World::things_conditions, crate::specs::World::things_of))]
 fn read_thing_drafts(alloc: Global, document: &Table) -> Result<ThingDrafts, WorldFault>
     ensures value { Gives (λ t. t) result (first_fault (things_conditions (table_view document.now)))
@@ -67,7 +69,8 @@ fn read_thing_drafts(alloc: Global, document: &Table) -> Result<ThingDrafts, Wor
     })
 }
 
-/// The regions of the document as a format reads them, else the first fault of a key.
+/// The regions of the document as a format reads them (the first ignores their markets), else the
+/// first fault of an array or a key.
 #[tactic(auto, unfolding(crate::specs::World::regions_conditions, crate::specs::World::regions_in))]
 fn read_regions(
     alloc: Global,
@@ -89,7 +92,8 @@ fn read_regions(
     }
 }
 
-/// All tables of the document, with names not looked up yet, else the first fault of a key.
+/// All tables of the document as a format reads them, with names not looked up yet, else the first
+/// fault Missing, WrongType or OutOfRange.
 #[tactic(auto, unfolding(crate::specs::World::keys_conditions, crate::specs::World::tables_of))]
 fn tables(alloc: Global, format: Format, document: &Table) -> Result<WorldDraft, WorldFault>
     ensures value { Gives (λ t. t) result
@@ -112,7 +116,7 @@ fn tables(alloc: Global, format: Format, document: &Table) -> Result<WorldDraft,
 }
 
 /// Checks that no two terrains, no two items, no two skills and no two kinds have the same name,
-/// else TwoNames.
+/// else gives the fault TwoNames.
 #[tactic(auto, unfolding(crate::specs::World::titles_differ))]
 fn titles_differ(alloc: Global, all: &WorldDraft) -> Result<(), WorldFault>
     ensures { Gives (λ u. u) result (first_fault (titles_differ all.now)) (tt {0}) }
@@ -123,8 +127,8 @@ fn titles_differ(alloc: Global, all: &WorldDraft) -> Result<(), WorldFault>
     no_duplicate_names(alloc, "kind", "name", all.kinds.as_slice())
 }
 
-/// Checks that names of things, region numbers, output keys of a terrain and market items of a
-/// region are unique, else TwoNames.
+/// Checks that names of terrains, items, skills and kinds, numbers of regions, keys of one output
+/// and market items of one region are unique, else gives the fault TwoNames.
 #[tactic(auto, unfolding(crate::specs::World::names_differ))]
 fn names_differ(alloc: Global, all: &WorldDraft) -> Result<(), WorldFault>
     ensures { Gives (λ u. u) result (first_fault (names_differ all.now)) (tt {0}) }
@@ -135,7 +139,8 @@ fn names_differ(alloc: Global, all: &WorldDraft) -> Result<(), WorldFault>
     no_duplicates_inside(alloc, all.regions.as_slice())
 }
 
-/// The parts of the world that the tables describe, with names looked up, else UnknownName.
+/// The parts of the world that the tables describe, except its skills, with names looked up, else
+/// the fault UnknownName at the first name that nothing has.
 #[tactic(auto, unfolding(crate::specs::World::names_are_known))]
 fn resolve(alloc: Global, all: &WorldDraft) -> Result<WorldParts, WorldFault>
     requires { IsWorldDraft all.now }
@@ -167,7 +172,7 @@ fn is_land(terrains: &[Terrain], plan: &RegionPlan) -> bool
     }
 }
 
-/// The numbers of the regions with land, in ascending order.
+/// The numbers of the regions whose terrain is land, in ascending order.
 fn land(
     alloc: Global,
     terrains: &[Terrain],
@@ -184,7 +189,8 @@ fn land(
     Ok(numbers)
 }
 
-/// Makes the world of its parts, if the terrain of some region is land, else NoLand.
+/// Makes the world of its parts, if the terrain of some region is land, else gives the fault
+/// NoLand.
 fn with_land(
     alloc: Global,
     rules: Rules,
@@ -209,8 +215,8 @@ fn with_land(
     Ok(World::from_parts(rules, terrains, items, skills, kinds, regions, land))
 }
 
-/// Makes the world of its parts, if neighbours are mutual and the terrain of some region is land.
-/// Else BadNeighbour or NoLand.
+/// Makes the world of its parts, if neighbours are mutual and the terrain of some region is land,
+/// else gives the fault BadNeighbour or NoLand.
 #[tactic(auto, unfolding(crate::specs::World::neighbours_are_mutual))]
 fn join(alloc: Global, all: WorldDraft, parts: WorldParts) -> Result<World, WorldFault>
     requires all { IsWorldDraft all }
@@ -234,7 +240,8 @@ fn join(alloc: Global, all: WorldDraft, parts: WorldParts) -> Result<World, Worl
     with_land(alloc, rules, terrains, items, skills, kinds, regions)
 }
 
-/// The world that the tables describe, or the first fault of names, numbers, neighbours and land.
+/// The world that the tables describe, or the first of the faults TwoNames, UnknownName,
+/// BadNeighbour and NoLand.
 fn from_tables(alloc: Global, all: WorldDraft) -> Result<World, WorldFault>
     requires { IsWorldDraft all }
     ensures { Gives (λ w. w) result (first_fault (table_conditions all)) (world_of_tables all) }
@@ -244,7 +251,7 @@ fn from_tables(alloc: Global, all: WorldDraft) -> Result<World, WorldFault>
     join(alloc, all, parts)
 }
 
-/// The world that a document describes in a format, or its first fault.
+/// The world that a document of TOML describes in a format, or its first fault.
 #[tactic(auto, unfolding(crate::specs::World::conditions))]
 fn from_document(alloc: Global, format: Format, document: &Table) -> Result<World, WorldFault>
     ensures { Gives (λ w. w) result (first_fault (conditions format (table_view document.now)))
@@ -270,17 +277,17 @@ fn read(alloc: Global, format: Format, text: &str) -> Result<World, WorldFault>
     }
 }
 
-/// The world that a text describes, or its first fault. The order of faults is that of
-/// docs/FORMATS.md, "Faults of a world file". `Memory` is answered only if memory ran out, and says
-/// nothing of the text.
+/// The world that a text describes in the second format, or its first fault. The order of faults is
+/// that of docs/FORMATS.md, "Faults of a world file". `Memory` is answered only if memory ran out,
+/// and says nothing of the text.
 pub fn read_world(alloc: Global, text: &str) -> Result<World, WorldFault>
     ensures definition { Reads (λ w. w) result (world_of text.now) }
 {
     read(alloc, Format::Second, text)
 }
 
-/// The world that a text describes in the first format, or its first fault. The first format
-/// ignores the markets of regions.
+/// The world that a text describes in the first format, which ignores the markets of regions, or
+/// its first fault.
 pub fn read_old_world(alloc: Global, text: &str) -> Result<World, WorldFault>
     ensures definition { Reads (λ w. w) result (old_world_of text.now) }
 {

@@ -61,7 +61,8 @@ pub struct OldRegion {
     pub sides: Sides,
 }
 
-/// A table `[[region]]` as read, with its terrain and the items of its markets by name.
+/// A table `[[region]]` as read by either format, with its terrain and the items of its markets by
+/// name; by the first it has no markets.
 pub struct RegionDraft {
     /// The region's number, name, terrain, peasants and money.
     pub place: RegionBasics,
@@ -102,7 +103,8 @@ impl Element for RegionBasics {
     }
 }
 
-/// The neighbours of the region at a path, else WrongType or OutOfRange of a side.
+/// The numbers of a region's neighbours on its four sides, else the fault WrongType or OutOfRange
+/// of a side.
 #[tactic(auto, unfolding(crate::specs::RegionTable::side_keys, crate::specs::RegionTable::sides_from))]
 fn read_sides(alloc: Global, at: &str, table: &Table) -> Result<Sides, WorldFault>
     ensures { Gives (λ s. s) result (first_fault (side_keys at.now (table_view table.now)))
@@ -120,7 +122,7 @@ fn read_sides(alloc: Global, at: &str, table: &Table) -> Result<Sides, WorldFaul
     })
 }
 
-/// Reads a whole table `[[region]]` of the first format.
+/// Reads a table `[[region]]` by the first format: all its keys but `market`.
 impl Element for OldRegion {
     ghost conditions = { old_region_keys };
 
@@ -136,7 +138,7 @@ impl Element for OldRegion {
     }
 }
 
-/// Reads a whole table `[[region]]` of the second format, with its markets.
+/// Reads a table `[[region]]` by the second format: all its keys, and the tables of its markets.
 impl Element for RegionDraft {
     ghost conditions = { region_keys };
 
@@ -175,7 +177,8 @@ pub(crate) fn without_markets(
     Ok(drafts)
 }
 
-/// Checks that no two markets of a region are of the same item.
+/// Checks that no two markets of a region are of the same item, else gives the fault TwoNames at
+/// the second.
 impl HasUniqueNames for RegionDraft {
     ghost no_twins = { duplicate_market_items };
 
@@ -187,7 +190,8 @@ impl HasUniqueNames for RegionDraft {
     }
 }
 
-/// Looks up the names in a table `[[region]]`: its terrain, and the items of its markets.
+/// Makes the region of a table `[[region]]`, with its terrain and the items of its markets looked
+/// up.
 impl Draft for RegionDraft {
     type Record = RegionPlan;
 

@@ -9,7 +9,8 @@ use crate::numbered::Numbered;
 use crate::region_table::RegionDraft;
 use std::alloc::Global;
 
-/// Checks that no two regions have the same number, else TwoNames at the second.
+/// Checks that no two regions have the same number, else gives the fault TwoNames at the second of
+/// them.
 pub(crate) fn no_duplicate_numbers(alloc: Global, drafts: &[RegionDraft]) -> Result<(), WorldFault>
     ensures { Gives (λ u. u) result (first_fault (duplicate_numbers drafts.now)) (tt {0}) }
 {

@@ -83,7 +83,7 @@ pub struct RulesDraft {
     pub skills: SkillNames,
 }
 
-/// Reads the keys of the table `[rules]` for maintenance, tax per man, and the price of a recruit.
+/// Reads the keys `maintenance`, `tax_per_man` and `recruit_price` of the table `[rules]`.
 impl Element for Prices {
     ghost conditions = { conditions_of prices_at };
 
@@ -104,7 +104,7 @@ impl Element for Prices {
     }
 }
 
-/// Reads the keys of the table `[rules]` for recruits, births and income.
+/// Reads the keys `recruit_fraction`, `growth` and `income` of the table `[rules]`.
 impl Element for PeasantRules {
     ghost conditions = { conditions_of peasants_at };
 
@@ -132,7 +132,7 @@ impl Element for PeasantRules {
     }
 }
 
-/// Reads the keys of the table `[rules]` for what men start with, weigh and carry.
+/// Reads the keys `start_money`, `man_weight` and `man_carry` of the table `[rules]`.
 impl Element for MenRules {
     ghost conditions = { conditions_of men_at };
 
@@ -153,7 +153,8 @@ impl Element for MenRules {
     }
 }
 
-/// The skills that the table `[rules]` names, else WrongType.
+/// The names of the skills of observation, stealth and sailing in the table `[rules]`, else the
+/// fault WrongType at the first key that isn't a text.
 #[tactic(auto, unfolding(crate::specs::RulesTable::skill_names_at, crate::specs::Keys::optional_text_at))]
 fn skill_names(alloc: Global, at: &str, table: &Table) -> Result<SkillNames, WorldFault>
     ensures { Gives (λ s. s) result
@@ -170,7 +171,7 @@ fn skill_names(alloc: Global, at: &str, table: &Table) -> Result<SkillNames, Wor
     })
 }
 
-/// Reads the whole table `[rules]`.
+/// Reads all keys of the table `[rules]`.
 impl Element for RulesDraft {
     ghost conditions = { conditions_of rules_at };
 
@@ -193,8 +194,8 @@ impl Element for RulesDraft {
     }
 }
 
-/// The rules of the document. Else Missing or WrongType of the table `[rules]`, or the first fault
-/// of its keys.
+/// The table `[rules]` of the document as read, else the fault Missing or WrongType of the table,
+/// or the first fault of its keys.
 #[tactic(auto, unfolding(crate::specs::RulesTable::rules_conditions, crate::specs::RulesTable::rules_in))]
 pub(crate) fn rules(alloc: Global, document: &Table) -> Result<RulesDraft, WorldFault>
     ensures value { Gives (λ r. r) result (first_fault (rules_conditions (table_view document.now)))
@@ -205,7 +206,8 @@ pub(crate) fn rules(alloc: Global, document: &Table) -> Result<RulesDraft, World
     RulesDraft::read(alloc, "rules", table)
 }
 
-/// The rules with skills by number, else UnknownName at the first key whose skill isn't there.
+/// The rules of the world, with skills by number, else the fault UnknownName at the first key whose
+/// skill isn't there.
 #[tactic(auto, unfolding(crate::specs::RulesTable::rules_known, crate::specs::RulesTable::rules_of))]
 pub(crate) fn resolve_rules(alloc: Global, all: &WorldDraft) -> Result<Rules, WorldFault>
     requires { IsWorldDraft all.now }

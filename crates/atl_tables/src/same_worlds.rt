@@ -20,7 +20,7 @@ trait Comparable: Drop {
         ensures { IsTrue result ↔ (self.now ≡ other.now) };
 }
 
-/// Whether two lists of things are equal.
+/// Whether two lists have the same length, and equal things at each index.
 fn are_same<T: Comparable>(things: &[T], others: &[T]) -> bool
     ensures { IsTrue result ↔ (things.now ≡ others.now) }
 {
@@ -35,6 +35,7 @@ fn are_same<T: Comparable>(things: &[T], others: &[T]) -> bool
     true
 }
 
+/// Compares all fields of two terrains, the names byte by byte.
 impl Comparable for Terrain {
     fn is_same(&self, other: &Terrain) -> bool {
         self.name.is_same(&other.name)
@@ -43,18 +44,21 @@ impl Comparable for Terrain {
     }
 }
 
+/// Compares all fields of two items, the names byte by byte.
 impl Comparable for Item {
     fn is_same(&self, other: &Item) -> bool {
         self.name.is_same(&other.name) && agree!(self other: weight carry skill level raw raw_count)
     }
 }
 
+/// Compares the names of two skills, byte by byte, and their fees.
 impl Comparable for Skill {
     fn is_same(&self, other: &Skill) -> bool {
         self.name.is_same(&other.name) && self.fee == other.fee
     }
 }
 
+/// Compares all fields of two kinds of structures, the names byte by byte.
 impl Comparable for Kind {
     fn is_same(&self, other: &Kind) -> bool {
         self.name.is_same(&other.name)
@@ -62,7 +66,7 @@ impl Comparable for Kind {
     }
 }
 
-/// Whether the rules of two worlds are equal.
+/// Whether the rules of two worlds are equal in all their fields.
 fn are_same_rules(rules: &Rules, others: &Rules) -> bool
     ensures { IsTrue result ↔ (rules.now ≡ others.now) }
 {
@@ -98,7 +102,7 @@ fn are_same_regions(plans: &Numbered<RegionPlan>, others: &Numbered<RegionPlan>)
 }
 
 impl World {
-    /// Whether two worlds are equal but for the markets of their regions.
+    /// Whether two worlds are equal once the markets of their regions are left out.
     pub fn differs_in_markets_alone(&self, other: &World) -> bool
         ensures { IsTrue result ↔ (without_markets self.now ≡ without_markets other.now) }
     {

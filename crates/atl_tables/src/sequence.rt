@@ -10,6 +10,7 @@ pub struct Sequence<T> {
     items: Vec<T>,
 }
 
+/// Contracts see a `Sequence` as the list of its values.
 impl<T> Model for Sequence<T> {
     ghost use Rattle.std.specs.Prelude.{List};
     ghost use Rattle.std.specs.Coded.{coded_list};
@@ -45,7 +46,7 @@ impl<T: Drop> Sequence<T> {
         self.items
     }
 
-    /// A copy of the values of a slice.
+    /// A list with copies of the values of a slice.
     pub fn from_slice(alloc: Global, values: &[T]) -> Result<Self, AllocError>
     where
         T: Copy,
@@ -56,7 +57,7 @@ impl<T: Drop> Sequence<T> {
         })
     }
 
-    /// Puts a value at the end. Without memory for it the list stays as it is.
+    /// Puts a value at the end of the list, which stays as it is if there is no memory for it.
     pub fn push(&mut self, value: T) -> Result<(), AllocError>
         ensures ok { OnOk result (self.new ≡ self.old ++ value ∷ []) }
         ensures err { OnErr result (self.new ≡ self.old) }

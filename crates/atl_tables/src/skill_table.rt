@@ -12,7 +12,8 @@ use crate::world::Skill;
 use std::alloc::Global;
 use toml::Table;
 
-/// Reads a whole table `[[skill]]`. It has no names to look up, so its record is read at once.
+/// Reads all keys of a table `[[skill]]`: its name and its fee. It has no names to look up, so its
+/// record is read at once.
 impl Element for Skill {
     ghost conditions = { skill_keys };
 

@@ -19,6 +19,8 @@ pub struct SortedNumbers {
     numbers: Vec<u32>,
 }
 
+/// Contracts see the list as the set of its numbers with its room: how many numbers it can hold
+/// without taking memory.
 impl Model for SortedNumbers {
     ghost use Rattle.std.specs.Prelude.{vec_capacity};
     ghost use Rattle.std.specs.List.Sorted.{IsStrictlySortedBy};
@@ -54,7 +56,7 @@ impl SortedNumbers {
         })
     }
 
-    /// Makes room for `more` further numbers. Without memory for it the numbers stay the same, and
+    /// Makes room for `more` further numbers; without memory for it the numbers stay the same, and
     /// the room is no less.
     pub fn make_room(&mut self, more: usize) -> Result<(), AllocError>
         ensures numbers { self.new.numbers ≡ self.old.numbers }
@@ -76,8 +78,8 @@ impl SortedNumbers {
         }
     }
 
-    /// Moves all numbers of another list into this one. No number is in both, and there is room for
-    /// all. It takes no memory, and time in how many numbers are above the least one moved.
+    /// Moves all numbers of another list into this one, which has none of them, and room for all.
+    /// It takes no memory, and time in how many numbers are above the least one moved.
     pub fn merge_from(&mut self, others: &mut SortedNumbers)
         requires apart { AreApart self.old.numbers others.old.numbers }
         requires room { set.len self.old.numbers + set.len others.old.numbers ≤ self.old.room }
@@ -118,7 +120,7 @@ impl SortedNumbers {
         }
     }
 
-    /// How many numbers there are.
+    /// How many numbers the list has.
     pub fn len(&self) -> usize
         ensures value { result ≡ set.len self.now.numbers }
         ensures low { (n : ℕ) → set.contains self.now.numbers n ≡ true → n < number_count }
@@ -164,7 +166,8 @@ fn put_at(numbers: &mut Vec<u32>, place: usize, number: u32)
     let _ = numbers.insert(place, number);
 }
 
-/// The length of a list of numbers; the clause `small` adds that `last` is below 2^32.
+/// The length of a list of numbers; the clause `small` says besides that the argument `last`, as
+/// any number of 32 bits, is below 2^32.
 fn length_of_bounded(numbers: &[u32], last: u32) -> usize
     ensures value { result ≡ length numbers.now }
     ensures small { last < number_count }
@@ -193,7 +196,7 @@ fn append(numbers: &mut Vec<u32>, others: &[u32])
     }
 }
 
-/// Whether the last of a list's first `count` numbers is above another number.
+/// Whether the last of a list's first `count` numbers is above `other`; false if `count` is 0.
 fn is_last_above(numbers: &[u32], count: usize, other: u32) -> bool
     requires { count ≤ length numbers.now }
     ensures { IsTrue result ↔ ((0 < count) × (other < slice_index numbers.now (count - 1))) }
@@ -201,8 +204,9 @@ fn is_last_above(numbers: &[u32], count: usize, other: u32) -> bool
     count > 0 && numbers[count - 1] > other
 }
 
-/// Merges the first `own` numbers of a list with the numbers of another one, in place. Both are
-/// sorted, and no number is in both. The largest is put first, so each number is moved once.
+/// Merges the first `own` numbers of a list with all of another one, into the first list, whose
+/// length is that of both together. Both are sorted, and no number is in both. The largest is put
+/// first, so each number is moved once.
 fn merge(numbers: &mut [u32], own: usize, others: &[u32])
     requires size { length numbers.old ≡ own + length others.now }
     requires rising { IsStrictlySortedBy nat_cmp (take own numbers.old) }

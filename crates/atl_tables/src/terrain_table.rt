@@ -52,7 +52,7 @@ impl Drop for TerrainDraft {
     }
 }
 
-/// Reads the keys of a table `[[terrain]]` for wage, work places, and limits of money and peasants.
+/// Reads the keys `wage`, `places`, `money_limit` and `peasant_limit` of a table `[[terrain]]`.
 impl Element for Economy {
     ghost conditions = { conditions_of economy_at };
 
@@ -75,7 +75,8 @@ impl Element for Economy {
     }
 }
 
-/// Reads a whole table `[[terrain]]`.
+/// Reads all keys of a table `[[terrain]]`: its name, whether it is land, its economy and its
+/// output.
 impl Element for TerrainDraft {
     ghost conditions = { terrain_keys };
 
@@ -107,7 +108,7 @@ impl Titled for TerrainDraft {
     }
 }
 
-/// Looks up the items of the output of a table `[[terrain]]`.
+/// Makes the terrain of a table `[[terrain]]`, with the items of its output looked up by name.
 impl Draft for TerrainDraft {
     type Record = Terrain;
 
@@ -138,7 +139,8 @@ impl Draft for TerrainDraft {
     }
 }
 
-/// Checks that no two keys of a terrain's output are equal.
+/// Checks that no two keys of a terrain's output are equal, else gives the fault TwoNames at the
+/// second.
 impl HasUniqueNames for TerrainDraft {
     ghost no_twins = { duplicate_output_keys };
 

@@ -17,12 +17,13 @@ use crate::text::Text;
 use std::alloc::{AllocError, Global};
 use std::collections::BTreeSet;
 
-/// A thing that has a name.
+/// A thing with a title: the name by which it is looked up, or that no other thing of its array
+/// has.
 pub(crate) trait Titled {
-    // The name of the thing, as bytes.
+    // The title of the thing, as bytes.
     ghost title_of: { Self → List ℕ };
 
-    /// The name of the thing.
+    /// The title of the thing.
     fn title(&self) -> &Text
         ensures { result.now ≡ title_of self.now };
 }
@@ -52,8 +53,8 @@ pub(crate) fn is_new(
     Ok(new)
 }
 
-/// Checks that no two elements of the array at a path have equal names, ignoring ASCII case. Else
-/// TwoNames at the second.
+/// Checks that no two elements of the array at a path have equal titles, ignoring ASCII case, else
+/// gives the fault TwoNames at the second.
 pub(crate) fn no_duplicate_names<T: Titled>(
     alloc: Global,
     array: &str,
@@ -73,19 +74,20 @@ pub(crate) fn no_duplicate_names<T: Titled>(
     Ok(())
 }
 
-/// A table that holds things with names, where no two names may be equal.
+/// A table that holds names no two of which may be equal: a terrain the keys of its output, a
+/// region the items of its markets.
 pub(crate) trait HasUniqueNames: Drop {
-    // The conditions that no two things in the i-th table of its array have equal names.
+    // The conditions that no two names in the i-th table of its array are equal.
     ghost no_twins: { ℕ → Self → Conditions };
 
-    /// Checks that the i-th table of its array holds no two things with equal names. Else TwoNames
-    /// at the second.
+    /// Checks that the i-th table of its array holds no two equal names, else gives the fault
+    /// TwoNames at the second.
     fn no_duplicates_inside(&self, alloc: Global, i: usize) -> Result<(), WorldFault>
         ensures { Gives (λ u. u) result (first_fault (no_twins i self.now)) (tt {0}) };
 }
 
-/// Checks that no table of an array holds two things with equal names. Else TwoNames at the second
-/// of two in the first table that does.
+/// Checks that no table of an array holds two equal names, else gives the fault TwoNames at the
+/// second of two in the first table that does.
 pub(crate) fn no_duplicates_inside<T: HasUniqueNames>(
     alloc: Global,
     holders: &[T],
@@ -98,8 +100,8 @@ pub(crate) fn no_duplicates_inside<T: HasUniqueNames>(
     Ok(())
 }
 
-/// The number of the first element with a name, which is its index; `None` if there is none. ASCII
-/// case is ignored.
+/// The number (the index) of the first element whose title is a name, ignoring ASCII case; `None`
+/// if there is none.
 #[tactic(auto, unfolding(crate::specs::Titles::number_of))]
 pub(crate) fn number_of<T: Titled>(items: &[T], name: &Text) -> Option<u16>
     requires { length items.now ≤ most_numbered }
@@ -114,7 +116,8 @@ pub(crate) fn number_of<T: Titled>(items: &[T], name: &Text) -> Option<u16>
     None
 }
 
-/// The number of the thing that the name under a key refers to, else UnknownName at the key's path.
+/// The number of the thing that the name under a key refers to, else the fault UnknownName at the
+/// key's path.
 pub(crate) fn known<T: Titled>(
     alloc: Global,
     items: &[T],
@@ -135,8 +138,8 @@ pub(crate) fn known<T: Titled>(
     }
 }
 
-/// The number of the thing that the name under a key refers to, `None` without a name. Else
-/// UnknownName.
+/// The number of the thing that the name under a key refers to, `None` without a name, else the
+/// fault UnknownName at the key's path.
 pub(crate) fn known_number_or_none<T: Titled>(
     alloc: Global,
     items: &[T],

@@ -67,7 +67,7 @@ impl Drop for Terrain {
     }
 }
 
-/// An item of goods: its weight, and what making one takes.
+/// An item of goods: what it weighs, what it carries, and what making one takes.
 #[derive(Drop, Debug)]
 pub struct Item {
     /// The name as the file writes it; no two items' names are equal, ignoring ASCII case.
@@ -120,8 +120,8 @@ pub struct Kind {
     pub helps: Option<u16>,
 }
 
-/// A market of a region: the item that units buy and sell there, with its prices and its stock's
-/// limits.
+/// A market of a region: the item that units buy and sell there, with its two prices, its largest
+/// stock, and what comes into the stock in a month.
 #[derive(Drop, Clone, Copy, Debug)]
 pub struct Market {
     /// The number of the item that the market trades.
@@ -136,8 +136,8 @@ pub struct Market {
     pub restock: u32,
 }
 
-/// A region as the world file describes it. Each neighbour is a region of the world, and has this
-/// one on its opposite side.
+/// A region as the world file describes it, with its peasants and its money at founding. Each
+/// neighbour is a region of the world, and has this one on its opposite side.
 pub struct RegionPlan {
     /// The region's number, from 1 to `LAST_REGION`; no two regions have one number.
     pub number: u32,
@@ -195,7 +195,7 @@ pub struct World {
     skills: Sequence<Skill>,
     kinds: Sequence<Kind>,
     regions: Numbered<RegionPlan>,
-    // The numbers of the regions with land, in ascending order.
+    // The numbers of the regions whose terrain is land, in ascending order.
     land: Sequence<u32>,
 }
 
@@ -205,6 +205,8 @@ impl Drop for World {
     }
 }
 
+/// Contracts see a world as its rules, terrains, items, skills, kinds and regions. They are in
+/// range, names differ, neighbours are mutual, and some region is land (`IsWorld`).
 impl Model for World {
     ghost use Rattle.std.specs.Prelude.{◌≡◌};
     ghost use Rattle.atl_tables.specs.Worlds.{WorldValue, world_code, world_of_parts, IsWorld, land_of};
@@ -223,7 +225,8 @@ impl Model for World {
 impl World {
     ghost use Rattle.atl_tables.specs.Worlds.{IsWorld, land_of, world_of_parts};
 
-    /// Makes the world of its parts, where `land` has the numbers of its regions with land.
+    /// Makes the world of its parts, where `land` has the numbers of the regions whose terrain is
+    /// land.
     pub(crate) fn from_parts(
         rules: Rules,
         terrains: Sequence<Terrain>,
@@ -304,7 +307,7 @@ impl World {
         self.regions.get(number)
     }
 
-    /// The numbers of the regions with land, in ascending order.
+    /// The numbers of the regions whose terrain is land, in ascending order.
     pub fn land(&self) -> &[u32]
         ensures value { result.now ≡ land_of self.now }
         ensures world { IsWorld self.now }

@@ -66,11 +66,11 @@ pub(crate) trait Draft: Drop {
     // The record that the table becomes, if the conditions on its names hold.
     ghost record_of: { WorldDraft → Self → Self.Record };
 
-    // What is true of the record at its index.
+    // What is true of the record that the i-th table of its array becomes.
     ghost is_sound: { WorldDraft → ℕ → Self.Record → Type 0 };
 
-    /// The record of the i-th table of its array, with numbers in place of names. Else UnknownName
-    /// at the first name that no thing has. `Memory` may come at any point.
+    /// The record of the i-th table of its array, with numbers in place of names, else the fault
+    /// UnknownName at the first name that no thing has. `Memory` may come at any point.
     fn resolve(&self, alloc: Global, all: &WorldDraft, i: usize) -> Result<Self::Record, WorldFault>
         requires all { IsWorldDraft all.now }
         requires draft { is_draft self.now }
@@ -79,7 +79,8 @@ pub(crate) trait Draft: Drop {
         ensures sound { IfOk result (λ x. is_sound all.now i x) };
 }
 
-/// The records of all tables of an array, else UnknownName at the first name that no thing has.
+/// The records of all tables of an array, else the fault UnknownName at the first name that no
+/// thing has.
 pub(crate) fn resolve_all<D: Draft>(
     alloc: Global,
     all: &WorldDraft,

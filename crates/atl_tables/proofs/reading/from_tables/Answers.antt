@@ -7,7 +7,7 @@ use Rattle.atl_tables.proofs.FaultLaws.{exits, stops_on, stops_after, gives_afte
 use Rattle.atl_tables.proofs.DuplicateLaws.{thing_names_differ}
 use Rattle.atl_tables.proofs.reading.from_tables.Goals as goal
 
--- the conditions after names: mutual neighbours, and some land
+-- the conditions that count after those on names: mutual neighbours, and some land
 abbrev last : WorldDraft → Conditions
 last all = neighbours_are_mutual all ++ is_some_land (land_of (world_of_tables all))
 

@@ -14,7 +14,7 @@ use Rattle.atl_tables.proofs.FaultLaws.{exits, stops_on, gives_after}
 use Rattle.atl_tables.proofs.WorldLaws.{is_world}
 use Rattle.atl_tables.proofs.reading.join.Goals as goal
 
--- the condition that some region has land
+-- the condition that the terrain of some region is land
 abbrev land : WorldDraft → Conditions
 land all = is_some_land (land_of (world_of_tables all))
 

@@ -7,7 +7,7 @@ use Rattle.atl_tables.specs.declared.region_table.OldRegion.{OldRegion}
 use Rattle.atl_tables.specs.declared.region_table.RegionDraft.{RegionDraft}
 use Rattle.atl_tables.proofs.reading.read_regions.Goals as goal
 
--- regions of the first format that are in bounds are in bounds as regions of the second without markets
+-- regions of the first format in their ranges (`IsOldRegion`) are in range as regions of the second without markets
 drafts_sound : (regions : List OldRegion) (drafts : List RegionDraft) → All IsOldRegion regions → drafts ≡ map as_draft regions → All IsRegionDraft drafts
 drafts_sound regions drafts sound made =
     subst (All IsRegionDraft) (sym made) (All-map IsRegionDraft as_draft regions (All-weaker IsOldRegion (λ r. IsRegionDraft (as_draft r)) (λ r h. record { place = h.place; markets = All-nil IsMarketDraft }) regions sound))

@@ -6,7 +6,7 @@ use Rattle.std.proofs.lemmas.Option.{slice_get-get_or}
 use Rattle.atl_tables.specs.declared.world.Item.{Item}
 use Rattle.atl_tables.proofs.world.World.item.Goals as goal
 
--- an item that is found by its index takes at least one raw item
+-- an item that is found by its index has a `raw_count` of at least 1, if each item of the list has
 found_item_raw_count : (xs : List Item) → ((i : ℕ) (x : Item) → slice_get xs i ≡ Some x → 1 ≤ x.raw_count) → (i : ℕ) (o : Option (Bor Item))
     → is_some o ≡ nat_lt i (length xs) → IfSome o (λ x. x.now ≡ get_or xs i x.now) → IfSome o (λ x. 1 ≤ x.now.raw_count)
 found_item_raw_count xs each i None some at = tt

@@ -7,7 +7,7 @@ use Rattle.atl_tables.specs.Worlds.{IsMarket}
 use Rattle.atl_tables.specs.declared.world.Market.{Market}
 use Rattle.atl_tables.proofs.world.World.market.Goals as goal
 
--- if each market of a map is in bounds, so is the one that a look-up in the map finds, if it finds one
+-- if each market of a map is in its ranges (`IsMarket`), so is the one that a look-up in the map finds, if it finds one
 some_market : (items number : ℕ) (markets : FinMap nat_cmp Market) → ((i : ℕ) (m : Market) → get markets i ≡ Some m → IsMarket items i m) → (o : Option (Bor Market)) → option_copied o ≡ get markets number → IfSome o (λ m. IsMarket items number m.now)
 some_market items number markets each None is = tt
 some_market items number markets each (Some m) is = each number m.now (sym is)
