@@ -12,6 +12,7 @@ use std::alloc::{AllocError, Global};
 /// The work of `books`: makes the text of the campaign's books. A closed service gives Store.
 struct Asking;
 
+/// Makes the text of the campaign's books; a closed service gives Store.
 impl Work for Asking {
     type Done = String;
 
@@ -26,6 +27,7 @@ impl Work for Asking {
 /// The subcommand `books`, which prints the books of a campaign.
 pub struct Books;
 
+/// Prints the books of the campaign in the file `--db`.
 impl Subcommand for Books {
     const NAME: &'static str = "books";
 

@@ -11,8 +11,8 @@ use clap::{Arg, ArgMatches};
 use sqlite::Alter;
 use std::alloc::{AllocError, Global};
 
-/// The work of `close`: closes this month, with the moderator's pass text and the words of the
-/// dice.
+/// The work of `close`: closes the month `month`, with the moderator's pass text and the words of
+/// the dice.
 #[derive(Clone, Copy)]
 struct Closing<'a> {
     alloc: Global,
@@ -21,6 +21,7 @@ struct Closing<'a> {
     dice: Dice,
 }
 
+/// Runs a command Close with the month's words of the dice; the result is the answer.
 impl<'a> Work for Closing<'a> {
     type Done = Answer;
 
@@ -35,6 +36,7 @@ impl<'a> Work for Closing<'a> {
 /// The subcommand `close`, which closes a month and prints its number.
 pub struct Close;
 
+/// Closes the month `--month` of the file `--db`, by `--pass` and `--seed`, and prints its number.
 impl Subcommand for Close {
     const NAME: &'static str = "close";
 

@@ -67,18 +67,21 @@ impl Drop for Failure {
     }
 }
 
+/// A failed allocation is the failure Memory.
 impl From<AllocError> for Failure {
     fn from(_e: AllocError) -> Failure {
         Failure::Memory
     }
 }
 
+/// A failed allocation that gives back a value is the failure Memory; the value is dropped.
 impl<T: Drop> From<AllocFailed<T>> for Failure {
     fn from(_e: AllocFailed<T>) -> Failure {
         Failure::Memory
     }
 }
 
+/// An error of the database: Memory if it ran out of memory, else Store.
 impl From<Error> for Failure {
     fn from(error: Error) -> Failure {
         match error {
@@ -88,6 +91,8 @@ impl From<Error> for Failure {
     }
 }
 
+/// Why no campaign was founded, opened or upgraded: the failure of the same name; BadPassText is a
+/// refusal.
 impl From<Cause> for Failure {
     fn from(cause: Cause) -> Failure {
         match cause {
@@ -110,6 +115,7 @@ impl From<Cause> for Failure {
 #[derive(Clone, Copy)]
 struct OneLine<'a>(&'a str);
 
+/// Writes the text with an escape for each control character, as `\n` for the end of a line.
 impl<'a> fmt::Display for OneLine<'a> {
     fn fmt<W: fmt::Write>(&self, f: &mut fmt::Formatter<W>) -> fmt::Result {
         for letter in self.0.chars() {

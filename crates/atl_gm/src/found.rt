@@ -13,6 +13,7 @@ use std::alloc::{AllocError, Global};
 /// The work of `found` once the campaign is founded: counts the regions of its world.
 struct CountRegions;
 
+/// Returns the number of the world's regions; nothing changes.
 impl Work for CountRegions {
     type Done = usize;
 
@@ -25,6 +26,8 @@ impl Work for CountRegions {
 /// regions.
 pub struct Found;
 
+/// Founds a campaign in the file `--db`, by the file `--world` and the moderator's `--pass`, and
+/// prints its number of regions.
 impl Subcommand for Found {
     const NAME: &'static str = "found";
 

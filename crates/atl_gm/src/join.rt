@@ -20,6 +20,7 @@ struct Joining<'a> {
     dice: Dice,
 }
 
+/// Runs a command Join with the faction's word of the dice; the result is the answer.
 impl<'a> Work for Joining<'a> {
     type Done = Answer;
 
@@ -35,6 +36,8 @@ impl<'a> Work for Joining<'a> {
 /// The subcommand `join`, which has a faction join and prints its number and that of its unit.
 pub struct Join;
 
+/// Has the faction `--name` join the campaign in `--db`, by `--pass` and `--seed`, and prints its
+/// number and that of its unit.
 impl Subcommand for Join {
     const NAME: &'static str = "join";
 

@@ -13,7 +13,7 @@ use std::alloc::{AllocError, Global};
 /// is refused as TooLong.
 const READ_BYTES: u64 = MOST_BYTES as u64 + 1;
 
-/// The command Mail with the mailing of the file.
+/// The command Mail by the options: the faction, its pass text, and the bytes of the file `--file`.
 fn mailing(rt: &HostRuntime, options: &ArgMatches<'_>) -> Result<atl_service::Command, Failure> {
     let faction = options::number_of(options, options::FACTION)?;
     let pass = options::text_of(options, options::PASS)?;
@@ -30,6 +30,8 @@ fn mailing(rt: &HostRuntime, options: &ArgMatches<'_>) -> Result<atl_service::Co
 /// faulty lines.
 pub struct Mail;
 
+/// Stores the mailing in `--file` for `--faction`, by its `--pass`, in the campaign in `--db`, and
+/// prints how many orders it has, and its faulty lines.
 impl Subcommand for Mail {
     const NAME: &'static str = "mail";
 

@@ -20,6 +20,7 @@ fn request(rt: &HostRuntime, options: &ArgMatches<'_>) -> Result<atl_service::Co
 /// The subcommand `report`, which prints the stored report of a faction.
 pub struct Report;
 
+/// Prints the stored report of `--faction`, by its `--pass`, from the campaign in `--db`.
 impl Subcommand for Report {
     const NAME: &'static str = "report";
 

@@ -27,6 +27,8 @@ fn unbound(error: io::Error) -> Failure {
     Failure::of_system(error, Failure::Net)
 }
 
+/// Listens on the port at 127.0.0.1, and serves `count` connections. Net if the port can't be bound
+/// or no connection accepted, Memory if memory ran out.
 impl<'a> Work for Serving<'a> {
     type Done = ();
 
@@ -51,6 +53,8 @@ impl<'a> Work for Serving<'a> {
 /// The subcommand `serve`, which serves a count of connections and prints nothing.
 pub struct Serve;
 
+/// Serves the campaign in `--db` at the port `--port` for `--count` connections, with the dice of
+/// `--seed`.
 impl Subcommand for Serve {
     const NAME: &'static str = "serve";
 

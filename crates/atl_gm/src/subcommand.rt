@@ -37,6 +37,7 @@ fn command_of<'a, S: Subcommand>(alloc: Global) -> Result<Command<'a>, AllocErro
     Command::new(alloc, name).about(about).args(options)
 }
 
+/// The empty list: adds no parser, and every name gives NoSubcommand.
 impl Subcommands for () {
     fn add_to<'a>(_alloc: Global, line: Command<'a>) -> Result<Command<'a>, AllocError> {
         Ok(line)
@@ -47,6 +48,8 @@ impl Subcommands for () {
     }
 }
 
+/// A list of a first subcommand and others: adds its parser before theirs, and runs it if it has
+/// the name.
 impl<First: Subcommand, Rest: Subcommands> Subcommands for (First, Rest) {
     fn add_to<'a>(alloc: Global, line: Command<'a>) -> Result<Command<'a>, AllocError> {
         let first = command_of::<First>(alloc)?;

@@ -39,7 +39,8 @@ fn report_after_join(
     }
 }
 
-/// Founds a campaign in the database, runs join and report, and returns the answer.
+/// Founds a campaign in the database, and runs the join and then the report; returns the answer to
+/// the report, or to a join that failed.
 fn first_report(
     alloc: Global,
     conn: Connection<MemStore>,
@@ -67,6 +68,7 @@ fn answer(alloc: Global, world_text: &str) -> Result<Answer, Failure> {
 /// joins with pass text `pw` and word 0.
 pub struct Trial;
 
+/// Reads the world text on standard input, and prints the first report of the faction Avalon.
 impl Subcommand for Trial {
     const NAME: &'static str = "trial";
 

@@ -14,6 +14,7 @@ use std::alloc::{AllocError, Global};
 /// The work of `upgrade` once the file is upgraded: counts the markets of all regions of its world.
 struct CountMarkets;
 
+/// Returns the number of the markets of all regions; nothing changes.
 impl Work for CountMarkets {
     type Done = usize;
 
@@ -30,6 +31,7 @@ impl Work for CountMarkets {
 /// world's number of markets.
 pub struct Upgrade;
 
+/// Upgrades the campaign in `--db` by the world file `--world`, and prints the number of markets.
 impl Subcommand for Upgrade {
     const NAME: &'static str = "upgrade";
 

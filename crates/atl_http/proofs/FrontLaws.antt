@@ -41,7 +41,8 @@ behind_is [] p rest h = cc
 behind_is (x ∷ w) [] rest h = cc
 behind_is (x ∷ w) (y ∷ p) rest h = behind_by x y w p rest (y == x) refl (λ k. behind_is w p rest k) (sym (behind_step x y w p) ∙ h)
 
--- looking up a path, past its first byte, in rows with a common prefix looks up the rest after it, or finds nothing
+-- looking up a path in rows with a common prefix, past the first byte of both, looks up what follows the prefix, or
+-- finds nothing
 front_by : (x y : ℕ) (w p : List ℕ) (t : Rows) (v : Bool) → (y == x) ≡ v → first (prepend w t) p ≡ option_and_then (λ rest. first t rest) (after_prefix w p) → seek 0 (step y (prepend (x ∷ w) t)) p ≡ option_and_then (λ rest. first t rest) (cond v (after_prefix w p) None)
 front_by x y w p t true e ih =
     let same : y ≡ x = grind (arith, nat_tests) in
@@ -158,12 +159,12 @@ ascii_utf8 p h = all_utf8 (λ b. ltb b 128) (λ b e. grind (arith, nat_tests)) p
 abbrev pub NumberSays : ℕ → List ℕ → Type 0
 NumberSays key rest = ((first (number_row key) rest ≡ Some key) × ((number_of rest ≡ None) ⊎ IsUtf8 rest)) ⊎ ((first (number_row key) rest ≡ None) × (number_of rest ≡ None))
 
--- a text that is no number fulfils `NumberSays` if its lookup finds the key or nothing
+-- the lookup of a text that is no number agrees with `number_of` (`NumberSays`) if it finds the key or nothing
 found_or_none : (key : ℕ) (rest : List ℕ) → number_of rest ≡ None → IsAt key (first (number_row key) rest) → NumberSays key rest
 found_or_none key rest none (inl e) = inl (e, inl none)
 found_or_none key rest none (inr e) = inr (e, none)
 
--- a text that isn't empty fulfils `NumberSays`, by whether all its bytes are digits
+-- the lookup of a text that isn't empty agrees with `number_of` (`NumberSays`), whether all bytes are digits or not
 number_by : (key b : ℕ) (p : List ℕ) (t : Bool) → list_all is_ascii_digit (b ∷ p) ≡ t → NumberSays key (b ∷ p)
 unfolding number_of
 number_by key b p true e = inl (taken_whole key b p (first_digit b p (is_ascii_digit b) refl e) (no_slash (b ∷ p) e), inr (digits_utf8 (b ∷ p) e))
@@ -171,7 +172,7 @@ number_by key b p false e =
     let none : number_of (b ∷ p) ≡ None = rw e (number_none (nat_lt 0 (length (b ∷ p))) (nat_le (length (b ∷ p)) 9) (Some (digits_value 10 (b ∷ p)))) in
     found_or_none key (b ∷ p) none (one_or_none key b p)
 
--- every text after a prefix fulfils `NumberSays`
+-- the lookup of every text after a prefix agrees with `number_of` (`NumberSays`)
 pub number_says : (key : ℕ) (rest : List ℕ) → NumberSays key rest
 unfolding seek number_of
 number_says key [] = inr (refl, refl)

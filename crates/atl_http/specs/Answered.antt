@@ -39,7 +39,7 @@ mailed_body orders faults = codes "{\"faults\":[" ▸ pairs faults ▸ codes "],
 unfoldable pub month_body : (month : ℕ) → List ℕ
 month_body month = codes "{\"month\":" ▸ decimal month ▸ codes "}"
 
--- a reply of status 200
+-- the reply of status 200 with this content type and this body
 abbrev pub success : (kind body : List ℕ) → Reply
 success kind body = record { status = 200; allow = None; kind = kind; body = body }
 
@@ -64,7 +64,7 @@ failure status name number = record { status = status; allow = None; kind = json
 
 -- ---- the whole
 
--- the reply to an answer; a fault has status 500
+-- the reply to an answer: status 200 with what was done or the report, a refusal's status, or 500 for a fault
 abbrev pub answer_reply : Answer → Reply
 answer_reply (Joined faction unit) = success json (joined_body faction unit)
 answer_reply (Mailed orders faults) = success json (mailed_body orders faults)

@@ -44,7 +44,7 @@ GivesBytes before after room came.End = Keeps before after × IsAtEnd after
 GivesBytes before after room came.Interrupted = Keeps before after
 GivesBytes before after room came.Failed = Keeps before after
 
--- the counters before the first read
+-- the counters before the first read: none is counted, and the last outcome is set to a piece of 0 bytes
 abbrev pub no_reads : Reads
 no_reads = record { count = 0; last = came.Piece 0 }
 
@@ -91,7 +91,7 @@ Takes before after rest (written.Taken count) = (0 < count) × (count ≤ length
 Takes before after rest written.Interrupted = Appends before after []
 Takes before after rest written.Failed = Appends before after []
 
--- the counters before the first write
+-- the counters before the first write: none was interrupted, and the last outcome is set to 0 bytes taken
 abbrev pub no_writes : Writes
 no_writes = record { interrupted = 0; last = written.Taken 0 }
 

@@ -36,7 +36,7 @@ abbrev pub with_method : (method : List ℕ) → Option Route → Result Route P
 with_method method None = Err NoRoute
 with_method method (Some route) = if bytes_eq method (method_of route) then Ok route else Err (BadMethod route)
 
--- the route of a request, by the first two checks
+-- the route of a request by the first two checks, or BadRequest, NoRoute or BadMethod
 unfoldable pub requested_route : (minor : ℕ) → (method target : List ℕ) → List Pair → Result Route Problem
 requested_route minor method target fields = if has_host minor fields then with_method method (route_of (path_of target)) else Err BadRequest
 
@@ -77,7 +77,7 @@ size_of (Report faction) fields = Ok 0
 unfoldable pub pass_field : List Pair → Result (List ℕ) Problem
 pass_field fields = or_problem NoPass (only (values_of (codes "Atlantis-Pass") fields))
 
--- the pass text that a route needs; a join needs none in its head
+-- the pass text that a route needs in the head, else NoPass; empty for a join, which needs none there
 abbrev pub pass_of : Route → List Pair → Result (List ℕ) Problem
 pass_of Join fields = Ok []
 pass_of (Orders faction) fields = pass_field fields
@@ -90,7 +90,7 @@ pass_of (Report faction) fields = pass_field fields
 abbrev pub json_of : List ℕ → Option Data
 json_of body = if is_utf8 body then read body else None
 
--- the text under a key of an object of JSON
+-- the text under a key of an object of JSON; None if there is none
 abbrev pub text_at : List ℕ → Data → Option (List ℕ)
 text_at key d = option_and_then as_str (get key d)
 
@@ -119,7 +119,7 @@ head_checks minor method target fields = do
   pass ← pass_of route fields
   Ok (route, size, pass)
 
--- the verdict on a request whose body is whole
+-- the verdict on a request whose body is whole: Refused with the problem of the body, or Asks with the request
 abbrev pub verdict_on_request : Result Request Problem → Verdict
 verdict_on_request (Err problem) = Refused problem
 verdict_on_request (Ok asked) = Asks asked

@@ -17,7 +17,7 @@ use Rattle.atl_http.specs.Serving.{IsReply}
 
 -- ---- reading
 
--- One read added `count` bytes to those read before, or failed and added nothing.
+-- One read added `count` bytes to those read before, or none with Cut or ReadFault. Memory leaves open what was read.
 abbrev pub ReadsMore : (before after : Option (List ℕ)) → (old new : List ℕ) → Result ℕ HttpFault → Type 0
 ReadsMore before after old new (Ok count) = (piece : List ℕ) × (length piece ≡ count) × (count ≤ most_at_once) × Consumes before after piece × (new ≡ old ++ piece)
 ReadsMore before after old new (Err Cut) = Keeps before after × IsAtEnd after × (new ≡ old)
@@ -26,7 +26,7 @@ ReadsMore before after old new (Err WriteFault) = ⊥
 ReadsMore before after old new (Err Memory) = ⊤
 
 -- The bytes `seen` were read, and no more than needed: their verdict is the outcome, or More if the input ended or a
--- read failed.
+-- read failed. Memory leaves open what was read.
 abbrev pub Receives : (before after : Option (List ℕ)) → (seen : List ℕ) → Result Outcome HttpFault → Type 0
 Receives before after seen (Ok outcome) = Consumes before after seen × IsReadSoFar seen × Judges seen (final outcome)
 Receives before after seen (Err Cut) = Consumes before after seen × Judges seen More × IsAtEnd after

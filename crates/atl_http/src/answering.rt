@@ -119,7 +119,7 @@ fn fault_message(alloc: Global, fault: Fault) -> Result<Message, AllocError>
     )
 }
 
-/// The reply to a command that was carried out: status 200 and this body in JSON.
+/// The reply to a command that was carried out: status 200 and `body`, which is JSON.
 fn success_message(alloc: Global, body: &str) -> Result<Message, AllocError>
     ensures { IfOk result (Says (success json body.now)) }
 {

@@ -25,7 +25,7 @@ pub enum ReadOutcome {
     Failed,
 }
 
-/// The outcome of one write.
+/// The outcome of one write: some bytes taken, an interruption, or a failure.
 #[derive(Drop, Clone, Copy)]
 pub enum WriteOutcome {
     /// The number of bytes written, at least one.
@@ -57,7 +57,7 @@ fn is_interrupted(error: &Error) -> bool
     error.kind() == ErrorKind::Interrupted
 }
 
-/// The outcome of one read.
+/// The outcome of one read by what it returned: 0 bytes are the end of the input.
 fn read_outcome(returned: io::Result<usize>) -> ReadOutcome
     ensures { IsReadOutcome returned result }
 {
@@ -69,7 +69,7 @@ fn read_outcome(returned: io::Result<usize>) -> ReadOutcome
     }
 }
 
-/// The outcome of one write.
+/// The outcome of one write by what it returned: 0 bytes are a failure.
 fn write_outcome(returned: io::Result<usize>) -> WriteOutcome
     ensures { IsWriteOutcome returned result }
 {

@@ -83,8 +83,8 @@ fn size_within(text: &[u8]) -> Result<usize, CheckError>
     }
 }
 
-/// The length of a POST's body in bytes, by the fields Content-Length and Transfer-Encoding; the
-/// third check.
+/// The length of a POST's body in bytes, by Content-Length and Transfer-Encoding; else NoLength,
+/// BadRequest or BodyTooLong. The third check.
 #[tactic(auto, unfolding(crate::specs::Checks::posted_size))]
 fn posted_size(is_optional: bool, bytes: &[u8], fields: &[HeaderSpan]) -> Result<usize, CheckError>
     requires { All (IsHeaderWithin (length bytes.now)) fields.now }
@@ -128,7 +128,8 @@ fn pass_field<'a>(bytes: &'a [u8], fields: &[HeaderSpan]) -> Result<&'a [u8], Ch
     }
 }
 
-/// The pass text of the head, if the route needs one; empty for a join. The fourth check.
+/// The pass text of the head, else NoPass; empty for a join, which needs none there. The fourth
+/// check.
 fn pass_of<'a>(route: Route, bytes: &'a [u8], fields: &[HeaderSpan]) -> Result<&'a [u8], CheckError>
     requires { All (IsHeaderWithin (length bytes.now)) fields.now }
     ensures { Gives (λ pass. pass.now) result (pass_of route (seen bytes.now fields.now)) }
@@ -148,8 +149,8 @@ pub struct ParsedHead<'a> {
     pub pass: &'a [u8],
 }
 
-/// The checks of a head: the problem of the first that it fails, or Memory without memory for the
-/// routes.
+/// Checks a head: its route, body length and pass text, or the problem of the first check that it
+/// fails. Memory without memory for the routes.
 #[tactic(auto, unfolding(crate::specs::Checks::head_checks))]
 pub fn head_checks<'a>(
     alloc: Global,

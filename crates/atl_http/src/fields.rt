@@ -22,7 +22,7 @@ fn is_same(name: &[u8], other: &[u8]) -> bool
     name.eq_ignore_ascii_case(other)
 }
 
-/// The result of a lookup after one more value was found.
+/// Adds one more value to the result of a lookup: none becomes one, and one becomes several.
 fn with_value(found: FieldLookup, value: Span) -> FieldLookup
     ensures { result ≡ one_more found value }
 {

@@ -58,6 +58,7 @@ impl fmt::Display for HttpFault {
 
 impl std::error::Error for HttpFault {}
 
+/// A failed allocation becomes Memory.
 impl From<AllocError> for HttpFault {
     ghost use Rattle.atl_http.specs.declared.io.HttpFault.TheVariants.{Memory};
 
@@ -99,8 +100,8 @@ fn read_more<R: Read>(
     }
 }
 
-/// Writes all bytes. WriteFault where a write fails or takes no byte, or 1,000,000 writes were
-/// interrupted: then only the first bytes are written.
+/// Writes all bytes, or only the first of them and gives WriteFault: a write failed or took no
+/// byte, or 1,000,000 writes were interrupted.
 pub fn send<W: Write>(writer: &mut W, writes: &mut Writes, bytes: &[u8]) -> Result<(), HttpFault>
     requires { writes.old ≡ no_writes }
     ensures sends { Sends (W.contents writer.old) (W.contents writer.new) bytes.now result }
@@ -137,7 +138,8 @@ fn progress_if_due(alloc: Global, seen: &[u8], lacking: usize) -> Result<Progres
     progress_of(alloc, seen)
 }
 
-/// Reads until the request is whole or refused, as `receive` does, with a buffer for one read.
+/// Reads until the request is whole or refused, as `receive` does, with `room` as the buffer of
+/// 8,192 bytes for each read.
 fn receive_in<R: Read>(
     alloc: Global,
     reader: &mut R,

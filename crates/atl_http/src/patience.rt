@@ -69,6 +69,7 @@ impl<'a, C: Clock> Drop for Peer<'a, C> {
     }
 }
 
+/// Reads from the peer, for at most 10 seconds, and subtracts the time from that of the connection.
 impl<'a, C: Clock> Read for Peer<'a, C> {
     fn read(&mut self, buf: &mut [u8]) -> io::Result<usize> {
         let (wait, begun) = self.patience.begin()?;
@@ -80,6 +81,7 @@ impl<'a, C: Clock> Read for Peer<'a, C> {
     }
 }
 
+/// Writes to the peer, for at most 10 seconds, and subtracts the time from that of the connection.
 impl<'a, C: Clock> Write for Peer<'a, C> {
     fn write(&mut self, buf: &[u8]) -> io::Result<usize> {
         let (wait, begun) = self.patience.begin()?;

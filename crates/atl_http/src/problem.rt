@@ -78,6 +78,7 @@ pub enum CheckError {
     Failed(Problem),
 }
 
+/// A failed allocation becomes Memory.
 impl From<AllocError> for CheckError {
     ghost use Rattle.atl_http.specs.declared.problem.CheckError.TheVariants.{Memory};
 

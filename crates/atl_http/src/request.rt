@@ -124,7 +124,7 @@ pub enum Progress {
 impl Progress {
     ghost use Rattle.atl_http.specs.Heads.{verdict_by};
 
-    /// The verdict: More while bytes are missing.
+    /// The verdict of this progress: More while bytes are missing, else the final one.
     pub fn verdict(self) -> Verdict
         ensures { result ≡ verdict_by self }
     {

@@ -136,7 +136,7 @@ fn wanted(call: Call, at: usize) -> Option<&'static str> {
     }
 }
 
-/// Whether the stored report of a faction has all these lines.
+/// Whether the stored report of a faction has all of `lines`.
 fn reports(campaign: &Campaign, faction: u32, lines: &[&str]) -> bool {
     match campaign.report(faction) {
         Some(report) => lines

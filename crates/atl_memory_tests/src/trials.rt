@@ -67,7 +67,7 @@ fn done(is_as_wanted: bool) -> Came {
     }
 }
 
-/// Whether the campaign of a service, and the tables of its database, have these rows.
+/// Whether the campaign of a service, and the tables of its database, have the rows `wanted`.
 fn has_rows<S: Alter + Drop>(alloc: Global, service: Service<S>, wanted: &str) -> bool {
     is_text(rows(alloc, service.campaign()), wanted)
         && is_text(rows_of(alloc, service.end()), wanted)
@@ -85,7 +85,7 @@ fn is_closed<S: Alter>(service: &mut Service<S>, case: &Case) -> bool {
     is_closed
 }
 
-/// Whether a service is closed, and the tables of its database have these rows.
+/// Whether a service is closed, and the tables of its database have the rows `wanted`.
 fn is_left_closed<S: Alter + Drop>(
     alloc: Global,
     mut service: Service<S>,

@@ -22,8 +22,8 @@ little : (b : Bool) (moved : ℕ) → moved ≤ (if b then most_moved else 0) �
 little true moved l = omega (arith, l)
 little false moved l = omega (arith, l)
 
--- The books of a good campaign have room for all that a phase may book.
--- The phase must move only its own entries, each by at most `most_moved`.
+-- The books of a good campaign have room for all that a phase may book, if the phase moves only its own entries, each
+-- by at most `most_moved`.
 room_of : (phase : PhaseSpec) → MovesItsOwn phase → (w : WorldValue) (c : CampaignValue) → IsGood w c → HaveRoom phase.moving c
 room_of phase own w c good = room_when_sound w c phase.moving (λ e t. little (may_move phase.moved e t) (phase.moving e t) (own e t)) good.sound
 

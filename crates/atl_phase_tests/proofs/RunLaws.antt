@@ -20,15 +20,16 @@ use Rattle.atl_month.proofs.MoveLaws.{phases_little}
 use Rattle.atl_month.proofs.PhaseLaws.{season_alone, sweep_alone, upkeep_alone, work_alone}
 use Rattle.atl_phase_tests.specs.Roomy.{IsRoomy, much}
 
--- The books of a good campaign are roomy, and so are those of any campaign with the same books.
+-- Each amount of the books of a good campaign, and of any campaign with the same books, has room for `much` more
+-- (`IsRoomy`).
 pub roomy_when_good : (w : WorldValue) (c d : CampaignValue) → IsGood w c → d.books ≡ c.books → IsRoomy d
 roomy_when_good w c d good books e t = subst (λ b. HasRoom much (amount_in b e t)) (sym books) (room_when_sound w c (λ f u. much) (λ f u. omega arith) good.sound e t)
 
--- Roomy books have room for whatever moves at most `much`.
+-- Roomy books (`IsRoomy`) have room for whatever moves each amount by at most `much`.
 pub room_for : (c : CampaignValue) (moving : BookBound) → ((e : Entry) (t : Thing) → moving e t ≤ much) → IsRoomy c → HaveRoom moving c
 room_for c moving little room = room_less moving (λ e t. much) c little room
 
--- Roomy books have room for the phases that carry out orders.
+-- Roomy books (`IsRoomy`) have room for all that the phases from FORM to PRODUCE may book together.
 pub room_for_orders : (c : CampaignValue) → IsRoomy c → HaveRoom orders_moving c
 room_for_orders c = room_for c orders_moving (λ e t. omega (arith, phases_little e t))
 
@@ -41,21 +42,26 @@ cut false moved l = omega (arith, l)
 moves_little : (phase : PhaseSpec) → MovesItsOwn phase → (e : Entry) (t : Thing) → phase.moving e t ≤ most_moved
 moves_little phase own e t = cut (may_move phase.moved e t) (phase.moving e t) (own e t)
 
--- Roomy books have room for a phase that moves only its own entries.
+-- Roomy books (`IsRoomy`) have room for a phase that moves only its own entries, each by at most `most_moved`.
 room_of : (phase : PhaseSpec) → MovesItsOwn phase → (c : CampaignValue) → IsRoomy c → HaveRoom phase.moving c
 room_of phase own c = room_for c phase.moving (λ e t. omega (arith, moves_little phase own e t))
 
+-- Roomy books (`IsRoomy`) have room for all that the phase WORK may book.
 pub room_for_work : (c : CampaignValue) → IsRoomy c → HaveRoom work_spec.moving c
 room_for_work = room_of work_spec work_alone
 
+-- Roomy books (`IsRoomy`) have room for all that upkeep may book.
 pub room_for_upkeep : (c : CampaignValue) → IsRoomy c → HaveRoom upkeep_spec.moving c
 room_for_upkeep = room_of upkeep_spec upkeep_alone
 
+-- Roomy books (`IsRoomy`) have room for all that the season may book.
 pub room_for_season : (c : CampaignValue) → IsRoomy c → HaveRoom season_spec.moving c
 room_for_season = room_of season_spec season_alone
 
+-- Roomy books (`IsRoomy`) have room for all that two seasons, one after the other, may book.
 pub room_for_seasons : (c : CampaignValue) → IsRoomy c → HaveRoom (both_move season_spec.moving season_spec.moving) c
 room_for_seasons c = room_for c (both_move season_spec.moving season_spec.moving) (λ e t. omega (arith, moves_little season_spec season_alone e t))
 
+-- Roomy books (`IsRoomy`) have room for all that the sweep may book.
 pub room_for_sweep : (c : CampaignValue) → IsRoomy c → HaveRoom sweep_spec.moving c
 room_for_sweep = room_of sweep_spec sweep_alone

@@ -108,8 +108,7 @@ impl Player {
         }
     }
 
-    /// Adds the units, goods or structures of a line to the campaign of the next cases, `count`
-    /// times.
+    /// Adds what a line says, such as a unit, to the campaign of the next cases, `count` times.
     fn set(&mut self, count: u32, line: &str) -> Option<()> {
         let (word, rest) = line.split_once(' ')?;
         for _ in 0..count {
@@ -118,8 +117,7 @@ impl Player {
         Some(())
     }
 
-    /// Adds the units, goods or structures of a `times` line, as often as it says,
-    /// to the campaign of the next cases.
+    /// Adds what a `times` line says, as often as it says, to the campaign of the next cases.
     fn set_times(&mut self, text: &str) -> Option<()> {
         let (count, line) = text.split_once(' ')?;
         self.set(count.parse::<u32>().ok()?, line)
@@ -156,7 +154,8 @@ impl Player {
         Ok(())
     }
 
-    /// Carries out a line of the file.
+    /// Carries out a line of the file: passes over a comment, begins a campaign, a run or a case,
+    /// or adds the line to it.
     fn read(&mut self, alloc: Global, line: &str) -> Result<(), Failed> {
         if line.is_empty() || line.starts_with("--") {
             Ok(())

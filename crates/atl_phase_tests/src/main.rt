@@ -28,6 +28,7 @@ fn run(rt: &HostRuntime) -> io::Result<()> {
     Ok(())
 }
 
+/// Plays the files of the command line, and returns an error of reading it or of printing.
 fn main(rt: HostRuntime) -> io::Result<()> {
     run(&rt)
 }

@@ -44,7 +44,7 @@ static RUNS: [(&str, Run); 7] = [
 ];
 
 impl Run {
-    /// The phases with a name in files of cases.
+    /// The phases that files of cases name so; None if the name is not in `RUNS`.
     pub fn of_name(name: &str) -> Option<Run> {
         for (listed, run) in RUNS.iter() {
             if name == *listed {

@@ -29,7 +29,7 @@ impl Case {
         })
     }
 
-    /// Adds a line to the last mailing.
+    /// Adds a line to the last mailing, if there is one.
     fn add_mail(&mut self, line: &str) -> Result<(), AllocError> {
         if let Some(mailing) = self.mailings.last_mut() {
             mailing.push_str(line)?;

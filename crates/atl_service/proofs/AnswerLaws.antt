@@ -1,4 +1,4 @@
--- Law for commands that `step` refuses: answering Refused with nothing changed fulfils `Answers`.
+-- Law for commands that `step` refuses: the answer Refused with nothing changed is right for them (`Answers`).
 use Rattle.std.proofs.Common.{◌≡◌, refl}
 use Rattle.sqlite_trees.specs.declared.store.Store.{Ghosts}
 use Rattle.sqlite.specs.Held.{Held}
@@ -11,7 +11,7 @@ use Rattle.atl_service.specs.declared.command.Refusal.{Refusal}
 use Rattle.atl_service.specs.Step.{step}
 use Rattle.atl_service.specs.Answering.{Answers}
 
--- a command that `step` refuses, answered Refused with campaign and connection unchanged, fulfils `Answers`
+-- if `step` refuses a command, the answer Refused with campaign and connection unchanged is right for it (`Answers`)
 pub is_refused : {S : Type 0} (g : Ghosts S) (w : WorldValue) (c : CampaignValue) (conn : Held S) (command : Command) (why : Refusal) → step w c command ≡ (c, Refused why) → IsGood w c
     → Answers g w c conn command c conn (Refused why)
 is_refused g w c conn command why is good = record {

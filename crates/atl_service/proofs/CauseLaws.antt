@@ -16,12 +16,12 @@ use Rattle.atl_service.specs.Causes.{GivesError, HasCause}
 
 -- if a test chose between two different values, the chosen value shows the test's result
 module _ {F : Type 0} (memory other : F) (apart : memory ≢ other) where
-  -- if the first value was chosen, the test is true
+  -- if a test that chooses between two different values chose the first, it is true
   is_first : (b : Bool) → memory ≡ cond b memory other → b ≡ true
   is_first true is = refl
   is_first false is = absurd (apart is)
 
-  -- if the second value was chosen, the test is false
+  -- if a test that chooses between two different values chose the second, it is false
   is_second : (b : Bool) → other ≡ cond b memory other → b ≡ false
   is_second true is = absurd (apart (sym is))
   is_second false is = refl
@@ -51,12 +51,14 @@ module _ {S : Type 0} (g : Ghosts S) (own : Statements) (old new : Held S) where
   failed : IsFaultOfError g own write_fault old new write.Store → GivesError g own false old new
   failed (e, is, given) = record { error = e; memory_is = is_second write.Memory write.Store writes_apart (is_memory e) is; given = given }
 
-  -- the service's fault for one that a write reports, if the disk is clean, has its cause (`HasCause`)
+  -- if a write's fault reports, on a clean disk, an error of one of its calls, this error is the cause of the service's
+  -- fault: out of memory for Memory, another for Store (`HasCause`)
   pub writing_told : (fault : WriteFault) → (HasCleanDisk (state g new) → IsFaultOfError g own write_fault old new fault) → HasCause g own old new (of_write fault)
   writing_told write.Memory told = inr (λ clean. lacked (told clean))
   writing_told write.Store told = λ clean. failed (told clean)
 
-  -- if a result's error is the fault that a write reports, the service's fault for it has its cause (`HasCause`)
+  -- if a call ends with the fault of a write as its error, the error that this fault reports is the cause of the
+  -- service's fault (`HasCause`)
   pub ended_by : {A : Type 0} (fault : WriteFault) (r : Result A WriteFault) → IsErrAnd r (λ f. f ≡ fault) → (HasCleanDisk (state g new) → IsFaultOfError g own write_fault old new fault) → IfErr r (λ f. HasCause g own old new (of_write f))
   ended_by fault (Ok a) is told = tt
   ended_by fault (Err f) is told = subst (λ x. HasCause g own old new (of_write x)) (sym is) (writing_told fault told)

@@ -69,6 +69,7 @@ module _ (w : WorldValue) (n : ℕ) (text : List ℕ) where
   pub not_unread : (fault : MailFault) → IsMailingOf n text → reading w text ≡ Err fault → ⊥
   not_unread fault sent unread = let (r, is, own) = reads sent in apart r fault (sym is ∙ unread)
     where
+      -- a result Ok is no Err
       apart : (r : Reading) (fault : MailFault) → ◌≡◌ {A = Result Reading MailFault} (Ok r) (Err fault) → ⊥
       apart r fault is = cc
 
@@ -80,7 +81,7 @@ module _ (w : WorldValue) (n : ℕ) (text : List ℕ) where
   only_memory Memory sent unread = refl
 
 module _ (w : WorldValue) where
-  -- the readings of those mailings in these entries of the mail that can be read
+  -- the readings of the mailings in the entries `es` of the mail, without those that can't be read
   abbrev texts_read : List (ℕ × List ℕ) → List Reading
   texts_read es = flat_map (λ e. read_of (reading w e.1)) es
 
@@ -114,6 +115,7 @@ own_factions w c ms good is =
 pub wrong_under : (w : WorldValue) (mail : FinMap nat_cmp (List ℕ)) (n : ℕ) → unwrap_or (get (mapped (λ text. faults_of (reading w text)) mail) n) [] ≡ faults_in w (get mail n)
 wrong_under w mail n = ap (λ o. unwrap_or o []) (get-mapped (λ text. faults_of (reading w text)) mail n) ∙ at (get mail n)
   where
+    -- the faulty lines of a mailing that may be missing are those of `faults_in`
     at : (o : Option (List ℕ)) → unwrap_or (option_map (λ text. faults_of (reading w text)) o) [] ≡ faults_in w o
     at None = refl
     at (Some text) = refl
@@ -138,6 +140,7 @@ there_among : (P : ℕ → Type 0) (p : Faction → Bool) (es : List (ℕ × Fac
 there_among P p [] all = tt
 there_among P p (e ∷ es) (here, all) = at (p e.1) (there_among P p es all)
   where
+    -- P holds of the numbers that pass, whether the first faction passes the test or not
     at : (b : Bool) → AllByRecursion P (numbers_among p es) → AllByRecursion P (map (λ x. x.0) (cond b (e ∷ filter (λ x. p x.1) es) (filter (λ x. p x.1) es)))
     at true rest = (here, rest)
     at false rest = rest
@@ -187,7 +190,7 @@ stored_marked w c d n faults events (Err e) is m = tt
 
 -- ---- the mail, read one mailing after another
 
--- the faulty lines of the mailings in these entries, by faction
+-- the faulty lines of each mailing in the entries `es` of the mail, with the number of its faction
 abbrev wrong_in : WorldValue → List (ℕ × List ℕ) → List (ℕ × List FaultyLine)
 wrong_in w es = map (λ e. (e.0, faults_of (reading w e.1))) es
 
@@ -195,7 +198,8 @@ wrong_in w es = map (λ e. (e.0, faults_of (reading w e.1))) es
 abbrev wrong : WorldValue → CampaignValue → FinMap nat_cmp (List FaultyLine)
 wrong w c = mapped (λ text. faults_of (reading w text)) c.mail
 
--- before the first mailing of a good campaign is read, `ReadSoFar` holds with all mailings still to be read
+-- before the first mailing of a good campaign is read, what was read (nothing) and what is left make the whole mail
+-- (`ReadSoFar`)
 pub read_begins : (w : WorldValue) (c : CampaignValue) (ms : List Mailing) (faults : FinMap nat_cmp (List FaultyLine)) (all : List (ℕ × List ℕ)) → IsGood w c → all ≡ entries c.mail → ms ≡ [] → faults ≡ empty → ReadSoFar w c ms faults all
 read_begins w c ms faults all good is none none_wrong =
     rw (is, none, none_wrong) (
@@ -205,7 +209,7 @@ read_begins w c ms faults all good is none none_wrong =
       sent_by w c good,
     )
 
--- after one more mailing is read, `ReadSoFar` holds with the rest of the mailings
+-- after one more mailing is read, what was read and what is left still make the whole mail (`ReadSoFar`)
 pub read_goes_on : (w : WorldValue) (c : CampaignValue) (ms ns : List Mailing) (faults faults' : FinMap nat_cmp (List FaultyLine)) (here rest : List (ℕ × List ℕ)) (n : ℕ) (text : List ℕ) (m : Mailing) → here ≡ (n, text) ∷ rest → ns ≡ ms ++ m ∷ [] → IsReadWith w m → m.text ≡ text
     → faults' ≡ insert faults n m.faults → ReadSoFar w c ms faults here → ReadSoFar w c ns faults' rest
 read_goes_on w c ms ns faults faults' here rest n text m left one_more read kept put (mailings, all, outcome, sent) =

@@ -12,7 +12,7 @@ use Rattle.sqlite.specs.State.{HasCleanDisk}
 use Rattle.sqlite.proofs.Shield.{shield_means}
 use Rattle.atl_service.specs.Files.{HasCollided}
 
--- `doubt` of a clean disk is 0
+-- if the disk is clean, no wrong answer of it was taken as true: the number `doubt` is 0
 no_doubt : (clean : Bool) → IsTrue clean → doubt clean ≡ 0
 unfolding doubt
 no_doubt true is = refl

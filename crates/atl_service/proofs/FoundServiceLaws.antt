@@ -1,4 +1,4 @@
--- Laws on `found`: founding fulfils `Founds`, a refusal fulfils `RefusesFounding`, and the new service is consistent.
+-- Laws on `found`: it founds (`Founds`) or refuses (`RefusesFounding`) as promised; the new service is consistent.
 use Rattle.std.proofs.Common.{◌≡◌, ◌⊎◌, Bool, true, false, List, ℕ, Result, Ok, Some, refl, sym, ap, ◌∙◌, subst, inl, inr, arith}
 use Rattle.std.proofs.lemmas.Bool.{false≢true}
 use Rattle.sqlite_trees.specs.declared.store.Store.{Ghosts}
@@ -28,18 +28,20 @@ use Rattle.atl_service.specs.Found.{Founds, FailsToFound, LeavesByCause, Refuses
 use Rattle.atl_service.proofs.CauseLaws.{creation_failed, creation_lacked}
 
 module _ {S : Type 0} (g : Ghosts S) where
-  -- a connection is a later state of itself
+  -- every connection is a later state of itself (`IsLater`)
   later_itself : (conn : Held S) → IsLater (state g conn) (state g conn)
   later_itself conn = record { clean = λ clean. clean; counts = omega arith; shield = λ k. k }
 
-  -- an unchanged connection fulfils `FailsToFound`
+  -- a founding that leaves the connection unchanged leaves what a failed one may leave (`FailsToFound`)
   nothing_done : (conn : Held S) (text pass : List ℕ) → FailsToFound g conn text pass conn
   nothing_done conn text pass = record { tables = λ clean. spares_itself (state g conn); unfounded = λ bad. refl; crash = λ clean w is db may. inl may }
 
-  -- a refusal by a check before the tables are created fulfils `RefusesFounding` with the connection unchanged
+  -- founding may refuse with a cause that doesn't depend on the tables (the world text, the pass text, Memory), and
+  -- leave the connection unchanged (`RefusesFounding`)
   pub spared : (conn : Held S) (text pass : List ℕ) (why : Cause) → ((is_there : Bool) → MayBeCause text pass is_there why) → RefusesFounding g conn text pass why conn
   spared conn text pass why cause = record { cause = cause (has_campaign conn.schema); leaves = leaves why cause; later = later_itself conn }
     where
+      -- with a cause that doesn't depend on the tables the connection may be left unchanged (`LeavesByCause`)
       leaves : (why : Cause) → ((is_there : Bool) → MayBeCause text pass is_there why) → LeavesByCause g conn text pass conn why
       leaves (BadWorld fault) is = refl
       leaves BadPassText is = refl
@@ -61,7 +63,7 @@ module _ {S : Type 0} (g : Ghosts S) where
     text = λ up clean. ap world_of (world_text_is (state g conn) text c (holds clean)) ∙ is;
   }
 
-  -- if the world text and pass text are good and the tables were created, founding fulfils `Founds`
+  -- if the world text and pass text are good and the tables were created, the campaign is founded (`Founds`)
   pub founds_on : (old conn : Held S) (w : WorldValue) (c : CampaignValue) (text pass : List ℕ) → Prepares text pass w c → Creates g text c old conn → IsLater (state g old) (state g conn) → Founds g old text pass (record { conn = conn; world = w; campaign = Some c })
   founds_on old conn w c text pass made creates later = record {
     fresh = creates.fresh;
@@ -75,7 +77,8 @@ module _ {S : Type 0} (g : Ghosts S) where
 
   -- ---- a founding whose tables could not be created
   module _ (old new : Held S) (w : WorldValue) (c : CampaignValue) (text pass : List ℕ) (made : Prepares text pass w c) (later : IsLater (state g old) (state g new)) where
-    -- if the tables could not be created, founding fulfils `FailsToFound`
+    -- if the tables could not be created, they are as before while the connection is open, and a crash leaves them so
+    -- or with the founded campaign (`FailsToFound`)
     failed : FailsToCreate g text c old new → FailsToFound g old text pass new
     failed fails = record {
       tables = fails.tables;
@@ -83,6 +86,7 @@ module _ {S : Type 0} (g : Ghosts S) where
       crash = λ clean v v_is. let same : w ≡ v = ok_same w v (sym made.world ∙ v_is) in subst (λ (d : CampaignValue). MayFound (state g old) text d (state g new)) (made.campaign ∙ ap (λ u. founded_of u pass) same) (fails.crash clean);
     }
       where
+        -- equal results Ok have equal worlds
         ok_same : (a b : WorldValue) → ◌≡◌ {A = Result WorldValue WorldFault} (Ok a) (Ok b) → a ≡ b
         ok_same a b e = cc
 
@@ -95,11 +99,13 @@ module _ {S : Type 0} (g : Ghosts S) where
       gives_among g (OfFounding text c) (FoundsBy text pass) (λ sql params own. (w, made.world, subst (λ (d : CampaignValue). OfFounding text d sql params) made.campaign own)) told.0 old new told.2,
     )
 
-    -- if creating the tables fails, founding fulfils `RefusesFounding` with the cause for that fault
+    -- if creating the tables fails, founding refuses with the cause of the same name (`RefusesFounding`)
     pub refused_by_store : (fault : CreateFault) → RefusesToCreate g text c old new fault → RefusesFounding g old text pass (of_creation fault) new
     refused_by_store NotEmpty refused = record { cause = ((w, made.world), made.pass_is_good, refused.0); leaves = refused.1; later = later }
     refused_by_store Store refused = record { cause = ((w, made.world), made.pass_is_good, refused.0.fresh); leaves = (failed refused.0, broken refused.1); later = later }
       where
+        -- if creating fails with Store, the connection wasn't ready and is unchanged, or a call of the write gave an
+        -- error other than out of memory (`RefusesToWrite`)
         broken : ((¬ IsReadyToCreate (state g old)) × (new ≡ old)) ⊎ BreaksOffCreation g text c old new Store → RefusesToWrite g (FoundsBy text pass) old new
         broken (inl unasked) = inl unasked
         broken (inr off) = inr (off.ready, λ clean. creation_failed g (FoundsBy text pass) old new (told_by_founding Store (off.told clean)))

@@ -1,5 +1,5 @@
--- Laws on lists of commands: if each command fulfils `Runs`, the list fulfils `RunsAll`, which implies the main theorem
--- `Headline`.
+-- Laws on lists of commands: if each command runs as promised (`Runs`), so does the list (`RunsAll`), which implies
+-- the main theorem (`Headline`).
 use Rattle.std.proofs.Common.{◌≡◌, ◌⊎◌, ◌≤◌, ◌<◌, ◌+◌, ◌++◌, ◌∷◌, [], ℕ, List, map, drop, length, get_or, Option, Some, None, IfSome, refl, sym, ap, ap₂, ◌∙◌, subst, inl, inr, append_assoc, append-nil, arith}
 use native.Mathlib.Numerals.{unary_clauses}
 use Rattle.std.proofs.lemmas.List.{drop_more, drop_all}
@@ -21,7 +21,8 @@ use Rattle.atl_service.specs.Step.{step}
 use Rattle.atl_service.specs.Service.{ServiceValue, text_in}
 use Rattle.atl_service.specs.Runs.{Runs, RunsAt, RunsOpen, Accepts, Closes, RunsAll, Follows, FollowsAt, AreClosed, Headline, Interrupted, HeadlineAt}
 
--- if `LeavesAfterFault` holds with a count of earlier disk failures, it holds with each lower count
+-- what a fault leaves of the tables (`LeavesAfterFault`), if it holds with a count of earlier disk failures, holds with
+-- each lower count
 stops_from : (few many : ℕ) (s : State) (text : List ℕ) (before after : CampaignValue) → few ≤ many → LeavesAfterFault many s text before after → LeavesAfterFault few s text before after
 stops_from few many s text before after h stops = record {
   still = stops.still;
@@ -29,12 +30,13 @@ stops_from few many s text before after h stops = record {
   crash = stops.crash;
 }
   where
+    -- more disk failures than `many` are more than `few`
     lower : (few many now : ℕ) → few ≤ many → MoreFaults many now → MoreFaults few now
     lower few many now h more = omega (arith, h, more)
 
 module _ {S : Type 0} (g : Ghosts S) where
-  -- if `Follows` holds, it holds with a world text that is equal on a clean disk, and with a lower count of earlier
-  -- disk failures
+  -- answers that follow from `step` (`Follows`) do so with a world text that is equal on a clean disk, and with a lower
+  -- count of earlier disk failures
   follows_as : (t u : List ℕ) (few many : ℕ) (w : WorldValue) (c : CampaignValue) (cs : List Command) (rs : List Answer) (new : ServiceValue S) → (HasCleanDisk (state g new.conn) → t ≡ u) → few ≤ many
       → Follows g t many w c cs rs new → Follows g u few w c cs rs new
   follows_as t u few many w c [] [] new same h f = (f.0, λ clean. subst (λ x. Keeps (state g new.conn) x c) (same clean) (f.1 clean))
@@ -53,8 +55,8 @@ module _ {S : Type 0} (g : Ghosts S) where
     record { old = f.4.old; held = λ clean. subst (λ t. Keeps (state g f.4.old) t c) (same clean) (f.4.held clean); cause = f.4.cause },
   )
 
-  -- if a command was carried out and the rest follows from the service after it, `Follows` holds for the rest from its
-  -- campaign on
+  -- if a command was carried out and the rest of a list follows from the service after it, the answer is that of
+  -- `step`, and the rest follows from the campaign of `step` (`Follows`)
   carried : (old mid new : ServiceValue S) (c : CampaignValue) (x : Command) (a : Answer) (cs : List Command) (rs : List Answer) → (accepts : Accepts g c old x a mid) → (HasCleanDisk (state g new.conn) → HasCleanDisk (state g mid.conn))
       → (state g old.conn).faults ≤ (state g mid.conn).faults → FollowsAt g mid cs rs new mid.campaign
       → ((step old.world c x).1 ≡ a) × Follows g (text_in g old.conn) (state g old.conn).faults old.world (step old.world c x).0 cs rs new × (new.world ≡ old.world)
@@ -117,7 +119,8 @@ module _ {S : Type 0} (g : Ghosts S) where
   later_on : (old mid new : State) → IsLater old mid → IsLater mid new → IsLater old new
   later_on old mid new a b = record { clean = λ h. a.clean (b.clean h); counts = omega (arith, a.counts, b.counts); shield = λ s. b.shield (a.shield s) }
 
-  -- if a command fulfils `Runs` and a list after it `RunsAll`, the list with the command in front fulfils `RunsAll`
+  -- if a command runs as `run` promises (`Runs`) and a list after it as `run_all` does (`RunsAll`), so does the list
+  -- with the command in front
   pub run_first : (old mid new : ServiceValue S) (x : Command) (a : Answer) (cs : List Command) (rs : List Answer) → IfSome old.campaign (λ c. HoldsCampaign g old.conn (text_in g old.conn) c) → Runs g old x a mid → IsLater (state g old.conn) (state g mid.conn)
       → RunsAll g mid cs rs new → RunsAll g old (x ∷ cs) (a ∷ rs) new
   run_first old mid new x a cs rs holds ran later rest = record {
@@ -125,12 +128,12 @@ module _ {S : Type 0} (g : Ghosts S) where
     later = later_on (state g old.conn) (state g mid.conn) (state g new.conn) later rest.later;
   }
 
-  -- an empty list with no answers, from a service to itself, fulfils `FollowsAt`
+  -- for no commands, no answers and an unchanged service are right (`FollowsAt`)
   none_left : (now : ServiceValue S) (o : Option CampaignValue) → now.campaign ≡ o → IfSome o (λ c. HoldsCampaign g now.conn (text_in g now.conn) c) → FollowsAt g now [] [] now o
   none_left now (Some c) is holds = ((is, holds), refl)
   none_left now None is holds = (tt, refl)
 
-  -- an empty list with no answers, from a service to itself, fulfils `RunsAll`
+  -- for no commands, no answers and an unchanged service are what `run_all` promises (`RunsAll`)
   pub run_none : (now : ServiceValue S) → IfSome now.campaign (λ c. HoldsCampaign g now.conn (text_in g now.conn) c) → RunsAll g now [] [] now
   run_none now holds = record { follows = none_left now now.campaign refl holds; later = record { clean = λ h. h; counts = omega arith; shield = λ s. s } }
 
@@ -145,7 +148,7 @@ module _ {S : Type 0} (g : Ghosts S) where
       let next : drop i cs ≡ c ∷ drop (i + 1) cs = drop_more cs i c h ∙ ap (λ x. x ∷ drop (i + 1) cs) (sym is) in
       subst (λ ts. RunsAll g e cs ts new) (sym (append_assoc sofar (a ∷ []) rs)) (whole (a ∷ rs) new (subst (λ ds. RunsAll g mid ds (a ∷ rs) new) (sym next) (run_first mid now new c a (drop (i + 1) cs) rs holds ran later rest)))
 
-  -- once all commands are run, the answers so far fulfil `RunsAll` for the whole list
+  -- once all commands are run, the answers so far are what `run_all` promises for the whole list (`RunsAll`)
   pub all_done : (e now : ServiceValue S) (cs : List Command) (i : ℕ) (sofar : List Answer) → length cs ≤ i → ((ts : List Answer) (n : ServiceValue S) → RunsAll g now (drop i cs) ts n → RunsAll g e cs (sofar ++ ts) n)
       → IfSome now.campaign (λ c. HoldsCampaign g now.conn (text_in g now.conn) c) → RunsAll g e cs sofar now
   all_done e now cs i sofar h whole holds = subst (λ ts. RunsAll g e cs ts now) (append-nil sofar) (whole [] now (subst (λ ds. RunsAll g now ds [] now) (sym (drop_all i cs h)) (run_none now holds)))
@@ -163,8 +166,8 @@ module _ {S : Type 0} (g : Ghosts S) where
   all_closed (x ∷ cs) [] h = absurd h
   all_closed (x ∷ cs) (a ∷ rs) h = ap₂ (λ b bs. b ∷ bs) h.0 (all_closed cs rs h.1)
 
-  -- if `Ends` holds for the rest of a list after a command, and `step` gives the command's answer, it holds for the
-  -- whole list
+  -- if the main theorem holds of the rest of a list, or a command of the rest ended in a fault (`Ends`), it is so for
+  -- the whole list, where `step` gives the first command's answer
   further : (text : List ℕ) (faults : ℕ) (w : WorldValue) (c : CampaignValue) (x : Command) (a : Answer) (cs : List Command) (rs : List Answer) (new : ServiceValue S) → (step w c x).1 ≡ a → Ends text faults w (step w c x).0 cs rs new
       → Ends text faults w c (x ∷ cs) (a ∷ rs) new
   further text faults w c x a cs rs new is (inl h) = inl (record { answers_are = ap₂ (λ b bs. b ∷ bs) (sym is) h.answers_are; campaign_is = h.campaign_is; tables = h.tables })
@@ -181,7 +184,8 @@ module _ {S : Type 0} (g : Ghosts S) where
     tables = simp unary_clauses (simp unary_clauses at h.tables);
   })
 
-  -- answers that fulfil `Follows` fulfil `Ends`
+  -- if answers follow from `step` up to a fault (`Follows`), the main theorem holds of them, or a command ended in a
+  -- fault (`Ends`)
   ends : (text : List ℕ) (faults : ℕ) (w : WorldValue) (c : CampaignValue) (cs : List Command) (rs : List Answer) (new : ServiceValue S) → Follows g text faults w c cs rs new → Ends text faults w c cs rs new
   ends text faults w c [] [] new f = inl (record { answers_are = refl; campaign_is = f.0; tables = f.1 })
   ends text faults w c [] (a ∷ rs) new f = absurd f
@@ -204,11 +208,13 @@ module _ {S : Type 0} (g : Ghosts S) where
     tables = f.3;
   })
 
-  -- answers that fulfil `FollowsAt`, of a service open or closed, fulfil `HeadlineAt`
+  -- answers that follow from `step` in an open service, or are Closed in a closed one (`FollowsAt`), are as the main
+  -- theorem says or end in a fault (`HeadlineAt`)
   headline_at : (old new : ServiceValue S) (cs : List Command) (rs : List Answer) (o : Option CampaignValue) → FollowsAt g old cs rs new o → HeadlineAt g old cs rs new o
   headline_at old new cs rs (Some c) f = ends (text_in g old.conn) (state g old.conn).faults old.world c cs rs new f.0
   headline_at old new cs rs None f = (all_closed cs rs f.0, f.1)
 
-  -- the main theorem: a list that fulfils `RunsAll` fulfils `HeadlineAt`
+  -- the main theorem holds of a list of commands that was run (`RunsAll`), or one of them ended in a fault, or the
+  -- service was closed (`HeadlineAt`)
   pub headline : (old new : ServiceValue S) (cs : List Command) (rs : List Answer) → RunsAll g old cs rs new → HeadlineAt g old cs rs new old.campaign
   headline old new cs rs h = headline_at old new cs rs old.campaign h.follows

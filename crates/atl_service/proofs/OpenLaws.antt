@@ -38,21 +38,21 @@ module _ {S : Type 0} (g : Ghosts S) where
     mode = refl;
   }
 
-  -- refusing a connection in a transaction with Store, and leaving it as it is, fulfils `RefusesOpening`
+  -- opening may refuse a connection in a transaction with Store, and leave it as it is (`RefusesOpening`)
   pub refused_unasked : (conn : Held S) → conn.in_transaction ≡ true → RefusesOpening g conn (of_loading Store) conn
   refused_unasked conn busy = record { fault = Store; why_is = refl; cause = λ clean. inl busy; alone = alone_itself conn; later = later _ _ _ (alone_itself conn).survives }
 
   module _ (old new : Held S) (alone : LeavesAlone g old new) where
-    -- an opening whose load failed fulfils `RefusesOpening` with the load's fault
+    -- if loading fails with a fault, opening refuses with the cause of the same name (`RefusesOpening`)
     pub refused_by_load : (fault : StoreFault) → (HasCleanDisk (state g new) → RefusesToLoad g old fault) → RefusesOpening g old (of_loading fault) new
     refused_by_load fault cause = record { fault = fault; why_is = refl; cause = cause; alone = alone; later = later _ _ _ alone.survives }
 
     module _ (w : WorldValue) (c : MarkedCampaign) (loads : Loads g old new w c) where
-      -- a loaded campaign fulfils `Opens`
+      -- a service of the world and campaign that were loaded is one that `open` may return (`Opens`)
       pub opens : Opens g old (record { conn = new; world = w; campaign = Some c.value })
       opens = record { campaign = c; is_open = refl; loads = loads; alone = alone; later = later _ _ _ alone.survives }
 
-      -- a loaded campaign fulfils `ComesBack`: text, world and campaign are those that the tables held
+      -- on a clean disk the text, world and campaign of the opened service are those that the tables held (`ComesBack`)
       pub comes_back : ComesBack g old (record { conn = new; world = w; campaign = Some c.value })
       comes_back clean text v d reads good held =
           let kept = loads.tables clean in

@@ -27,12 +27,13 @@ module _ (c : CampaignValue) (faction : ℕ) (text : List ℕ) where
   abbrev StoresIfMailed : CampaignValue × Answer → Type 0
   StoresIfMailed made = IsMailed made.1 → made.0 ≡ with_mail c faction text
 
-  -- if `StoresIfMailed` holds of a result, it holds also after the test that the header names the sender
+  -- a result that stores the mailing where it answers Mailed (`StoresIfMailed`) still does after the test that the
+  -- header names the sender, which may refuse instead
   kept_own : (other : Bool) (done : CampaignValue × Answer) → StoresIfMailed done → StoresIfMailed (cond other (c, Refused why.WrongFaction) done)
   kept_own true done keeps taken = absurd taken
   kept_own false done keeps taken = keeps taken
 
-  -- `StoresIfMailed` holds of the result for each reading of the mailing
+  -- whatever a mailing is read as, its text is stored where the answer is Mailed (`StoresIfMailed`)
   kept_read : (read : Result Reading MailFault) → StoresIfMailed (mailed c faction text read)
   kept_read (Ok r) taken = kept_own (not (r.faction == faction)) _ (λ _. refl) taken
   kept_read (Err TooLong) taken = absurd taken
@@ -40,12 +41,13 @@ module _ (c : CampaignValue) (faction : ℕ) (text : List ℕ) where
   kept_read (Err BadHeader) taken = absurd taken
   kept_read (Err Memory) taken = absurd taken
 
-  -- if `StoresIfMailed` holds of a result, it holds also after the test that the faction isn't gone
+  -- a result that stores the mailing where it answers Mailed (`StoresIfMailed`) still does after the test that the
+  -- faction isn't gone, which may refuse instead
   kept_here : (gone : Bool) (done : CampaignValue × Answer) → StoresIfMailed done → StoresIfMailed (cond gone (c, Refused why.Gone) done)
   kept_here true done keeps taken = absurd taken
   kept_here false done keeps taken = keeps taken
 
-  -- `StoresIfMailed` holds also after the test of number and pass text
+  -- whatever the test of number and pass text gives, the text is stored where the answer is Mailed (`StoresIfMailed`)
   kept_by : (w : WorldValue) (who : Result Faction Refusal) → StoresIfMailed (mailed_by w c faction text who)
   kept_by w (Err refusal) taken = absurd taken
   kept_by w (Ok f) taken = kept_here f.gone (mailed c faction text (reading w text)) (kept_read (reading w text)) taken
@@ -83,6 +85,7 @@ get_posted mail (Mail faction pass text ∷ more) n =
     get_posted (insert mail faction text) more n
     ∙ ap (λ o. last_text n o more) (get-insert nat_cmp_total mail faction text n ∙ ap (λ b. cond b (Some text) (get mail n)) (swapped n faction))
   where
+    -- two numbers are equal by their comparison exactly if they are equal the other way round
     swapped : (a b : ℕ) → eq_by_cmp nat_cmp a b ≡ (b == a)
     swapped a b = sym (unsigned_ties a b) ∙ grind (arith, nat_tests)
 get_posted mail (Close _ _ _ ∷ more) n = get_posted mail more n
@@ -94,6 +97,7 @@ last_or n before other [] = refl
 last_or n before other (Join _ _ _ ∷ more) = last_or n before other more
 last_or n before other (Mail faction pass text ∷ more) = ap (λ o. last_text n o more) (inside (faction == n)) ∙ last_or n (cond (faction == n) (Some text) before) other more
   where
+    -- putting a text in place of the earlier mail and falling back to `other` may be done in either order
     inside : (b : Bool) → cond b (Some text) (option_or before other) ≡ option_or (cond b (Some text) before) other
     inside true = refl
     inside false = refl

@@ -56,7 +56,7 @@ module _ {S : Type 0} (g : Ghosts S) where
     tables_after answer true up stands leaves done = (consistent_open answer stands leaves done).tables refl
     tables_after answer false up stands leaves done = absurd (false≢true up)
 
-    -- an answered command of an open, consistent service fulfils `RunsOpen`
+    -- the answer to an answered command of an open, consistent service is one that `run` may give (`RunsOpen`)
     runs_open : (answer : Answer) → IsConsistent g conn w c true → LeavesIdle g conn conn' → Answered answer → RunsOpen g c (shown conn w c true) command answer (shown conn' w c' true)
     runs_open (Joined f u) stands leaves done = record { after = c'; step = done.step_is; same = refl; tables = holding (Joined f u) stands leaves done }
     runs_open (Mailed n fs) stands leaves done = record { after = c'; step = done.step_is; same = refl; tables = holding (Mailed n fs) stands leaves done }
@@ -65,7 +65,8 @@ module _ {S : Type 0} (g : Ghosts S) where
     runs_open (Refused r) stands leaves done = (done.step_is ∙ ap (λ d. (d, Refused r)) done.same.0, ap₂ (λ h d. shown h w d true) done.same.1 done.same.0)
     runs_open (Fault f) stands leaves done = absurd done.sound
 
-    -- an answered command of a consistent service whose field `is_open` is true fulfils `Runs`
+    -- the answer to an answered command of a consistent service whose field `is_open` is true is one that `run` may
+    -- give (`Runs`)
     pub runs_on : (old : ServiceValue S) (answer : Answer) (is_open : Bool) → shown conn w c is_open ≡ old → is_open ≡ true → IsConsistent g conn w c is_open → LeavesIdle g conn conn' → Answered answer → Runs g old command answer (shown conn' w c' is_open)
     runs_on old answer true seen up stands leaves done = subst (λ e. Runs g e command answer (shown conn' w c' true)) seen (runs_open answer stands leaves done)
     runs_on old answer false seen up stands leaves done = absurd (false≢true up)
@@ -74,15 +75,17 @@ module _ {S : Type 0} (g : Ghosts S) where
     abbrev pub GaveUp : Type 0
     GaveUp = GivesUp g w c conn command conn'
 
-    -- a command of a consistent open service that ended in a fault fulfils `Closes`
+    -- a command of a consistent open service that ended in a fault closes the service, and on a clean disk the tables
+    -- hold the campaign before it (`Closes`)
     closes_open : IsConsistent g conn w c true → LeavesIdle g conn conn' → GaveUp → Closes g c (shown conn w c true) command (shown conn' w c' false)
     closes_open stands leaves gave_up = record { same = refl; tables = λ clean. gave_up clean (text_in g conn) (stands.tables refl (leaves.later.clean clean)) }
 
-    -- a command that ended in a fault of a write fulfils `Runs`, with the service's fault for it as the answer
+    -- after a command that ended in a fault of a write, `run` may answer the service's fault for it and close (`Runs`)
     pub closes_for : (old : ServiceValue S) (fault : WriteFault) (told : Failure) (is_open : Bool) → told ≡ of_write fault → shown conn w c is_open ≡ old → is_open ≡ true → IsConsistent g conn w c is_open → LeavesIdle g conn conn' → GaveUp → HasCause g (OfCommand w c command) conn conn' (of_write fault)
         → Runs g old command (Fault told) (shown conn' w c' false)
     closes_for old fault told true is seen up stands leaves gave_up cause = subst (λ e. Runs g e command (Fault told) (shown conn' w c' false)) seen (subst (λ t. RunsOpen g c (shown conn w c true) command (Fault t) (shown conn' w c' false)) (sym is) (closes fault cause))
       where
+        -- an open service may answer the fault of a write that has its cause, and close (`RunsOpen`)
         closes : (fault : WriteFault) → HasCause g (OfCommand w c command) conn conn' (of_write fault) → RunsOpen g c (shown conn w c true) command (Fault (of_write fault)) (shown conn' w c' false)
         closes write.Memory cause = (closes_open stands leaves gave_up, cause)
         closes write.Store cause = (closes_open stands leaves gave_up, cause)

@@ -1,4 +1,4 @@
--- Laws on `upgrade`: an upgraded file fulfils `UpgradesTo`, and its service is consistent.
+-- Laws on `upgrade`: an upgraded file is as `upgrade` promises (`UpgradesTo`), and its service is consistent.
 use Rattle.std.proofs.Common.{List, ℕ, true, Some, refl}
 use Rattle.sqlite_trees.specs.declared.store.Store.{Ghosts}
 use Rattle.sqlite.specs.Held.{Held, state}
@@ -12,7 +12,7 @@ use Rattle.atl_service.specs.Upgraded.{UpgradesTo}
 use Rattle.atl_service.proofs.FoundServiceLaws.{founded_consistent}
 
 module _ {S : Type 0} (g : Ghosts S) (text : List ℕ) (old new : Held S) (w : WorldValue) (c : MarkedCampaign) (upgrades : Upgrades g text old new w c) where
-  -- an upgrade by the store (`Upgrades`) fulfils `UpgradesTo`
+  -- a file that the store upgraded (`Upgrades`) is upgraded as `upgrade` promises (`UpgradesTo`)
   pub upgrades_to : IsLater (state g old) (state g new) → UpgradesTo g old text (record { conn = new; world = w; campaign = Some c.value })
   upgrades_to later = record { campaign = c; is_open = refl; upgrades = upgrades; text_is = λ clean. world_text_is (state g new) text c.value (upgrades.tables clean); later = later }
 

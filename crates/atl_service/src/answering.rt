@@ -90,6 +90,7 @@ enum MailError {
     Memory,
 }
 
+/// A refusal as the reason why a mailing is not stored.
 impl From<Refusal> for MailError {
     ghost use Rattle.atl_service.specs.declared.answering.MailError.TheVariants.{Refused};
 
@@ -100,6 +101,7 @@ impl From<Refusal> for MailError {
     }
 }
 
+/// A fault of reading a mailing: Memory, or the refusal of the same name.
 impl From<MailFault> for MailError {
     ghost from_gives = { λ fault unkept. unkept ≡ mail_error fault };
 

@@ -41,8 +41,8 @@ fn out_of_memory(fault: MailFault) -> AllocError
     AllocError
 }
 
-/// Reads a stored mailing. This fails only if memory runs out: the mailing was read before it was
-/// stored.
+/// Reads a stored mailing, which fails only if memory runs out: the mailing was read before it
+/// was stored.
 fn read_stored(alloc: Global, world: &World, text: &[u8]) -> Result<Mailing, AllocError>
     requires { (faction : ℕ) × IsMailingOf faction text.now }
     ensures kept { IfOk result (λ m. m.text ≡ text.now) }
@@ -103,7 +103,8 @@ fn turn_month(
     })
 }
 
-/// Checks pass text, month and number of words of a command Close; the error is the first refusal.
+/// Checks pass text, month and number of dice words of a command Close; the error is the first
+/// refusal.
 #[tactic(auto, unfolding(crate::specs::Step::step))]
 fn check_close(
     world: &World,

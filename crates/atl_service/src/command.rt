@@ -176,6 +176,7 @@ impl fmt::Display for Fault {
 
 impl Error for Fault {}
 
+/// A fault of a write to the store: Memory becomes Memory, and Store becomes Store.
 impl From<WriteFault> for Fault {
     ghost from_gives = { λ fault told. told ≡ of_write fault };
 
@@ -283,6 +284,7 @@ impl fmt::Display for Cause {
 
 impl Error for Cause {}
 
+/// A fault of a world text: Memory becomes Memory, and each other one `World` with the fault.
 impl From<WorldFault> for Cause {
     ghost from_gives = { λ fault cause. cause ≡ of_world fault };
 
@@ -294,6 +296,7 @@ impl From<WorldFault> for Cause {
     }
 }
 
+/// A fault of creating the tables becomes the cause of the same name.
 impl From<CreateFault> for Cause {
     ghost from_gives = { λ fault cause. cause ≡ of_creation fault };
 
@@ -306,6 +309,7 @@ impl From<CreateFault> for Cause {
     }
 }
 
+/// A fault of loading a campaign becomes the cause of the same name.
 impl From<StoreFault> for Cause {
     ghost from_gives = { λ fault cause. cause ≡ of_loading fault };
 
@@ -320,6 +324,7 @@ impl From<StoreFault> for Cause {
     }
 }
 
+/// A fault of the store's upgrade becomes the cause of the same name.
 impl From<UpgradeFault> for Cause {
     ghost from_gives = { λ fault cause. cause ≡ of_upgrading fault };
 
@@ -336,6 +341,7 @@ impl From<UpgradeFault> for Cause {
     }
 }
 
+/// A failed allocation becomes Memory.
 impl From<AllocError> for Cause {
     ghost use Rattle.atl_service.specs.declared.command.Cause.TheVariants.{Memory};
 

@@ -30,8 +30,8 @@ impl Drop for MonthResult {
     }
 }
 
-/// Stores a new report for a faction: what it sees, these faulty lines, and its own events. The
-/// report becomes dirty. If memory runs out, the campaign stays as it is.
+/// Stores a new report for a faction: what it sees, the lines `faults`, and its own of `events`.
+/// The report becomes dirty. If memory runs out, the campaign stays as it is.
 fn store_report_with(
     alloc: Global,
     world: &World,

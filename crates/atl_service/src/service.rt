@@ -38,6 +38,7 @@ impl<S: Alter + Drop> Drop for Service<S> {
     }
 }
 
+/// Contracts see a service as its connection, its world and, while it is open, its campaign.
 impl<S: Alter> Model for Service<S> {
     ghost use Rattle.std.specs.Prelude.{Some, None, cond};
     ghost use Rattle.atl_service.specs.Service.{ServiceValue, service_code, IsService};

@@ -12,6 +12,7 @@ trait Put {
     fn put<S: Alter>(&self, conn: &mut Connection<S>) -> Result<usize, Error>;
 }
 
+/// Inserts a faction; its names and its pass text, which are bytes, are cast to TEXT.
 impl Put for StoredFaction {
     fn put<S: Alter>(&self, conn: &mut Connection<S>) -> Result<usize, Error> {
         conn.execute(
@@ -27,6 +28,7 @@ impl Put for StoredFaction {
     }
 }
 
+/// Inserts a region: its number, peasants and money.
 impl Put for StoredRegion {
     fn put<S: Alter>(&self, conn: &mut Connection<S>) -> Result<usize, Error> {
         conn.execute(
@@ -36,6 +38,7 @@ impl Put for StoredRegion {
     }
 }
 
+/// Inserts a unit without its goods; its name, which is bytes, is cast to TEXT.
 impl Put for StoredUnit {
     fn put<S: Alter>(&self, conn: &mut Connection<S>) -> Result<usize, Error> {
         conn.execute(
@@ -54,6 +57,7 @@ impl Put for StoredUnit {
     }
 }
 
+/// Inserts an item or a skill of a unit, with the amount or the days.
 impl Put for StoredHas {
     fn put<S: Alter>(&self, conn: &mut Connection<S>) -> Result<usize, Error> {
         conn.execute(
@@ -63,6 +67,7 @@ impl Put for StoredHas {
     }
 }
 
+/// Inserts a structure; its name, which is bytes, is cast to TEXT.
 impl Put for StoredStructure {
     fn put<S: Alter>(&self, conn: &mut Connection<S>) -> Result<usize, Error> {
         conn.execute(
@@ -79,6 +84,7 @@ impl Put for StoredStructure {
     }
 }
 
+/// Inserts a faction's mailing, as bytes.
 impl Put for StoredMail {
     fn put<S: Alter>(&self, conn: &mut Connection<S>) -> Result<usize, Error> {
         conn.execute(
@@ -88,6 +94,7 @@ impl Put for StoredMail {
     }
 }
 
+/// Inserts a faction's report, as text.
 impl Put for StoredReport {
     fn put<S: Alter>(&self, conn: &mut Connection<S>) -> Result<usize, Error> {
         conn.execute(
@@ -97,6 +104,7 @@ impl Put for StoredReport {
     }
 }
 
+/// Inserts an amount of the books under its entry and its thing.
 impl Put for StoredBooks {
     fn put<S: Alter>(&self, conn: &mut Connection<S>) -> Result<usize, Error> {
         conn.execute(

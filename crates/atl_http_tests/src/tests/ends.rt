@@ -16,7 +16,7 @@ pub(crate) struct Pieces<'a> {
 }
 
 impl<'a> Pieces<'a> {
-    /// A reader that is never interrupted and doesn't fail.
+    /// A reader that gives `bytes` in pieces of `piece` bytes, without interruption or failure.
     pub(crate) fn of(bytes: &'a [u8], piece: usize) -> Pieces<'a> {
         Pieces {
             bytes,
@@ -29,6 +29,8 @@ impl<'a> Pieces<'a> {
     }
 }
 
+/// Gives the next piece, none at the end, or an error: Interrupted, or ConnectionReset once no read
+/// is left.
 impl<'a> Read for Pieces<'a> {
     fn read(&mut self, buf: &mut [u8]) -> io::Result<usize> {
         self.reads = self.reads.saturating_add(1);
@@ -63,7 +65,8 @@ pub(crate) struct Narrow {
 }
 
 impl Narrow {
-    /// A writer that takes one byte at a time and is never interrupted.
+    /// A writer that takes one byte at a time without interruption, up to `most` bytes; then it
+    /// fails or takes none.
     pub(crate) fn of(alloc: Global, most: usize, fails: bool) -> Narrow {
         Narrow {
             taken: Vec::new(alloc),
@@ -77,6 +80,7 @@ impl Narrow {
     }
 }
 
+/// Takes the next piece; or gives Interrupted, and after `most` bytes BrokenPipe or takes none.
 impl Write for Narrow {
     fn write(&mut self, buf: &[u8]) -> io::Result<usize> {
         self.writes = self.writes.saturating_add(1);

@@ -118,7 +118,8 @@ fn writes_within_the_bound(rt: HostRuntime) -> Result<(), Fail> {
     are_written(&rt, rt.alloc())
 }
 
-/// Asserts WriteFault and the bytes written for each row of `TOO_MANY_WRITES`.
+/// Asserts WriteFault, the bytes written and the number of writes for each row of
+/// `TOO_MANY_WRITES`.
 fn break_off(rt: &impl Abort, alloc: Global) -> Result<(), Fail> {
     for (piece, interruptions, taken, writes) in TOO_MANY_WRITES.iter() {
         let mut service = begun(alloc)?;

@@ -41,7 +41,7 @@ fn peer<R: Net<Stream = TcpStream>>(
     Ok(stream)
 }
 
-/// The connections of all peers.
+/// The connections of the peers of `PEERS`, each of which has sent its request.
 fn peers<R: Net<Stream = TcpStream>>(
     net: &R,
     alloc: Global,

@@ -29,7 +29,7 @@ fn status_in(reply: &str) -> Option<u16> {
     status.parse::<u16>().ok()
 }
 
-/// A reply, if its status is the one that was returned.
+/// The text of a reply, if its first line has the returned status; else words that no case wants.
 fn reply_of(status: u16, written: &[u8]) -> &str {
     match str::from_utf8(written) {
         Ok(reply) if status_in(reply) == Some(status) => reply,

@@ -62,7 +62,7 @@ fn joins_in_pieces(rt: &impl Abort, alloc: Global, service: &mut impl Served) {
     writes_in_pieces(rt, alloc, service);
 }
 
-/// Asserts that no proper beginning of a request runs a command.
+/// Asserts that each proper beginning of a request gives the fault Cut and runs no command.
 fn no_front_is_enough(rt: &impl Abort, alloc: Global, service: &mut impl Served) {
     for len in 0..JOIN.len() {
         assert_reply(rt, alloc, service, &mut &JOIN.as_bytes()[..len], "cut");
@@ -157,7 +157,7 @@ static LONG_HEADS: [(usize, usize, &str); 4] = [
     (1, 31, BAD_REQUEST),
 ];
 
-/// Asserts the reply to a head.
+/// Asserts the reply to a head with a field of `long` bytes and `fields` short fields.
 fn long_head(
     rt: &impl Abort,
     alloc: Global,
@@ -216,7 +216,7 @@ fn no_further(rt: HostRuntime) -> Result<(), Fail> {
     Ok(())
 }
 
-/// A head may have a certain length and number of fields, and no more.
+/// A head of 8,192 bytes and one of 32 fields are accepted; one byte or one field more is refused.
 #[test]
 fn heads_at_the_limit(rt: HostRuntime) -> Result<(), Fail> {
     let mut service = begun(rt.alloc())?;

@@ -85,7 +85,7 @@ fn joining(rt: HostRuntime) -> Result<(), Fail> {
     plays(&rt, rt.alloc(), &JOINING)
 }
 
-/// Orders are sent, a month is closed, and the report is answered.
+/// A faction joins and sends orders, a month is closed, and a second closing of it is refused.
 static A_MONTH: [Case; 4] = [
     (JOIN, JOINED),
     (
@@ -102,14 +102,13 @@ static A_MONTH: [Case; 4] = [
     ),
 ];
 
-/// Orders, a closing and the report after it get their replies.
+/// Orders with two faulty lines, a closing, and the same closing again get their replies.
 #[test]
 fn a_month(rt: HostRuntime) -> Result<(), Fail> {
     plays(&rt, rt.alloc(), &A_MONTH)
 }
 
-/// A faction quits, and its later orders are refused. A mailing too long is refused for its body's
-/// length first.
+/// A faction joins, quits by its orders, and is refused further orders after the month.
 static QUITTING: [Case; 4] = [
     (JOIN, JOINED),
     (
@@ -220,7 +219,8 @@ fn routes(rt: HostRuntime) -> Result<(), Fail> {
     plays(&rt, rt.alloc(), &ROUTES)
 }
 
-/// Bodies without a good length or with two, and requests without exactly one pass text.
+/// Bodies without a good length or with two, requests without exactly one pass text, and three
+/// bodies that don't arrive.
 static LENGTHS: [Case; 14] = [
     ("POST /join HTTP/1.0\r\n\r\n", NO_LENGTH),
     (
@@ -274,14 +274,15 @@ static LENGTHS: [Case; 14] = [
     ),
 ];
 
-/// Requests without one good body length or without exactly one pass text are refused.
+/// Requests without one good body length or without exactly one pass text are refused; a body that
+/// doesn't arrive gives the fault Cut.
 #[test]
 fn lengths(rt: HostRuntime) -> Result<(), Fail> {
     plays(&rt, rt.alloc(), &LENGTHS)
 }
 
-/// Bodies that are no object with both texts. Of equal keys the last counts, and bytes after the
-/// body don't.
+/// Bodies of a join that are no object with both texts, and one that is. Of equal keys the last
+/// counts, and bytes after the body don't.
 static BODIES: [Case; 9] = [
     ("POST /join HTTP/1.0\r\nContent-Length: 0\r\n\r\n", BAD_JSON),
     (

@@ -38,6 +38,7 @@ pub(crate) trait Served {
     fn books(&self) -> Option<Result<String, AllocError>>;
 }
 
+/// A service over any store serves by the calls of atl_http, with the words of `DICE`.
 impl<S: Alter> Served for Service<S> {
     fn serve<R: Read, W: Write>(
         &mut self,

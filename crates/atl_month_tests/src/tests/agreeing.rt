@@ -275,8 +275,8 @@ fn phases_agree(rt: HostRuntime) -> Result<(), Fail> {
 
 // ---- shares
 
-/// Lists of wants. Each is tried with every pot from 0 to `MOST_SHARED`, which is more than the
-/// wants of any list together.
+/// Lists of wants, each tried with every pot from 0 to `MOST_SHARED`, which is more than its wants
+/// together.
 static WANTS: [&[u64]; 6] = [
     &[50, 60, 70],
     &[1, 1, 1, 1, 1, 1, 1],

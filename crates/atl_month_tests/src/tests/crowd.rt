@@ -1,6 +1,6 @@
 //! The campaign of 300 units on which `agreeing` compares phases with the reference, and a month of
 //! orders. Four factions have them in twelve regions. What each unit has and orders is picked by
-//! its number from tables whose lengths have no common factor.
+//! its number from tables of several lengths.
 ghost use Rattle.std.specs.Prelude.{◌≤◌, IfOk, length};
 ghost use Rattle.atl_state.specs.Good.{IsGood};
 ghost use Rattle.atl_phase.specs.Fit.{AreFit};
@@ -16,13 +16,13 @@ use atl_tables::{Sequence, Text, World, read_world};
 use std::alloc::{AllocError, Global};
 use std::test::Fail;
 
-/// How many units there are, numbered from 1.
+/// How many units the crowd's campaign has, numbered from 1.
 const UNITS: u32 = 300;
 
-/// How many factions there are, numbered from 1.
+/// How many factions the crowd's campaign has, numbered from 1.
 const FACTIONS: u32 = 4;
 
-/// How many regions there are, numbered from 1.
+/// How many regions the crowd's world has, numbered from 1.
 const REGIONS: u32 = 12;
 
 /// How many units with consecutive numbers are in one region: one of each faction.
@@ -109,7 +109,8 @@ struct Stall {
     limit: u32,
 }
 
-/// The markets to pick from: each region has two that follow one another here.
+/// The markets to pick from: each region has two that follow one another here, or the last and the
+/// first.
 static STALLS: [Stall; 5] = [
     Stall {
         item: 0,

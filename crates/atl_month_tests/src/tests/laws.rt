@@ -14,8 +14,7 @@ use atl_month::{
 use atl_phase::{mailings_have_no_order, one_order_stands, orders_are_in_mailings};
 use atl_report::{only_what_is_seen_is_told, others_events_are_not_told};
 
-/// Each law of the crates under test can be called. Nothing is asserted: the clause of each law is
-/// proved.
+/// Calls each law of the crates under test and asserts nothing: the clause of each is proved.
 #[test]
 fn states_laws_of_the_month() {
     mailings_have_no_order();

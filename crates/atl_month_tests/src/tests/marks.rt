@@ -55,8 +55,8 @@ fn two_factions(alloc: Global, world: &World) -> Result<Campaign, Fail>
 /// A mailing in which unit 1 changes its name, pays unit 2, and recruits a man.
 static PAYING: [&str; 1] = ["#ATLANTIS 1\nUNIT 1\nNAME UNIT Watch\nPAY 2 10\nRECRUIT 1\n"];
 
-/// The campaign after a first month of these mailings is closed, with a word of the dice for each
-/// region.
+/// The campaign after a first month with the mailings `texts` is closed; `words` has a word of the
+/// dice for each region.
 fn after_month(
     alloc: Global,
     world: &World,

@@ -63,7 +63,7 @@ pub(crate) fn own_mailings(
     Ok(mailings)
 }
 
-/// The month that is made of these texts, one mailing each, with 7 and 9 as the words of the dice.
+/// The month with a mailing for each of the texts, and with 7 and 9 as the words of the dice.
 pub(crate) fn month(alloc: Global, world: &World, texts: &[&str]) -> Result<Month, Fail>
     ensures { IfOk result (λ month. AreFit world.now month.readings) }
 {

@@ -7,6 +7,7 @@ use atl_phase::PhaseVerbs;
 /// A phase whose only verb is STUDY.
 pub(crate) struct Studying;
 
+/// STUDY is a verb of the phase, and no other verb is.
 impl PhaseVerbs for Studying {
     ghost is_of = { is_studying };
 
@@ -18,6 +19,7 @@ impl PhaseVerbs for Studying {
 /// A phase whose only verb is WORK.
 pub(crate) struct Working;
 
+/// WORK is a verb of the phase, and no other verb is.
 impl PhaseVerbs for Working {
     ghost is_of = { is_working };
 

@@ -20,6 +20,7 @@ struct Places {
     second: u16,
 }
 
+/// The pot of region 1 is `first`, that of region 2 is `second`, and that of any other region is 0.
 impl Pots for Places {
     ghost pot_of = { λ places. pot_in places.first places.second };
 

@@ -36,7 +36,7 @@ static SETTLED: [(&[(u8, u8, u16, u16)], &str); 11] = [
     ),
 ];
 
-/// The inputs of upkeep of these units, numbered from 1.
+/// What upkeep reads of each unit of a case; the units are numbered from 1.
 fn purses_of(alloc: Global, units: &[(u8, u8, u16, u16)]) -> Result<Vec<UpkeepInput>, AllocError>
     ensures each { IfOk result (λ purses. All IsUpkeepInput purses.items) }
     ensures order { IfOk result (λ purses. AreInOrder purses.items) }

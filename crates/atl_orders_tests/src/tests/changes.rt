@@ -6,7 +6,8 @@ use atl_test_worlds::SMALL;
 /// (`none`: a good world).
 pub(crate) type Change = (&'static str, &'static str, &'static str);
 
-/// Edits of the small world's text; the first two replace all of it.
+/// Edits of the small world's text: keys that are missing or wrong, and which of two faults comes
+/// first. The first two rows replace all of it.
 pub(crate) static SMALL_CHANGES: [Change; 26] = [
     (SMALL, "a = = b", "1 NotToml"),
     (SMALL, "", "2 Missing rules"),
@@ -201,7 +202,8 @@ pub(crate) static NAME_CHANGES: [Change; 13] = [
     ("wage = 12", "wage = 12\noutput = { Wood = 7 }", "none"),
 ];
 
-/// Edits of the key `name` of each thing of the world with an item, a skill and a kind.
+/// Edits of the key `name` of each table of the world with an item, a skill and a kind: missing, of
+/// another type, and within or against the rule of names.
 pub(crate) static TITLE_CHANGES: [Change; 19] = [
     ("name = \"plain\"", "", "2 Missing terrain[0].name"),
     ("name = \"wood\"", "", "2 Missing item[0].name"),
@@ -269,7 +271,8 @@ pub(crate) static TRUTH_CHANGES: [Change; 5] = [
     ("ship = false", "ship = true", "none"),
 ];
 
-/// Edits of the keys whose text refers to a name (`skill`, `raw`, `material`, ..).
+/// Edits of the keys whose text refers to a name (`skill`, `raw`, `material`, ..), in the world
+/// with an item, a skill and a kind.
 pub(crate) static REFERENCE_CHANGES: [Change; 20] = [
     (
         "growth = 0",
@@ -341,7 +344,8 @@ pub(crate) static REFERENCE_CHANGES: [Change; 20] = [
     ("terrain = \"plain\"", "terrain = \"PLAIN\"", "none"),
 ];
 
-/// Edits of a region's keys `north`, `south`, `east` and `west`.
+/// Edits of the region's keys `north`, `south`, `east` and `west`, in the world with an item, a
+/// skill and a kind.
 pub(crate) static NEIGHBOUR_CHANGES: [Change; 11] = [
     (
         "money = 500",
@@ -396,7 +400,7 @@ pub(crate) static NEIGHBOUR_CHANGES: [Change; 11] = [
     ("money = 500", "money = 500\neast = 1\nwest = 1", "none"),
 ];
 
-/// Edits of a terrain's key `output`.
+/// Edits of the terrain's key `output`, in the world with an item, a skill and a kind.
 pub(crate) static OUTPUT_CHANGES: [Change; 6] = [
     ("wage = 12", "wage = 12\noutput = {}", "none"),
     (

@@ -80,7 +80,8 @@ pub(crate) fn filled(alloc: Global) -> Result<Numbered<u32>, Fail> {
     Ok(map)
 }
 
-/// Changes, takes out and reads entries of a map, both those that it has and those that it hasn't.
+/// Reads, changes and takes out entries of the map of `filled`, both those that it has and those
+/// that it hasn't, and asserts what is read.
 fn changes_entries(rt: &impl Abort, map: &mut Numbered<u32>) {
     assert!(rt; map.get(20) == Some(&2));
     assert!(rt; map.get(2).is_none());

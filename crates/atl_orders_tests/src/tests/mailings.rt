@@ -276,7 +276,8 @@ static TEXTS: [(&str, &str); 10] = [
 /// A mailing with a byte that is not UTF-8.
 const NO_TEXT: &[u8] = b"#ATLANTIS 1\nUNIT 1\n\xc8\nTAX ";
 
-/// Long texts: a front, a piece and how often it comes, an end; and what each is read as.
+/// Long texts, some of 65,536 bytes or just more: a front, a piece and how often it comes, an end,
+/// and what each is read as.
 static LONG: [(&str, &str, usize, &str, &str); 8] = [
     ("#ATLANTIS 1\n", "\n", 65_524, "", ""),
     ("#ATLANTIS 1\n", "\n", 65_525, "", "refused 1"),

@@ -134,7 +134,7 @@ static NOBODY: [Step; 2] = [
     Step::Closed(Asked::Close(2, "gm", &[7]), 2),
 ];
 
-/// Months are closed in a campaign that no faction has joined.
+/// Two months are closed in a campaign that no faction has joined: only the region's money grows.
 #[test]
 fn a_month_without_factions(rt: HostRuntime) -> Result<(), Fail> {
     plays(&rt, rt.alloc(), SMALL, &NOBODY, &AFTER_NOBODY)
@@ -158,8 +158,8 @@ static STARVED: [Step; 6] = [
     Step::Told(Asked::Report(1, "pw"), AFTER_STARVING),
 ];
 
-/// What the tables hold after the faction starved: the 5 money are spent, and the unit's number
-/// isn't given again.
+/// What the tables hold after the faction starved and a second month: the faction but no unit and
+/// no mail. The unit's number isn't given again.
 static AFTER_ALL_STARVED: [(&str, Option<i64>); 6] = [
     (MONTH, Some(2)),
     (NEXT, Some(200002)),

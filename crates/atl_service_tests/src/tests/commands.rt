@@ -161,8 +161,8 @@ fn at_once(rt: &impl Abort, alloc: Global, list: &AtOnce) -> Result<(), Fail> {
     is_run(rt, alloc, &commands, list)
 }
 
-/// Commands that close a month, run as a list; `closing` tests the same month one command at a
-/// time.
+/// A join, a closing, the same closing again, which is refused, and a report, to run as one list.
+/// `closing` tests the same month one command at a time.
 const A_MONTH: [Step; 4] = [
     Step::Told(AVALON, "joined"),
     Step::Told(MONTH_ONE, "month done"),

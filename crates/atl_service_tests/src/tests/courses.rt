@@ -71,8 +71,8 @@ const MONTH_OF_TWO: [Step; 4] = [
     Step::Closed(Asked::Close(1, "gm", &[0, 0, 0, 0]), 1),
 ];
 
-/// What the tables hold after the month. Unit 13 is formed and stays, 14 is formed and swept, and
-/// 11 starves and is swept. The units had 904 money and the 1,000 of Cork. They take 30 in tax, pay
+/// What the tables hold after `MONTH_OF_TWO`. Unit 13 is formed and stays, 14 is formed and swept,
+/// and 11 starves and is swept. The units had 904 money and Cork's 1,000. They take 30 in tax, pay
 /// 50 for a recruit and 40 for a study, and earn 48, 24, 250, 20 and 12; of 63 men all but the one
 /// who starves cost 10 each, and for him 4 are paid. The regions have 650, give the tax and get a
 /// coin for each of 1,299 peasants. With 3 of 21 wood a boat is begun, and the 4 men who are taught

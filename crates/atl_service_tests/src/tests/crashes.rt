@@ -137,7 +137,8 @@ fn runs<S: Alter>(
     (done.saturating_add(writings), service.end())
 }
 
-/// Inserts the rows of a course, opens the campaign again, and runs the commands.
+/// Inserts the rows of a course, opens the campaign again, and runs the commands; the result is how
+/// many writes were done, and the connection.
 fn goes_on<S: Alter + Drop>(
     rt: &impl Abort,
     alloc: Global,
@@ -255,7 +256,8 @@ fn stopping(alloc: Global, which: WhichDisk, calls: u64) -> Files<Fuse<Memory>> 
 /// More calls than a disk gets in any course.
 const MANY_CALLS: u64 = 1_000;
 
-/// Stops one disk at each of its calls, from the first up to a run in which it doesn't stop.
+/// Asserts what a crash leaves (`stopped`) if one disk stops at each of its calls, from the first
+/// up to a run in which it doesn't stop.
 fn stops(rt: &impl Abort, alloc: Global, plan: &Plan, which: WhichDisk) -> Result<(), Fail> {
     for calls in 0..MANY_CALLS {
         let done = stopped(rt, alloc, stopping(alloc, which, calls), plan)?;
@@ -267,7 +269,7 @@ fn stops(rt: &impl Abort, alloc: Global, plan: &Plan, which: WhichDisk) -> Resul
     Err(Fail::new("stopped each time"))
 }
 
-/// Stops one disk at each of its calls, in each course.
+/// Asserts, for each course, what a crash leaves if one disk stops at each of its calls.
 fn stops_each(rt: &impl Abort, alloc: Global, which: WhichDisk) -> Result<(), Fail> {
     for course in COURSES.iter() {
         let plan = planned(alloc, course)?;

@@ -11,7 +11,7 @@ use std::alloc::Global;
 use std::process::Abort;
 use std::test::Fail;
 
-/// The outcome of opening a database.
+/// The outcome of opening a database: opened, or the cause of a refusal.
 #[derive(Clone, Copy, PartialEq, Debug)]
 enum Told {
     Opens,
@@ -23,7 +23,7 @@ enum Told {
     Differs,
     World,
     Store,
-    /// Out of memory, or a cause that only founding or upgrading has.
+    /// Out of memory, BadPassText or NotEmpty.
     Other,
 }
 
@@ -41,7 +41,7 @@ fn refusal(why: &Cause) -> Told {
     }
 }
 
-/// The outcome of opening a database.
+/// Opens a database, and returns the outcome.
 fn asked<S: Alter + Drop>(alloc: Global, conn: Connection<S>) -> Told {
     match open(alloc, conn) {
         Ok(_) => Told::Opens,
@@ -54,8 +54,8 @@ fn assert_opening(rt: &impl Abort, told: Told, wanted: Told, sql: &str) {
     assert_eq!(rt; told, wanted, "after {sql}");
 }
 
-/// SQL statements that change rows, and the outcome of opening afterwards. Avalon and Bree have a
-/// unit each in region 3, on land.
+/// SQL statements that change rows, or add a table or an index, and the outcome of opening
+/// afterwards. Avalon and Bree have a unit each in region 3, on land.
 static ROWS: [(&str, Told); 23] = [
     ("DELETE FROM mail", Told::Opens),
     ("CREATE TABLE notes (words TEXT)", Told::Opens),
@@ -109,8 +109,8 @@ static ROWS: [(&str, Told); 23] = [
     ),
 ];
 
-/// SQL statements that change stocks, and the outcome of opening afterwards. There is a market of
-/// wood in region 1, which has room for 30.
+/// SQL statements that insert stocks, book an entry 17, or make the table of stocks otherwise, and
+/// the outcome of opening afterwards. Region 1 has a market of wood with a limit of 30.
 static STOCKS: [(&str, Told); 9] = [
     (
         "INSERT INTO market VALUES (1, 0, 30); INSERT INTO books VALUES (16, 2, 30)",
@@ -281,7 +281,7 @@ fn is_judged<D: Disk + Drop>(
     Ok(())
 }
 
-/// Asserts the outcome of each case.
+/// Asserts, for the SQL statements of each case, the outcome of opening the changed database.
 fn assert_openings(rt: &impl Abort, alloc: Global, cases: &[(&str, Told)]) -> Result<(), Fail> {
     for (sql, wanted) in cases {
         is_judged(rt, alloc, new_files(alloc), sql, *wanted)?;

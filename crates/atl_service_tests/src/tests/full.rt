@@ -61,8 +61,8 @@ struct Filled {
     rows: &'static [(&'static str, Option<i64>)],
 }
 
-/// Campaigns with 10,000 units, with 100,000, with 9,998 gone factions, and with the last unit
-/// number given.
+/// Campaigns with 10,000 units, where Bree joins, and with 100,000 units, with 9,998 gone factions,
+/// or with the last unit number given, where Bree is refused.
 static FILLED: [Filled; 4] = [
     Filled {
         more: Some((MORE_UNITS, 10_000)),

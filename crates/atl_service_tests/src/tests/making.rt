@@ -11,7 +11,7 @@ fn bytes(alloc: Global, text: &str) -> Result<Sequence<u8>, Fail> {
     Ok(Sequence::from_slice(alloc, text.as_bytes())?)
 }
 
-/// The command `Join`.
+/// The command `Join` with a name, a pass text and a word of the dice.
 pub(crate) fn join(alloc: Global, name: &str, pass: &str, word: u32) -> Result<Command, Fail> {
     Ok(Command::Join {
         name: bytes(alloc, name)?,
@@ -20,7 +20,7 @@ pub(crate) fn join(alloc: Global, name: &str, pass: &str, word: u32) -> Result<C
     })
 }
 
-/// The command `Mail`.
+/// The command `Mail` with a faction's number, a pass text and a mailing.
 pub(crate) fn mail(alloc: Global, faction: u32, pass: &str, text: &str) -> Result<Command, Fail> {
     Ok(Command::Mail {
         faction,
@@ -45,7 +45,7 @@ pub(crate) fn long_mail(alloc: Global, pass: &str, feeds: usize) -> Result<Comma
     })
 }
 
-/// The command `Close`.
+/// The command `Close` with a month, a pass text and words of the dice.
 pub(crate) fn close(alloc: Global, month: u32, pass: &str, words: &[u32]) -> Result<Command, Fail> {
     Ok(Command::Close {
         month,
@@ -54,7 +54,7 @@ pub(crate) fn close(alloc: Global, month: u32, pass: &str, words: &[u32]) -> Res
     })
 }
 
-/// The command `Report`.
+/// The command `Report` with a faction's number and a pass text.
 pub(crate) fn report(alloc: Global, faction: u32, pass: &str) -> Result<Command, Fail> {
     Ok(Command::Report {
         faction,

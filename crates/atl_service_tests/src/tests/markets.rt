@@ -74,7 +74,7 @@ static AFTER_STOCKING: [(&str, Option<i64>); 3] = [
     (STOCK, Some(20)),
 ];
 
-/// What the tables hold before any month.
+/// What the tables hold before the first month: no stock.
 static NOBODY_THERE: [(&str, Option<i64>); 2] = [(STOCKED, Some(0)), (STOCK, None)];
 
 /// A market is empty before the first month, and stocked after it.

@@ -28,7 +28,7 @@ pub(crate) struct Session {
     pub(crate) after: &'static [(&'static str, Option<i64>)],
 }
 
-/// Avalon joins and sends a mailing.
+/// Avalon joins, sends a mailing, and asks for its report.
 const AVALON_COMES: [Step; 3] = [
     Step::Joined(AVALON, 1, 1),
     Step::Mailed(Asked::Mail(1, "pw", "#ATLANTIS 1\nUNIT 1\nWORK\n"), 1, &[]),
@@ -223,7 +223,8 @@ fn a_closed_month_is_opened_again(rt: HostRuntime) -> Result<(), Fail> {
     a_month_stands(&rt, rt.alloc())
 }
 
-/// A campaign is founded, and opened twice.
+/// Sessions in which a campaign is founded and Avalon joins, is opened and Bree joins, and is
+/// opened once more.
 static COMES_BACK: [Session; 3] = [
     Session {
         world: Some(SMALL),

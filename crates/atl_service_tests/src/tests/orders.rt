@@ -7,8 +7,8 @@ use super::tables::{FACTIONS, MAILINGS, MONEY, MONTH, NEXT, REGION_MONEY, UNITS}
 use atl_test_worlds::{SMALL, THREE_PEASANTS};
 use std::test::Fail;
 
-/// The mailing of a unit that forms another, recruits and pays it. Three peasants give no recruit,
-/// so the new unit is swept.
+/// The mailing by which unit 1 forms a unit that is to recruit 2 men, and pays it 100. Three
+/// peasants give no recruit, so the new unit is swept.
 const FORMED: &str = "#ATLANTIS 1
 UNIT 1
 FORM 1
@@ -85,7 +85,8 @@ people left -1
 people total 1000
 ";
 
-/// The steps of a month in which the faction quits, and its refusals afterwards.
+/// The steps of a month in which the faction quits; afterwards its mail is refused, and its report
+/// is still answered.
 static IT_QUITS: [Step; 6] = [
     Step::Joined(AVALON, 1, 1),
     Step::Mailed(Asked::Mail(1, "pw", QUITS), 2, &[]),
@@ -103,7 +104,7 @@ static AFTER_IT_QUIT: [(&str, Option<i64>); 4] = [
     (MAILINGS, Some(0)),
 ];
 
-/// A faction that quits is gone after the month, and its later commands are refused.
+/// A faction that quits is gone after the month: its mail is refused, and its report stays.
 #[test]
 fn a_faction_quits(rt: HostRuntime) -> Result<(), Fail> {
     plays(&rt, rt.alloc(), SMALL, &IT_QUITS, &AFTER_IT_QUIT)

@@ -66,7 +66,7 @@ fn asked_by(step: &Step) -> Option<&Asked> {
     }
 }
 
-/// Appends the commands of some steps.
+/// Appends to `commands` the command of each step that has one.
 fn fill(alloc: Global, commands: &mut Vec<Command>, steps: &[Step]) -> Result<(), Fail> {
     for step in steps {
         if let Some(asked) = asked_by(step) {
@@ -76,7 +76,7 @@ fn fill(alloc: Global, commands: &mut Vec<Command>, steps: &[Step]) -> Result<()
     Ok(())
 }
 
-/// The commands of these steps.
+/// The commands of the steps that have one, in their order.
 pub(crate) fn commands_of(alloc: Global, steps: &[Step]) -> Result<Vec<Command>, Fail> {
     let mut commands = Vec::new(alloc);
     fill(alloc, &mut commands, steps)?;
@@ -201,7 +201,7 @@ fn take(
     assert_campaign(rt, service, step)
 }
 
-/// Takes the steps in turn, and asserts each.
+/// Runs the command of each step in turn, and asserts its answer and what it says of the campaign.
 pub(crate) fn follow(
     rt: &impl Abort,
     alloc: Global,

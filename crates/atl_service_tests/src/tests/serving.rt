@@ -21,6 +21,7 @@ pub(crate) trait Served {
     fn books(&self) -> Option<Result<String, AllocError>>;
 }
 
+/// A service over any store makes each call by its own call of that name.
 impl<S: Alter> Served for Service<S> {
     fn run(&mut self, command: &Command) -> Answer {
         Service::run(self, command)
@@ -48,6 +49,7 @@ pub(crate) trait Tables {
     fn change(&mut self, sql: &str) -> Result<(), Fail>;
 }
 
+/// A connection runs the SQL; a query that fails, or gives no row or no number, returns None.
 impl<S: Alter> Tables for Connection<S> {
     fn number(&mut self, sql: &str) -> Option<i64> {
         match self.query_row(sql, &[]) {

@@ -132,7 +132,8 @@ fn joining(rt: HostRuntime) -> Result<(), Fail> {
     joins(&rt, rt.alloc(), &world)
 }
 
-/// Sets the money of a unit through the holding that is lent, and asserts the total.
+/// Sets the money of unit 1 to 7 through the holding that the campaign lends, and asserts the total
+/// of money.
 fn lends(rt: &impl Abort, campaign: &mut Campaign) {
     if let Some(holding) = campaign.unit_mut(1) {
         holding.set_money(7);
@@ -155,7 +156,7 @@ fn has_report(rt: &impl Abort, campaign: &Campaign) {
     }
 }
 
-/// Stores the first faction's report of what it sees.
+/// Stores the first faction's report of what it sees, and asserts that it is stored.
 fn stores(
     rt: &impl Abort,
     alloc: Global,
@@ -168,7 +169,8 @@ fn stores(
     Ok(())
 }
 
-/// Asserts a stored report and a lent unit.
+/// Has Avalon join, and asserts that its report is stored, and that a lent unit changes the total
+/// of money.
 fn lends_and_stores(rt: &impl Abort, alloc: Global, world: &World) -> Result<(), Fail> {
     let mut campaign = small_campaign(alloc, world)?;
     avalon_joins(rt, world, &mut campaign);

@@ -25,7 +25,7 @@ UPDATE campaign SET next_unit = 1000000000, next_structure = 2";
 /// Selects a SELECT of all rows for each table.
 const QUERIES: &str = "SELECT 'SELECT * FROM ' || name FROM sqlite_schema WHERE type = 'table'";
 
-/// Appends the rows of a table.
+/// Appends to `text` the SELECT that `query` holds, and all rows that it gives.
 fn add_rows<S: Alter>(
     alloc: Global,
     conn: &mut Connection<S>,
@@ -102,8 +102,8 @@ fn leave_all_rows<S: Alter + Drop>(
     Ok(())
 }
 
-/// Asserts that none of these steps changes a row of the campaign or of the tables. They run on the
-/// island with a market that Avalon and Bree have joined, after SQL statements.
+/// Asserts the answer to each step, and that none changes a row of the campaign or of the tables.
+/// They run on the island with a market that Avalon and Bree have joined, after SQL statements.
 pub(crate) fn refuses(
     rt: &impl Abort,
     alloc: Global,

@@ -91,7 +91,8 @@ fn upgraded(
     }
 }
 
-/// Opens the upgraded file, asserts the campaign's rows, and takes the later steps.
+/// Asserts that the upgraded file isn't upgraded again, opens it, and asserts the campaign's rows,
+/// the later steps, and the tables at the end.
 fn goes_on(
     rt: &impl Abort,
     alloc: Global,
@@ -107,7 +108,7 @@ fn goes_on(
     done
 }
 
-/// Asserts all of a story.
+/// Asserts that the file of a story is upgraded with the same rows, and is opened and played on.
 fn is_upgraded(rt: &impl Abort, alloc: Global, story: &Story) -> Result<(), Fail> {
     let conn = old(rt, alloc, story)?;
     let rows = rows_wanted(rt, alloc, story)?;

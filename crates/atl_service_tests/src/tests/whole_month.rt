@@ -136,7 +136,7 @@ Exits: south 3.
 * Unit 10 \"Unit 10\": 1 men, 0 money, guard.
 ";
 
-/// The text of the books after the month.
+/// The text of the books after the month of ten units.
 const BOOKED: &str = "money founding 650
 money joining 914
 money income 1299
@@ -166,7 +166,7 @@ const MONTH_OF_ORDERS: [Step; 6] = [
     Step::Books(BOOKED),
 ];
 
-/// What the tables hold after the month.
+/// What the tables hold after the month of ten units.
 const BEHIND: [(&str, Option<i64>); 4] = [
     (MONTH, Some(1)),
     (NEXT, Some(300012)),

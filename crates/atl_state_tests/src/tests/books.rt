@@ -70,7 +70,8 @@ fn books_all(campaign: &mut Campaign) -> Result<(), Fail> {
     Ok(())
 }
 
-/// Asserts the amounts booked after `books_all`, and that exactly those are marked.
+/// Asserts three of the amounts that `books_all` booked and three that it left, and that five
+/// amounts are marked.
 fn has_all(rt: &impl Abort, campaign: &Campaign) -> Result<(), Fail> {
     if campaign.things() != THINGS {
         return Err(Fail::new("four things"));
@@ -85,7 +86,8 @@ fn has_all(rt: &impl Abort, campaign: &Campaign) -> Result<(), Fail> {
     Ok(())
 }
 
-/// Tests booking in a campaign: the amounts booked are read back, and exactly these are marked.
+/// Tests booking in a campaign: amounts booked are read back, others stay, and one mark is set for
+/// each amount that changed.
 #[test]
 fn booking_in_a_campaign(rt: HostRuntime) -> Result<(), Fail> {
     let mut campaign = founded_by(rt.alloc(), ISLE)?;

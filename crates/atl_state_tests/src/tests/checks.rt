@@ -43,7 +43,8 @@ const OLD: Rows = Rows {
     ..GOOD
 };
 
-/// Cases: rows, and the number of the first rule that they break, or 0 if they break none.
+/// Cases: the rows of `GOOD`, all but the first with one value changed, and the number of the first
+/// rule that they break, or 0 if they break none.
 static CASES: [(Rows, u64); 15] = [
     (GOOD, 0),
     (Rows { days: 450, ..GOOD }, 0),
@@ -86,8 +87,8 @@ static CASES: [(Rows, u64); 15] = [
     (Rows { reports: 1, ..GOOD }, 12),
 ];
 
-/// Cases of rows of the market and its books: the rows, and the number of the first rule that they
-/// break, or 0.
+/// Cases of the market's rows and of the books: the rows of `GOOD` or of `OLD`, most with values
+/// changed, and the number of the first rule that they break, or 0.
 static MARKET_CASES: [(Rows, u64); 14] = [
     (GOOD, 0),
     (

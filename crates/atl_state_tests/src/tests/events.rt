@@ -3,7 +3,7 @@ use super::compare::{assert_row, assert_text, assert_true};
 use atl_state::EventFault;
 use std::process::Abort;
 
-/// Each fault's number and its name.
+/// The number and the name of each fault of an order.
 static FAULTS: [(u8, &str); 24] = [
     (1, "NotYours"),
     (2, "NotHere"),
@@ -31,7 +31,7 @@ static FAULTS: [(u8, &str); 24] = [
     (24, "NoMarket"),
 ];
 
-/// Asserts the name and the number of the fault that has a number.
+/// Asserts that a number gives a fault of an order, which has this number and this name.
 fn assert_name(rt: &impl Abort, row: usize, number: u8, name: &str) {
     match EventFault::of_number(number) {
         Some(fault) => {

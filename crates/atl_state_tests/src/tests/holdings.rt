@@ -1,4 +1,4 @@
-//! Tests of `Holding` (what a unit has): each call that sets a part, and the reads after it.
+//! Tests of `Holding` (what a unit has): each call that sets a value, and the reads after it.
 use super::compare::{assert_amount, assert_row_text};
 use super::making::one_man;
 use atl_state::Holding;
@@ -7,7 +7,7 @@ use std::alloc::Global;
 use std::process::Abort;
 use std::test::Fail;
 
-/// A call that sets a part of a holding.
+/// A call that sets one value of a holding, such as its men or its amount of an item.
 #[derive(Drop, Clone, Copy)]
 enum Part {
     Nothing,
@@ -21,7 +21,7 @@ enum Part {
     Days(u32, u32),
 }
 
-/// Calls, and the holding after each as `text_of` prints it.
+/// Calls made in turn on the holding of one man, and the holding after each as `text_of` prints it.
 static CALLS: [(Part, &str); 15] = [
     (
         Part::Nothing,
@@ -86,7 +86,7 @@ static CALLS: [(Part, &str); 15] = [
     ),
 ];
 
-/// Makes the call that sets a part of a holding.
+/// Makes the call on a holding that a value of `Part` names.
 fn sets(alloc: Global, holding: &mut Holding, part: Part) -> Result<(), Fail> {
     match part {
         Part::Nothing => (),
@@ -143,7 +143,7 @@ fn has_amounts(rt: &impl Abort, holding: &Holding) {
     assert_amount(rt, holding.days_of(1), 30);
 }
 
-/// Tests that each call on a holding sets its part and no other, and that amounts are read back.
+/// Tests that each call on a holding sets its value and no other, and that amounts are read back.
 #[test]
 fn setting_parts_of_a_holding(rt: HostRuntime) -> Result<(), Fail> {
     let mut holding = one_man(rt.alloc())?;

@@ -52,8 +52,8 @@ struct Load {
     carry: u64,
 }
 
-/// Cases of loads. On the island a man weighs 10 and carries 5, wood weighs 5, and a cart weighs 50
-/// and carries 100.
+/// Cases of loads on the island, where a man weighs 10 and carries 5, wood weighs 5, and a cart
+/// weighs 50 and carries 100.
 static LOADS: [Load; 6] = [
     Load {
         men: 0,

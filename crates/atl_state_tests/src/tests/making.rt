@@ -69,8 +69,8 @@ pub(crate) fn man_comes(alloc: Global, campaign: &mut Campaign, faction: u32) ->
     })?)
 }
 
-/// Adds a structure of a kind to region Far, of size 2 and without an owner, and returns its
-/// number.
+/// Adds a structure of a kind to region Far, of which 2 are done and which has no owner, and
+/// returns its number.
 pub(crate) fn structure_begins(
     alloc: Global,
     campaign: &mut Campaign,

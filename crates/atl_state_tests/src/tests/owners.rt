@@ -187,7 +187,7 @@ fn cases_hold(
     Ok(())
 }
 
-/// Steps that add the three units and the two structures.
+/// Steps that add units 1 and 3 of faction 1, unit 2 of faction 2, a boat and a lodge to region 3.
 static COMING: [Step; 5] = [
     Step::Comes(1, 1),
     Step::Comes(2, 2),
@@ -196,7 +196,7 @@ static COMING: [Step; 5] = [
     Step::Begins(LODGE, 2),
 ];
 
-/// The campaign with the three units and the two structures.
+/// The campaign of the island just founded, after the steps of `COMING`.
 fn peopled(alloc: Global) -> Result<Campaign, Fail> {
     let mut campaign = founded_by(alloc, ISLE)?;
     does_all(alloc, &mut campaign, &COMING)?;

@@ -74,7 +74,7 @@ static MARKS: [Row; 6] = [
     (Step::Unmark, Ask::Units, "[1, 12, 14, 15]", "0"),
 ];
 
-/// The units of a campaign that is made again from its rows: exactly those of the first.
+/// The units of the campaign that `check` makes of a campaign's rows: the same, with no mark.
 static AGAIN: [Row; 1] = [(Step::Nothing, Ask::Units, "[1, 12, 14, 15]", "0")];
 
 /// Asserts `AGAIN` on the campaign made from the rows of `first`.

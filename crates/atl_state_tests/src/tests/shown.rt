@@ -228,7 +228,7 @@ fn add_lists(alloc: Global, text: &mut String, campaign: &Campaign) -> Result<()
     Ok(())
 }
 
-/// The word for a kind of single amounts that can be marked, and for what has them.
+/// The words for single amounts that can be marked: for the amount, and for what has it.
 #[derive(Clone, Copy)]
 struct Singles {
     amount: &'static str,
@@ -276,7 +276,7 @@ fn add_singles(
     Ok(())
 }
 
-/// Appends the marked single amounts of a kind.
+/// Appends all marked single amounts of one row of `SINGLES`.
 fn add_all_singles(
     alloc: Global,
     text: &mut String,

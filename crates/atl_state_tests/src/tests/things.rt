@@ -62,7 +62,7 @@ static ONE_BY_ONE: [Row; 11] = [
 /// The wanted marks of a unit that was lent or removed after an item and a skill of it were marked.
 const WHOLE: &str = "1, units [1], rows [1], goods [1], item 7 of unit 1, skill 3 of unit 1";
 
-/// Steps that lend or remove the unit, which marks it as a whole besides what was marked of it.
+/// Steps that lend or remove unit 1, which marks it as a whole besides what was marked of it.
 static AS_A_WHOLE: [Row; 8] = [
     (
         Step::Unit(1, OfUnit::Item(7, 4)),

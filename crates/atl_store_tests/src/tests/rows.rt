@@ -26,8 +26,10 @@ trait Line {
     fn line(&self, alloc: Global) -> Result<String, AllocError>;
 }
 
+/// The campaign row: its id, format, month, next numbers of a faction, a unit and a structure, the
+/// pass text, and `small` or `another world` for the world text.
 impl Line for StoredCampaign {
-    /// The columns of the campaign row; the world text is shown by its name.
+    /// The columns of the campaign row, with `small` or `another world` for the world text.
     fn line(&self, alloc: Global) -> Result<String, AllocError> {
         let head = &self.head;
         let pass = quote(alloc, head.pass.as_slice())?;
@@ -42,6 +44,7 @@ impl Line for StoredCampaign {
     }
 }
 
+/// A faction: its number, the name under which it joined, its name, its pass text, and 1 if gone.
 impl Line for StoredFaction {
     fn line(&self, alloc: Global) -> Result<String, AllocError> {
         let joined_as = quote(alloc, self.joined_as.as_slice())?;
@@ -51,12 +54,14 @@ impl Line for StoredFaction {
     }
 }
 
+/// A region: its number, peasants and money.
 impl Line for StoredRegion {
     fn line(&self, alloc: Global) -> Result<String, AllocError> {
         format!(in alloc; "{} {} {}", self.number, self.peasants, self.money)
     }
 }
 
+/// A unit: its number, faction, name, region, structure, men, money, and 1 if its guard flag is on.
 impl Line for StoredUnit {
     fn line(&self, alloc: Global) -> Result<String, AllocError> {
         let name = quote(alloc, self.name.as_slice())?;
@@ -66,6 +71,7 @@ impl Line for StoredUnit {
     }
 }
 
+/// An item or a skill of a unit: the unit, 0 for an item or 1 for a skill, its number, the amount.
 impl Line for StoredHas {
     fn line(&self, alloc: Global) -> Result<String, AllocError> {
         format!(in alloc;
@@ -75,6 +81,7 @@ impl Line for StoredHas {
     }
 }
 
+/// A structure: its number, kind, name, region, how much is done, and its owner.
 impl Line for StoredStructure {
     fn line(&self, alloc: Global) -> Result<String, AllocError> {
         let name = quote(alloc, self.name.as_slice())?;
@@ -83,6 +90,7 @@ impl Line for StoredStructure {
     }
 }
 
+/// A mailing: its faction and its text.
 impl Line for StoredMail {
     fn line(&self, alloc: Global) -> Result<String, AllocError> {
         let text = quote(alloc, self.text.as_slice())?;
@@ -90,24 +98,28 @@ impl Line for StoredMail {
     }
 }
 
+/// A report: its faction and its text.
 impl Line for StoredReport {
     fn line(&self, alloc: Global) -> Result<String, AllocError> {
         format!(in alloc; "{} {:?}", self.faction, self.text.as_str())
     }
 }
 
+/// An amount of the books: the numbers of its entry and its thing, and the amount.
 impl Line for StoredBooks {
     fn line(&self, alloc: Global) -> Result<String, AllocError> {
         format!(in alloc; "{} {} {}", self.entry, self.thing, self.amount)
     }
 }
 
+/// A stock: its region, its item, and how much there is.
 impl Line for StoredMarket {
     fn line(&self, alloc: Global) -> Result<String, AllocError> {
         format!(in alloc; "{} {} {}", self.region, self.item, self.stock)
     }
 }
 
+/// A row that is read with its rowid: the columns of the row, without the rowid.
 impl<T: Line> Line for RowWithId<T> {
     fn line(&self, alloc: Global) -> Result<String, AllocError> {
         self.row.line(alloc)

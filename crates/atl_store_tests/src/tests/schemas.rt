@@ -4,8 +4,8 @@ use std::alloc::Global;
 use std::process::Abort;
 use std::test::Fail;
 
-/// SQL statements, and whether the schema is still accepted after each: the tables of a campaign,
-/// unchanged, come first.
+/// SQL statements, each for the tables of a campaign just founded, and the answer of
+/// `has_all_tables` after it. The first leaves the schema as it is.
 static CHANGES: [(&str, &str); 8] = [
     ("DELETE FROM mail", "yes"),
     ("CREATE TABLE notes (words TEXT)", "yes"),
@@ -23,7 +23,7 @@ static CHANGES: [(&str, &str); 8] = [
     ),
 ];
 
-/// Asserts the answer of `has_all_tables` after a statement.
+/// Asserts the answer of `has_all_tables` after a founding and the SQL of a row of `CHANGES`.
 fn assert_answer(rt: &impl Abort, alloc: Global, change: &(&str, &str)) -> Result<(), Fail> {
     let (sql, wanted) = *change;
     let script = format!(in alloc; "create small\nsql {sql}\nhas_all_tables -> {wanted}")?;

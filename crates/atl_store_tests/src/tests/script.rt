@@ -119,7 +119,7 @@ fn play_line<S: Alter>(
     Ok(())
 }
 
-/// Plays all lines of a script.
+/// Carries out the step of each line of a script in turn, and asserts its answer.
 pub(crate) fn play<S: Alter>(
     rt: &impl Abort,
     alloc: Global,

@@ -47,7 +47,7 @@ pub(crate) fn set(campaign: &mut Campaign, text: &str) -> Result<(), Fail> {
     Ok(())
 }
 
-/// Sets the money, the days of a skill or another part of a holding that is lent.
+/// Sets the money, the days of a skill or the guard flag of a holding that is lent, or nothing.
 fn set_lent(holding: &mut Holding, what: &str, first: u32, second: u32) -> Result<(), Fail> {
     if first > HOLDING_LIMIT {
         return Err(Fail::new("an amount that fits"));
@@ -73,7 +73,7 @@ pub(crate) fn lend(campaign: &mut Campaign, text: &str) -> Result<(), Fail> {
     set_lent(holding, what, first, second)
 }
 
-/// Removes a unit.
+/// Removes the unit whose number the text is.
 pub(crate) fn remove(campaign: &mut Campaign, text: &str) -> Result<(), Fail> {
     campaign.remove_unit(text.parse::<u32>()?);
     Ok(())
@@ -92,7 +92,7 @@ pub(crate) fn report(alloc: Global, campaign: &mut Campaign, line: &str) -> Resu
     Ok(())
 }
 
-/// Begins a structure of the first kind in region 1, of size 2, which unit 1 owns.
+/// Begins a structure of the first kind in region 1, of which 2 are done and which unit 1 owns.
 pub(crate) fn begin(alloc: Global, campaign: &mut Campaign, name: &str) -> Result<(), Fail> {
     let name = Text::from_str(alloc, name)?;
     if campaign.next_structure() != 1 || campaign.structure(1).is_some() {

@@ -125,7 +125,7 @@ fn stop_and_reopen<D: Crash + Drop>(
     Ok((done, left?))
 }
 
-/// Empty files.
+/// The two files of a new database, in memory: an empty log and an empty database.
 pub(crate) fn new_files(alloc: Global) -> Files<Memory> {
     Files {
         log: Memory::new(alloc),

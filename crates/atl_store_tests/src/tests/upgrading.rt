@@ -56,8 +56,8 @@ type Case = (&'static str, &'static str, &'static str, &'static str);
 const LOOSE: &str =
     "DROP TABLE campaign; CREATE TABLE campaign (id INTEGER NOT NULL PRIMARY KEY CHECK (id = 1), format INTEGER NOT NULL, month INTEGER NOT NULL, next_faction INTEGER NOT NULL, next_unit INTEGER NOT NULL, next_structure INTEGER NOT NULL, pass TEXT NOT NULL, world TEXT NOT NULL); INSERT INTO campaign VALUES (1, 1, 'x', 3, 12, 2, 'gm', 'no world')";
 
-/// Files of the first format with one thing changed, and worlds. The answers of `load` and
-/// `upgrade` are the faults of the first check that fails, or Done.
+/// Files of the first format, unchanged or changed by SQL, and a world for the upgrade. The answers
+/// of `load` and `upgrade` are the faults of the first check that fails, or Done.
 static CASES: [Case; 18] = [
     ("", "small", "OldFormat", "Differs"),
     ("", "no world", "OldFormat", "World"),
@@ -124,8 +124,8 @@ static CASES: [Case; 18] = [
     ),
 ];
 
-/// The steps after the upgrade: if it was done, another load is; otherwise the tables are
-/// unchanged.
+/// The steps after the upgrade: if it was done, a load that is Done; otherwise the tables are the
+/// same as before, and `load` answers as before.
 fn rest_of(alloc: Global, load: &str, upgrade: &str) -> Result<String, Fail> {
     if upgrade == "Done" {
         Ok(String::from_str(alloc, "load")?)

@@ -3,9 +3,9 @@
 use super::script::play_new;
 use std::test::Fail;
 
-/// Only marked rows are written: after a change in each table but `unit`, `has` and `mail`, the
-/// unit keeps the name that it was given by hand. The mail, which the campaign doesn't have,
-/// stays, since it is not marked.
+/// Only marked rows are written: after a change in each table but `unit`, `has`, `mail` and
+/// `market`, the unit keeps the name that it was given by hand. The mail stays, since it is not
+/// marked.
 #[test]
 fn marked_rows_alone_are_written(rt: HostRuntime) -> Result<(), Fail> {
     let script = "create small
@@ -136,8 +136,8 @@ SELECT count(*) FROM books -> 4";
     play_new(&rt, rt.alloc(), script)
 }
 
-/// A campaign that was written is loaded again unchanged. Before the write a unit is lent, which is
-/// one mark, money is set and booked, and the mail is cleared.
+/// A campaign that was written is loaded again unchanged. Before the write a unit is lent, which
+/// makes one mark, its money is set, an amount is booked, and the mail is cleared.
 #[test]
 fn a_written_campaign_comes_back(rt: HostRuntime) -> Result<(), Fail> {
     let script = "create small

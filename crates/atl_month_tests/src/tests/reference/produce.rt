@@ -15,7 +15,7 @@ const MOST_PIECES: u64 = MOST_MONEY;
 /// The highest level of a skill.
 const MOST_LEVEL: u64 = 5;
 
-/// Level n of a skill needs this many days, times n times n + 1, for each man.
+/// The days in the rule of levels: level `n` of a skill takes 15 * n * (n + 1) days for each man.
 const LEVEL_DAYS: u64 = 15;
 
 /// The highest level of a skill that this many men have with these days together; 0 without men.

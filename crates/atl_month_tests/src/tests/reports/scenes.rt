@@ -23,28 +23,28 @@ const STOCKED: i64 = 16;
 /// The number of the first item among the things of the books.
 const FIRST_ITEM: i64 = 2;
 
-/// The kind of an item in the table `has`.
+/// The column `sort` of the table `has` for an item.
 const ITEM: i64 = 0;
 
-/// The kind of a skill in the table `has`.
+/// The column `sort` of the table `has` for a skill.
 const SKILL: i64 = 1;
 
-/// The item wood, as kind and number.
+/// The item wood, as the columns `sort` and `thing` of the table `has`.
 pub(crate) const WOOD: (i64, i64) = (ITEM, 0);
 
-/// The item cart, as kind and number.
+/// The item cart, as the columns `sort` and `thing` of the table `has`.
 pub(crate) const CART: (i64, i64) = (ITEM, 1);
 
-/// The skill lumberjack, as kind and number.
+/// The skill lumberjack, as the columns `sort` and `thing` of the table `has`.
 pub(crate) const LUMBERJACK: (i64, i64) = (SKILL, 0);
 
-/// The skill sailing, as kind and number.
+/// The skill sailing, as the columns `sort` and `thing` of the table `has`.
 pub(crate) const SAILING: (i64, i64) = (SKILL, 3);
 
-/// The skill stealth, as kind and number.
+/// The skill stealth, as the columns `sort` and `thing` of the table `has`.
 pub(crate) const STEALTH: (i64, i64) = (SKILL, 4);
 
-/// The skill observation, as kind and number.
+/// The skill observation, as the columns `sort` and `thing` of the table `has`.
 pub(crate) const OBSERVATION: (i64, i64) = (SKILL, 5);
 
 /// The number of the kind boat.

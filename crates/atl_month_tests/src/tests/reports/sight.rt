@@ -14,7 +14,8 @@ use std::alloc::Global;
 use std::process::Abort;
 use std::test::Fail;
 
-/// A scene, and the wanted report of a faction on it.
+/// A scene, the units that lose their men in it, faulty lines and events, and the report that a
+/// faction has to get of them.
 #[derive(Clone, Copy)]
 struct Case {
     scene: Scene,
@@ -375,7 +376,8 @@ const EVENTS: [Event; 4] = [
     },
 ];
 
-/// Scenes whose reports have all kinds of lines, and the wanted reports.
+/// Scenes with structures, items and skills, the second also with faulty lines and events, and the
+/// wanted reports.
 static WHOLE: [Case; 2] = [
     Case {
         scene: Scene {

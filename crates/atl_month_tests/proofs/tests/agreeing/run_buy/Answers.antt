@@ -3,7 +3,7 @@ use Rattle.atl_state.proofs.GoodLaws.{IsEarly-good}
 use Rattle.atl_month_tests.proofs.RoomLaws.{room_for_buying}
 use Rattle.atl_month_tests.proofs.tests.agreeing.run_buy.Goals as goal
 
--- behind a bound on the size of the phase, which has none
+-- what `run` of BUY requires: first a bound on the size of the phase, whose type has no fields, then its own clauses
 pub run-requires : goal.run-requires
 run-requires c = (
   omega arith,

@@ -3,6 +3,7 @@ use Rattle.std.specs.Ordering.{nat_cmp}
 use Rattle.std.specs.FinMap.{get-empty}
 use Rattle.atl_state_tests.proofs.tests.making.one_man.Goals as goal
 
+-- None has no value: where it is said to have one, anything follows
 none_some : {A P : Type 0} (x : A) → None ≡ Some x → P
 none_some x e = cc
 
