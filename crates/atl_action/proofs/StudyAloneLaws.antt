@@ -123,7 +123,7 @@ module _ (w : WorldValue) (taught : TaughtMen) (n : ℕ) (u : Unit) where
           ]
       by_said o x its = tt
 
-  -- orders of STUDY leave unit n as it was, if each isn't for unit n or not from the faction of unit n
+  -- if none of some orders of STUDY is for unit n and from its faction, they leave unit n as it was
   all_stay : (ts : List Task) (p : CampaignValue × MonthValue) (v : Unit) → get p.0.units n ≡ Some v → v.faction ≡ u.faction → AllByRecursion IsOther ts → get (fold step p ts).0.units n ≡ Some v
   all_stay [] p v there own others = there
   all_stay (t ∷ ts) p v there own others = all_stay ts (step p t) v (one_stays p.0 p.1 t v there own others.0) own others.1

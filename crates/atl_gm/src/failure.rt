@@ -44,6 +44,7 @@ pub enum Failure {
     Output,
 }
 
+/// Drops the parser's error or the fault of a world by one call, which the prover meets only once.
 impl Drop for Failure {
     fn drop(self) {
         match self {

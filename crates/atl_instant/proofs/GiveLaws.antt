@@ -64,7 +64,7 @@ pub held_within : (gift : Gift) (h : HoldingValue) → IsHolding h → held_of g
 held_within Money h is = is.money
 held_within (Item i) h is = amount_within h i is
 
--- setting first the giver's amount and then the receiver's makes the campaign `after_gift`
+-- taking n of the gift from the giver and then adding n to another unit makes the campaign `after_gift`
 pub given_is : (c d e : CampaignValue) (from to : ℕ) (gift : Gift) (n left more : ℕ) (u v : Unit) → to ≢ from → get c.units from ≡ Some u → get c.units to ≡ Some v
     → d ≡ with_held c from (with_held_of gift u.holding left) (Some u)
     → ((x : Unit) → get d.units to ≡ Some x → e ≡ with_held d to (with_held_of gift x.holding more) (Some x))

@@ -66,7 +66,7 @@ module _ (c : CampaignValue) (from to : ℕ) (u v : Unit) (h k : HoldingValue) (
     drawn = λ e t. drawn_same 0 (amount_in c.books e t);
   }
 
-  -- each unit but the giver is no worse off, if the receiver isn't
+  -- the move leaves each unit but the giver no worse off (`IsNoWorse`), if it leaves the receiver so
   pub spared-moved : IsNoWorse v (record v { holding = k }) → (n : ℕ) (x : Unit) → get c.units n ≡ Some x → n ≢ from → IsUnaffected IsNoWorse moved n x
   spared-moved better n x there other = elim (cases_eq n to) [
     | inl same ↦

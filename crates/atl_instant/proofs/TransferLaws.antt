@@ -65,7 +65,7 @@ can_send n itself u v is =
       room = λ apart. not_less men_limit (v.holding.men + n) (unless_itself itself full four.0 apart);
     }
 
--- setting first what the sender holds and then what the receiver holds makes the campaign `after_transfer`
+-- setting first what the sender holds and then what another unit, the receiver, holds makes `after_transfer`
 pub sent_is : (c d e : CampaignValue) (from to n : ℕ) (u v : Unit) (h k : HoldingValue) → to ≢ from → get c.units from ≡ Some u → get c.units to ≡ Some v
     → h ≡ with_fewer n u.holding → k ≡ with_more n u.holding v.holding
     → d ≡ with_held c from h (Some u) → (get d.units to ≡ Some v → e ≡ with_held d to k (Some v))

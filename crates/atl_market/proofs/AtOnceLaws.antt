@@ -51,7 +51,7 @@ module _ {needs : Bool} {step : CampaignValue → ℕ × ℕ → CampaignValue} 
       ]
 
   module _ (c : CampaignValue) where
-    -- each unit that is paid is there, and its region where that is needed
+    -- payment `e` can be made: its unit is there in `c`, and the unit's region in `d`, if that is needed (`Around`)
     abbrev CanBePaid : CampaignValue → ℕ × ℕ → Type 0
     CanBePaid d e = (u : Unit) × (get c.units e.0 ≡ Some u) × Around needs d u
 

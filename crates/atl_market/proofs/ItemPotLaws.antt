@@ -336,7 +336,7 @@ module _ (item_of : ℕ → Option ℕ) (pot_of : (item region : ℕ) → ℕ) (
       other apart None = refl
       other apart (Some s) = found_other (e.0, s) (of_wants es) n apart
 
-  -- the map of all shares has under each unit its share
+  -- `item_shares`, the definition's map of all shares, has under each number that unit's `item_share`, or nothing
   pub shares_at : (n : ℕ) → get (item_shares item_of pot_of wants c) n ≡ gets n
   shares_at n = get-from_entries nat_cmp_total (of_wants (entries wants)) n ∙ found_listed (entries wants) n ∙ by_share (gets n) refl
     where

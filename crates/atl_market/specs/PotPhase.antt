@@ -25,13 +25,13 @@ use Rattle.atl_phase.specs.Meaning.{Meaning}
 
 -- ---- what an order names
 
--- the item that the operands of an order name, if they name one
+-- the item that the operands of PRODUCE, SELL or BUY name; None for operands of any other form
 abbrev pub item_in : OperandsValue → Option ℕ
 item_in (operands.Item i) = Some i
 item_in (operands.Goods n i) = Some i
 item_in other = None
 
--- how many an order's operands ask for; 0 where they name no number
+-- how many the operands of RECRUIT, SELL or BUY ask for; 0 for operands of any other form
 abbrev pub count_in : OperandsValue → ℕ
 count_in (operands.Number n) = n
 count_in (operands.Goods n i) = n

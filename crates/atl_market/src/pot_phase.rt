@@ -78,7 +78,7 @@ pub(crate) trait PotPhase {
         ensures marks { OnOk result (MarksChanges campaign.old campaign.new) };
 }
 
-/// The item that an order names, if it names one.
+/// The item that an order of PRODUCE, SELL or BUY names; None for operands of any other form.
 pub(crate) fn named_item(order: PhaseOrder<'_>) -> Option<u16>
     ensures { result ≡ item_in (task_of order.entry).order_value.operands }
 {
@@ -89,7 +89,7 @@ pub(crate) fn named_item(order: PhaseOrder<'_>) -> Option<u16>
     }
 }
 
-/// How many an order asks for; 0 where it names no number.
+/// How many an order of RECRUIT, SELL or BUY asks for; 0 for operands of any other form.
 pub(crate) fn named_count(order: PhaseOrder<'_>) -> u32
     ensures { result ≡ count_in (task_of order.entry).order_value.operands }
 {

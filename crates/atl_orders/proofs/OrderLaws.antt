@@ -204,7 +204,7 @@ module _ (world : WorldValue) where
   more_units : (unit : Result UnitRef LineFault) (units : Result (List UnitRef) LineFault) → Holds IsUnitRef unit → Holds (All IsUnitRef) units → Holds Units (and_then_units unit units)
   more_units unit units h k = after IsUnitRef Units unit _ h (λ u p. after (All IsUnitRef) Units units _ k (λ us q. (omega arith, All-cons IsUnitRef u us p q)))
 
-  -- the units up to the line's end are one or more, all in range
+  -- if the words up to the line's end are read as a list of units, it has one or more, all in range (`Units`)
   some_hold : (ws : List WordText) → Holds Units (some_units_at ws)
   unfolding some_units_at units_of
   some_hold [] = tt

@@ -38,8 +38,8 @@ abbrev pub faction_with_pass : List ℕ → Option Faction → Result Faction Re
 faction_with_pass pass None = Err why.NoFaction
 faction_with_pass pass (Some f) = if not (pointwise nat_eq f.pass pass) then Err why.WrongPass else Ok f
 
--- The campaign with a mailing stored in place of an older one, and the answer with its number of orders and its faulty
--- lines. A mailing that can't be read, or that names another faction, is refused. A faulty line is no reason to refuse.
+-- The campaign and answer for what a mailing was read as: stored in place of an older one, refused, or out of memory.
+-- A stored one is answered with the number of its orders and its faulty lines; these are no reason to refuse.
 abbrev pub mailed : CampaignValue → ℕ → List ℕ → Result Reading MailFault → CampaignValue × Answer
 mailed c faction text (Ok r) =
     if not (r.faction == faction) then (c, Refused why.WrongFaction)

@@ -138,7 +138,8 @@ module _ {V : Type 0} where
         (sym (get-insert nat_cmp_total i n k a) ∙ h);
   }
 
-  -- a value in a vacant slot, to which a number then leads, is put under the number
+  -- once a value is put into a vacant slot to which a number then leads, the map of values has it under this number,
+  -- and is otherwise the same
   pub values_added : (i : FinMap nat_cmp ℕ) (s t : slab.Slab V) (n k : ℕ) (x : V) → slab.Updates s t k (Some x) → slab.get s k ≡ None → HaveOwnSlots i s → values_of (insert i n k) t ≡ insert (values_of i s) n x
   values_added i s t n k x u vacant held = same_map nat_cmp_total nat_cmp-IsAntisymmetric _ _ (λ q.
       get_values (insert i n k) t (HaveOwnSlots-added i s t n k x u vacant held) q ∙ ap (through t) (get-insert nat_cmp_total i n k q)

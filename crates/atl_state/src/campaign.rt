@@ -31,7 +31,7 @@ pub use founding::founded;
 use std::alloc::{AllocError, Global};
 use std::marker::Model;
 
-/// A whole campaign, with a mark on each part that changed since it was last written.
+/// A whole campaign, with a mark on each row that changed since it was last written.
 pub struct Campaign {
     alloc: Global,
     month: u32,
@@ -271,8 +271,8 @@ impl Campaign {
         self.reports.iter()
     }
 
-    /// How many things are booked: money, people, and each item of the world. No amount of another
-    /// thing is marked.
+    /// How many things the books have amounts of: money, people, and the items of the world. No
+    /// amount of another thing is marked.
     pub fn things(&self) -> usize
         ensures count { result ≡ self.now.value.books.things }
         ensures few { result ≤ possible_things }

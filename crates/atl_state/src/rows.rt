@@ -39,7 +39,7 @@ fn flag(set: bool) -> i64
     if set { 1 } else { 0 }
 }
 
-/// The campaign row of a campaign in a format, without the world text.
+/// The row of the table `campaign` in a format, without its world text, which no campaign knows.
 fn campaign_row(
     alloc: Global,
     format: Format,

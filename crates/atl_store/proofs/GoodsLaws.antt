@@ -83,7 +83,7 @@ module _ (unit : ℕ) (sort : ThingKind) where
   has_sort : (es : List (ℕ × ℕ)) (thing amount : ℕ) → Has es (thing, amount) → amount ≢ 0 → Has (kind_lines unit sort es) (has_row unit (sort_number sort) thing amount)
   has_sort = have_amount (has_row unit (sort_number sort))
 
-  -- the rows of one kind of thing have different keys
+  -- the rows of `has` for a unit's items, or for its skills, differ in their keys
   sort_apart : (es : List (ℕ × ℕ)) → is_sorted nat_cmp es ≡ true → DifferInKey 3 (kind_lines unit sort es)
   sort_apart = amounts_apart (has_row unit (sort_number sort)) 3 (λ m a n b same. (three_same unit (sort_number sort) m unit (sort_number sort) n same).2)
 

@@ -103,7 +103,7 @@ module _ {V : Type 0} (lines : ℕ → V → List Row) (more : ℕ) (values : Fi
         → Inside HasTables (RewritesGroup table Wanted n) old new
     bare_done none old new did = inside_weaker HasTables (Drops table 1 (int n ∷ [])) (RewritesGroup table Wanted n) old new (λ has drops. bare_rewrite old.now new.now drops none) did
 
--- the upsert of a wanted row is one of the statements that put a row of the campaign (`OfRow`)
+-- if all rows that are wanted (`Wanted`) are rows of a part, the upsert of one puts a row of the campaign (`OfRow`)
 pub puts_wanted : (part : Part) (more : ℕ) → key_of part ≡ suc more → (Wanted : CampaignValue → Row → Type 0) → ((own : Row) (c : CampaignValue) (r : Row) → Wanted c r → rows_for own c part r) → (c : CampaignValue) (r : Row) → Wanted c r
     → OfRow c (upsert (table_of part) (suc more)) r
 puts_wanted part more key Wanted are c r is = subst (λ k. OfRow c (upsert (table_of part) k) r) key (puts_row part (λ own. are own c r is))

@@ -126,7 +126,7 @@ settled_on c e t rows news S was is r = (
 )
 
 module _ (n : ℕ) (f : Faction) (m : ℕ) (u : Unit) (report : List ℕ) (after : CampaignValue) (found : IsFound after n f m u report) where
-  -- putting campaign row, faction and unit (`Enrolls`), then report and amounts (`Welcomes`), is the write of a join
+  -- `put_newcomer` (`Enrolls`) and then `put_welcome` (`Welcomes`) are together the write of a join (`WritesJoin`)
   joins : (world : List ℕ) (a b d : Database) → Enrolls n f m u after world a b → Welcomes n report after b d → WritesJoin n after a d
   joins world a b d enrolls reports before text was =
       let x = enrolls.0 in

@@ -120,7 +120,8 @@ impl fmt::Display for StoreFault {
 /// As an `Error`, a `StoreFault` is shown by its name, and `Damaged` also by the rule's number.
 impl std::error::Error for StoreFault {}
 
-/// Shows the fault's name; of `Damaged` the rule's number, too; of `World` the text's fault.
+/// Shows the fault's name; of `Damaged` also the rule's number, as `Damaged 11`; of `World` also
+/// the fault of the new world text, as `World: 2 Missing rules.growth`.
 impl fmt::Display for UpgradeFault {
     fn fmt<W: fmt::Write>(&self, f: &mut fmt::Formatter<W>) -> fmt::Result {
         match self {

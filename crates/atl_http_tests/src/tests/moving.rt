@@ -148,8 +148,8 @@ fn head(alloc: Global, long: usize, fields: usize) -> Result<Vec<u8>, Fail> {
     Ok(head)
 }
 
-/// The length of the long field's value, how many short fields follow, and the reply. 45 bytes come
-/// before that value, and 4 after it.
+/// Heads at the limits of 8,192 bytes and 32 fields, and just above: the length of the long field's
+/// value, how many short fields follow, and the reply. 49 bytes and 4 a short field come besides.
 static LONG_HEADS: [(usize, usize, &str); 4] = [
     (8_143, 0, REPORTED),
     (8_144, 0, BAD_REQUEST),

@@ -38,8 +38,8 @@ fn markets_in_both_formats(rt: HostRuntime) -> Result<(), Fail> {
     )
 }
 
-/// Edits of the world with one market, and whether the two worlds then count as different in their
-/// markets alone.
+/// Edits of the world with one market, and whether the two worlds are then equal but for their
+/// markets, which they are too if the edit changes nothing.
 static CHANGES: [(&str, &str, bool); 24] = [
     ("price = 7", "price = 8", true),
     ("pays = 5", "pays = 6", true),

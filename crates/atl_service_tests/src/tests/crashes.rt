@@ -256,8 +256,8 @@ fn stopping(alloc: Global, which: WhichDisk, calls: u64) -> Files<Fuse<Memory>> 
 /// More calls than a disk gets in any course.
 const MANY_CALLS: u64 = 1_000;
 
-/// Asserts what a crash leaves (`stopped`) if one disk stops at each of its calls, from the first
-/// up to a run in which it doesn't stop.
+/// Asserts what a crash leaves (`stopped`) after one disk stops at each of its calls in turn, up to
+/// the run in which all writes of the plan are done.
 fn stops(rt: &impl Abort, alloc: Global, plan: &Plan, which: WhichDisk) -> Result<(), Fail> {
     for calls in 0..MANY_CALLS {
         let done = stopped(rt, alloc, stopping(alloc, which, calls), plan)?;

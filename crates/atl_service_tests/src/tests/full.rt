@@ -1,5 +1,4 @@
-//! Tests that `Join` succeeds in a campaign with room for one more unit or faction, and is refused
-//! in a full one.
+//! Tests that `Join` succeeds among 10,000 units, and is refused in a full campaign.
 use super::commands::AVALON;
 use super::making::{begun_in_memory, opened};
 use super::script::{Asked, Step, follow};
@@ -61,8 +60,8 @@ struct Filled {
     rows: &'static [(&'static str, Option<i64>)],
 }
 
-/// Campaigns with 10,000 units, where Bree joins, and with 100,000 units, with 9,998 gone factions,
-/// or with the last unit number given, where Bree is refused.
+/// Bree joins among 10,000 units. The other campaigns are full: 100,000 units, 9,999 factions (all
+/// but Avalon gone), or the last unit number given.
 static FILLED: [Filled; 4] = [
     Filled {
         more: Some((MORE_UNITS, 10_000)),

@@ -128,7 +128,8 @@ fn add_factions(
     Ok(())
 }
 
-/// Adds the rows of both units.
+/// Adds the rows of both units, the second first: tables may come in any order. Of unit 1's row
+/// tests vary `guard` alone.
 fn add_units(alloc: Global, units: &mut Sequence<StoredUnit>, rows: &Rows) -> Result<(), Fail> {
     units.push(StoredUnit {
         number: 2,

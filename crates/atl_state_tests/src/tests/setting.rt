@@ -173,7 +173,7 @@ static NOBODY: [Row; 12] = [
     ),
 ];
 
-/// Asserts each row of `CALLS` and `NOBODY`, after a lodge was begun.
+/// Begins a lodge, as structure 1, and asserts each row of `CALLS` and `NOBODY`.
 fn sets_all(rt: &impl Abort, alloc: Global, campaign: &mut Campaign) -> Result<(), Fail> {
     does(alloc, campaign, Step::Begins(LODGE, 1))?;
     assert_unmarked_steps(rt, alloc, campaign, &CALLS)?;

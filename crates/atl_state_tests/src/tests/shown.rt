@@ -228,7 +228,8 @@ fn add_lists(alloc: Global, text: &mut String, campaign: &Campaign) -> Result<()
     Ok(())
 }
 
-/// The words for single amounts that can be marked: for the amount, and for what has it.
+/// How the text of marks names one kind of amount that is marked by itself: the word for the amount
+/// (`item`), and the word for what has it (`unit`).
 #[derive(Clone, Copy)]
 struct Singles {
     amount: &'static str,
@@ -251,7 +252,7 @@ static SINGLES: [Singles; 3] = [
     },
 ];
 
-/// The single amounts of an index in `SINGLES` that are marked, by owner.
+/// The marked items, skills or stocks by their owner: those of the row of `SINGLES` at `index`.
 fn marked_singles(campaign: &Campaign, index: usize) -> Entries<'_, Numbered<()>> {
     match index {
         0 => campaign.marked_items(),
