@@ -7,7 +7,7 @@ here=$(cd "$(dirname "$0")/.." && pwd)
 program=$here/crates/atl_gm/out/atl_gm
 clone=$work/clone
 tools=$work/tools
-mkdir -p "$clone/crates/atl_gm/src" "$clone/crates/atl_gm/out" "$clone/crates/atl_state/src" "$clone/crates/atl_service/src" "$clone/worlds" "$tools"
+mkdir -p "$clone/crates/atl_gm/src" "$clone/crates/atl_gm/out" "$clone/crates/atl_campaign/src" "$clone/crates/atl_service/src" "$clone/worlds" "$tools"
 cp "$here/gm" "$clone/gm"
 cp "$here/worlds/small.toml" "$clone/worlds/"
 cp "$here/crates/atl_gm/stdout" "$work/trial"
@@ -45,16 +45,16 @@ rt 'echo "world: 1 NotToml" >&2' 'echo "run=ended status=1 runners=1 proved=no" 
 gives 'a first look that is refused' trial 1 'gm: *before any proof*world: 1 NotToml'
 
 rt 'echo "error: this is refused"' 'exit 1'
-gives 'an rt that fails' --help 1 '*error: this is refused*atl_state could not be proved and built*'
+gives 'an rt that fails' --help 1 '*error: this is refused*atl_campaign could not be proved and built*'
 
 # It notes its calls, and makes the program at the last of them.
 rt 'echo "$(basename "$PWD") $*" >>../../../calls' "[[ \$PWD != */atl_gm ]] || cp '$program' out/atl_gm"
-gives 'an rt that builds' --help 2 '*atl_state*atl_service*atl_gm*built, *Usage: *'
+gives 'an rt that builds' --help 2 '*atl_campaign*atl_service*atl_gm*built, *Usage: *'
 gives 'a program that is built' trial 0 ''
-[ "$(cut -d ' ' -f 1,2 "$work/calls" | tr '\n' ' ')" = 'atl_state lib atl_service all atl_gm run ' ] || fail 'an rt that builds' "its calls: $(cat "$work/calls")"
+[ "$(cut -d ' ' -f 1,2 "$work/calls" | tr '\n' ' ')" = 'atl_campaign lib atl_service all atl_gm run ' ] || fail 'an rt that builds' "its calls: $(cat "$work/calls")"
 
 sleep 0.02
-: >"$clone/crates/atl_state/src/lib.rt"
+: >"$clone/crates/atl_campaign/src/lib.rt"
 rm "$tools/rt"
 gives 'a newer source and no rt' trial 0 '*warning: a source is newer*'
 

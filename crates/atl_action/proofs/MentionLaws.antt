@@ -4,7 +4,7 @@ use Rattle.std.specs.Prelude.{is_some}
 use Rattle.std.specs.Ordering.{nat_cmp}
 use Rattle.std.specs.Cmp.{nat_cmp_total, unsigned_ties}
 use Rattle.std.specs.FinMap.{FinMap, empty, get, get-empty, get-insert, insert}
-use Rattle.atl_tables.proofs.GeneralLaws.{is_equal}
+use Rattle.atl_world.proofs.GeneralLaws.{is_equal}
 use Rattle.atl_action.specs.Teach.{first_mentions}
 
 -- whether a number isn't among those seen so far

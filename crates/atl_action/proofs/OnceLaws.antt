@@ -7,7 +7,7 @@ use Rattle.std.specs.FinMap.{values}
 use Rattle.atl_records.specs.declared.event.EventFault.{EventFault}
 use Rattle.atl_records.specs.declared.event.Outcome.TheVariants.{Fault}
 use Rattle.atl_records.specs.Events.{event_fault_number}
-use Rattle.atl_state.specs.Campaign.{CampaignValue}
+use Rattle.atl_campaign.specs.Campaign.{CampaignValue}
 use Rattle.atl_phase.specs.Month.{Aliases, MonthValue}
 use Rattle.atl_phase.specs.Inside.{region_of}
 use Rattle.atl_phase.specs.PhaseOrders.{Task, orders_of, unit_of}

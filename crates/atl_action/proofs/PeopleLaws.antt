@@ -4,19 +4,19 @@ use Rattle.std.proofs.Common.{◌≡◌, ◌==◌, ℕ, ◌+◌, Bool, true, fal
 use Rattle.std.specs.Prelude.{option_map, if◌then◌else◌}
 use Rattle.std.specs.Ordering.{nat_cmp}
 use Rattle.std.specs.FinMap.{FinMap, get, insert, len}
-use Rattle.atl_tables.specs.Sums.{changed, changed_at, sum_over}
-use Rattle.atl_tables.proofs.SumLaws.{numbers_where-insert_known, sum_over-insert_known}
+use Rattle.atl_world.specs.Sums.{changed, changed_at, sum_over}
+use Rattle.atl_world.proofs.SumLaws.{numbers_where-insert_known, sum_over-insert_known}
 use Rattle.atl_records.specs.declared.books.Thing.{Thing}
 use Rattle.atl_records.specs.declared.books.Thing.TheVariants.{Item, Money, People}
 use Rattle.atl_records.specs.declared.records.Region.{Region}
 use Rattle.atl_records.specs.declared.records.Unit.{Unit}
-use Rattle.atl_state.specs.Good.{guards}
+use Rattle.atl_campaign.specs.Good.{guards}
 use Rattle.atl_records.specs.Holdings.{amount_of}
-use Rattle.atl_state.specs.Campaign.{CampaignValue, numbers_inside, numbers_of}
+use Rattle.atl_campaign.specs.Campaign.{CampaignValue, numbers_inside, numbers_of}
 use Rattle.atl_records.specs.Amounts.{region_amount, unit_amount}
-use Rattle.atl_state.specs.Totals.{total}
-use Rattle.atl_state.proofs.InsideLaws.{inside_as_before}
-use Rattle.atl_state.proofs.RegionLaws.{same_len}
+use Rattle.atl_campaign.specs.Totals.{total}
+use Rattle.atl_campaign.proofs.InsideLaws.{inside_as_before}
+use Rattle.atl_campaign.proofs.RegionLaws.{same_len}
 use Rattle.atl_phase.proofs.OutcomeLaws.{false_true}
 use Rattle.atl_phase.proofs.StructureLaws.{at_number, get-changed}
 use Rattle.atl_action.proofs.TravelLaws.{IsSameUnit}

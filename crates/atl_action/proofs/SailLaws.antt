@@ -8,12 +8,12 @@ use Rattle.std.specs.FinMap.{FinMap, get, values}
 use Rattle.std.proofs.lemmas.Bool.{and_parts, not-false}
 use Rattle.std.proofs.lemmas.List.Elements.{recursion_from_All}
 use Rattle.std.proofs.lemmas.List.Sums.{sum_by-cons}
-use Rattle.atl_tables.specs.Worlds.{WorldValue}
-use Rattle.atl_tables.specs.Sums.{changed}
-use Rattle.atl_tables.specs.declared.world.RegionPlan.{RegionPlan}
-use Rattle.atl_tables.specs.declared.direction.Direction.{Direction}
-use Rattle.atl_tables.specs.ByNumber.{is_land_at, neighbour, size_of}
-use Rattle.atl_tables.proofs.GeneralLaws.{is_equal, is_unequal}
+use Rattle.atl_world.specs.Worlds.{WorldValue}
+use Rattle.atl_world.specs.Sums.{changed}
+use Rattle.atl_world.specs.declared.world.RegionPlan.{RegionPlan}
+use Rattle.atl_world.specs.declared.direction.Direction.{Direction}
+use Rattle.atl_world.specs.ByNumber.{is_land_at, neighbour, size_of}
+use Rattle.atl_world.proofs.GeneralLaws.{is_equal, is_unequal}
 use Rattle.atl_orders.specs.declared.order.Operands.TheVariants as operands
 use Rattle.atl_orders.specs.Orders.{OperandsValue}
 use Rattle.atl_records.specs.declared.event.EventFault.{EventFault}
@@ -24,14 +24,14 @@ use Rattle.atl_records.specs.declared.records.Structure.{Structure}
 use Rattle.atl_records.specs.declared.records.Unit.{Unit}
 use Rattle.atl_records.specs.Events.{event_fault_number}
 use Rattle.atl_records.specs.Every.{Every, IsThere}
-use Rattle.atl_state.specs.Good.{IsOwned, IsSteady, is_ship}
+use Rattle.atl_campaign.specs.Good.{IsOwned, IsSteady, is_ship}
 use Rattle.atl_records.specs.Holdings.{HoldingValue}
 use Rattle.atl_records.specs.Levels.{load_of}
-use Rattle.atl_state.specs.Owners.{after_handover, heir, is_owned_by, placed, with_place, with_place_at}
-use Rattle.atl_state.specs.Campaign.{CampaignValue, numbers_inside, with_guard, with_structure_region}
+use Rattle.atl_campaign.specs.Owners.{after_handover, heir, is_owned_by, placed, with_place, with_place_at}
+use Rattle.atl_campaign.specs.Campaign.{CampaignValue, numbers_inside, with_guard, with_structure_region}
 use Rattle.atl_records.proofs.EveryLaws.{none_some, other_number}
-use Rattle.atl_state.proofs.InsideLaws.{inside_is_listed, is_no_zero, listed_is_inside}
-use Rattle.atl_state.proofs.NumberListLaws.{IsListed}
+use Rattle.atl_campaign.proofs.InsideLaws.{inside_is_listed, is_no_zero, listed_is_inside}
+use Rattle.atl_campaign.proofs.NumberListLaws.{IsListed}
 use Rattle.atl_phase.specs.declared.phase_order.Arrangement.TheVariants.{ByUnit}
 use Rattle.atl_phase.specs.Month.{MonthValue}
 use Rattle.atl_phase.specs.Inside.{inside}

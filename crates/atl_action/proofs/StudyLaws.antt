@@ -4,10 +4,10 @@ use Rattle.std.specs.Prelude.{pos, neg_ℤ, ◌+ℤ◌, IfSome, nat_lt, if◌the
 use Rattle.std.specs.FinMap.{get}
 use Rattle.std.proofs.lemmas.Int.{ints}
 use Rattle.std.proofs.lemmas.Bool.Decides.{nat_tests}
-use Rattle.atl_tables.specs.Worlds.{WorldValue}
-use Rattle.atl_tables.specs.Sums.{sum_over}
-use Rattle.atl_tables.proofs.SumLaws.{sum_over-insert_known}
-use Rattle.atl_tables.specs.ByNumber.{fee_of}
+use Rattle.atl_world.specs.Worlds.{WorldValue}
+use Rattle.atl_world.specs.Sums.{sum_over}
+use Rattle.atl_world.proofs.SumLaws.{sum_over-insert_known}
+use Rattle.atl_world.specs.ByNumber.{fee_of}
 use Rattle.atl_orders.specs.Bounds.{AreOperandsOf}
 use Rattle.atl_orders.specs.declared.order.Operands.TheVariants as operands
 use Rattle.atl_orders.specs.Orders.{OperandsValue}
@@ -20,18 +20,18 @@ use Rattle.atl_records.specs.declared.event.EventFault.{EventFault}
 use Rattle.atl_records.specs.declared.event.EventFault.TheVariants.{NoFee, NoMen}
 use Rattle.atl_records.specs.declared.event.Outcome.TheVariants.{Done}
 use Rattle.atl_records.specs.declared.records.Unit.{Unit}
-use Rattle.atl_state.specs.Good.{IsSteady}
+use Rattle.atl_campaign.specs.Good.{IsSteady}
 use Rattle.atl_records.specs.Holdings.{HoldingValue, amount_of}
-use Rattle.atl_state.specs.Lending.{with_held}
+use Rattle.atl_campaign.specs.Lending.{with_held}
 use Rattle.atl_records.specs.Limits.{most_days}
-use Rattle.atl_state.specs.Campaign.{CampaignValue}
+use Rattle.atl_campaign.specs.Campaign.{CampaignValue}
 use Rattle.atl_records.specs.Amounts.{unit_amount}
-use Rattle.atl_state.specs.Totals.{Balances, total}
+use Rattle.atl_campaign.specs.Totals.{Balances, total}
 use Rattle.atl_records.proofs.BookLaws.{booked-after_booking}
 use Rattle.atl_records.proofs.EveryLaws.{get-insert_other}
-use Rattle.atl_state.proofs.HavingLaws.{may_have}
-use Rattle.atl_state.proofs.HoldingLaws.{MayHold, steady-unit_amount, total-unit_amount}
-use Rattle.atl_state.proofs.RegionLaws.{steady-amount, total-amount}
+use Rattle.atl_campaign.proofs.HavingLaws.{may_have}
+use Rattle.atl_campaign.proofs.HoldingLaws.{MayHold, steady-unit_amount, total-unit_amount}
+use Rattle.atl_campaign.proofs.RegionLaws.{steady-amount, total-amount}
 use Rattle.atl_phase.specs.Meaning.{moves_only}
 use Rattle.atl_phase.specs.Bounds.{HasRoom, HaveRoom, IsOrderly, IsUnaffectedRelation, StepsWell, UsesBound}
 use Rattle.atl_phase.specs.Outcomes.{unless}

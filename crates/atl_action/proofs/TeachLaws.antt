@@ -4,9 +4,9 @@ use Rattle.std.specs.Prelude.{nat_eq, if◌then◌else◌}
 use Rattle.std.specs.List.{AllByRecursion, IsDistinct, before_first, list_any, position_or_len}
 use Rattle.std.proofs.lemmas.Bool.{cases_eq}
 use Rattle.std.proofs.lemmas.List.Sums.{sum_by-cons}
-use Rattle.atl_tables.proofs.GeneralLaws.{equal_itself, equal_turned, is_unequal}
+use Rattle.atl_world.proofs.GeneralLaws.{equal_itself, equal_turned, is_unequal}
 use Rattle.atl_records.proofs.EveryLaws.{other_number}
-use Rattle.atl_state.specs.Campaign.{CampaignValue}
+use Rattle.atl_campaign.specs.Campaign.{CampaignValue}
 use Rattle.atl_phase.specs.InTurn.{amount_in_turn}
 use Rattle.atl_action.specs.Teach.{TaughtMen, first_mentions, taught_in_lesson, untaught_men}
 

@@ -2,14 +2,14 @@
 use Rattle.std.proofs.Common.{◌≡◌, ◌∷◌, [], List, ◌-◌, ◌*◌, ℕ, Some, None, refl, ap, subst, ◌∙◌, arith}
 use Rattle.std.specs.Prelude.{IfSome, fold}
 use Rattle.std.specs.FinMap.{get, values}
-use Rattle.atl_tables.specs.Worlds.{WorldValue}
-use Rattle.atl_tables.specs.ByNumber.{fee_of}
+use Rattle.atl_world.specs.Worlds.{WorldValue}
+use Rattle.atl_world.specs.ByNumber.{fee_of}
 use Rattle.atl_orders.specs.declared.order.Operands.TheVariants as operands
 use Rattle.atl_orders.specs.Orders.{OperandsValue}
 use Rattle.atl_records.specs.declared.event.Outcome.TheVariants.{Done}
 use Rattle.atl_records.specs.declared.records.Unit.{Unit}
 use Rattle.atl_records.specs.Holdings.{amount_of}
-use Rattle.atl_state.specs.Campaign.{CampaignValue}
+use Rattle.atl_campaign.specs.Campaign.{CampaignValue}
 use Rattle.atl_phase.specs.Month.{MonthValue}
 use Rattle.atl_phase.specs.PhaseOrders.{Task, orders_of}
 use Rattle.atl_phase.specs.OrderEffects.{meaning_by_orders}

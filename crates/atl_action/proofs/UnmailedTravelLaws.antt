@@ -2,15 +2,15 @@
 use Rattle.std.proofs.Common.{ℕ, false, refl}
 use Rattle.std.specs.Prelude.{IfSome, fold, unwrap_or}
 use Rattle.std.specs.FinMap.{get}
-use Rattle.atl_tables.specs.Worlds.{WorldValue}
-use Rattle.atl_tables.specs.declared.direction.Direction.{Direction}
-use Rattle.atl_tables.specs.ByNumber.{neighbour}
+use Rattle.atl_world.specs.Worlds.{WorldValue}
+use Rattle.atl_world.specs.declared.direction.Direction.{Direction}
+use Rattle.atl_world.specs.ByNumber.{neighbour}
 use Rattle.atl_orders.specs.declared.order.Operands.TheVariants as operands
 use Rattle.atl_orders.specs.Orders.{OperandsValue}
 use Rattle.atl_records.specs.declared.event.Outcome.TheVariants.{Done}
 use Rattle.atl_records.specs.declared.records.Unit.{Unit}
-use Rattle.atl_state.specs.Owners.{with_place}
-use Rattle.atl_state.specs.Campaign.{CampaignValue, numbers_inside, with_guard, with_structure_region}
+use Rattle.atl_campaign.specs.Owners.{with_place}
+use Rattle.atl_campaign.specs.Campaign.{CampaignValue, numbers_inside, with_guard, with_structure_region}
 use Rattle.atl_action.specs.Sail.{IsAtMostMoved, after_sailing, is_sailing, sail, sail_effect, sail_fault, sail_spec, sail_step, with_unit_aboard}
 use Rattle.atl_action.specs.Walk.{after_walk, is_walking, walk, walk_effect, walk_fault, walk_spec, walk_step}
 use Rattle.atl_phase.proofs.PhaseSpecLaws.{PhaseLeavesUnmailed}

@@ -6,11 +6,11 @@ use Rattle.std.specs.Ordering.{nat_cmp}
 use Rattle.std.specs.FinMap.{FinMap, get, len}
 use Rattle.std.proofs.lemmas.Bool.{not-false, true≢false}
 use Rattle.std.proofs.lemmas.Option.{same_Some}
-use Rattle.atl_tables.specs.Worlds.{WorldValue, is_land}
-use Rattle.atl_tables.specs.declared.world.RegionPlan.{RegionPlan}
-use Rattle.atl_tables.specs.declared.direction.Direction.{Direction}
-use Rattle.atl_tables.specs.ByNumber.{is_land_at, neighbour}
-use Rattle.atl_tables.proofs.GeneralLaws.{is_equal, is_unequal}
+use Rattle.atl_world.specs.Worlds.{WorldValue, is_land}
+use Rattle.atl_world.specs.declared.world.RegionPlan.{RegionPlan}
+use Rattle.atl_world.specs.declared.direction.Direction.{Direction}
+use Rattle.atl_world.specs.ByNumber.{is_land_at, neighbour}
+use Rattle.atl_world.proofs.GeneralLaws.{is_equal, is_unequal}
 use Rattle.atl_orders.specs.declared.order.Operands.TheVariants as operands
 use Rattle.atl_orders.specs.Orders.{OperandsValue}
 use Rattle.atl_records.specs.declared.event.EventFault.{EventFault}
@@ -19,12 +19,12 @@ use Rattle.atl_records.specs.declared.event.Outcome.TheVariants.{Done}
 use Rattle.atl_records.specs.declared.records.Structure.{Structure}
 use Rattle.atl_records.specs.declared.records.Unit.{Unit}
 use Rattle.atl_records.specs.Every.{Every, IsThere}
-use Rattle.atl_state.specs.Good.{IsOwned, IsSteady, is_ship}
+use Rattle.atl_campaign.specs.Good.{IsOwned, IsSteady, is_ship}
 use Rattle.atl_records.specs.Levels.{carried_by, goods_of}
-use Rattle.atl_state.specs.Owners.{after_handover, heir, placed, with_place, with_place_at}
-use Rattle.atl_state.specs.Campaign.{CampaignValue, with_guard}
+use Rattle.atl_campaign.specs.Owners.{after_handover, heir, placed, with_place, with_place_at}
+use Rattle.atl_campaign.specs.Campaign.{CampaignValue, with_guard}
 use Rattle.atl_records.proofs.EveryLaws.{none_some, other_number}
-use Rattle.atl_state.proofs.LeavingLaws.{owned_by}
+use Rattle.atl_campaign.proofs.LeavingLaws.{owned_by}
 use Rattle.atl_phase.specs.Outcomes.{unless}
 use Rattle.atl_phase.specs.NoWorse.{IsNoWorse}
 use Rattle.atl_phase.specs.OrderEffects.{IsOwnOrder}

@@ -1,5 +1,5 @@
 -- For proofs alone: how far STUDY may still move the books.
-use Rattle.atl_tables.specs.Sums.{sum_over}
+use Rattle.atl_world.specs.Sums.{sum_over}
 use Rattle.atl_records.specs.declared.books.Entry.TheVariants.{Study}
 use Rattle.atl_records.specs.declared.books.Thing.TheVariants.{Money}
 use Rattle.atl_phase.specs.Bounds.{RemainingBound}

@@ -3,10 +3,10 @@ use Rattle.std.specs.Prelude.{◌≡◌, ◌≤◌, ℕ, ◌*◌, ◌==◌, ◌&
 use Rattle.std.specs.List.{slice_get}
 use Rattle.std.specs.Option.{option_map_or}
 use Rattle.std.specs.FinMap.{get}
-use Rattle.atl_tables.specs.Worlds.{WorldValue}
-use Rattle.atl_tables.specs.declared.direction.Direction.{Direction}
-use Rattle.atl_tables.specs.declared.world.Kind.{Kind}
-use Rattle.atl_tables.specs.ByNumber.{is_land_at, neighbour, size_of}
+use Rattle.atl_world.specs.Worlds.{WorldValue}
+use Rattle.atl_world.specs.declared.direction.Direction.{Direction}
+use Rattle.atl_world.specs.declared.world.Kind.{Kind}
+use Rattle.atl_world.specs.ByNumber.{is_land_at, neighbour, size_of}
 use Rattle.atl_orders.specs.declared.order.Operands.TheVariants as operands
 use Rattle.atl_orders.specs.declared.verb.Verb.{Verb}
 use Rattle.atl_orders.specs.declared.verb.Verb.TheVariants as verbs
@@ -17,11 +17,11 @@ use Rattle.atl_records.specs.declared.event.Outcome.TheVariants.{Done}
 use Rattle.atl_records.specs.declared.records.Structure.{Structure}
 use Rattle.atl_records.specs.declared.records.Unit.{Unit}
 use Rattle.atl_records.specs.Every.{Every}
-use Rattle.atl_state.specs.Good.{is_ship}
+use Rattle.atl_campaign.specs.Good.{is_ship}
 use Rattle.atl_records.specs.Holdings.{HoldingValue, amount_of}
 use Rattle.atl_records.specs.Levels.{level_in_any, load_of}
-use Rattle.atl_state.specs.Owners.{is_owned_by, with_place}
-use Rattle.atl_state.specs.Campaign.{CampaignValue, numbers_inside, with_guard, with_structure_region}
+use Rattle.atl_campaign.specs.Owners.{is_owned_by, with_place}
+use Rattle.atl_campaign.specs.Campaign.{CampaignValue, numbers_inside, with_guard, with_structure_region}
 use Rattle.atl_phase.specs.Inside.{inside}
 use Rattle.atl_phase.specs.Meaning.{Frame}
 use Rattle.atl_phase.specs.Outcomes.{first_fault, unless}

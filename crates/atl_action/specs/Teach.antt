@@ -14,7 +14,7 @@ use Rattle.atl_records.specs.declared.event.Outcome.{Outcome}
 use Rattle.atl_records.specs.declared.event.Outcome.TheVariants.{Done, Fault}
 use Rattle.atl_records.specs.Events.{event_fault_number}
 use Rattle.atl_records.specs.Levels.{level_in}
-use Rattle.atl_state.specs.Campaign.{CampaignValue}
+use Rattle.atl_campaign.specs.Campaign.{CampaignValue}
 use Rattle.atl_phase.specs.Month.{Aliases, MonthValue}
 use Rattle.atl_phase.specs.Inside.{region_of}
 use Rattle.atl_phase.specs.Outcomes.{first_fault}

@@ -1,9 +1,9 @@
 -- MOVE: units go to a neighbouring region over land. See docs/RULES.md, "Walking".
 use Rattle.std.specs.Prelude.{ℕ, ◌==◌, nat_lt, Bool, true, false, not, [], ◌∷◌, unwrap_or, Option, Some, None}
 use Rattle.std.specs.Option.{option_map_or}
-use Rattle.atl_tables.specs.Worlds.{WorldValue}
-use Rattle.atl_tables.specs.declared.direction.Direction.{Direction}
-use Rattle.atl_tables.specs.ByNumber.{is_land_at, neighbour}
+use Rattle.atl_world.specs.Worlds.{WorldValue}
+use Rattle.atl_world.specs.declared.direction.Direction.{Direction}
+use Rattle.atl_world.specs.ByNumber.{is_land_at, neighbour}
 use Rattle.atl_orders.specs.declared.order.Operands.TheVariants as operands
 use Rattle.atl_orders.specs.declared.verb.Verb.{Verb}
 use Rattle.atl_orders.specs.declared.verb.Verb.TheVariants as verbs
@@ -13,8 +13,8 @@ use Rattle.atl_records.specs.declared.event.EventFault.TheVariants.{AtSea, NoMen
 use Rattle.atl_records.specs.declared.event.Outcome.TheVariants.{Done}
 use Rattle.atl_records.specs.declared.records.Unit.{Unit}
 use Rattle.atl_records.specs.Levels.{carried_by, goods_of}
-use Rattle.atl_state.specs.Owners.{with_place}
-use Rattle.atl_state.specs.Campaign.{CampaignValue, with_guard}
+use Rattle.atl_campaign.specs.Owners.{with_place}
+use Rattle.atl_campaign.specs.Campaign.{CampaignValue, with_guard}
 use Rattle.atl_phase.specs.Outcomes.{first_fault, unless}
 use Rattle.atl_phase.specs.NoWorse.{IsNoWorse}
 use Rattle.atl_phase.specs.OrderEffects.{IsOwnOrder, OrderEffect, OrderMeaning}

@@ -6,9 +6,9 @@ ghost use Rattle.atl_action.specs.StudyAlone.{UnitsStudyAsBegun};
 use crate::learners::learners;
 use crate::study::StudyPhase;
 use crate::teach::teach_all;
+use atl_campaign::Campaign;
 use atl_phase::{Month, Phase, PhaseResult, carry_out_orders};
-use atl_state::Campaign;
-use atl_tables::World;
+use atl_world::World;
 use std::alloc::Global;
 
 /// The phase of TEACH and STUDY: all units teach before any unit studies.

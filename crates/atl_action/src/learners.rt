@@ -5,12 +5,12 @@ ghost use Rattle.std.specs.FinMap as map;
 ghost use Rattle.atl_orders.specs.Orders.{named};
 ghost use Rattle.atl_phase.specs.PhaseOrders.{task_of};
 ghost use Rattle.atl_action.specs.Learners.{UnitsLearnByOrders, can_learn, is_studying, learners, learns, skill_of, with_learner};
-ghost use Rattle.atl_tables.specs.ByNumber.{fee_of};
+ghost use Rattle.atl_world.specs.ByNumber.{fee_of};
 
+use atl_campaign::{Campaign, Holding};
 use atl_orders::{Operands, Verb};
 use atl_phase::{Arrangement, Month, PhaseOrder, PhaseVerbs};
-use atl_state::{Campaign, Holding};
-use atl_tables::{Numbered, World};
+use atl_world::{Numbered, World};
 use std::alloc::{AllocError, Global};
 
 /// The verb STUDY, whose orders say which units are learning.

@@ -2,7 +2,7 @@
 ghost use Rattle.std.specs.Prelude.{◌≡◌};
 ghost use Rattle.atl_action.specs.Regions.{is_region};
 
-use atl_tables::World;
+use atl_world::World;
 
 /// Whether the world has a region of this number.
 pub(crate) fn is_region(world: &World, region: u32) -> bool

@@ -3,22 +3,22 @@ ghost use Rattle.std.specs.Prelude.{◌≡◌, IfOk, OnOk, fold, option_copied};
 ghost use Rattle.std.specs.List.{slice_get};
 ghost use Rattle.std.specs.Option.{option_map_or};
 ghost use Rattle.std.specs.FinMap as map;
-ghost use Rattle.atl_state.specs.Covers.{MarksChanges};
-ghost use Rattle.atl_state.specs.Good.{IsSteady};
+ghost use Rattle.atl_campaign.specs.Covers.{MarksChanges};
+ghost use Rattle.atl_campaign.specs.Good.{IsSteady};
 ghost use Rattle.atl_records.specs.Levels.{load_of};
-ghost use Rattle.atl_state.specs.Owners.{is_owned_by};
-ghost use Rattle.atl_state.specs.Campaign.{with_structure_region};
+ghost use Rattle.atl_campaign.specs.Owners.{is_owned_by};
+ghost use Rattle.atl_campaign.specs.Campaign.{with_structure_region};
 ghost use Rattle.atl_phase.specs.OrderEffects.{faction_effect};
 ghost use Rattle.atl_action.specs.Sail.{IsAtMostMoved, after_sailing, capacity, concerns_nobody, crew_needed, crew_of, is_complete_ship, is_sailing, is_way, sail, sail_fault, sail_keeps, sail_spec, sail_step, sum_inside, with_unit_aboard};
 
 use crate::regions::is_region;
+use atl_campaign::{Campaign, EventFault, Holding, Outcome, Structure, Unit, level_in_any, load};
 use atl_orders::{Direction, Operands, Verb};
 use atl_phase::{
     Month, OrderPhase, Phase, PhaseOrder, PhaseResult, PhaseVerbs, carry_out_orders, fault_outcome,
     own_unit,
 };
-use atl_state::{Campaign, EventFault, Holding, Outcome, Structure, Unit, level_in_any, load};
-use atl_tables::{Kind, World};
+use atl_world::{Kind, World};
 use std::alloc::{AllocError, Global};
 
 /// The phase of SAIL: ships go to neighbouring regions with all units inside.

@@ -2,11 +2,11 @@
 //! "Learning".
 ghost use Rattle.std.specs.Prelude.{◌≡◌, ◌≤◌, ◌*◌, ◌<◌, IfOk, OnOk, Some, option_copied};
 ghost use Rattle.std.specs.FinMap as map;
-ghost use Rattle.atl_state.specs.Covers.{MarksChanges};
+ghost use Rattle.atl_campaign.specs.Covers.{MarksChanges};
 ghost use Rattle.atl_records.specs.declared.books.Entry.TheVariants.{Study};
 ghost use Rattle.atl_records.specs.declared.books.Thing.TheVariants.{Money};
 ghost use Rattle.atl_records.specs.declared.records.Unit.{Unit};
-ghost use Rattle.atl_state.specs.Good.{IsSteady};
+ghost use Rattle.atl_campaign.specs.Good.{IsSteady};
 ghost use Rattle.atl_records.specs.Holdings.{amount_of};
 ghost use Rattle.atl_records.specs.Limits.{men_limit};
 ghost use Rattle.atl_phase.specs.Holdings.{ChangesHolding};
@@ -20,10 +20,12 @@ ghost use Rattle.atl_action.specs.Bounds.{study_reserve};
 use crate::learners::cost_of;
 use crate::limits::{HELPED_DAYS, MONTH_DAYS, TAUGHT_DAYS};
 use crate::teach::taught_at;
+use atl_campaign::{
+    Campaign, Entry, EventFault, Holding, MOST_DAYS, Outcome, Structure, Thing, Unit,
+};
 use atl_orders::{Operands, Verb};
 use atl_phase::{Month, OrderPhase, PhaseOrder, PhaseVerbs, book_taken, fault_outcome, own_unit};
-use atl_state::{Campaign, Entry, EventFault, Holding, MOST_DAYS, Outcome, Structure, Thing, Unit};
-use atl_tables::{Numbered, World};
+use atl_world::{Numbered, World};
 use std::alloc::{AllocError, Global};
 
 /// The orders of STUDY as a phase of their own, with the number of men of each unit taught before.

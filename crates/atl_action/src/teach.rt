@@ -11,10 +11,10 @@ ghost use Rattle.atl_phase.specs.OrderEffects.{is_own};
 ghost use Rattle.atl_records.specs.declared.event.Outcome.TheVariants.{Done};
 
 use crate::limits::PUPILS_PER_TEACHER;
+use atl_campaign::{Campaign, Event, EventFault, Outcome, level};
 use atl_orders::{Operands, UnitRef, Verb};
 use atl_phase::{Arrangement, Month, PhaseOrder, PhaseVerbs, add_events, fault_outcome, region_of};
-use atl_state::{Campaign, Event, EventFault, Outcome, level};
-use atl_tables::Numbered;
+use atl_world::Numbered;
 use std::alloc::{AllocError, Global};
 
 /// The verb TEACH, whose orders the phase of TEACH and STUDY carries out first.

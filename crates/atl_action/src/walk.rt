@@ -1,14 +1,14 @@
 //! MOVE: units go to a neighbouring region over land. See docs/RULES.md, "Walking".
 ghost use Rattle.std.specs.Prelude.{◌≡◌, IfOk, OnOk};
-ghost use Rattle.atl_state.specs.Covers.{MarksChanges};
-ghost use Rattle.atl_state.specs.Good.{IsSteady};
+ghost use Rattle.atl_campaign.specs.Covers.{MarksChanges};
+ghost use Rattle.atl_campaign.specs.Good.{IsSteady};
 ghost use Rattle.atl_phase.specs.OrderEffects.{faction_effect};
 ghost use Rattle.atl_action.specs.Walk.{after_walk, is_land_there, is_walking, walk, walk_fault, walk_step};
 
+use atl_campaign::{Campaign, EventFault, Outcome, Unit, carry, goods};
 use atl_orders::{Direction, Operands, Verb};
 use atl_phase::{Month, OrderPhase, PhaseOrder, PhaseVerbs, PlainPhase, fault_outcome, own_unit};
-use atl_state::{Campaign, EventFault, Outcome, Unit, carry, goods};
-use atl_tables::World;
+use atl_world::World;
 use std::alloc::{AllocError, Global};
 
 /// The phase of MOVE: units walk to neighbouring regions with land.

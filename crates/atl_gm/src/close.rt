@@ -6,7 +6,7 @@ use crate::printing::print_answer_of;
 use crate::subcommand::Subcommand;
 use atl_http::{Dice, Request, run_request};
 use atl_service::{Answer, Service};
-use atl_tables::Sequence;
+use atl_world::Sequence;
 use clap::{Arg, ArgMatches};
 use sqlite::Alter;
 use std::alloc::{AllocError, Global};

@@ -3,7 +3,7 @@ use crate::failure::Failure;
 use crate::options;
 use crate::printing::print_answer_of;
 use crate::subcommand::Subcommand;
-use atl_tables::Sequence;
+use atl_world::Sequence;
 use clap::{Arg, ArgMatches};
 use std::alloc::{AllocError, Global};
 

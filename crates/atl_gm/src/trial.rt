@@ -5,7 +5,7 @@ use crate::files::text_on_input;
 use crate::printing::print_answer;
 use crate::subcommand::Subcommand;
 use atl_service::{Answer, Refused, Service, found};
-use atl_tables::Sequence;
+use atl_world::Sequence;
 use clap::ArgMatches;
 use sqlite::{Connection, MemStore};
 use std::alloc::{AllocError, Global};

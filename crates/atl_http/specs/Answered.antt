@@ -1,7 +1,7 @@
 -- `answer_reply`: status and body of the reply to each answer of a command. See docs/FORMATS.md, "HTTP".
 use Rattle.std.specs.Prelude.{ℕ, List, [], ◌∷◌, codes, None}
 use Rattle.std.specs.Fmt.{decimal}
-use Rattle.atl_tables.specs.Texts.{◌▸◌}
+use Rattle.atl_world.specs.Texts.{◌▸◌}
 use Rattle.atl_orders.specs.declared.fault.FaultyLine.{FaultyLine}
 use Rattle.atl_orders.specs.Faulting.{fault_number}
 use Rattle.atl_service.specs.declared.command.Answer.{Answer}

@@ -13,7 +13,7 @@ use Rattle.atl_http.specs.declared.request.Request.{Request}
 use Rattle.atl_http.specs.declared.request.Request.TheVariants as request
 use Rattle.atl_http.specs.declared.request.Verdict.{Verdict}
 use Rattle.atl_http.specs.declared.request.Verdict.TheVariants.{More, Refused, Asks}
-use Rattle.atl_tables.specs.Steps.{◌>>=◌}
+use Rattle.atl_world.specs.Steps.{◌>>=◌}
 use Rattle.atl_orders.specs.Limits.{most_bytes}
 use Rattle.atl_http.specs.Routes.{number_of, path_of, route_of, method_of}
 use Rattle.atl_http.specs.Fields.{Pair, fields_of, values_of, only}

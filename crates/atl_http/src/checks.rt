@@ -12,7 +12,7 @@ use crate::problem::{CheckError, Problem};
 use crate::request::Request;
 use crate::route::{Route, number_of, path_of, route_of};
 use atl_orders::MOST_BYTES;
-use atl_tables::Sequence;
+use atl_world::Sequence;
 use httparse::spans::HeaderSpan;
 use serde_json::Value;
 use std::alloc::Global;

@@ -6,7 +6,7 @@ ghost use Rattle.atl_http.specs.Io.{Says};
 
 use crate::problem::Problem;
 use crate::route::Route;
-use atl_tables::let_go;
+use atl_world::let_go;
 use http::StatusCode;
 use std::alloc::{AllocError, Global};
 use std::fmt::Write;

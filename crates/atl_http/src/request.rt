@@ -4,7 +4,7 @@ ghost use Rattle.std.specs.Prelude.{◌≡◌, IfOk};
 use crate::dice::Dice;
 use crate::problem::Problem;
 use atl_service::Command;
-use atl_tables::Sequence;
+use atl_world::Sequence;
 use std::alloc::{AllocError, Global};
 
 /// A whole request that passed all five checks: join, orders, close or report.

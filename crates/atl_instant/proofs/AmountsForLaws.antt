@@ -6,7 +6,7 @@ use Rattle.std.proofs.lemmas.Bool.Decides.{nat_tests}
 use Rattle.std.specs.Ordering.{nat_cmp, eq_by_cmp}
 use Rattle.std.specs.Cmp.{nat_cmp_total}
 use Rattle.std.specs.FinMap.{FinMap, find, get, get-from_entries, nat_cmp-IsAntisymmetric, same_map}
-use Rattle.atl_tables.proofs.GeneralLaws.{is_equal, same_key}
+use Rattle.atl_world.proofs.GeneralLaws.{is_equal, same_key}
 use Rattle.atl_records.specs.Every.{EachOf, Every}
 use Rattle.atl_records.specs.Holdings.{amount_of}
 use Rattle.atl_records.proofs.EveryLaws.{found_of}

@@ -3,15 +3,15 @@ use Rattle.std.proofs.Common.{◌≡◌, ℕ, ◌+◌, List, Some, None, refl, s
 use Rattle.std.specs.Prelude.{IsTrue, true, []}
 use Rattle.std.specs.Ordering.{nat_cmp}
 use Rattle.std.specs.FinMap.{FinMap, get, insert, len}
-use Rattle.atl_tables.specs.Names.{name_ok, pass_ok}
-use Rattle.atl_tables.specs.Worlds.{WorldValue}
+use Rattle.atl_world.specs.Names.{name_ok, pass_ok}
+use Rattle.atl_world.specs.Worlds.{WorldValue}
 use Rattle.atl_records.specs.declared.records.Faction.{Faction}
 use Rattle.atl_records.specs.Every.{Every, IsThere}
-use Rattle.atl_state.proofs.GoodLaws.{posted-there}
-use Rattle.atl_state.specs.Good.{AreInRange, AreKnown, AreNamed, AreNumbered, IsSteady}
-use Rattle.atl_state.specs.Campaign.{CampaignValue, numbers_of, with_faction_name}
+use Rattle.atl_campaign.proofs.GoodLaws.{posted-there}
+use Rattle.atl_campaign.specs.Good.{AreInRange, AreKnown, AreNamed, AreNumbered, IsSteady}
+use Rattle.atl_campaign.specs.Campaign.{CampaignValue, numbers_of, with_faction_name}
 use Rattle.atl_records.proofs.EveryLaws.{every-insert, get-insert_other, none_some, there-insert}
-use Rattle.atl_state.proofs.RegionLaws.{changed-known, same_len}
+use Rattle.atl_campaign.proofs.RegionLaws.{changed-known, same_len}
 
 module _ (c : CampaignValue) (n : ℕ) (x : Faction) (name : List ℕ) (is : get c.factions n ≡ Some x) where
   -- faction n with the other name

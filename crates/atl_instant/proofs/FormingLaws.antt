@@ -6,31 +6,31 @@ use Rattle.std.specs.Ordering.{nat_cmp}
 use Rattle.std.specs.Cmp.{nat_cmp_total}
 use Rattle.std.specs.FinMap.{FinMap, get, get-empty, insert, len, len-insert}
 use Rattle.std.proofs.lemmas.Bool.Decides.{nat_tests}
-use Rattle.atl_tables.specs.Names.{name_ok}
-use Rattle.atl_tables.specs.Worlds.{WorldValue}
-use Rattle.atl_tables.proofs.SumLaws.{numbers_where-insert_other}
-use Rattle.atl_tables.specs.ByNumber.{is_land_at}
-use Rattle.atl_state.specs.Covers.{MarksChanges}
+use Rattle.atl_world.specs.Names.{name_ok}
+use Rattle.atl_world.specs.Worlds.{WorldValue}
+use Rattle.atl_world.proofs.SumLaws.{numbers_where-insert_other}
+use Rattle.atl_world.specs.ByNumber.{is_land_at}
+use Rattle.atl_campaign.specs.Covers.{MarksChanges}
 use Rattle.atl_records.specs.Limits.{holding_limit, last_unit, most_days, most_units}
 use Rattle.atl_records.specs.declared.books.Thing.{Thing}
 use Rattle.atl_records.specs.declared.books.Thing.TheVariants.{Item, Money, People}
 use Rattle.atl_records.specs.declared.records.Unit.{Unit}
 use Rattle.atl_records.specs.Every.{Every}
-use Rattle.atl_state.specs.Good.{AreAfloat, AreInRange, AreKnown, AreNamed, AreNumbered, AreOfOneFaction, AreOwned, GoneHaveNone, IsAboard, IsEarly, IsPlaced, IsSteady, guards}
+use Rattle.atl_campaign.specs.Good.{AreAfloat, AreInRange, AreKnown, AreNamed, AreNumbered, AreOfOneFaction, AreOwned, GoneHaveNone, IsAboard, IsEarly, IsPlaced, IsSteady, guards}
 use Rattle.atl_records.specs.Holdings.{IsHolding}
-use Rattle.atl_state.specs.Marking.{mark_unit_added, mark_unit_begun}
-use Rattle.atl_state.specs.Campaign.{MarkedCampaign, CampaignValue, with_unit, with_unit_begun}
+use Rattle.atl_campaign.specs.Marking.{mark_unit_added, mark_unit_begun}
+use Rattle.atl_campaign.specs.Campaign.{MarkedCampaign, CampaignValue, with_unit, with_unit_begun}
 use Rattle.atl_records.specs.Amounts.{unit_amount}
-use Rattle.atl_state.specs.Totals.{total}
-use Rattle.atl_state.proofs.CoverLaws.{Row, Stays, KeepsUnmarked, marks-trans, marks-unit, part_by_part}
+use Rattle.atl_campaign.specs.Totals.{total}
+use Rattle.atl_campaign.proofs.CoverLaws.{Row, Stays, KeepsUnmarked, marks-trans, marks-unit, part_by_part}
 use Rattle.atl_records.proofs.EveryLaws.{every-empty, every-insert, get-insert_other, none_some, there-insert}
-use Rattle.atl_state.proofs.NumberListLaws.{none_passing}
-use Rattle.atl_state.proofs.TotalLaws.{total-with_unit}
+use Rattle.atl_campaign.proofs.NumberListLaws.{none_passing}
+use Rattle.atl_campaign.proofs.TotalLaws.{total-with_unit}
 use Rattle.atl_phase.specs.Bounds.{StepsWell, books_nothing}
 use Rattle.atl_phase.proofs.MeaningLaws.{same_month_by}
 use Rattle.atl_phase.proofs.UnbookedLaws.{unbooked_well}
 use Rattle.atl_instant.specs.Form.{is_unit_limit, new_unit}
-use Rattle.atl_state.proofs.NumberedNameLaws.{unit_name_ok}
+use Rattle.atl_campaign.proofs.NumberedNameLaws.{unit_name_ok}
 
 -- a map has one value more after an insertion under a number that had none
 len_new : {V : Type 0} (m : FinMap nat_cmp V) (k : ℕ) (v : V) → get m k ≡ None → len (insert m k v) ≡ len m + 1

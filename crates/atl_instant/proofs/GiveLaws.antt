@@ -4,7 +4,7 @@ use Rattle.std.specs.Prelude.{⊤, IfSome, nat_lt, if◌then◌else◌}
 use Rattle.std.proofs.lemmas.Bool.Decides.{nat_tests}
 use Rattle.std.specs.Ordering.{nat_cmp, eq_by_cmp}
 use Rattle.std.specs.FinMap.{get}
-use Rattle.atl_tables.specs.Worlds.{WorldValue}
+use Rattle.atl_world.specs.Worlds.{WorldValue}
 use Rattle.atl_orders.specs.declared.order.Operands.TheVariants as operands
 use Rattle.atl_orders.specs.Bounds.{AreOperandsOf}
 use Rattle.atl_orders.specs.Orders.{OperandsValue}
@@ -14,11 +14,11 @@ use Rattle.atl_records.specs.declared.event.EventFault.{EventFault}
 use Rattle.atl_records.specs.declared.event.EventFault.TheVariants.{NoRoom, NotEnough, NotHere}
 use Rattle.atl_records.specs.declared.event.Outcome.TheVariants.{Done}
 use Rattle.atl_records.specs.declared.records.Unit.{Unit}
-use Rattle.atl_state.specs.Good.{IsEarly}
+use Rattle.atl_campaign.specs.Good.{IsEarly}
 use Rattle.atl_records.specs.Holdings.{HoldingValue, IsHolding, amount_of, with_amount_of}
-use Rattle.atl_state.specs.Lending.{with_held}
+use Rattle.atl_campaign.specs.Lending.{with_held}
 use Rattle.atl_records.specs.Limits.{holding_limit}
-use Rattle.atl_state.specs.Campaign.{CampaignValue}
+use Rattle.atl_campaign.specs.Campaign.{CampaignValue}
 use Rattle.atl_records.specs.Amounts.{unit_amount}
 use Rattle.atl_phase.specs.Month.{Aliases}
 use Rattle.atl_phase.specs.Outcomes.{unless}
@@ -30,7 +30,7 @@ use Rattle.atl_phase.proofs.OutcomeLaws.{none_fits, not_apart, not_less, unless_
 use Rattle.atl_phase.proofs.NoWorseLaws.{no_worse}
 use Rattle.atl_phase.proofs.OrderEffectLaws.{no_worse_spares, well_same}
 use Rattle.atl_records.proofs.HoldingLaws.{alike, amount_within, every_amount, set_amount}
-use Rattle.atl_state.proofs.HavingLaws.{MayHave, may_have}
+use Rattle.atl_campaign.proofs.HavingLaws.{MayHave, may_have}
 use Rattle.atl_phase.proofs.UnbookedLaws.{other_unit}
 use Rattle.atl_instant.specs.Give.{after_gift, give, give_effect, give_fault, give_step, give_to, held_of, with_held_of}
 use Rattle.atl_instant.specs.declared.give.Gift.{Gift}

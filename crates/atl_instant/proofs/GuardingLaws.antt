@@ -4,11 +4,11 @@ use Rattle.std.specs.Prelude.{IfSome, pos}
 use Rattle.std.specs.List.{list_any}
 use Rattle.std.proofs.lemmas.Bool.Decides.{nat_tests}
 use Rattle.std.specs.FinMap.{get, insert}
-use Rattle.atl_tables.specs.Worlds.{WorldValue}
+use Rattle.atl_world.specs.Worlds.{WorldValue}
 use Rattle.atl_orders.specs.declared.order.Operands.TheVariants as operands
 use Rattle.atl_orders.specs.Orders.{OperandsValue}
 use Rattle.atl_records.specs.Books.{amount_in}
-use Rattle.atl_state.specs.Covers.{MarksChanges}
+use Rattle.atl_campaign.specs.Covers.{MarksChanges}
 use Rattle.atl_records.specs.declared.books.Thing.{Thing}
 use Rattle.atl_records.specs.declared.books.Thing.TheVariants.{Item, Money, People}
 use Rattle.atl_records.specs.declared.event.EventFault.{EventFault}
@@ -16,22 +16,22 @@ use Rattle.atl_records.specs.declared.event.EventFault.TheVariants.{Guarded, NoM
 use Rattle.atl_records.specs.declared.event.Outcome.TheVariants.{Done}
 use Rattle.atl_records.specs.declared.records.Unit.{Unit}
 use Rattle.atl_records.specs.Every.{Every}
-use Rattle.atl_state.specs.Good.{AreOfOneFaction, IsSteady, guards}
-use Rattle.atl_state.specs.Marking.{mark_unit_row}
-use Rattle.atl_state.specs.Campaign.{MarkedCampaign, CampaignValue, numbers_in, with_guard}
+use Rattle.atl_campaign.specs.Good.{AreOfOneFaction, IsSteady, guards}
+use Rattle.atl_campaign.specs.Marking.{mark_unit_row}
+use Rattle.atl_campaign.specs.Campaign.{MarkedCampaign, CampaignValue, numbers_in, with_guard}
 use Rattle.atl_records.specs.Amounts.{unit_amount}
-use Rattle.atl_state.specs.Totals.{total}
+use Rattle.atl_campaign.specs.Totals.{total}
 use Rattle.atl_records.proofs.EveryLaws.{every-insert, get-insert_other}
-use Rattle.atl_state.proofs.HoldingLaws.{marks-unit_row, total-unit_amount}
-use Rattle.atl_state.proofs.RegionLaws.{changed-known}
-use Rattle.atl_state.proofs.NumberListLaws.{IsListed, passing_listed}
+use Rattle.atl_campaign.proofs.HoldingLaws.{marks-unit_row, total-unit_amount}
+use Rattle.atl_campaign.proofs.RegionLaws.{changed-known}
+use Rattle.atl_campaign.proofs.NumberListLaws.{IsListed, passing_listed}
 use Rattle.atl_phase.specs.Outcomes.{unless}
 use Rattle.atl_phase.specs.NoWorse.{IsNoWorse}
 use Rattle.atl_phase.specs.PhaseOrders.{Task}
 use Rattle.atl_phase.specs.OrderEffects.{IsUnaffected}
 use Rattle.atl_phase.specs.Bounds.{IsOrderly, IsUnitOf, StepsWell}
 use Rattle.atl_phase.proofs.MeaningLaws.{same_month_by}
-use Rattle.atl_state.proofs.HavingLaws.{may_have, steady-having}
+use Rattle.atl_campaign.proofs.HavingLaws.{may_have, steady-having}
 use Rattle.atl_phase.proofs.OutcomeLaws.{none_fits, not_apart}
 use Rattle.atl_phase.proofs.NoWorseLaws.{no_worse}
 use Rattle.atl_phase.proofs.OrderEffectLaws.{drawn_same, no_worse_spares, well_same}

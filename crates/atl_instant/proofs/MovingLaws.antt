@@ -3,23 +3,23 @@ use Rattle.std.proofs.Common.{◌≡◌, ◌≢◌, ℕ, ◌+◌, true, Some, re
 use Rattle.std.specs.Prelude.{pos}
 use Rattle.std.proofs.lemmas.Bool.{cases_eq}
 use Rattle.std.specs.FinMap.{get}
-use Rattle.atl_tables.specs.Worlds.{WorldValue}
+use Rattle.atl_world.specs.Worlds.{WorldValue}
 use Rattle.atl_records.specs.declared.books.Thing.{Thing}
 use Rattle.atl_records.specs.declared.records.Unit.{Unit}
 use Rattle.atl_records.specs.Books.{amount_in}
-use Rattle.atl_state.specs.Good.{IsEarly}
+use Rattle.atl_campaign.specs.Good.{IsEarly}
 use Rattle.atl_records.specs.Holdings.{HoldingValue}
-use Rattle.atl_state.specs.Lending.{with_held}
-use Rattle.atl_state.specs.Campaign.{CampaignValue}
+use Rattle.atl_campaign.specs.Lending.{with_held}
+use Rattle.atl_campaign.specs.Campaign.{CampaignValue}
 use Rattle.atl_records.specs.Amounts.{unit_amount}
-use Rattle.atl_state.specs.Totals.{total}
+use Rattle.atl_campaign.specs.Totals.{total}
 use Rattle.atl_records.proofs.EveryLaws.{get-insert_other}
-use Rattle.atl_state.proofs.HoldingLaws.{total-unit_amount}
-use Rattle.atl_state.proofs.RegionLaws.{get-insert_same}
+use Rattle.atl_campaign.proofs.HoldingLaws.{total-unit_amount}
+use Rattle.atl_campaign.proofs.RegionLaws.{get-insert_same}
 use Rattle.atl_phase.specs.NoWorse.{IsNoWorse}
 use Rattle.atl_phase.specs.OrderEffects.{IsUnaffected}
 use Rattle.atl_phase.specs.Bounds.{StepsWell}
-use Rattle.atl_state.proofs.HavingLaws.{MayHave, early-having}
+use Rattle.atl_campaign.proofs.HavingLaws.{MayHave, early-having}
 use Rattle.atl_phase.proofs.MeaningLaws.{same_month_by}
 use Rattle.atl_phase.proofs.NoWorseLaws.{no_worse}
 use Rattle.atl_phase.proofs.OrderEffectLaws.{drawn_same}

@@ -2,8 +2,8 @@
 use Rattle.std.proofs.Common.{◌≡◌, ◌≢◌, ◌==◌, ℕ, ◌+◌, Bool, true, false, List, Option, Some, None, refl, sym, ap, subst, ◌∙◌, arith}
 use Rattle.std.specs.Prelude.{IfSome, IsTrue, if◌then◌else◌}
 use Rattle.std.specs.FinMap.{get, insert}
-use Rattle.atl_tables.specs.Names.{name_ok}
-use Rattle.atl_tables.specs.Worlds.{WorldValue}
+use Rattle.atl_world.specs.Names.{name_ok}
+use Rattle.atl_world.specs.Worlds.{WorldValue}
 use Rattle.atl_orders.specs.declared.order.NameKind.{NameKind}
 use Rattle.atl_orders.specs.declared.order.NameKind.TheVariants as kinds
 use Rattle.atl_orders.specs.declared.order.Operands.{Operands}
@@ -17,13 +17,13 @@ use Rattle.atl_records.specs.declared.event.EventFault.{EventFault}
 use Rattle.atl_records.specs.declared.event.Outcome.TheVariants.{Done}
 use Rattle.atl_records.specs.declared.records.Structure.{Structure}
 use Rattle.atl_records.specs.declared.records.Unit.{Unit}
-use Rattle.atl_state.specs.Good.{IsEarly, IsOwned, guards}
+use Rattle.atl_campaign.specs.Good.{IsEarly, IsOwned, guards}
 use Rattle.atl_records.specs.Holdings.{HoldingValue}
-use Rattle.atl_state.specs.Campaign.{CampaignValue, with_faction_name, with_guard, with_structure_name, with_unit_name}
+use Rattle.atl_campaign.specs.Campaign.{CampaignValue, with_faction_name, with_guard, with_structure_name, with_unit_name}
 use Rattle.atl_records.specs.Amounts.{unit_amount}
-use Rattle.atl_state.specs.Totals.{total}
-use Rattle.atl_state.proofs.HoldingLaws.{MayHold, of_one_faction_kept, steady-unit_amount, total-unit_amount}
-use Rattle.atl_state.proofs.RegionLaws.{changed-known}
+use Rattle.atl_campaign.specs.Totals.{total}
+use Rattle.atl_campaign.proofs.HoldingLaws.{MayHold, of_one_faction_kept, steady-unit_amount, total-unit_amount}
+use Rattle.atl_campaign.proofs.RegionLaws.{changed-known}
 use Rattle.atl_phase.specs.Outcomes.{unless}
 use Rattle.atl_phase.specs.PhaseOrders.{Task}
 use Rattle.atl_phase.specs.NoWorse.{IsNoWorse}

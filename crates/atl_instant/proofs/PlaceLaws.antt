@@ -4,9 +4,9 @@ use Rattle.std.proofs.lemmas.Bool.{true≢false}
 use Rattle.std.specs.Prelude.{IfSome, if◌then◌else◌}
 use Rattle.std.specs.Option.{option_map_or}
 use Rattle.std.specs.FinMap.{get}
-use Rattle.atl_tables.specs.Worlds.{WorldValue}
-use Rattle.atl_tables.specs.ByNumber.{is_land_at}
-use Rattle.atl_tables.proofs.GeneralLaws.{is_equal, is_unequal}
+use Rattle.atl_world.specs.Worlds.{WorldValue}
+use Rattle.atl_world.specs.ByNumber.{is_land_at}
+use Rattle.atl_world.proofs.GeneralLaws.{is_equal, is_unequal}
 use Rattle.atl_orders.specs.declared.order.Operands.{Operands}
 use Rattle.atl_orders.specs.declared.order.Operands.TheVariants as operands
 use Rattle.atl_orders.specs.declared.order.Span.{Span}
@@ -17,10 +17,10 @@ use Rattle.atl_records.specs.declared.event.EventFault.TheVariants.{AtSea, NotHe
 use Rattle.atl_records.specs.declared.event.Outcome.TheVariants.{Done}
 use Rattle.atl_records.specs.declared.records.Structure.{Structure}
 use Rattle.atl_records.specs.declared.records.Unit.{Unit}
-use Rattle.atl_state.specs.Good.{IsEarly, IsOwned}
-use Rattle.atl_state.specs.Owners.{is_owned_by, with_place}
-use Rattle.atl_state.specs.Campaign.{CampaignValue, with_owner}
-use Rattle.atl_state.proofs.LeavingLaws.{owned_by}
+use Rattle.atl_campaign.specs.Good.{IsEarly, IsOwned}
+use Rattle.atl_campaign.specs.Owners.{is_owned_by, with_place}
+use Rattle.atl_campaign.specs.Campaign.{CampaignValue, with_owner}
+use Rattle.atl_campaign.proofs.LeavingLaws.{owned_by}
 use Rattle.atl_phase.specs.Month.{Aliases}
 use Rattle.atl_phase.specs.Inside.{inside}
 use Rattle.atl_phase.specs.Outcomes.{first_fault, unless}

@@ -9,13 +9,13 @@ use Rattle.std.specs.declared.cmp.Ordering.TheVariants.{Less, Equal, Greater}
 use Rattle.std.specs.Ordering.{nat_cmp, is_eq}
 use Rattle.std.specs.Cmp.{ranked}
 use Rattle.std.specs.FinMap.{FinMap, entries, find, get, get-entries, is_sorted, len, nat_cmp-IsAntisymmetric, remove}
-use Rattle.atl_tables.specs.Worlds.{WorldValue}
-use Rattle.atl_tables.specs.Sums.{sum_over}
+use Rattle.atl_world.specs.Worlds.{WorldValue}
+use Rattle.atl_world.specs.Sums.{sum_over}
 use Rattle.atl_orders.specs.declared.order.Operands.TheVariants as operands
 use Rattle.atl_orders.specs.Orders.{OperandsValue}
 use Rattle.atl_records.specs.Books.{BooksValue, amount_in, booked, entry_index, thing_index, amount_number}
-use Rattle.atl_state.specs.Covers.{MarksChanges}
-use Rattle.atl_state.specs.Marking.{mark_amount}
+use Rattle.atl_campaign.specs.Covers.{MarksChanges}
+use Rattle.atl_campaign.specs.Marking.{mark_amount}
 use Rattle.atl_records.specs.declared.books.Entry.{Entry}
 use Rattle.atl_records.specs.declared.books.Entry.TheVariants.{Left, Lost}
 use Rattle.atl_records.specs.declared.books.Thing.{Thing}
@@ -26,22 +26,22 @@ use Rattle.atl_records.specs.declared.event.Outcome.TheVariants.{Done}
 use Rattle.atl_records.specs.declared.records.Faction.{Faction}
 use Rattle.atl_records.specs.declared.records.Unit.{Unit}
 use Rattle.atl_records.specs.Every.{EachOf, Every, IsThere}
-use Rattle.atl_state.specs.Founding.{things_of}
-use Rattle.atl_state.specs.Good.{IsSteady}
+use Rattle.atl_campaign.specs.Founding.{things_of}
+use Rattle.atl_campaign.specs.Good.{IsSteady}
 use Rattle.atl_records.specs.Holdings.{HoldingValue}
 use Rattle.atl_records.specs.Limits.{entry_count}
-use Rattle.atl_state.specs.Owners.{heir, without_unit, without_unit_at}
-use Rattle.atl_state.specs.Campaign.{MarkedCampaign, CampaignValue, numbers_of}
+use Rattle.atl_campaign.specs.Owners.{heir, without_unit, without_unit_at}
+use Rattle.atl_campaign.specs.Campaign.{MarkedCampaign, CampaignValue, numbers_of}
 use Rattle.atl_records.specs.Amounts.{unit_amount}
-use Rattle.atl_state.specs.Totals.{Balances, total}
+use Rattle.atl_campaign.specs.Totals.{Balances, total}
 use Rattle.atl_records.proofs.BookLaws.{booked-after_booking}
 use Rattle.atl_records.proofs.EveryEntryLaws.{entry_small}
-use Rattle.atl_state.proofs.CoverLaws.{marks-amount}
+use Rattle.atl_campaign.proofs.CoverLaws.{marks-amount}
 use Rattle.atl_records.proofs.EveryLaws.{same_number, each-from_every, not_below, sorted}
-use Rattle.atl_state.proofs.LeavingLaws.{only_reduced, steady-without, total-without}
-use Rattle.atl_state.proofs.RegionLaws.{steady-amount}
+use Rattle.atl_campaign.proofs.LeavingLaws.{only_reduced, steady-without, total-without}
+use Rattle.atl_campaign.proofs.RegionLaws.{steady-amount}
 use Rattle.atl_records.proofs.RemovedLaws.{get-remove_other, sum_over-remove}
-use Rattle.atl_state.proofs.NumberListLaws.{IsListed, listed_passing}
+use Rattle.atl_campaign.proofs.NumberListLaws.{IsListed, listed_passing}
 use Rattle.atl_phase.specs.Meaning.{BookBound, IsNear, both_move, most_moved, moves_only}
 use Rattle.atl_phase.specs.Bounds.{HasRoom, HaveRoom, IsOrderly, IsUnitOf, StepsWell, UsesBound, moving_items}
 use Rattle.atl_phase.specs.Outcomes.{unless}

@@ -7,15 +7,15 @@ use Rattle.std.proofs.lemmas.Bool.Decides.{nat_tests}
 use Rattle.std.proofs.lemmas.Option.{same_Some}
 use Rattle.std.specs.FinMap.{empty, entries, get, get-empty, insert}
 use Rattle.std.specs.Ordering.{nat_cmp}
-use Rattle.atl_tables.proofs.GeneralLaws.{equal_itself, is_equal}
+use Rattle.atl_world.proofs.GeneralLaws.{equal_itself, is_equal}
 use Rattle.atl_records.specs.declared.event.EventFault.TheVariants.{Guarded, NoMen}
 use Rattle.atl_records.specs.declared.records.Unit.{Unit}
 use Rattle.atl_records.specs.Every.{EachOf, Every}
-use Rattle.atl_state.specs.Good.{AreOfOneFaction, guards}
-use Rattle.atl_state.specs.Campaign.{CampaignValue, numbers_in, with_guard}
+use Rattle.atl_campaign.specs.Good.{AreOfOneFaction, guards}
+use Rattle.atl_campaign.specs.Campaign.{CampaignValue, numbers_in, with_guard}
 use Rattle.atl_records.proofs.EveryLaws.{each-from_every, every-from_each, every-insert, get-insert_other, none_some}
-use Rattle.atl_state.proofs.RegionLaws.{get-insert_same}
-use Rattle.atl_state.proofs.NumberListLaws.{IsListed, listed_passing, passing_listed}
+use Rattle.atl_campaign.proofs.RegionLaws.{get-insert_same}
+use Rattle.atl_campaign.proofs.NumberListLaws.{IsListed, listed_passing, passing_listed}
 use Rattle.atl_phase.specs.Outcomes.{first_fault}
 use Rattle.atl_phase.proofs.OutcomeLaws.{none_fits}
 use Rattle.atl_instant.specs.Guard.{guard_fault, guards_against, is_guarded_against}

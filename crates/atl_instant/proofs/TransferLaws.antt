@@ -6,8 +6,8 @@ use Rattle.std.proofs.lemmas.Bool.{cases_lt}
 use Rattle.std.proofs.Math.Nat.{div-le_of_le-mul, le-div_iff_mul-le, mul-le-mul_right}
 use Rattle.std.specs.Ordering.{nat_cmp}
 use Rattle.std.specs.FinMap.{FinMap, get, keys}
-use Rattle.atl_tables.specs.Worlds.{WorldValue}
-use Rattle.atl_tables.proofs.GeneralLaws.{is_equal}
+use Rattle.atl_world.specs.Worlds.{WorldValue}
+use Rattle.atl_world.proofs.GeneralLaws.{is_equal}
 use Rattle.atl_orders.specs.declared.order.Operands.TheVariants as operands
 use Rattle.atl_orders.specs.Orders.{OperandsValue}
 use Rattle.atl_records.specs.declared.books.Thing.{Thing}
@@ -17,11 +17,11 @@ use Rattle.atl_records.specs.declared.event.EventFault.TheVariants.{NoRoom, NotE
 use Rattle.atl_records.specs.declared.event.Outcome.TheVariants.{Done}
 use Rattle.atl_records.specs.declared.records.Unit.{Unit}
 use Rattle.atl_records.specs.Every.{Every}
-use Rattle.atl_state.specs.Good.{IsEarly}
+use Rattle.atl_campaign.specs.Good.{IsEarly}
 use Rattle.atl_records.specs.Holdings.{HoldingValue, amount_of}
-use Rattle.atl_state.specs.Lending.{with_held}
+use Rattle.atl_campaign.specs.Lending.{with_held}
 use Rattle.atl_records.specs.Limits.{men_limit, most_days}
-use Rattle.atl_state.specs.Campaign.{CampaignValue}
+use Rattle.atl_campaign.specs.Campaign.{CampaignValue}
 use Rattle.atl_records.specs.Amounts.{unit_amount}
 use Rattle.atl_phase.specs.Month.{Aliases}
 use Rattle.atl_phase.specs.Outcomes.{unless}
@@ -32,7 +32,7 @@ use Rattle.atl_phase.specs.Bounds.{IsOrderly, IsUnitOf, StepsWell}
 use Rattle.atl_phase.proofs.OutcomeLaws.{none_fits, not_apart, not_less, unless_itself}
 use Rattle.atl_phase.proofs.NoWorseLaws.{no_worse}
 use Rattle.atl_phase.proofs.OrderEffectLaws.{no_worse_spares, well_same}
-use Rattle.atl_state.proofs.HavingLaws.{MayHave, may_have}
+use Rattle.atl_campaign.proofs.HavingLaws.{MayHave, may_have}
 use Rattle.atl_phase.proofs.UnbookedLaws.{other_unit}
 use Rattle.atl_instant.specs.Transfer.{after_transfer, days_going, going_of, raised_of, staying_of, transfer, transfer_effect, transfer_fault, transfer_step, transfer_to, with_fewer, with_more}
 use Rattle.atl_instant.proofs.AmountsForLaws.{each_said}

@@ -3,8 +3,8 @@
 use Rattle.std.proofs.Common.{◌≡◌, ◌≢◌, ◌==◌, ◌+◌, ◌-◌, ℕ, Bool, true, false, List, [], ◌∷◌, Option, Some, None, refl, sym, ap, ◌∙◌, arith}
 use Rattle.std.specs.Prelude.{IfSome, fold, if◌then◌else◌}
 use Rattle.std.specs.FinMap.{get, values}
-use Rattle.atl_tables.specs.Worlds.{WorldValue}
-use Rattle.atl_tables.proofs.GeneralLaws.{is_equal}
+use Rattle.atl_world.specs.Worlds.{WorldValue}
+use Rattle.atl_world.proofs.GeneralLaws.{is_equal}
 use Rattle.atl_orders.specs.declared.order.NameKind.{NameKind}
 use Rattle.atl_orders.specs.declared.order.NameKind.TheVariants as kinds
 use Rattle.atl_orders.specs.declared.order.Operands.TheVariants as operands
@@ -13,11 +13,11 @@ use Rattle.atl_records.specs.declared.event.EventFault.{EventFault}
 use Rattle.atl_records.specs.declared.event.Outcome.TheVariants.{Done}
 use Rattle.atl_records.specs.declared.records.Unit.{Unit}
 use Rattle.atl_records.specs.Holdings.{HoldingValue}
-use Rattle.atl_state.specs.Lending.{with_held}
-use Rattle.atl_state.specs.Owners.{with_place}
-use Rattle.atl_state.specs.Campaign.{CampaignValue, numbers_of, with_guard, with_owner, with_structure_name}
+use Rattle.atl_campaign.specs.Lending.{with_held}
+use Rattle.atl_campaign.specs.Owners.{with_place}
+use Rattle.atl_campaign.specs.Campaign.{CampaignValue, numbers_of, with_guard, with_owner, with_structure_name}
 use Rattle.atl_records.proofs.EveryLaws.{get-insert_other}
-use Rattle.atl_state.proofs.NumberListLaws.{IsListed, listed_passing}
+use Rattle.atl_campaign.proofs.NumberListLaws.{IsListed, listed_passing}
 use Rattle.atl_phase.specs.Month.{Aliases, MonthValue}
 use Rattle.atl_phase.specs.Outcomes.{unless}
 use Rattle.atl_phase.specs.PhaseOrders.{Task, orders_of, unit_of}

@@ -3,7 +3,7 @@ use Rattle.std.specs.Prelude.{◌++◌, [], ◌∷◌}
 use Rattle.atl_records.specs.declared.event.Event.{Event}
 use Rattle.atl_records.specs.declared.event.EventVerb.TheVariants.{Order}
 use Rattle.atl_records.specs.declared.event.Outcome.{Outcome}
-use Rattle.atl_state.specs.Campaign.{CampaignValue}
+use Rattle.atl_campaign.specs.Campaign.{CampaignValue}
 use Rattle.atl_phase.specs.Month.{MonthValue}
 use Rattle.atl_phase.specs.PhaseOrders.{Task}
 use Rattle.atl_instant.specs.declared.form.Forming.{Forming}

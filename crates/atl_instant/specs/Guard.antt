@@ -10,8 +10,8 @@ use Rattle.atl_records.specs.declared.event.EventFault.{EventFault}
 use Rattle.atl_records.specs.declared.event.EventFault.TheVariants.{Guarded, NoMen}
 use Rattle.atl_records.specs.declared.event.Outcome.TheVariants.{Done}
 use Rattle.atl_records.specs.declared.records.Unit.{Unit}
-use Rattle.atl_state.specs.Good.{guards}
-use Rattle.atl_state.specs.Campaign.{CampaignValue, numbers_in, with_guard}
+use Rattle.atl_campaign.specs.Good.{guards}
+use Rattle.atl_campaign.specs.Campaign.{CampaignValue, numbers_in, with_guard}
 use Rattle.atl_phase.specs.Outcomes.{first_fault, unless}
 use Rattle.atl_phase.specs.NoWorse.{IsNoWorse}
 use Rattle.atl_phase.specs.OrderEffects.{Affects, IsOwnOrder, OrderEffect, OrderMeaning}

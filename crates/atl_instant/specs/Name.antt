@@ -1,7 +1,7 @@
 -- NAME and GUARD 0: units give names, and stop guarding. See docs/RULES.md, "Name".
 use Rattle.std.specs.Prelude.{◌≢◌, ℕ, ◌==◌, Bool, true, false, not, List, [], ◌∷◌, Option, Some, None, if◌then◌else◌}
 use Rattle.std.specs.FinMap.{get}
-use Rattle.atl_tables.specs.Worlds.{WorldValue}
+use Rattle.atl_world.specs.Worlds.{WorldValue}
 use Rattle.atl_orders.specs.declared.order.NameKind.{NameKind}
 use Rattle.atl_orders.specs.declared.order.NameKind.TheVariants as kinds
 use Rattle.atl_orders.specs.declared.order.Operands.TheVariants as operands
@@ -13,8 +13,8 @@ use Rattle.atl_records.specs.declared.event.EventFault.TheVariants.{NotInside, N
 use Rattle.atl_records.specs.declared.event.Outcome.{Outcome}
 use Rattle.atl_records.specs.declared.event.Outcome.TheVariants.{Done}
 use Rattle.atl_records.specs.declared.records.Structure.{Structure}
-use Rattle.atl_state.specs.Good.{is_ship}
-use Rattle.atl_state.specs.Campaign.{CampaignValue, with_faction_name, with_guard, with_structure_name, with_unit_name}
+use Rattle.atl_campaign.specs.Good.{is_ship}
+use Rattle.atl_campaign.specs.Campaign.{CampaignValue, with_faction_name, with_guard, with_structure_name, with_unit_name}
 use Rattle.atl_phase.specs.Outcomes.{first_fault, unless}
 use Rattle.atl_phase.specs.NoWorse.{IsNoWorse}
 use Rattle.atl_phase.specs.OrderEffects.{Affects, IsOwnOrder, OrderEffect, OrderMeaning}

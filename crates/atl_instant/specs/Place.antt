@@ -2,8 +2,8 @@
 -- See docs/RULES.md, "Place".
 use Rattle.std.specs.Prelude.{ℕ, ◌==◌, Bool, true, false, not, [], ◌∷◌, Option, Some, None, if◌then◌else◌}
 use Rattle.std.specs.FinMap.{get}
-use Rattle.atl_tables.specs.Worlds.{WorldValue}
-use Rattle.atl_tables.specs.ByNumber.{is_land_at}
+use Rattle.atl_world.specs.Worlds.{WorldValue}
+use Rattle.atl_world.specs.ByNumber.{is_land_at}
 use Rattle.atl_orders.specs.declared.order.Operands.TheVariants as operands
 use Rattle.atl_orders.specs.declared.verb.Verb.{Verb}
 use Rattle.atl_orders.specs.declared.verb.Verb.TheVariants as verbs
@@ -13,8 +13,8 @@ use Rattle.atl_records.specs.declared.event.EventFault.TheVariants.{AtSea, NotHe
 use Rattle.atl_records.specs.declared.event.Outcome.TheVariants.{Done}
 use Rattle.atl_records.specs.declared.records.Structure.{Structure}
 use Rattle.atl_records.specs.declared.records.Unit.{Unit}
-use Rattle.atl_state.specs.Owners.{is_owned_by, with_place}
-use Rattle.atl_state.specs.Campaign.{CampaignValue, with_owner}
+use Rattle.atl_campaign.specs.Owners.{is_owned_by, with_place}
+use Rattle.atl_campaign.specs.Campaign.{CampaignValue, with_owner}
 use Rattle.atl_phase.specs.Month.{Aliases}
 use Rattle.atl_phase.specs.Inside.{inside}
 use Rattle.atl_phase.specs.Outcomes.{first_fault, unless}

@@ -1,7 +1,7 @@
 -- QUIT: a faction leaves the campaign with all its units. See docs/RULES.md, "Quitting".
 use Rattle.std.specs.Prelude.{◌≡◌, ℕ, pos, neg_ℤ, ◌==◌, not, Bool, true, false, [], ◌∷◌, fold, Option, Some, None, if◌then◌else◌}
 use Rattle.std.specs.FinMap.{entries, get}
-use Rattle.atl_tables.specs.Sums.{sum_over}
+use Rattle.atl_world.specs.Sums.{sum_over}
 use Rattle.atl_orders.specs.declared.order.Operands.TheVariants as operands
 use Rattle.atl_orders.specs.declared.verb.Verb.{Verb}
 use Rattle.atl_orders.specs.declared.verb.Verb.TheVariants as verbs
@@ -17,8 +17,8 @@ use Rattle.atl_records.specs.declared.event.Outcome.TheVariants.{Done}
 use Rattle.atl_records.specs.declared.records.Unit.{Unit}
 use Rattle.atl_records.specs.Amounts.{unit_amount}
 use Rattle.atl_records.specs.Holdings.{HoldingValue}
-use Rattle.atl_state.specs.Owners.{without_unit}
-use Rattle.atl_state.specs.Campaign.{CampaignValue, numbers_of, with_amount}
+use Rattle.atl_campaign.specs.Owners.{without_unit}
+use Rattle.atl_campaign.specs.Campaign.{CampaignValue, numbers_of, with_amount}
 use Rattle.atl_phase.specs.Meaning.{BookBound, Frame, Meaning, most_moved}
 use Rattle.atl_phase.specs.Bounds.{RemainingBound}
 use Rattle.atl_phase.specs.Outcomes.{first_fault, unless}

@@ -4,8 +4,8 @@ use Rattle.std.specs.Ordering.{nat_cmp}
 use Rattle.std.specs.FinMap.{FinMap, empty, entries, get, insert}
 use Rattle.atl_records.specs.declared.records.Unit.{Unit}
 use Rattle.atl_records.specs.Every.{Every}
-use Rattle.atl_state.specs.Good.{guards}
-use Rattle.atl_state.specs.Campaign.{CampaignValue}
+use Rattle.atl_campaign.specs.Good.{guards}
+use Rattle.atl_campaign.specs.Campaign.{CampaignValue}
 
 -- the number of the faction that guards each region, by region
 abbrev pub GuardMap : Type 0

@@ -11,9 +11,9 @@ use Rattle.atl_records.specs.declared.event.Outcome.{Outcome}
 use Rattle.atl_records.specs.declared.event.Outcome.TheVariants.{Done}
 use Rattle.atl_records.specs.declared.records.Unit.{Unit}
 use Rattle.atl_records.specs.Holdings.{HoldingValue, amount_of}
-use Rattle.atl_state.specs.Lending.{with_held}
+use Rattle.atl_campaign.specs.Lending.{with_held}
 use Rattle.atl_records.specs.Limits.{men_limit}
-use Rattle.atl_state.specs.Campaign.{CampaignValue}
+use Rattle.atl_campaign.specs.Campaign.{CampaignValue}
 use Rattle.atl_phase.specs.Month.{Aliases}
 use Rattle.atl_phase.specs.Outcomes.{first_fault, unless}
 use Rattle.atl_phase.specs.PhaseOrders.{unit_of}

@@ -2,23 +2,23 @@
 ghost use Rattle.std.specs.Prelude.{◌≡◌, ◌≤◌, IfOk, List, None, OnOk, map as each, ℕ};
 ghost use Rattle.std.specs.FinMap as map;
 ghost use Rattle.atl_orders.specs.Orders.{named};
-ghost use Rattle.atl_state.specs.Covers.{MarksChanges};
-ghost use Rattle.atl_state.specs.Good.{IsEarly};
+ghost use Rattle.atl_campaign.specs.Covers.{MarksChanges};
+ghost use Rattle.atl_campaign.specs.Good.{IsEarly};
 ghost use Rattle.atl_records.specs.Limits.{last_unit};
 ghost use Rattle.atl_phase.specs.PhaseOrders.{orders_of, task_of};
 ghost use Rattle.atl_phase.specs.declared.phase_order.Arrangement.TheVariants.{ByFaction};
 ghost use Rattle.atl_instant.specs.Form.{alias_of, aliases_after, form_by, form_fault, form_keeps, form_meaning, is_forming, is_unit_limit, new_unit, with_formed_unit};
 ghost use Rattle.atl_instant.specs.Forming.{form_apart, forming_of};
 
+use atl_campaign::{
+    Campaign, Event, EventFault, EventVerb, Holding, LAST_UNIT, MOST_UNITS, Outcome, Unit,
+};
 use atl_orders::{Operands, Verb};
 use atl_phase::{
     Arrangement, Month, Phase, PhaseOrder, PhaseResult, PhaseVerbs, fault_outcome, is_of_faction,
     region_of, structure_of,
 };
-use atl_state::{
-    Campaign, Event, EventFault, EventVerb, Holding, LAST_UNIT, MOST_UNITS, Outcome, Unit,
-};
-use atl_tables::{Numbered, Text, World};
+use atl_world::{Numbered, Text, World};
 use std::alloc::{AllocError, Global};
 
 /// The phase of FORM: units form new units of their faction, in their region and structure, without

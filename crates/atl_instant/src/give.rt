@@ -2,9 +2,9 @@
 ghost use Rattle.std.specs.Prelude.{◌≡◌, ◌≢◌, ◌≤◌, ◌+◌, IfOk, OnOk, Some, nat_lt, true};
 ghost use Rattle.std.specs.FinMap as map;
 ghost use Rattle.std.specs.Option.{option_copied};
-ghost use Rattle.atl_state.specs.Covers.{MarksChanges};
+ghost use Rattle.atl_campaign.specs.Covers.{MarksChanges};
 ghost use Rattle.atl_records.specs.Every.{Every};
-ghost use Rattle.atl_state.specs.Good.{IsEarly};
+ghost use Rattle.atl_campaign.specs.Good.{IsEarly};
 ghost use Rattle.atl_records.specs.Holdings.{IsHolding};
 ghost use Rattle.atl_records.specs.declared.records.Unit.{Unit};
 ghost use Rattle.atl_records.specs.Limits.{holding_limit};
@@ -12,10 +12,10 @@ ghost use Rattle.atl_phase.specs.Holdings.{ChangesHolding};
 ghost use Rattle.atl_phase.specs.OrderEffects.{faction_effect};
 ghost use Rattle.atl_instant.specs.Give.{after_gift, give, give_fault, give_step, held_of, is_giving, with_held_of};
 
+use atl_campaign::{Campaign, EventFault, HOLDING_LIMIT, Holding, Outcome, Unit};
 use atl_orders::{Operands, Verb};
 use atl_phase::{Month, OrderPhase, PhaseOrder, PhaseVerbs, PlainPhase, fault_outcome, own_unit};
-use atl_state::{Campaign, EventFault, HOLDING_LIMIT, Holding, Outcome, Unit};
-use atl_tables::World;
+use atl_world::World;
 use std::alloc::{AllocError, Global};
 
 /// The phase of GIVE and PAY: units give items and money to units of their region, each the whole

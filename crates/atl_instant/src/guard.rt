@@ -1,8 +1,8 @@
 //! GUARD 1: a unit begins to guard its region. See docs/RULES.md, "Guarding".
 ghost use Rattle.std.specs.Prelude.{◌≡◌, IfOk, OnOk};
-ghost use Rattle.atl_tables.specs.Worlds.{WorldValue};
-ghost use Rattle.atl_state.specs.Covers.{MarksChanges};
-ghost use Rattle.atl_state.specs.Campaign.{CampaignValue};
+ghost use Rattle.atl_world.specs.Worlds.{WorldValue};
+ghost use Rattle.atl_campaign.specs.Covers.{MarksChanges};
+ghost use Rattle.atl_campaign.specs.Campaign.{CampaignValue};
 ghost use Rattle.atl_phase.specs.Month.{MonthValue, with_events};
 ghost use Rattle.atl_phase.specs.PhaseOrders.{task_of};
 ghost use Rattle.atl_phase.specs.OrderEffects.{faction_effect, one_order, order_result};
@@ -10,13 +10,13 @@ ghost use Rattle.atl_instant.specs.Guard.{guard, guard_effect, guard_fault, guar
 ghost use Rattle.atl_instant.specs.RegionGuards.{AreRegionGuards};
 
 use crate::region_guards::RegionGuards;
+use atl_campaign::{Campaign, Event, EventFault, Outcome, Unit};
 use atl_orders::{Operands, Verb};
 use atl_phase::{
     Arrangement, Month, Phase, PhaseOrder, PhaseResult, PhaseVerbs, add_events, fault_outcome,
     own_unit,
 };
-use atl_state::{Campaign, Event, EventFault, Outcome, Unit};
-use atl_tables::World;
+use atl_world::World;
 use std::alloc::{AllocError, Global};
 
 /// The phase of GUARD 1: units begin to guard their regions. See docs/RULES.md, "Guarding".

@@ -1,18 +1,18 @@
 //! NAME and GUARD 0: units give names, and stop guarding. See docs/RULES.md, "Name".
 ghost use Rattle.std.specs.Prelude.{◌≡◌, IfOk, IsTrue, OnOk, false};
 ghost use Rattle.std.specs.FinMap as map;
-ghost use Rattle.atl_tables.specs.Names.{name_ok};
+ghost use Rattle.atl_world.specs.Names.{name_ok};
 ghost use Rattle.atl_orders.specs.Orders.{name_in};
-ghost use Rattle.atl_state.specs.Campaign.{with_faction_name, with_guard, with_unit_name};
-ghost use Rattle.atl_state.specs.Covers.{MarksChanges};
-ghost use Rattle.atl_state.specs.Good.{IsEarly};
+ghost use Rattle.atl_campaign.specs.Campaign.{with_faction_name, with_guard, with_unit_name};
+ghost use Rattle.atl_campaign.specs.Covers.{MarksChanges};
+ghost use Rattle.atl_campaign.specs.Good.{IsEarly};
 ghost use Rattle.atl_phase.specs.OrderEffects.{faction_effect};
 ghost use Rattle.atl_instant.specs.Name.{is_naming, is_of_kind, leave_guard, name_concerns, name_result, name_step, naming, structure_fault, structure_name_result};
 
+use atl_campaign::{Campaign, EventFault, Outcome, Structure};
 use atl_orders::{Mailing, NameKind, Operands, Span, Verb};
 use atl_phase::{Month, OrderPhase, PhaseOrder, PhaseVerbs, PlainPhase, fault_outcome, own_unit};
-use atl_state::{Campaign, EventFault, Outcome, Structure};
-use atl_tables::{Text, World};
+use atl_world::{Text, World};
 use std::alloc::{AllocError, Global};
 
 /// The phase of NAME and GUARD 0: units name themselves, their factions and structures, and stop

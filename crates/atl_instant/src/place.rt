@@ -2,19 +2,19 @@
 //! docs/RULES.md, "Place".
 ghost use Rattle.std.specs.Prelude.{◌≡◌, IfOk, OnOk};
 ghost use Rattle.std.specs.FinMap as map;
-ghost use Rattle.atl_state.specs.Covers.{MarksChanges};
-ghost use Rattle.atl_state.specs.Good.{IsEarly};
-ghost use Rattle.atl_state.specs.Owners.{is_owned_by, with_place};
-ghost use Rattle.atl_state.specs.Campaign.{with_owner};
+ghost use Rattle.atl_campaign.specs.Covers.{MarksChanges};
+ghost use Rattle.atl_campaign.specs.Good.{IsEarly};
+ghost use Rattle.atl_campaign.specs.Owners.{is_owned_by, with_place};
+ghost use Rattle.atl_campaign.specs.Campaign.{with_owner};
 ghost use Rattle.atl_phase.specs.OrderEffects.{faction_effect};
 ghost use Rattle.atl_instant.specs.Place.{enter, is_in, is_placing, leave, leave_fault, place_step, promote, promote_fault, with_unit_inside};
 
+use atl_campaign::{Campaign, EventFault, Outcome, Unit};
 use atl_orders::{Operands, Verb};
 use atl_phase::{
     Month, OrderPhase, PhaseOrder, PhaseVerbs, PlainPhase, fault_outcome, own_unit, structure_of,
 };
-use atl_state::{Campaign, EventFault, Outcome, Unit};
-use atl_tables::World;
+use atl_world::World;
 use std::alloc::{AllocError, Global};
 
 /// The phase of LEAVE, ENTER and PROMOTE: units leave structures, enter others of their region, and

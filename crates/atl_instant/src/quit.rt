@@ -1,11 +1,11 @@
 //! QUIT: a faction leaves the campaign with all its units. See docs/RULES.md, "Quitting".
 ghost use Rattle.std.specs.Prelude.{◌≡◌, ◌<◌, IfOk, OnOk, fold, length, true};
 ghost use Rattle.atl_records.specs.Books.{amount_in, thing_index};
-ghost use Rattle.atl_state.specs.Covers.{MarksChanges};
+ghost use Rattle.atl_campaign.specs.Covers.{MarksChanges};
 ghost use Rattle.atl_records.specs.Every.{EachOf};
-ghost use Rattle.atl_state.specs.Founding.{things_of};
-ghost use Rattle.atl_state.specs.Good.{IsSteady};
-ghost use Rattle.atl_state.specs.Marking.{mark_amount};
+ghost use Rattle.atl_campaign.specs.Founding.{things_of};
+ghost use Rattle.atl_campaign.specs.Good.{IsSteady};
+ghost use Rattle.atl_campaign.specs.Marking.{mark_amount};
 ghost use Rattle.atl_records.specs.declared.books.Entry.TheVariants.{Left, Lost};
 ghost use Rattle.atl_records.specs.declared.books.Thing.TheVariants.{Money, People};
 ghost use Rattle.atl_phase.specs.Meaning.{both_move, moves_only};
@@ -13,13 +13,13 @@ ghost use Rattle.atl_phase.specs.Bounds.{HasRoom, HaveRoom, moving_items};
 ghost use Rattle.atl_phase.specs.OrderEffects.{faction_effect};
 ghost use Rattle.atl_instant.specs.Quit.{after_leaving, is_quitting, loss_entry, quit, quit_concerns, quit_fault, quit_keeps, quit_meaning, quit_moves, quit_reserve, quit_step, with_item_loss, with_loss};
 
+use atl_campaign::{Campaign, Entry, EventFault, Outcome, Thing, Unit};
 use atl_orders::{Operands, Verb};
 use atl_phase::{
     Month, OrderPhase, Phase, PhaseOrder, PhaseResult, PhaseVerbs, book_taken, carry_out_orders,
     fault_outcome, items_of, own_unit,
 };
-use atl_state::{Campaign, Entry, EventFault, Outcome, Thing, Unit};
-use atl_tables::World;
+use atl_world::World;
 use std::alloc::{AllocError, Global};
 
 /// The phase of QUIT: all units of a faction leave with all that they have.

@@ -3,8 +3,8 @@ ghost use Rattle.std.specs.Prelude.{◌≡◌, IfOk, OnOk};
 ghost use Rattle.std.specs.FinMap as map;
 ghost use Rattle.atl_instant.specs.RegionGuards.{guard_map_of, has_other_guard, with_guard_of};
 
-use atl_state::{Campaign, Unit};
-use atl_tables::Numbered;
+use atl_campaign::{Campaign, Unit};
+use atl_world::Numbered;
 use std::alloc::{AllocError, Global};
 use std::marker::Model;
 

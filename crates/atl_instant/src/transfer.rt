@@ -2,21 +2,21 @@
 ghost use Rattle.std.specs.Prelude.{◌≡◌, ◌≢◌, ◌≤◌, ◌+◌, ◌*◌, IfOk, OnOk, Some, true};
 ghost use Rattle.std.specs.FinMap as map;
 ghost use Rattle.std.specs.Option.{option_copied};
-ghost use Rattle.atl_state.specs.Covers.{MarksChanges};
+ghost use Rattle.atl_campaign.specs.Covers.{MarksChanges};
 ghost use Rattle.atl_records.specs.Every.{Every};
-ghost use Rattle.atl_state.specs.Good.{AreDays, IsEarly};
+ghost use Rattle.atl_campaign.specs.Good.{AreDays, IsEarly};
 ghost use Rattle.atl_records.specs.Limits.{men_limit, most_days};
 ghost use Rattle.atl_records.specs.declared.records.Unit.{Unit};
 ghost use Rattle.atl_phase.specs.OrderEffects.{faction_effect};
 ghost use Rattle.atl_instant.specs.SkillDays.{left_list, raised_list};
 ghost use Rattle.atl_instant.specs.Transfer.{DaysGoWithMen, after_transfer, days_going, is_transferring, transfer, transfer_fault, transfer_step};
 
+use atl_campaign::{Campaign, EventFault, Holding, MEN_LIMIT, Outcome, Unit};
 use atl_orders::{Operands, Verb};
 use atl_phase::{
     Month, OrderPhase, PhaseOrder, PhaseVerbs, PlainPhase, fault_outcome, own_unit, set_people,
 };
-use atl_state::{Campaign, EventFault, Holding, MEN_LIMIT, Outcome, Unit};
-use atl_tables::World;
+use atl_world::World;
 use std::alloc::{AllocError, Global};
 
 /// The phase of TRANSFER: men go to other units of their faction and region, with their part of the

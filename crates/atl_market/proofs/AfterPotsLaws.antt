@@ -4,12 +4,12 @@ use Rattle.std.specs.List.{slice_get}
 use Rattle.std.specs.Option.{option_map_or}
 use Rattle.std.specs.Ordering.{nat_cmp}
 use Rattle.std.specs.FinMap.{FinMap, get}
-use Rattle.atl_tables.specs.Worlds.{WorldValue}
-use Rattle.atl_tables.specs.declared.world.Item.{Item}
-use Rattle.atl_state.specs.Campaign.{CampaignValue}
+use Rattle.atl_world.specs.Worlds.{WorldValue}
+use Rattle.atl_world.specs.declared.world.Item.{Item}
+use Rattle.atl_campaign.specs.Campaign.{CampaignValue}
 use Rattle.atl_records.specs.declared.records.Unit.{Unit}
 use Rattle.atl_records.proofs.EveryLaws.{get-insert_other}
-use Rattle.atl_state.proofs.RegionLaws.{changed-known, get-insert_same}
+use Rattle.atl_campaign.proofs.RegionLaws.{changed-known, get-insert_same}
 use Rattle.atl_market.specs.AtOnce.{unchanged_region}
 use Rattle.atl_market.specs.Goods.{with_made, with_used}
 use Rattle.atl_market.specs.AfterPots.{ProducesAtOnce, RecruitsAtOnce, TaxesAtOnce, WorksAtOnce, maker_by, maker_of, with_less, with_less_money, with_less_peasants, with_more, with_more_money, with_recruits}

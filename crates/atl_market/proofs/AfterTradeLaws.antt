@@ -5,22 +5,22 @@ use Rattle.std.specs.List.{AllByRecursion}
 use Rattle.std.specs.Ordering.{nat_cmp}
 use Rattle.std.specs.FinMap.{FinMap, entries, find, get, get-entries, insert}
 use Rattle.std.proofs.lemmas.Bool.{cases_eq}
-use Rattle.atl_tables.specs.Sums.{changed}
-use Rattle.atl_tables.specs.Worlds.{IsWorld, WorldValue}
-use Rattle.atl_tables.specs.declared.world.Market.{Market}
+use Rattle.atl_world.specs.Sums.{changed}
+use Rattle.atl_world.specs.Worlds.{IsWorld, WorldValue}
+use Rattle.atl_world.specs.declared.world.Market.{Market}
 use Rattle.atl_records.specs.declared.books.Entry.{Entry}
 use Rattle.atl_records.specs.declared.records.Region.{Region}
 use Rattle.atl_records.specs.declared.records.Unit.{Unit}
 use Rattle.atl_records.specs.Every.{Every}
 use Rattle.atl_records.specs.Holdings.{HoldingValue, amount_of, with_amount_of}
-use Rattle.atl_state.specs.Campaign.{CampaignValue}
-use Rattle.atl_state.specs.Lending.{with_held}
-use Rattle.atl_state.specs.Stocks.{stock_of}
+use Rattle.atl_campaign.specs.Campaign.{CampaignValue}
+use Rattle.atl_campaign.specs.Lending.{with_held}
+use Rattle.atl_campaign.specs.Stocks.{stock_of}
 use Rattle.atl_records.proofs.EveryLaws.{each-from_every, first, other_number, same_number}
 use Rattle.atl_records.proofs.HoldingLaws.{set_other, set_same}
-use Rattle.atl_state.proofs.BackLaws.{Rise, entries_rise}
-use Rattle.atl_state.proofs.RegionLaws.{changed-known, get-insert_same}
-use Rattle.atl_state.proofs.StockLaws.{restocked}
+use Rattle.atl_campaign.proofs.BackLaws.{Rise, entries_rise}
+use Rattle.atl_campaign.proofs.RegionLaws.{changed-known, get-insert_same}
+use Rattle.atl_campaign.proofs.StockLaws.{restocked}
 use Rattle.atl_phase.specs.PhaseOrders.{Task}
 use Rattle.atl_phase.proofs.StructureLaws.{changed_else}
 use Rattle.atl_market.specs.AtOnce.{HasNewStocks, UnitChange, paid_unit, stands_in}

@@ -6,12 +6,12 @@ use Rattle.std.specs.Ordering.{nat_cmp}
 use Rattle.std.specs.FinMap.{entries, find, get, get-entries}
 use Rattle.std.proofs.lemmas.Bool.{cases_eq}
 use Rattle.std.proofs.lemmas.List.Sums.{sum_by-cons}
-use Rattle.atl_tables.specs.Worlds.{WorldValue}
+use Rattle.atl_world.specs.Worlds.{WorldValue}
 use Rattle.atl_records.specs.declared.records.Region.{Region}
 use Rattle.atl_records.specs.declared.records.Unit.{Unit}
 use Rattle.atl_records.specs.Every.{IsThere}
-use Rattle.atl_state.specs.Campaign.{CampaignValue}
-use Rattle.atl_state.proofs.BackLaws.{Rise, entries_rise}
+use Rattle.atl_campaign.specs.Campaign.{CampaignValue}
+use Rattle.atl_campaign.proofs.BackLaws.{Rise, entries_rise}
 use Rattle.atl_records.proofs.EveryLaws.{each-from_every, first, other_number, same_number}
 use Rattle.atl_phase.specs.PhaseOrders.{Task}
 use Rattle.atl_market.specs.AtOnce.{PaysAtOnce, RegionChange, UnitChange, paid_unit, stands_in}

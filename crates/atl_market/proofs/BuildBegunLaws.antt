@@ -2,19 +2,19 @@
 use Rattle.std.proofs.Common.{◌≡◌, ℕ, ◌≤◌, Bool, true, false, codes, decimal, ◌++◌, Some, refl, sym, ap, ◌∙◌, lit≤}
 use Rattle.std.specs.Prelude.{pos, IsTrue, if◌then◌else◌}
 use Rattle.std.specs.FinMap.{get}
-use Rattle.atl_tables.specs.Names.{name_ok}
-use Rattle.atl_tables.specs.Worlds.{WorldValue}
-use Rattle.atl_tables.specs.declared.world.Kind.{Kind}
-use Rattle.atl_tables.specs.ByNumber.{size_of}
+use Rattle.atl_world.specs.Names.{name_ok}
+use Rattle.atl_world.specs.Worlds.{WorldValue}
+use Rattle.atl_world.specs.declared.world.Kind.{Kind}
+use Rattle.atl_world.specs.ByNumber.{size_of}
 use Rattle.atl_records.specs.declared.books.Entry.{Entry}
 use Rattle.atl_records.specs.declared.books.Thing.{Thing}
 use Rattle.atl_records.specs.declared.records.Structure.{Structure}
 use Rattle.atl_records.specs.Books.{amount_in, booked}
 use Rattle.atl_records.specs.Limits.{last_unit, most_structures}
-use Rattle.atl_state.specs.Campaign.{CampaignValue}
-use Rattle.atl_state.specs.Totals.{total}
-use Rattle.atl_state.proofs.BegunLaws.{IsFresh, built, raised, steady_built, steady_raised, total_built, total_raised}
-use Rattle.atl_state.proofs.NumberedNameLaws.{numbered_name_ok}
+use Rattle.atl_campaign.specs.Campaign.{CampaignValue}
+use Rattle.atl_campaign.specs.Totals.{total}
+use Rattle.atl_campaign.proofs.BegunLaws.{IsFresh, built, raised, steady_built, steady_raised, total_built, total_raised}
+use Rattle.atl_campaign.proofs.NumberedNameLaws.{numbered_name_ok}
 use Rattle.atl_phase.specs.Meaning.{IsSameMonth}
 use Rattle.atl_phase.specs.Bounds.{StepsWell}
 use Rattle.atl_market.specs.Build.{name_prefix}

@@ -9,11 +9,11 @@ use Rattle.std.proofs.lemmas.Bool.Decides.{nat_tests}
 use Rattle.std.proofs.lemmas.Option.{slice_get_within}
 use Rattle.std.proofs.Math.Nat.{mul-le-mul_left}
 use Rattle.std.specs.FinMap.{entries, get, len, len-entries}
-use Rattle.atl_tables.specs.Limits.{most_size}
-use Rattle.atl_tables.specs.Worlds.{IsKind, WorldValue}
-use Rattle.atl_tables.specs.Sums.{sum_over}
-use Rattle.atl_tables.specs.declared.world.Kind.{Kind}
-use Rattle.atl_tables.specs.ByNumber.{is_land_at, size_of}
+use Rattle.atl_world.specs.Limits.{most_size}
+use Rattle.atl_world.specs.Worlds.{IsKind, WorldValue}
+use Rattle.atl_world.specs.Sums.{sum_over}
+use Rattle.atl_world.specs.declared.world.Kind.{Kind}
+use Rattle.atl_world.specs.ByNumber.{is_land_at, size_of}
 use Rattle.atl_orders.specs.declared.order.Operands.TheVariants as operands
 use Rattle.atl_orders.specs.Orders.{OperandsValue}
 use Rattle.atl_records.specs.declared.event.EventFault.{EventFault}
@@ -27,13 +27,13 @@ use Rattle.atl_records.specs.declared.books.Thing.TheVariants.{Item, Money, Peop
 use Rattle.atl_records.specs.declared.records.Structure.{Structure}
 use Rattle.atl_records.specs.declared.records.Unit.{Unit}
 use Rattle.atl_records.specs.Books.{entry_index}
-use Rattle.atl_state.specs.Good.{IsNumbered, IsSteady}
+use Rattle.atl_campaign.specs.Good.{IsNumbered, IsSteady}
 use Rattle.atl_records.specs.Levels.{level_in}
-use Rattle.atl_state.proofs.BegunLaws.{IsFresh, built, built_is, nobody_inside, raised, raised_there}
+use Rattle.atl_campaign.proofs.BegunLaws.{IsFresh, built, built_is, nobody_inside, raised, raised_there}
 use Rattle.atl_records.specs.Holdings.{HoldingValue, IsHolding, amount_of}
 use Rattle.atl_records.specs.Limits.{holding_limit, most_structures, most_units}
-use Rattle.atl_state.specs.Owners.{with_place}
-use Rattle.atl_state.specs.Campaign.{CampaignValue, with_done}
+use Rattle.atl_campaign.specs.Owners.{with_place}
+use Rattle.atl_campaign.specs.Campaign.{CampaignValue, with_done}
 use Rattle.atl_records.proofs.EveryLaws.{each-from_every}
 use Rattle.atl_phase.specs.Meaning.{LeavesWell, most_moved}
 use Rattle.atl_phase.specs.Bounds.{HaveRoom, IsOrderly, StepsWell}

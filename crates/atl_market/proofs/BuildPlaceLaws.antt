@@ -1,16 +1,16 @@
 -- Laws of BUILD: moving a unit from its structure into another of its region keeps what BUILD needs (`CanBuild`).
 use Rattle.std.proofs.Common.{◌≡◌, ◌≢◌, ℕ, ◌+◌, false, true, Some, refl, sym, subst, arith}
 use Rattle.std.specs.FinMap.{get}
-use Rattle.atl_tables.specs.Worlds.{WorldValue}
-use Rattle.atl_tables.proofs.SumLaws.{sum_over-insert_known}
-use Rattle.atl_tables.specs.ByNumber.{is_land_at}
+use Rattle.atl_world.specs.Worlds.{WorldValue}
+use Rattle.atl_world.proofs.SumLaws.{sum_over-insert_known}
+use Rattle.atl_world.specs.ByNumber.{is_land_at}
 use Rattle.atl_records.specs.declared.books.Entry.{Entry}
 use Rattle.atl_records.specs.declared.books.Thing.{Thing}
 use Rattle.atl_records.specs.declared.records.Structure.{Structure}
 use Rattle.atl_records.specs.declared.records.Unit.{Unit}
-use Rattle.atl_state.specs.Good.{is_ship}
-use Rattle.atl_state.specs.Owners.{with_place}
-use Rattle.atl_state.specs.Campaign.{CampaignValue}
+use Rattle.atl_campaign.specs.Good.{is_ship}
+use Rattle.atl_campaign.specs.Owners.{with_place}
+use Rattle.atl_campaign.specs.Campaign.{CampaignValue}
 use Rattle.atl_phase.specs.Bounds.{StepsWell}
 use Rattle.atl_phase.proofs.MeaningLaws.{same_month_by}
 use Rattle.atl_phase.proofs.PlacingLaws.{behind, place_is, placed_steady, placed_total}

@@ -6,22 +6,22 @@ use Rattle.std.proofs.lemmas.Bool.Decides.{nat_tests}
 use Rattle.std.specs.Ordering.{nat_cmp, eq_by_cmp}
 use Rattle.std.specs.Cmp.{unsigned_ties}
 use Rattle.std.specs.FinMap.{get, remove}
-use Rattle.atl_tables.specs.Worlds.{WorldValue}
-use Rattle.atl_tables.specs.Sums.{sum_over}
-use Rattle.atl_tables.proofs.SumLaws.{sum_over-insert_known}
+use Rattle.atl_world.specs.Worlds.{WorldValue}
+use Rattle.atl_world.specs.Sums.{sum_over}
+use Rattle.atl_world.proofs.SumLaws.{sum_over-insert_known}
 use Rattle.atl_records.specs.declared.books.Entry.{Entry}
 use Rattle.atl_records.specs.declared.books.Entry.TheVariants.{Used}
 use Rattle.atl_records.specs.declared.books.Thing.{Thing}
 use Rattle.atl_records.specs.declared.books.Thing.TheVariants.{Item, Money, People}
 use Rattle.atl_records.specs.declared.records.Unit.{Unit}
 use Rattle.atl_records.specs.Books.{amount_in, entry_index, thing_index, amount_number}
-use Rattle.atl_state.specs.Good.{IsSteady}
+use Rattle.atl_campaign.specs.Good.{IsSteady}
 use Rattle.atl_records.specs.Holdings.{HoldingValue, amount_of, with_amount_of}
 use Rattle.atl_records.specs.Limits.{entry_count}
-use Rattle.atl_state.specs.Campaign.{CampaignValue, with_amount}
+use Rattle.atl_campaign.specs.Campaign.{CampaignValue, with_amount}
 use Rattle.atl_records.proofs.EveryEntryLaws.{entry_small}
 use Rattle.atl_records.proofs.EveryLaws.{get-insert_other}
-use Rattle.atl_state.proofs.RegionLaws.{get-insert_same}
+use Rattle.atl_campaign.proofs.RegionLaws.{get-insert_same}
 use Rattle.atl_records.proofs.RemovedLaws.{sum_over-remove}
 use Rattle.atl_phase.specs.Meaning.{LeavesWell, moves_only}
 use Rattle.atl_phase.specs.Bounds.{HasRoom, HaveRoom, StepsWell, UsesBound}

@@ -4,22 +4,22 @@ use Rattle.std.specs.Prelude.{ℤ, pos, ◌+ℤ◌}
 use Rattle.std.specs.FinMap.{get, insert}
 use Rattle.std.proofs.lemmas.Int.{ints}
 use Rattle.std.proofs.lemmas.Bool.Decides.{nat_tests}
-use Rattle.atl_tables.specs.Worlds.{WorldValue}
+use Rattle.atl_world.specs.Worlds.{WorldValue}
 use Rattle.atl_records.specs.declared.books.Entry.{Entry}
 use Rattle.atl_records.specs.declared.books.Thing.{Thing}
 use Rattle.atl_records.specs.declared.books.Thing.TheVariants.{Money, People, Item}
 use Rattle.atl_records.specs.declared.records.Region.{Region}
 use Rattle.atl_records.specs.declared.records.Unit.{Unit}
 use Rattle.atl_records.specs.Books.{IsWithin}
-use Rattle.atl_state.specs.Good.{IsEarly, IsSteady}
+use Rattle.atl_campaign.specs.Good.{IsEarly, IsSteady}
 use Rattle.atl_records.specs.Holdings.{HoldingValue, amount_of}
-use Rattle.atl_state.specs.Campaign.{CampaignValue, region_changed, with_amount}
+use Rattle.atl_campaign.specs.Campaign.{CampaignValue, region_changed, with_amount}
 use Rattle.atl_records.specs.Amounts.{region_amount, unit_amount}
-use Rattle.atl_state.specs.Totals.{total}
+use Rattle.atl_campaign.specs.Totals.{total}
 use Rattle.atl_records.proofs.BookLaws.{booked-after_booking, share_of}
-use Rattle.atl_state.proofs.HavingLaws.{MayHave, early-having}
-use Rattle.atl_state.proofs.HoldingLaws.{total-unit_amount}
-use Rattle.atl_state.proofs.RegionLaws.{steady-amount, total-amount, total-region}
+use Rattle.atl_campaign.proofs.HavingLaws.{MayHave, early-having}
+use Rattle.atl_campaign.proofs.HoldingLaws.{total-unit_amount}
+use Rattle.atl_campaign.proofs.RegionLaws.{steady-amount, total-amount, total-region}
 use Rattle.atl_phase.specs.Meaning.{LeavesWell, moves_only}
 use Rattle.atl_phase.proofs.BookingLaws.{booked-near}
 use Rattle.atl_phase.proofs.MeaningLaws.{same_month_by}

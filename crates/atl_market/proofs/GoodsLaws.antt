@@ -7,24 +7,24 @@ use Rattle.std.specs.Cmp.{unsigned_ties}
 use Rattle.std.specs.FinMap.{get}
 use Rattle.std.proofs.lemmas.Int.{ints}
 use Rattle.std.proofs.lemmas.Bool.Decides.{nat_tests}
-use Rattle.atl_tables.specs.Worlds.{WorldValue}
+use Rattle.atl_world.specs.Worlds.{WorldValue}
 use Rattle.atl_records.specs.declared.books.Entry.{Entry}
 use Rattle.atl_records.specs.declared.books.Entry.TheVariants as entries
 use Rattle.atl_records.specs.declared.books.Thing.{Thing}
 use Rattle.atl_records.specs.declared.books.Thing.TheVariants.{Item, Money, People}
 use Rattle.atl_records.specs.declared.records.Unit.{Unit}
 use Rattle.atl_records.specs.Books.{IsWithin}
-use Rattle.atl_state.specs.Good.{IsSteady}
+use Rattle.atl_campaign.specs.Good.{IsSteady}
 use Rattle.atl_records.specs.Holdings.{HoldingValue, amount_of, with_amount_of}
-use Rattle.atl_state.specs.Lending.{with_held}
+use Rattle.atl_campaign.specs.Lending.{with_held}
 use Rattle.atl_records.specs.Limits.{holding_limit}
-use Rattle.atl_state.specs.Campaign.{CampaignValue, with_amount, with_item}
+use Rattle.atl_campaign.specs.Campaign.{CampaignValue, with_amount, with_item}
 use Rattle.atl_records.specs.Amounts.{unit_amount}
-use Rattle.atl_state.specs.Totals.{total}
+use Rattle.atl_campaign.specs.Totals.{total}
 use Rattle.atl_records.proofs.BookLaws.{booked-after_booking, share_of}
-use Rattle.atl_state.proofs.HavingLaws.{MayHave, may_have}
-use Rattle.atl_state.proofs.HoldingLaws.{steady-unit_amount, total-unit_amount}
-use Rattle.atl_state.proofs.RegionLaws.{get-insert_same, steady-amount, total-amount}
+use Rattle.atl_campaign.proofs.HavingLaws.{MayHave, may_have}
+use Rattle.atl_campaign.proofs.HoldingLaws.{steady-unit_amount, total-unit_amount}
+use Rattle.atl_campaign.proofs.RegionLaws.{get-insert_same, steady-amount, total-amount}
 use Rattle.atl_phase.specs.Meaning.{LeavesWell, moves_only}
 use Rattle.atl_records.proofs.HoldingLaws.{alike, amount_within, every_amount, set_amount}
 use Rattle.atl_phase.proofs.MeaningLaws.{same_month_by}

@@ -9,14 +9,14 @@ use Rattle.std.specs.declared.cmp.Ordering.TheVariants.{Less, Equal, Greater}
 use Rattle.std.specs.FinMap.Entries.{below_all}
 use Rattle.std.specs.FinMap.{FinMap, contains_key-keys, empty, entries, entries-from_sorted, find, from_sorted, get, get-empty, get-entries, get-from_entries, get-from_sorted, get-retain_keys, insert, is_sorted, keys, nat_cmp-IsAntisymmetric, same_map}
 use Rattle.std.proofs.lemmas.Bool.{cases_eq, eqb-true, false≢true}
-use Rattle.atl_tables.specs.Groups.{group_of}
+use Rattle.atl_world.specs.Groups.{group_of}
 use Rattle.atl_records.specs.Every.{EachOf, IsThere}
-use Rattle.atl_state.specs.Campaign.{CampaignValue, numbers_in}
+use Rattle.atl_campaign.specs.Campaign.{CampaignValue, numbers_in}
 use Rattle.atl_records.specs.declared.records.Region.{Region}
-use Rattle.atl_state.proofs.BackLaws.{append_each}
+use Rattle.atl_campaign.proofs.BackLaws.{append_each}
 use Rattle.atl_records.proofs.EveryLaws.{each-from_every, first, found_of, get-insert_other, none_some, other_number, same_number}
-use Rattle.atl_state.proofs.OrderLaws.{each_so}
-use Rattle.atl_state.proofs.RegionLaws.{get-insert_same}
+use Rattle.atl_campaign.proofs.OrderLaws.{each_so}
+use Rattle.atl_campaign.proofs.RegionLaws.{get-insert_same}
 use Rattle.atl_phase.proofs.MappedLaws.{no_entries}
 use Rattle.atl_market.specs.ItemGroups.{Groups, item_shares_in, region_shares, with_item_want, with_want}
 use Rattle.atl_market.specs.ItemPots.{is_for, item_share, item_shares, wants_for}

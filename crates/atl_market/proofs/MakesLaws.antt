@@ -6,9 +6,9 @@ use Rattle.std.specs.Cmp.{nat_cmp_total}
 use Rattle.std.specs.Ordering.{nat_cmp}
 use Rattle.std.specs.FinMap.{FinMap, empty, entries, find, get, get-entries, get-from_entries}
 use Rattle.std.proofs.lemmas.Bool.{cases_eq}
-use Rattle.atl_tables.specs.Worlds.{WorldValue}
-use Rattle.atl_state.specs.Campaign.{CampaignValue}
-use Rattle.atl_state.proofs.BackLaws.{Rise, entries_rise}
+use Rattle.atl_world.specs.Worlds.{WorldValue}
+use Rattle.atl_campaign.specs.Campaign.{CampaignValue}
+use Rattle.atl_campaign.proofs.BackLaws.{Rise, entries_rise}
 use Rattle.atl_records.proofs.EveryLaws.{first, none_some}
 use Rattle.atl_market.specs.Puts.{with_each}
 use Rattle.atl_market.specs.Produce.{made_amounts, made_by, output_at, output_item, output_share, produce_pots}

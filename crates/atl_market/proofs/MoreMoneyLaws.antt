@@ -3,10 +3,10 @@ use Rattle.std.proofs.Common.{◌≡◌, ◌≢◌, ℕ, ◌+◌, Some, refl, sy
 use Rattle.std.specs.FinMap.{get, insert}
 use Rattle.std.proofs.lemmas.Bool.{cases_eq}
 use Rattle.atl_records.specs.Holdings.{HoldingValue}
-use Rattle.atl_state.specs.Campaign.{CampaignValue, with_money}
+use Rattle.atl_campaign.specs.Campaign.{CampaignValue, with_money}
 use Rattle.atl_records.specs.declared.records.Unit.{Unit}
 use Rattle.atl_records.proofs.EveryLaws.{get-insert_other}
-use Rattle.atl_state.proofs.RegionLaws.{changed-known, get-insert_same}
+use Rattle.atl_campaign.proofs.RegionLaws.{changed-known, get-insert_same}
 use Rattle.atl_phase.specs.NoWorse.{AreNoWorse, IsNoWorse}
 use Rattle.atl_phase.proofs.NoWorseLaws.{no_worse}
 

@@ -11,17 +11,17 @@ use Rattle.std.specs.FinMap.{FinMap, get, insert, find, empty, entries, keys, fr
 use Rattle.std.proofs.lemmas.Bool.{and_parts, eqb-true, false≢true}
 use Rattle.std.proofs.lemmas.List.{reverse-append, get_or-map, length-map}
 use Rattle.std.proofs.lemmas.List.Sums.{fold-append}
-use Rattle.atl_tables.specs.Sums.{numbers_among}
-use Rattle.atl_tables.proofs.MadeLaws.{is_less}
-use Rattle.atl_tables.proofs.SumLaws.{chosen-cons}
+use Rattle.atl_world.specs.Sums.{numbers_among}
+use Rattle.atl_world.proofs.MadeLaws.{is_less}
+use Rattle.atl_world.proofs.SumLaws.{chosen-cons}
 use Rattle.atl_records.specs.Every.{IsThere, EachOf}
-use Rattle.atl_state.specs.Campaign.{CampaignValue, numbers_in}
+use Rattle.atl_campaign.specs.Campaign.{CampaignValue, numbers_in}
 use Rattle.atl_records.specs.declared.records.Region.{Region}
 use Rattle.atl_records.specs.declared.records.Unit.{Unit}
-use Rattle.atl_state.proofs.BackLaws.{Rise}
+use Rattle.atl_campaign.proofs.BackLaws.{Rise}
 use Rattle.atl_records.proofs.EveryLaws.{every-from_each, none_some, first, later, sorted, same_number}
-use Rattle.atl_state.proofs.RegionLaws.{get-insert_same}
-use Rattle.atl_state.proofs.OrderLaws.{each_so}
+use Rattle.atl_campaign.proofs.RegionLaws.{get-insert_same}
+use Rattle.atl_campaign.proofs.OrderLaws.{each_so}
 use Rattle.atl_market.specs.RegionsWithWants.{region_at, regions_with_wants}
 use Rattle.atl_shares.specs.Share.{shares}
 use Rattle.atl_market.specs.Pots.{want_of, takers_in, wants_in, shares_in, pot_shares, share_of, OnlyTakersGet, EachTakerGets, SharesEachPot, GivesEachPot, OtherRegionsDoNotCount}

@@ -5,26 +5,26 @@ use Rattle.std.specs.Prelude.{fold, pos, min}
 use Rattle.std.specs.Option.{option_map_or}
 use Rattle.std.specs.Ordering.{nat_cmp}
 use Rattle.std.specs.FinMap.{FinMap, entries, get}
-use Rattle.atl_tables.specs.Worlds.{WorldValue}
+use Rattle.atl_world.specs.Worlds.{WorldValue}
 use Rattle.atl_records.specs.declared.books.Thing.{Thing}
 use Rattle.atl_records.specs.declared.books.Thing.TheVariants.{Money, People, Item}
 use Rattle.atl_records.specs.declared.records.Region.{Region}
 use Rattle.atl_records.specs.declared.records.Unit.{Unit}
 use Rattle.atl_records.specs.Books.{amount_in}
-use Rattle.atl_state.specs.Covers.{MarksChanges}
+use Rattle.atl_campaign.specs.Covers.{MarksChanges}
 use Rattle.atl_records.specs.Every.{Every}
-use Rattle.atl_state.specs.Good.{IsEarly}
+use Rattle.atl_campaign.specs.Good.{IsEarly}
 use Rattle.atl_records.specs.Holdings.{amount_of}
 use Rattle.atl_records.specs.Limits.{holding_limit}
-use Rattle.atl_state.specs.Marking.{mark_region, mark_unit_row}
-use Rattle.atl_state.specs.Campaign.{MarkedCampaign, CampaignValue, region_changed, with_money, with_region_money}
+use Rattle.atl_campaign.specs.Marking.{mark_region, mark_unit_row}
+use Rattle.atl_campaign.specs.Campaign.{MarkedCampaign, CampaignValue, region_changed, with_money, with_region_money}
 use Rattle.atl_records.specs.Amounts.{region_amount, unit_amount}
-use Rattle.atl_state.specs.Totals.{total}
-use Rattle.atl_state.proofs.BackLaws.{entries_rise}
-use Rattle.atl_state.proofs.CoverLaws.{marks-region, marks-trans}
+use Rattle.atl_campaign.specs.Totals.{total}
+use Rattle.atl_campaign.proofs.BackLaws.{entries_rise}
+use Rattle.atl_campaign.proofs.CoverLaws.{marks-region, marks-trans}
 use Rattle.atl_records.proofs.EveryLaws.{each-from_every}
-use Rattle.atl_state.proofs.HoldingLaws.{marks-unit_row, may_hold_money, of_one_faction_kept, steady-unit_amount, total-unit_amount}
-use Rattle.atl_state.proofs.RegionLaws.{IsRegion-money, steady-region, total-region}
+use Rattle.atl_campaign.proofs.HoldingLaws.{marks-unit_row, may_hold_money, of_one_faction_kept, steady-unit_amount, total-unit_amount}
+use Rattle.atl_campaign.proofs.RegionLaws.{IsRegion-money, steady-region, total-region}
 use Rattle.atl_phase.specs.Meaning.{LeavesWell}
 use Rattle.atl_phase.specs.Bounds.{moved_times}
 use Rattle.atl_phase.specs.NoWorse.{AreNoWorse}

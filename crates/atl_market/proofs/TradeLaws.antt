@@ -10,12 +10,12 @@ use Rattle.std.proofs.lemmas.Int.{ints}
 use Rattle.std.proofs.lemmas.Bool.{and_parts, eqb-true}
 use Rattle.std.proofs.lemmas.Option.{same_Some}
 use Rattle.std.proofs.Math.Nat.{mul-div-le, mul-le-mul_right, mul_comm}
-use Rattle.atl_tables.proofs.GeneralLaws.{is_unequal}
-use Rattle.atl_tables.specs.ByNumber.{market_of}
-use Rattle.atl_tables.specs.Limits.{most_amount}
-use Rattle.atl_tables.specs.Worlds.{IsMarket, IsWorld, WorldValue}
-use Rattle.atl_tables.specs.declared.world.Market.{Market}
-use Rattle.atl_tables.specs.declared.world.RegionPlan.{RegionPlan}
+use Rattle.atl_world.proofs.GeneralLaws.{is_unequal}
+use Rattle.atl_world.specs.ByNumber.{market_of}
+use Rattle.atl_world.specs.Limits.{most_amount}
+use Rattle.atl_world.specs.Worlds.{IsMarket, IsWorld, WorldValue}
+use Rattle.atl_world.specs.declared.world.Market.{Market}
+use Rattle.atl_world.specs.declared.world.RegionPlan.{RegionPlan}
 use Rattle.atl_records.specs.declared.books.Entry.{Entry}
 use Rattle.atl_records.specs.declared.books.Thing.{Thing}
 use Rattle.atl_records.specs.declared.books.Thing.TheVariants.{Money}
@@ -23,21 +23,21 @@ use Rattle.atl_records.specs.declared.event.EventFault.TheVariants.{NoMarket}
 use Rattle.atl_records.specs.declared.records.Region.{Region}
 use Rattle.atl_records.specs.declared.records.Unit.{Unit}
 use Rattle.atl_records.specs.Books.{IsWithin, amount_in}
-use Rattle.atl_state.specs.Covers.{MarksChanges}
+use Rattle.atl_campaign.specs.Covers.{MarksChanges}
 use Rattle.atl_records.specs.Every.{Every}
-use Rattle.atl_state.specs.Good.{IsEarly}
+use Rattle.atl_campaign.specs.Good.{IsEarly}
 use Rattle.atl_records.specs.Holdings.{HoldingValue, IsHolding, amount_of, with_amount_of}
-use Rattle.atl_state.specs.Lending.{with_held, with_holding}
+use Rattle.atl_campaign.specs.Lending.{with_held, with_holding}
 use Rattle.atl_records.specs.Limits.{holding_limit, most_units}
-use Rattle.atl_state.specs.Marking.{MarksStock}
-use Rattle.atl_state.specs.Stocks.{stock_limit, stock_of}
-use Rattle.atl_state.specs.Campaign.{MarkedCampaign, CampaignValue, region_changed, with_amount, with_stock}
-use Rattle.atl_state.proofs.BackLaws.{entries_rise}
-use Rattle.atl_state.proofs.CoverLaws.{marks-stock, marks-trans}
+use Rattle.atl_campaign.specs.Marking.{MarksStock}
+use Rattle.atl_campaign.specs.Stocks.{stock_limit, stock_of}
+use Rattle.atl_campaign.specs.Campaign.{MarkedCampaign, CampaignValue, region_changed, with_amount, with_stock}
+use Rattle.atl_campaign.proofs.BackLaws.{entries_rise}
+use Rattle.atl_campaign.proofs.CoverLaws.{marks-stock, marks-trans}
 use Rattle.atl_records.proofs.EveryLaws.{each-from_every, get-insert_other, none_some, other_number, same_number}
-use Rattle.atl_state.proofs.HavingLaws.{MayHave, may_have}
+use Rattle.atl_campaign.proofs.HavingLaws.{MayHave, may_have}
 use Rattle.atl_records.proofs.HoldingLaws.{alike, amount_within, every_amount, set_amount}
-use Rattle.atl_state.proofs.StockLaws.{restocked, steady-stock}
+use Rattle.atl_campaign.proofs.StockLaws.{restocked, steady-stock}
 use Rattle.atl_phase.specs.Meaning.{LeavesWell, BookBound, moves_only, most_moved}
 use Rattle.atl_phase.specs.Bounds.{HasRoom, HaveRoom, moved_times}
 use Rattle.atl_phase.specs.Holdings.{ChangesHolding}

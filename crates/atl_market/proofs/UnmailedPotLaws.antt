@@ -6,13 +6,13 @@ use Rattle.std.specs.Ordering.{nat_cmp}
 use Rattle.std.specs.FinMap.{FinMap, entries, get}
 use Rattle.std.proofs.lemmas.List.Elements.{recursion_from_All}
 use Rattle.std.proofs.lemmas.List.Sums.{sum_by-append, sum_by-cons}
-use Rattle.atl_tables.specs.Worlds.{WorldValue}
+use Rattle.atl_world.specs.Worlds.{WorldValue}
 use Rattle.atl_orders.specs.declared.verb.Verb.{Verb}
 use Rattle.atl_records.specs.declared.books.Entry.TheVariants.{Wages}
 use Rattle.atl_records.specs.declared.books.Thing.TheVariants.{Money}
 use Rattle.atl_records.specs.declared.event.Event.{Event}
 use Rattle.atl_records.specs.declared.records.Unit.{Unit}
-use Rattle.atl_state.specs.Campaign.{CampaignValue, with_amount, with_money, with_region_money}
+use Rattle.atl_campaign.specs.Campaign.{CampaignValue, with_amount, with_money, with_region_money}
 use Rattle.atl_records.proofs.EveryLaws.{other_number}
 use Rattle.atl_phase.specs.Month.{MonthValue}
 use Rattle.atl_phase.specs.Meaning.{Frame, Meaning}

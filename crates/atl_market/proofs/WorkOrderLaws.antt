@@ -12,14 +12,14 @@ use Rattle.std.specs.FinMap.{FinMap, IsAntisymmetric, empty, entries, entries-in
 use Rattle.std.specs.FinMap.Entries.{below_all, by_order}
 use Rattle.std.proofs.lemmas.Bool.{and_parts, cases_eq, false_from_ne_true, false≢true, not-true}
 use Rattle.std.proofs.lemmas.Bool.Decides.{nat_tests}
-use Rattle.atl_tables.proofs.GeneralLaws.{equal_turned}
+use Rattle.atl_world.proofs.GeneralLaws.{equal_turned}
 use Rattle.atl_records.specs.Every.{EachOf}
-use Rattle.atl_state.specs.Campaign.{CampaignValue}
+use Rattle.atl_campaign.specs.Campaign.{CampaignValue}
 use Rattle.atl_records.specs.declared.records.Unit.{Unit}
-use Rattle.atl_state.proofs.BackLaws.{append_apart, append_each, entries_rise, flat_apart}
-use Rattle.atl_state.proofs.GroupLaws.{filter_apart, filter_each}
+use Rattle.atl_campaign.proofs.BackLaws.{append_apart, append_each, entries_rise, flat_apart}
+use Rattle.atl_campaign.proofs.GroupLaws.{filter_apart, filter_each}
 use Rattle.atl_records.proofs.EveryLaws.{each-from_every, get-insert_other, other_number, same_number}
-use Rattle.atl_state.proofs.OrderLaws.{each_so}
+use Rattle.atl_campaign.proofs.OrderLaws.{each_so}
 use Rattle.atl_phase.specs.Month.{MonthValue}
 use Rattle.atl_phase.specs.PhaseOrders.{Task, is_month_long, key_of, orders_by_unit, task_of}
 use Rattle.atl_phase.specs.declared.phase_order.Arrangement.TheVariants.{ByUnit}

@@ -4,12 +4,12 @@ use Rattle.std.specs.Prelude.{◌+◌, ◌-◌, ◌*◌, ℕ, List, Option}
 use Rattle.std.specs.List.{slice_get}
 use Rattle.std.specs.Option.{option_map_or}
 use Rattle.std.specs.FinMap.{get}
-use Rattle.atl_tables.specs.Worlds.{IsWorld, WorldValue}
-use Rattle.atl_tables.specs.declared.world.Item.{Item}
-use Rattle.atl_tables.specs.declared.world.Market.{Market}
+use Rattle.atl_world.specs.Worlds.{IsWorld, WorldValue}
+use Rattle.atl_world.specs.declared.world.Item.{Item}
+use Rattle.atl_world.specs.declared.world.Market.{Market}
 use Rattle.atl_records.specs.declared.records.Unit.{Unit}
 use Rattle.atl_records.specs.Holdings.{HoldingValue, amount_of, with_amount_of}
-use Rattle.atl_state.specs.Campaign.{CampaignValue}
+use Rattle.atl_campaign.specs.Campaign.{CampaignValue}
 use Rattle.atl_phase.specs.PhaseOrders.{Task}
 use Rattle.atl_market.specs.AtOnce.{PaysAtOnce, PaysItemsAtOnce, RegionChange, UnitChange, unchanged_region}
 use Rattle.atl_market.specs.PotPhase.{items_by}

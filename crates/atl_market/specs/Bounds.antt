@@ -2,17 +2,17 @@
 -- out in turn (`CanInTurn`), and how far BUILD may still move the books (`build_reserve`).
 use Rattle.std.specs.Prelude.{⊤, ℕ, ◌≡◌, ◌==◌, length, List, [], ◌∷◌, Some, if◌then◌else◌}
 use Rattle.std.specs.List.{slice_get}
-use Rattle.atl_tables.specs.Worlds.{IsKind, WorldValue}
-use Rattle.atl_tables.specs.Sums.{sum_over}
-use Rattle.atl_tables.specs.declared.world.Kind.{Kind}
+use Rattle.atl_world.specs.Worlds.{IsKind, WorldValue}
+use Rattle.atl_world.specs.Sums.{sum_over}
+use Rattle.atl_world.specs.declared.world.Kind.{Kind}
 use Rattle.atl_records.specs.Books.{entry_index}
 use Rattle.atl_records.specs.declared.books.Entry.{Entry}
 use Rattle.atl_records.specs.declared.books.Entry.TheVariants.{Used}
 use Rattle.atl_records.specs.declared.books.Thing.{Thing}
 use Rattle.atl_records.specs.declared.books.Thing.TheVariants.{Item}
 use Rattle.atl_records.specs.Holdings.{HoldingValue, amount_of}
-use Rattle.atl_state.specs.Good.{IsSteady}
-use Rattle.atl_state.specs.Campaign.{CampaignValue}
+use Rattle.atl_campaign.specs.Good.{IsSteady}
+use Rattle.atl_campaign.specs.Campaign.{CampaignValue}
 use Rattle.atl_phase.specs.Bounds.{RemainingBound}
 
 -- each step of a list can be carried out (`can`) in the campaign that the steps ahead of it leave

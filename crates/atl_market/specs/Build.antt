@@ -3,9 +3,9 @@ use Rattle.std.specs.Prelude.{◌++◌, ℕ, ◌+◌, ◌-◌, ◌*◌, ◌==◌
 use Rattle.std.specs.Fmt.{decimal}
 use Rattle.std.specs.List.{slice_get}
 use Rattle.std.specs.FinMap.{get, len}
-use Rattle.atl_tables.specs.Worlds.{WorldValue}
-use Rattle.atl_tables.specs.declared.world.Kind.{Kind}
-use Rattle.atl_tables.specs.ByNumber.{is_land_at}
+use Rattle.atl_world.specs.Worlds.{WorldValue}
+use Rattle.atl_world.specs.declared.world.Kind.{Kind}
+use Rattle.atl_world.specs.ByNumber.{is_land_at}
 use Rattle.atl_orders.specs.declared.order.Operands.TheVariants as operands
 use Rattle.atl_orders.specs.declared.verb.Verb.{Verb}
 use Rattle.atl_orders.specs.declared.verb.Verb.TheVariants as verbs
@@ -22,8 +22,8 @@ use Rattle.atl_records.specs.declared.records.Unit.{Unit}
 use Rattle.atl_records.specs.Holdings.{HoldingValue, amount_of}
 use Rattle.atl_records.specs.Levels.{level_in}
 use Rattle.atl_records.specs.Limits.{most_structures}
-use Rattle.atl_state.specs.Owners.{with_place}
-use Rattle.atl_state.specs.Campaign.{CampaignValue, with_done, with_structure_begun}
+use Rattle.atl_campaign.specs.Owners.{with_place}
+use Rattle.atl_campaign.specs.Campaign.{CampaignValue, with_done, with_structure_begun}
 use Rattle.atl_phase.specs.Meaning.{BookBound, most_moved}
 use Rattle.atl_phase.specs.Outcomes.{first_fault, unless}
 use Rattle.atl_phase.specs.NoWorse.{IsNoWorse}

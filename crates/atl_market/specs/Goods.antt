@@ -3,7 +3,7 @@ use Rattle.std.specs.Prelude.{◌+◌, ◌-◌, ℕ, pos, neg_ℤ}
 use Rattle.atl_records.specs.declared.books.Entry.TheVariants.{Made, Used}
 use Rattle.atl_records.specs.declared.books.Thing.TheVariants.{Item}
 use Rattle.atl_records.specs.Holdings.{amount_of}
-use Rattle.atl_state.specs.Campaign.{CampaignValue, with_amount, with_item}
+use Rattle.atl_campaign.specs.Campaign.{CampaignValue, with_amount, with_item}
 use Rattle.atl_phase.specs.There.{at_unit}
 
 -- a campaign after unit `n` used `amount` of item `i`, booked as used; unchanged where the unit isn't there

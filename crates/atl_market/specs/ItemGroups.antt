@@ -3,8 +3,8 @@ use Rattle.std.specs.Prelude.{ℕ, List, map, Option, Some}
 use Rattle.std.specs.List.{flat_map, fold, zip}
 use Rattle.std.specs.Ordering.{nat_cmp}
 use Rattle.std.specs.FinMap.{FinMap, empty, entries, get, insert, keys}
-use Rattle.atl_tables.specs.Groups.{group_of}
-use Rattle.atl_state.specs.Campaign.{CampaignValue, numbers_in}
+use Rattle.atl_world.specs.Groups.{group_of}
+use Rattle.atl_campaign.specs.Campaign.{CampaignValue, numbers_in}
 use Rattle.atl_market.specs.Pots.{want_of}
 use Rattle.atl_shares.specs.Share.{shares}
 

@@ -1,12 +1,12 @@
 -- For proofs alone: when a unit's share of a pot can be paid to it, in TAX, RECRUIT and WORK.
 use Rattle.std.specs.Prelude.{◌≡◌, ◌≤◌, ◌+◌, ◌*◌, ℕ, Some}
 use Rattle.std.specs.FinMap.{get}
-use Rattle.atl_tables.specs.Worlds.{WorldValue}
+use Rattle.atl_world.specs.Worlds.{WorldValue}
 use Rattle.atl_records.specs.declared.records.Region.{Region}
 use Rattle.atl_records.specs.declared.records.Unit.{Unit}
-use Rattle.atl_state.specs.Good.{IsEarly, IsSteady}
+use Rattle.atl_campaign.specs.Good.{IsEarly, IsSteady}
 use Rattle.atl_records.specs.Limits.{holding_limit, men_limit}
-use Rattle.atl_state.specs.Campaign.{CampaignValue}
+use Rattle.atl_campaign.specs.Campaign.{CampaignValue}
 use Rattle.atl_phase.specs.Bounds.{HaveRoom}
 use Rattle.atl_market.specs.Recruit.{recruit_moves}
 use Rattle.atl_market.specs.Work.{wages_for, work_moves}

@@ -3,9 +3,9 @@ use Rattle.std.specs.Prelude.{◌≡◌, ◌≤◌, ℕ, List, map, filter, sum,
 use Rattle.std.specs.List.{flat_map, zip}
 use Rattle.std.specs.Ordering.{nat_cmp}
 use Rattle.std.specs.FinMap.{FinMap, get, keys, from_entries}
-use Rattle.atl_tables.specs.Limits.{most_amount}
+use Rattle.atl_world.specs.Limits.{most_amount}
 use Rattle.atl_records.specs.Every.{Every, IsThere}
-use Rattle.atl_state.specs.Campaign.{CampaignValue, numbers_in}
+use Rattle.atl_campaign.specs.Campaign.{CampaignValue, numbers_in}
 use Rattle.atl_records.specs.declared.records.Unit.{Unit}
 use Rattle.atl_shares.specs.Share.{shares}
 

@@ -5,9 +5,9 @@ use Rattle.std.specs.List.{slice_get}
 use Rattle.std.specs.Ordering.{nat_cmp}
 use Rattle.std.specs.Option.{option_map_or}
 use Rattle.std.specs.FinMap.{FinMap, entries, from_entries, get}
-use Rattle.atl_tables.specs.Worlds.{WorldValue}
-use Rattle.atl_tables.specs.declared.world.Item.{Item}
-use Rattle.atl_tables.specs.ByNumber.{terrain_of}
+use Rattle.atl_world.specs.Worlds.{WorldValue}
+use Rattle.atl_world.specs.declared.world.Item.{Item}
+use Rattle.atl_world.specs.ByNumber.{terrain_of}
 use Rattle.atl_orders.specs.declared.verb.Verb.{Verb}
 use Rattle.atl_orders.specs.declared.verb.Verb.TheVariants as verbs
 use Rattle.atl_records.specs.declared.books.Entry.TheVariants.{Made, Used}
@@ -17,7 +17,7 @@ use Rattle.atl_records.specs.declared.event.EventFault.TheVariants.{NoMaterial, 
 use Rattle.atl_records.specs.Holdings.{HoldingValue, amount_of}
 use Rattle.atl_records.specs.Levels.{level_in_any}
 use Rattle.atl_records.specs.Limits.{holding_limit}
-use Rattle.atl_state.specs.Campaign.{CampaignValue}
+use Rattle.atl_campaign.specs.Campaign.{CampaignValue}
 use Rattle.atl_phase.specs.Meaning.{BookBound, Frame, Meaning, most_moved}
 use Rattle.atl_phase.specs.Outcomes.{first_fault}
 use Rattle.atl_phase.specs.PhaseSpecs.{PhaseSpec}

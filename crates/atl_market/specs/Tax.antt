@@ -2,14 +2,14 @@
 use Rattle.std.specs.Prelude.{◌+◌, ◌-◌, ◌*◌, ◌==◌, ℕ, Bool, true, false, min, Option, not, [], ◌∷◌}
 use Rattle.std.specs.Option.{option_map_or}
 use Rattle.std.specs.FinMap.{get}
-use Rattle.atl_tables.specs.Worlds.{WorldValue}
+use Rattle.atl_world.specs.Worlds.{WorldValue}
 use Rattle.atl_orders.specs.declared.verb.Verb.{Verb}
 use Rattle.atl_orders.specs.declared.verb.Verb.TheVariants as verbs
 use Rattle.atl_records.specs.declared.event.EventFault.{EventFault}
 use Rattle.atl_records.specs.declared.event.EventFault.TheVariants.{NoMen, NotGuarding}
 use Rattle.atl_records.specs.declared.records.Unit.{Unit}
 use Rattle.atl_records.specs.Limits.{holding_limit}
-use Rattle.atl_state.specs.Campaign.{CampaignValue, with_money, with_region_money}
+use Rattle.atl_campaign.specs.Campaign.{CampaignValue, with_money, with_region_money}
 use Rattle.atl_phase.specs.Meaning.{Meaning}
 use Rattle.atl_phase.specs.NoWorse.{spares_all}
 use Rattle.atl_phase.specs.Outcomes.{first_fault}

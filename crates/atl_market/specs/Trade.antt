@@ -3,9 +3,9 @@ use Rattle.std.specs.Prelude.{◌+◌, ◌-◌, ◌*◌, ◌/◌, ◌==◌, ℕ,
 use Rattle.std.specs.Option.{option_map_or}
 use Rattle.std.specs.Ordering.{nat_cmp}
 use Rattle.std.specs.FinMap.{FinMap, get}
-use Rattle.atl_tables.specs.ByNumber.{market_of}
-use Rattle.atl_tables.specs.Worlds.{WorldValue}
-use Rattle.atl_tables.specs.declared.world.Market.{Market}
+use Rattle.atl_world.specs.ByNumber.{market_of}
+use Rattle.atl_world.specs.Worlds.{WorldValue}
+use Rattle.atl_world.specs.declared.world.Market.{Market}
 use Rattle.atl_orders.specs.declared.verb.Verb.{Verb}
 use Rattle.atl_orders.specs.declared.verb.Verb.TheVariants as verbs
 use Rattle.atl_records.specs.declared.books.Entry.{Entry}
@@ -15,10 +15,10 @@ use Rattle.atl_records.specs.declared.event.EventFault.{EventFault}
 use Rattle.atl_records.specs.declared.event.EventFault.TheVariants.{NoMarket, NotEnough}
 use Rattle.atl_records.specs.declared.records.Unit.{Unit}
 use Rattle.atl_records.specs.Holdings.{HoldingValue, amount_of, with_amount_of}
-use Rattle.atl_state.specs.Lending.{with_holding}
+use Rattle.atl_campaign.specs.Lending.{with_holding}
 use Rattle.atl_records.specs.Limits.{holding_limit}
-use Rattle.atl_state.specs.Stocks.{stock_of}
-use Rattle.atl_state.specs.Campaign.{CampaignValue, with_amount, with_stock}
+use Rattle.atl_campaign.specs.Stocks.{stock_of}
+use Rattle.atl_campaign.specs.Campaign.{CampaignValue, with_amount, with_stock}
 use Rattle.atl_phase.specs.Meaning.{BookBound, Frame, Meaning, moves_only}
 use Rattle.atl_phase.specs.Outcomes.{first_fault}
 use Rattle.atl_phase.specs.There.{at_unit}

@@ -2,17 +2,17 @@
 use Rattle.std.specs.Prelude.{⊤, ◌≡◌, ◌≤◌, ◌+◌, ◌*◌, ℕ, Option, Some, None}
 use Rattle.std.specs.Ordering.{nat_cmp}
 use Rattle.std.specs.FinMap.{FinMap, get}
-use Rattle.atl_tables.specs.Limits.{most_amount}
-use Rattle.atl_tables.specs.Worlds.{IsWorld, WorldValue}
-use Rattle.atl_tables.specs.declared.world.Market.{Market}
+use Rattle.atl_world.specs.Limits.{most_amount}
+use Rattle.atl_world.specs.Worlds.{IsWorld, WorldValue}
+use Rattle.atl_world.specs.declared.world.Market.{Market}
 use Rattle.atl_records.specs.declared.books.Entry.{Entry}
 use Rattle.atl_records.specs.declared.books.Thing.TheVariants.{Money}
 use Rattle.atl_records.specs.declared.records.Unit.{Unit}
 use Rattle.atl_records.specs.Books.{IsWithin, amount_in}
-use Rattle.atl_state.specs.Good.{IsEarly}
+use Rattle.atl_campaign.specs.Good.{IsEarly}
 use Rattle.atl_records.specs.Holdings.{HoldingValue, amount_of}
 use Rattle.atl_records.specs.Limits.{holding_limit}
-use Rattle.atl_state.specs.Campaign.{CampaignValue}
+use Rattle.atl_campaign.specs.Campaign.{CampaignValue}
 use Rattle.atl_phase.specs.Bounds.{HasRoom, HaveRoom}
 use Rattle.atl_market.specs.declared.trade.TradeResult.{TradeResult}
 use Rattle.atl_market.specs.declared.trade.Trade.{Trade}

@@ -4,9 +4,9 @@ use Rattle.std.specs.Option.{option_map_or}
 use Rattle.std.specs.Ordering.{nat_cmp}
 use Rattle.std.specs.Cmp.Lexicographic.{slice_cmp}
 use Rattle.std.specs.FinMap.{entries, from_entries, values}
-use Rattle.atl_tables.specs.Worlds.{WorldValue}
-use Rattle.atl_tables.specs.declared.world.Terrain.{Terrain}
-use Rattle.atl_tables.specs.ByNumber.{terrain_of}
+use Rattle.atl_world.specs.Worlds.{WorldValue}
+use Rattle.atl_world.specs.declared.world.Terrain.{Terrain}
+use Rattle.atl_world.specs.ByNumber.{terrain_of}
 use Rattle.atl_orders.specs.declared.order.Operands.TheVariants.{Nothing}
 use Rattle.atl_orders.specs.declared.verb.Verb.{Verb}
 use Rattle.atl_orders.specs.declared.verb.Verb.TheVariants as verbs
@@ -17,7 +17,7 @@ use Rattle.atl_records.specs.declared.event.EventFault.{EventFault}
 use Rattle.atl_records.specs.declared.event.EventFault.TheVariants.{NoMen}
 use Rattle.atl_records.specs.declared.records.Unit.{Unit}
 use Rattle.atl_records.specs.Limits.{holding_limit}
-use Rattle.atl_state.specs.Campaign.{CampaignValue, with_amount, with_money}
+use Rattle.atl_campaign.specs.Campaign.{CampaignValue, with_amount, with_money}
 use Rattle.atl_phase.specs.Month.{MonthValue}
 use Rattle.atl_phase.specs.Meaning.{BookBound, Meaning, moves_only}
 use Rattle.atl_phase.specs.PhaseOrders.{Task, is_month_long, key_of, orders_by_unit}

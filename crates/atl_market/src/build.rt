@@ -5,8 +5,8 @@ ghost use Rattle.std.specs.FinMap as map;
 ghost use Rattle.std.specs.Fmt.{decimal};
 ghost use Rattle.std.specs.List.{slice_get};
 ghost use Rattle.std.specs.Option.{option_copied};
-ghost use Rattle.atl_state.specs.Covers.{MarksChanges};
-ghost use Rattle.atl_state.specs.Good.{IsNumbered};
+ghost use Rattle.atl_campaign.specs.Covers.{MarksChanges};
+ghost use Rattle.atl_campaign.specs.Good.{IsNumbered};
 ghost use Rattle.atl_records.specs.Limits.{last_unit, most_structures};
 ghost use Rattle.atl_records.specs.declared.records.Unit.{Unit};
 ghost use Rattle.atl_phase.specs.Bounds.{HaveRoom};
@@ -16,15 +16,15 @@ ghost use Rattle.atl_market.specs.Bounds.{CanBuild, build_reserve};
 ghost use Rattle.atl_market.specs.Making.{CanUse};
 
 use crate::goods::use_item;
+use atl_campaign::{
+    Campaign, EventFault, Holding, MOST_STRUCTURES, Outcome, Structure, Unit, level_in,
+};
 use atl_orders::{Operands, Verb};
 use atl_phase::{
     Month, OrderPhase, Phase, PhaseOrder, PhaseResult, PhaseVerbs, carry_out_orders, fault_outcome,
     own_unit,
 };
-use atl_state::{
-    Campaign, EventFault, Holding, MOST_STRUCTURES, Outcome, Structure, Unit, level_in,
-};
-use atl_tables::{Kind, Text, World};
+use atl_world::{Kind, Text, World};
 use std::alloc::{AllocError, Global};
 
 /// The phase BUILD: units begin structures, and continue those that they are inside. See

@@ -1,15 +1,15 @@
 //! Takes used items from a unit and gives it made items; both are booked.
 ghost use Rattle.std.specs.Prelude.{◌≡◌, OnOk, Some};
 ghost use Rattle.std.specs.FinMap as map;
-ghost use Rattle.atl_state.specs.Covers.{MarksChanges};
+ghost use Rattle.atl_campaign.specs.Covers.{MarksChanges};
 ghost use Rattle.atl_records.specs.Holdings.{amount_of};
 ghost use Rattle.atl_records.specs.declared.records.Unit.{Unit};
 ghost use Rattle.atl_market.specs.Goods.{with_made, with_used};
 ghost use Rattle.atl_market.specs.Making.{CanMake, CanUse};
 
+use atl_campaign::{Campaign, Entry, Thing};
 use atl_phase::book_taken;
-use atl_state::{Campaign, Entry, Thing};
-use atl_tables::World;
+use atl_world::World;
 use std::alloc::AllocError;
 
 /// How much of an item a unit holds; 0 where the unit isn't there.

@@ -3,7 +3,7 @@
 ghost use Rattle.std.specs.Prelude.{ℕ, ◌≡◌, IfOk, OnOk};
 ghost use Rattle.std.specs.List.{flat_map, fold};
 ghost use Rattle.std.specs.FinMap as finmap;
-ghost use Rattle.atl_tables.specs.Limits.{most_amount};
+ghost use Rattle.atl_world.specs.Limits.{most_amount};
 ghost use Rattle.atl_market.specs.RegionsWithWants.{regions_with_wants};
 ghost use Rattle.atl_market.specs.ItemGroups.{item_shares_in, region_shares, with_want};
 ghost use Rattle.atl_market.specs.ItemPots.{item_share};
@@ -11,8 +11,8 @@ ghost use Rattle.atl_market.specs.Pots.{AreWants};
 ghost use Rattle.atl_market.specs.Puts.{with_each};
 
 use crate::pots::{regions_with_wants, share_pot};
-use atl_state::Campaign;
-use atl_tables::Numbered;
+use atl_campaign::Campaign;
+use atl_world::Numbered;
 use std::alloc::{AllocError, Global};
 
 /// The pots of items: which item each unit asks for, and how much of it each region has to share.

@@ -2,16 +2,16 @@
 ghost use Rattle.std.specs.Prelude.{ℕ, ◌≡◌, ◌≤◌, ◌*◌, IfSome, OnOk};
 ghost use Rattle.std.specs.Option.{option_copied, option_map_or};
 ghost use Rattle.std.specs.List.{slice_get};
-ghost use Rattle.atl_tables.specs.Limits.{most_amount};
-ghost use Rattle.atl_state.specs.Covers.{MarksChanges};
+ghost use Rattle.atl_world.specs.Limits.{most_amount};
+ghost use Rattle.atl_campaign.specs.Covers.{MarksChanges};
 ghost use Rattle.atl_records.specs.Limits.{holding_limit};
-ghost use Rattle.atl_tables.specs.declared.world.Item.{Item};
+ghost use Rattle.atl_world.specs.declared.world.Item.{Item};
 ghost use Rattle.atl_market.specs.Making.{CanMakeOf, CanUse};
 ghost use Rattle.atl_market.specs.Produce.{is_unskilled, item_of, lacks_raw, make_fault, most_makeable, most_makeable_of, up_to_raw, with_item_made, with_raw_used};
 
 use crate::goods::{make_item, use_item};
-use atl_state::{Campaign, EventFault, HOLDING_LIMIT, Holding, level_in_any};
-use atl_tables::{Item, World};
+use atl_campaign::{Campaign, EventFault, HOLDING_LIMIT, Holding, level_in_any};
+use atl_world::{Item, World};
 use std::alloc::AllocError;
 
 /// The world's item under the number that an order names, if there is one.

@@ -8,8 +8,8 @@ ghost use Rattle.atl_market.specs.Puts.{with_each};
 
 use crate::item_pots::{ItemPots, item_shares};
 use crate::making::item_of;
-use atl_state::Campaign;
-use atl_tables::{Numbered, World};
+use atl_campaign::Campaign;
+use atl_world::{Numbered, World};
 use std::alloc::{AllocError, Global};
 
 /// The pots of PRODUCE: what each region's terrain gives of the items that orders name.

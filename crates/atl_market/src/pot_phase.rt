@@ -3,10 +3,10 @@
 ghost use Rattle.std.specs.Prelude.{ℕ, ◌≡◌, ◌≤◌, IfOk, OnOk, fold, map};
 ghost use Rattle.std.specs.FinMap.{FinMap, entries};
 ghost use Rattle.std.specs.Result.{result_map_both};
-ghost use Rattle.atl_tables.specs.Limits.{most_amount};
-ghost use Rattle.atl_tables.specs.Worlds.{WorldValue};
-ghost use Rattle.atl_state.specs.Covers.{MarksChanges};
-ghost use Rattle.atl_state.specs.Campaign.{CampaignValue};
+ghost use Rattle.atl_world.specs.Limits.{most_amount};
+ghost use Rattle.atl_world.specs.Worlds.{WorldValue};
+ghost use Rattle.atl_campaign.specs.Covers.{MarksChanges};
+ghost use Rattle.atl_campaign.specs.Campaign.{CampaignValue};
 ghost use Rattle.std.specs.Ordering.{nat_cmp};
 ghost use Rattle.atl_phase.specs.PhaseOrders.{task_of};
 ghost use Rattle.atl_market.specs.PotPhase.{PotMeaning, after_sharing, count_in, event_of, events_by, given_by, item_by, item_in, items_by, unit_for, want_by, wants_by};
@@ -14,10 +14,10 @@ ghost use Rattle.atl_market.specs.Bounds.{CanInTurn};
 ghost use Rattle.atl_market.specs.Pots.{AreWants};
 ghost use Rattle.atl_market.specs.Puts.{with_any};
 
+use atl_campaign::{Campaign, Event, EventFault, Outcome, Unit};
 use atl_orders::Operands;
 use atl_phase::{PhaseOrder, own_unit};
-use atl_state::{Campaign, Event, EventFault, Outcome, Unit};
-use atl_tables::{Numbered, World};
+use atl_world::{Numbered, World};
 use std::alloc::{AllocError, Global};
 
 /// What is particular to one phase in which the units of each region share a pot.

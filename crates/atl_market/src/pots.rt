@@ -2,15 +2,15 @@
 //! "Pots".
 ghost use Rattle.std.specs.Prelude.{◌≡◌, ◌≤◌, All, IfOk, OnOk, length, map};
 ghost use Rattle.std.specs.List.{zip};
-ghost use Rattle.atl_tables.specs.Limits.{most_amount};
+ghost use Rattle.atl_world.specs.Limits.{most_amount};
 ghost use Rattle.atl_market.specs.RegionsWithWants.{regions_with_wants};
 ghost use Rattle.atl_shares.specs.Share.{shares};
 ghost use Rattle.atl_market.specs.Pots.{AreWants, EachTakerGets, GivesEachPot, OnlyTakersGet, OtherRegionsDoNotCount, SharesEachPot, pot_shares, shares_in, takers_among, want_of};
 ghost use Rattle.atl_market.specs.Puts.{with_each};
 
+use atl_campaign::Campaign;
 use atl_shares::share;
-use atl_state::Campaign;
-use atl_tables::Numbered;
+use atl_world::Numbered;
 use std::alloc::{AllocError, Global};
 
 /// The pot of each region: how much there is to share in it.

@@ -1,7 +1,7 @@
 //! PRODUCE: units make items of raw items, or of what the terrain of their region gives. See
 //! docs/RULES.md, "Producing".
-ghost use Rattle.atl_tables.specs.Worlds.{IsWorld};
-ghost use Rattle.atl_state.specs.Good.{IsSteady};
+ghost use Rattle.atl_world.specs.Worlds.{IsWorld};
+ghost use Rattle.atl_campaign.specs.Good.{IsSteady};
 ghost use Rattle.atl_phase.specs.Meaning.{most_moved};
 ghost use Rattle.atl_market.specs.Making.{CanProduce};
 ghost use Rattle.atl_market.specs.Produce.{after_production, is_produce, produce_keeps, produce_meaning, produce_moves, produce_pots};
@@ -10,10 +10,10 @@ ghost use Rattle.atl_market.specs.AfterPots.{ProducesAtOnce};
 use crate::making::{make, make_fault, most_makeable};
 use crate::outputs::made_amounts;
 use crate::pot_phase::{PotPhase, named_item, share_out};
+use atl_campaign::{Campaign, EventFault, Unit};
 use atl_orders::Verb;
 use atl_phase::{Arrangement, Month, Phase, PhaseOrder, PhaseResult, PhaseVerbs, add_events};
-use atl_state::{Campaign, EventFault, Unit};
-use atl_tables::{Numbered, World};
+use atl_world::{Numbered, World};
 use std::alloc::{AllocError, Global};
 
 /// The phase PRODUCE: units make items of raw items, or of what the terrain of their region gives.

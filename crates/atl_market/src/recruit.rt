@@ -3,11 +3,11 @@ ghost use Rattle.std.specs.Prelude.{pos, neg_ℤ, ◌≡◌, ◌≤◌, ◌+◌,
 ghost use Rattle.std.specs.FinMap as finmap;
 ghost use Rattle.atl_records.specs.declared.books.Entry.TheVariants.{Recruiting};
 ghost use Rattle.atl_records.specs.declared.books.Thing.TheVariants.{Money};
-ghost use Rattle.atl_state.specs.Covers.{MarksChanges};
-ghost use Rattle.atl_state.specs.Good.{IsEarly};
-ghost use Rattle.atl_state.specs.Lending.{with_holding};
+ghost use Rattle.atl_campaign.specs.Covers.{MarksChanges};
+ghost use Rattle.atl_campaign.specs.Good.{IsEarly};
+ghost use Rattle.atl_campaign.specs.Lending.{with_holding};
 ghost use Rattle.atl_records.specs.Limits.{holding_limit, men_limit};
-ghost use Rattle.atl_state.specs.Campaign.{with_amount, with_peasants};
+ghost use Rattle.atl_campaign.specs.Campaign.{with_amount, with_peasants};
 ghost use Rattle.atl_phase.specs.Holdings.{MarksNoGoods};
 ghost use Rattle.atl_phase.specs.Meaning.{most_moved};
 ghost use Rattle.atl_phase.specs.Bounds.{HaveRoom};
@@ -17,12 +17,12 @@ ghost use Rattle.atl_market.specs.AfterPots.{RecruitsAtOnce};
 
 use crate::pot_phase::{PotPhase, named_count, share_out};
 use crate::pots::{Pots, pot_shares};
+use atl_campaign::{Campaign, Entry, EventFault, MEN_LIMIT, Thing, Unit};
 use atl_orders::Verb;
 use atl_phase::{
     Arrangement, Month, Phase, PhaseOrder, PhaseResult, PhaseVerbs, add_events, book_taken,
 };
-use atl_state::{Campaign, Entry, EventFault, MEN_LIMIT, Thing, Unit};
-use atl_tables::{Numbered, World};
+use atl_world::{Numbered, World};
 use std::alloc::{AllocError, Global};
 
 /// The phase RECRUIT: peasants of a region join its units, at a price. See docs/RULES.md,

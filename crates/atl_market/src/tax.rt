@@ -1,10 +1,10 @@
 //! TAX: the units on guard share the money of their region. See docs/RULES.md, "Tax".
 ghost use Rattle.std.specs.Prelude.{◌≡◌, ◌≤◌};
-ghost use Rattle.atl_tables.specs.Worlds.{WorldValue};
-ghost use Rattle.atl_state.specs.Covers.{MarksChanges};
-ghost use Rattle.atl_state.specs.Good.{IsEarly};
+ghost use Rattle.atl_world.specs.Worlds.{WorldValue};
+ghost use Rattle.atl_campaign.specs.Covers.{MarksChanges};
+ghost use Rattle.atl_campaign.specs.Good.{IsEarly};
 ghost use Rattle.atl_records.specs.Limits.{holding_limit};
-ghost use Rattle.atl_state.specs.Campaign.{with_money, with_region_money};
+ghost use Rattle.atl_campaign.specs.Campaign.{with_money, with_region_money};
 ghost use Rattle.atl_phase.specs.Holdings.{MarksNoGoods};
 ghost use Rattle.atl_phase.specs.NoWorse.{spares_all};
 ghost use Rattle.atl_market.specs.Tax.{after_tax, is_tax, money_at, tax_meaning, tax_pots};
@@ -13,10 +13,10 @@ ghost use Rattle.atl_market.specs.AfterPots.{TaxesAtOnce};
 
 use crate::pot_phase::{PotPhase, share_out};
 use crate::pots::{Pots, pot_shares};
+use atl_campaign::{Campaign, EventFault, HOLDING_LIMIT, Unit};
 use atl_orders::Verb;
 use atl_phase::{Arrangement, Month, Phase, PhaseOrder, PhaseResult, PhaseVerbs, add_events};
-use atl_state::{Campaign, EventFault, HOLDING_LIMIT, Unit};
-use atl_tables::{Numbered, World};
+use atl_world::{Numbered, World};
 use std::alloc::{AllocError, Global};
 
 /// The phase TAX: the units on guard share the money of their region. See docs/RULES.md, "Tax".

@@ -3,9 +3,9 @@
 ghost use Rattle.std.specs.Prelude.{◌≡◌, ◌≤◌, ◌+◌, ◌*◌, IfSome, OnOk, Some};
 ghost use Rattle.std.specs.FinMap as finmap;
 ghost use Rattle.std.specs.Option.{option_copied};
-ghost use Rattle.atl_tables.specs.Limits.{most_amount};
-ghost use Rattle.atl_state.specs.Covers.{MarksChanges};
-ghost use Rattle.atl_state.specs.Good.{IsEarly};
+ghost use Rattle.atl_world.specs.Limits.{most_amount};
+ghost use Rattle.atl_campaign.specs.Covers.{MarksChanges};
+ghost use Rattle.atl_campaign.specs.Good.{IsEarly};
 ghost use Rattle.atl_records.specs.Holdings.{with_amount_of};
 ghost use Rattle.atl_records.specs.Limits.{holding_limit};
 ghost use Rattle.atl_records.specs.declared.records.Unit.{Unit};
@@ -18,10 +18,10 @@ ghost use Rattle.atl_market.specs.AfterPots.{TradesAtOnce};
 use crate::item_pots::{ItemPots, item_shares};
 use crate::pot_phase::{PotPhase, named_count, named_item, share_out};
 use crate::produce::world_is_sound;
+use atl_campaign::{Campaign, Entry, EventFault, HOLDING_LIMIT, Holding, Thing, Unit};
 use atl_orders::Verb;
 use atl_phase::{Arrangement, Month, Phase, PhaseOrder, PhaseResult, PhaseVerbs, add_events};
-use atl_state::{Campaign, Entry, EventFault, HOLDING_LIMIT, Holding, Thing, Unit};
-use atl_tables::{Market, Numbered, World};
+use atl_world::{Market, Numbered, World};
 use std::alloc::{AllocError, Global};
 
 /// The phase SELL or BUY: units sell items to the markets of their regions, or buy from them.

@@ -6,15 +6,15 @@ ghost use Rattle.std.specs.Cmp.Lexicographic.{slice_cmp};
 ghost use Rattle.std.specs.Ordering.{nat_cmp};
 ghost use Rattle.atl_records.specs.declared.books.Entry.TheVariants.{Wages};
 ghost use Rattle.atl_records.specs.declared.books.Thing.TheVariants.{Money};
-ghost use Rattle.atl_state.specs.Covers.{MarksChanges};
-ghost use Rattle.atl_state.specs.Good.{IsSteady};
+ghost use Rattle.atl_campaign.specs.Covers.{MarksChanges};
+ghost use Rattle.atl_campaign.specs.Good.{IsSteady};
 ghost use Rattle.atl_records.specs.Limits.{holding_limit};
-ghost use Rattle.atl_state.specs.Campaign.{with_amount, with_money};
+ghost use Rattle.atl_campaign.specs.Campaign.{with_amount, with_money};
 ghost use Rattle.atl_phase.specs.Holdings.{MarksNoGoods};
 ghost use Rattle.atl_phase.specs.Meaning.{most_moved};
 ghost use Rattle.atl_phase.specs.Bounds.{HaveRoom};
 ghost use Rattle.atl_phase.specs.NoWorse.{spares_all};
-ghost use Rattle.atl_tables.specs.ByNumber.{terrain_of};
+ghost use Rattle.atl_world.specs.ByNumber.{terrain_of};
 ghost use Rattle.atl_market.specs.Work.{is_work, places_at, wage_at, wages_for, work_meaning, work_moves, work_orders, work_pots, written_work};
 ghost use Rattle.atl_orders.specs.declared.order.Operands.TheVariants.{Nothing};
 ghost use Rattle.atl_orders.specs.declared.verb.Verb.TheVariants.{Work};
@@ -26,12 +26,12 @@ ghost use Rattle.atl_market.specs.Payable.{CanWork};
 
 use crate::pot_phase::{PotPhase, share_out};
 use crate::pots::{Pots, pot_shares};
+use atl_campaign::{Campaign, Entry, EventFault, HOLDING_LIMIT, Thing, Unit};
 use atl_orders::{Mailing, Operands, Order, Verb};
 use atl_phase::{
     Arrangement, Month, MonthLongVerbs, Phase, PhaseOrder, PhaseResult, add_events, is_of_faction,
 };
-use atl_state::{Campaign, Entry, EventFault, HOLDING_LIMIT, Thing, Unit};
-use atl_tables::{Numbered, Sequence, World};
+use atl_world::{Numbered, Sequence, World};
 use std::alloc::{AllocError, Global};
 
 /// The phase WORK: units with an order, or with men and without a month-long order, share the work

@@ -2,9 +2,9 @@
 //! memory is ample.
 use crate::setting::{all_commands, begun, close, founded, join, next_mail, report};
 use crate::texts::{books, rows, told};
+use atl_campaign::Campaign;
 use atl_service::{Command, Service};
-use atl_state::Campaign;
-use atl_tables::let_go;
+use atl_world::let_go;
 use sqlite::{Alter, Connection};
 use std::alloc::{AllocError, Global};
 

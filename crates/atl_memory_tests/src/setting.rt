@@ -1,10 +1,10 @@
 //! Makes the campaign in which calls are tried, and the commands. Two factions have eleven units
 //! and a boat, and both have sent mail.
 use atl_service::{Answer, Command, Service, found, open};
-use atl_tables::Sequence;
 use atl_test_files::old_file;
 use atl_test_worlds::ISLE;
 use atl_test_worlds::month::{OF_AVALON, OF_BREE, ROWS};
+use atl_world::Sequence;
 use sqlite::{Alter, Connection, MemStore};
 use std::alloc::{AllocError, Global};
 

@@ -2,7 +2,7 @@
 //! left.
 use crate::drought::Drought;
 use crate::fuse;
-use atl_tables::let_go;
+use atl_world::let_go;
 use std::alloc::Global;
 
 /// How memory is short: one growth is refused, or few blocks are left.

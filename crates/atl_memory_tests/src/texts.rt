@@ -1,6 +1,6 @@
 //! Turns rows, books and answers into texts, so that each can be compared as a whole.
+use atl_campaign::{Campaign, Parts};
 use atl_service::{Answer, Service, open};
-use atl_state::{Campaign, Parts};
 use sqlite::{Alter, Connection};
 use std::alloc::Global;
 

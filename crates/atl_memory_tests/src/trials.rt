@@ -4,10 +4,11 @@ use crate::cases::{Call, Case};
 use crate::setting::{begun, old_of};
 use crate::shortage::Shortage;
 use crate::texts::{is_text, rows, rows_of, text_of, told};
+use atl_campaign::Campaign;
 use atl_service::{Answer, Cause, Fault, Refused, Service, found, open, upgrade};
-use atl_state::{Campaign, CheckFault, check};
-use atl_tables::World;
+use atl_state::{CheckFault, check};
 use atl_test_worlds::{ISLE, ISLE_WITH_MARKET};
+use atl_world::World;
 use sqlite::{Alter, Connection};
 use std::alloc::Global;
 

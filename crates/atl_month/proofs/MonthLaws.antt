@@ -5,17 +5,17 @@ use Rattle.std.specs.Prelude.{ℤ}
 use Rattle.std.specs.FinMap.{FinMap, empty, get, len}
 use Rattle.std.specs.Ordering.{nat_cmp}
 use Rattle.std.proofs.lemmas.Int.{ints}
-use Rattle.atl_tables.specs.Worlds.{WorldValue}
+use Rattle.atl_world.specs.Worlds.{WorldValue}
 use Rattle.atl_records.specs.declared.event.Event.{Event}
 use Rattle.atl_records.specs.Books.{IsWithin, amount_in}
 use Rattle.atl_records.specs.Every.{IsThere}
-use Rattle.atl_state.specs.Good.{AreAmountsWithin, IsGood, IsSound, IsSteady, amount_bound}
+use Rattle.atl_campaign.specs.Good.{AreAmountsWithin, IsGood, IsSound, IsSteady, amount_bound}
 use Rattle.atl_records.specs.Limits.{last_month}
-use Rattle.atl_state.specs.Campaign.{CampaignValue}
-use Rattle.atl_state.specs.Totals.{Balances, total}
+use Rattle.atl_campaign.specs.Campaign.{CampaignValue}
+use Rattle.atl_campaign.specs.Totals.{Balances, total}
 use Rattle.atl_orders.specs.Mailing.{Reading}
 use Rattle.atl_records.proofs.EveryLaws.{every-empty}
-use Rattle.atl_state.proofs.GoodLaws.{posted-steady, posted-unsent}
+use Rattle.atl_campaign.proofs.GoodLaws.{posted-steady, posted-unsent}
 use Rattle.atl_phase.specs.Month.{MonthValue}
 use Rattle.atl_phase.specs.Meaning.{BookBound, Condition, IsNear, IsSameMonth, LeavesWell, Meaning}
 use Rattle.atl_phase.specs.Bounds.{HaveRoom}

@@ -10,7 +10,7 @@ use Rattle.std.specs.Option.{option_map_or}
 use Rattle.std.specs.Ordering.{nat_cmp, is_eq}
 use Rattle.std.specs.Cmp.{ranked}
 use Rattle.std.specs.FinMap.{FinMap, get, insert, nat_cmp-IsAntisymmetric}
-use Rattle.atl_tables.specs.Worlds.{WorldValue}
+use Rattle.atl_world.specs.Worlds.{WorldValue}
 use Rattle.atl_records.specs.Books.{amount_in, booked, thing_index}
 use Rattle.atl_records.specs.declared.books.Entry.{Entry}
 use Rattle.atl_records.specs.declared.books.Entry.TheVariants.{Lost}
@@ -18,18 +18,18 @@ use Rattle.atl_records.specs.declared.books.Thing.{Thing}
 use Rattle.atl_records.specs.declared.books.Thing.TheVariants.{Item, Money, People}
 use Rattle.atl_records.specs.declared.records.Unit.{Unit}
 use Rattle.atl_records.specs.Every.{EachOf, Every}
-use Rattle.atl_state.specs.Founding.{things_of}
-use Rattle.atl_state.specs.Good.{IsSteady}
+use Rattle.atl_campaign.specs.Founding.{things_of}
+use Rattle.atl_campaign.specs.Good.{IsSteady}
 use Rattle.atl_records.specs.Holdings.{HoldingValue, amount_of, with_amount_of}
-use Rattle.atl_state.specs.Lending.{with_held}
+use Rattle.atl_campaign.specs.Lending.{with_held}
 use Rattle.atl_records.specs.Limits.{holding_limit}
-use Rattle.atl_state.specs.Campaign.{CampaignValue, with_item, with_money}
+use Rattle.atl_campaign.specs.Campaign.{CampaignValue, with_item, with_money}
 use Rattle.atl_records.specs.Amounts.{unit_amount}
-use Rattle.atl_state.specs.Totals.{total}
+use Rattle.atl_campaign.specs.Totals.{total}
 use Rattle.atl_records.proofs.BookLaws.{booked-after_booking}
 use Rattle.atl_records.proofs.EveryLaws.{every-insert, get-insert_other}
-use Rattle.atl_state.proofs.HoldingLaws.{MayHold, may_hold_money, steady-unit_amount, total-unit_amount}
-use Rattle.atl_state.proofs.RegionLaws.{changed-known, get-insert_same, steady-amount, total-amount}
+use Rattle.atl_campaign.proofs.HoldingLaws.{MayHold, may_hold_money, steady-unit_amount, total-unit_amount}
+use Rattle.atl_campaign.proofs.RegionLaws.{changed-known, get-insert_same, steady-amount, total-amount}
 use Rattle.atl_phase.specs.Meaning.{BookBound, IsNear, IsSameMonth, both_move, moves_only}
 use Rattle.atl_phase.proofs.MeaningLaws.{near_same, near_twice, same_month_by, same_month_twice}
 use Rattle.atl_records.proofs.HoldingLaws.{amount_within, every_amount, set_amount}

@@ -6,19 +6,19 @@ use Rattle.std.proofs.lemmas.Bool.{and_parts, cases_eq}
 use Rattle.std.specs.Ordering.{nat_cmp}
 use Rattle.std.specs.FinMap.{FinMap, empty, entries, get, get-empty, insert, is_sorted}
 use Rattle.std.specs.FinMap.Entries.{below_all}
-use Rattle.atl_tables.specs.Worlds.{WorldValue}
-use Rattle.atl_tables.specs.Sums.{numbers_among, numbers_where}
-use Rattle.atl_tables.proofs.SumLaws.{chosen-cons}
-use Rattle.atl_tables.specs.Groups.{group_of}
+use Rattle.atl_world.specs.Worlds.{WorldValue}
+use Rattle.atl_world.specs.Sums.{numbers_among, numbers_where}
+use Rattle.atl_world.proofs.SumLaws.{chosen-cons}
+use Rattle.atl_world.specs.Groups.{group_of}
 use Rattle.atl_records.specs.declared.records.Unit.{Unit}
 use Rattle.atl_records.specs.Every.{Every}
-use Rattle.atl_state.specs.Good.{IsSteady}
-use Rattle.atl_state.specs.Owners.{first_or_zero}
-use Rattle.atl_state.specs.Campaign.{CampaignValue}
+use Rattle.atl_campaign.specs.Good.{IsSteady}
+use Rattle.atl_campaign.specs.Owners.{first_or_zero}
+use Rattle.atl_campaign.specs.Campaign.{CampaignValue}
 use Rattle.atl_records.proofs.EveryLaws.{get-insert_other, sorted, other_number, same_number}
-use Rattle.atl_state.proofs.OrderedLaws.{below}
-use Rattle.atl_state.proofs.RegionLaws.{get-insert_same}
-use Rattle.atl_state.proofs.NumberListLaws.{IsListed, listed_passing, passing_listed}
+use Rattle.atl_campaign.proofs.OrderedLaws.{below}
+use Rattle.atl_campaign.proofs.RegionLaws.{get-insert_same}
+use Rattle.atl_campaign.proofs.NumberListLaws.{IsListed, listed_passing, passing_listed}
 use Rattle.atl_month.specs.Receivers.{AreReceivers, ReceiverMap, or_if_zero, receiver_in, with_receiver, with_receiver_of}
 use Rattle.atl_month.specs.Sweep.{IsKept, after_sweeping_unit, receiver, receives}
 use Rattle.atl_month.proofs.SweepLaws.{first_listed}

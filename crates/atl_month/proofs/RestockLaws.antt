@@ -8,12 +8,12 @@ use Rattle.std.specs.Option.{option_map_or}
 use Rattle.std.proofs.lemmas.Bool.{and_parts}
 use Rattle.std.proofs.lemmas.Bool.Decides.{nat_tests}
 use Rattle.std.proofs.lemmas.Int.{ints}
-use Rattle.atl_tables.specs.Worlds.{WorldValue, IsMarket, IsWorld}
-use Rattle.atl_tables.specs.Limits.{most_amount}
-use Rattle.atl_tables.specs.declared.world.Market.{Market}
-use Rattle.atl_tables.specs.declared.world.RegionPlan.{RegionPlan}
-use Rattle.atl_tables.specs.ByNumber.{market_of}
-use Rattle.atl_tables.proofs.Maps.{entries-empty}
+use Rattle.atl_world.specs.Worlds.{WorldValue, IsMarket, IsWorld}
+use Rattle.atl_world.specs.Limits.{most_amount}
+use Rattle.atl_world.specs.declared.world.Market.{Market}
+use Rattle.atl_world.specs.declared.world.RegionPlan.{RegionPlan}
+use Rattle.atl_world.specs.ByNumber.{market_of}
+use Rattle.atl_world.proofs.Maps.{entries-empty}
 use Rattle.atl_records.specs.declared.books.Entry.{Entry}
 use Rattle.atl_records.specs.declared.books.Entry.TheVariants.{Stocked}
 use Rattle.atl_records.specs.declared.books.Thing.{Thing}
@@ -21,22 +21,22 @@ use Rattle.atl_records.specs.declared.books.Thing.TheVariants.{Money, People, It
 use Rattle.atl_records.specs.declared.records.Region.{Region}
 use Rattle.atl_records.specs.Limits.{entry_count}
 use Rattle.atl_records.specs.Books.{amount_in, booked, entry_index, thing_at, thing_index, amount_number}
-use Rattle.atl_state.specs.Campaign.{MarkedCampaign, CampaignValue, with_amount, with_stock}
-use Rattle.atl_state.specs.Covers.{MarksChanges}
+use Rattle.atl_campaign.specs.Campaign.{MarkedCampaign, CampaignValue, with_amount, with_stock}
+use Rattle.atl_campaign.specs.Covers.{MarksChanges}
 use Rattle.atl_records.specs.Every.{EachOf, IsThere}
-use Rattle.atl_state.specs.Founding.{things_of}
-use Rattle.atl_state.specs.Good.{IsSteady}
+use Rattle.atl_campaign.specs.Founding.{things_of}
+use Rattle.atl_campaign.specs.Good.{IsSteady}
 use Rattle.atl_records.specs.Holdings.{amount_of}
-use Rattle.atl_state.specs.Marking.{MarksStock, mark_amount}
-use Rattle.atl_state.specs.Stocks.{stock_limit, stock_of}
-use Rattle.atl_state.specs.Totals.{Balances, total}
+use Rattle.atl_campaign.specs.Marking.{MarksStock, mark_amount}
+use Rattle.atl_campaign.specs.Stocks.{stock_limit, stock_of}
+use Rattle.atl_campaign.specs.Totals.{Balances, total}
 use Rattle.atl_records.proofs.AccountLaws.{at_place}
 use Rattle.atl_records.proofs.BookLaws.{booked-after_booking}
-use Rattle.atl_state.proofs.CoverLaws.{marks-amount, marks-stock, marks-trans}
+use Rattle.atl_campaign.proofs.CoverLaws.{marks-amount, marks-stock, marks-trans}
 use Rattle.atl_records.proofs.EveryEntryLaws.{entry_small}
 use Rattle.atl_records.proofs.EveryLaws.{each-from_every, sorted}
-use Rattle.atl_state.proofs.RegionLaws.{steady-amount, total-amount}
-use Rattle.atl_state.proofs.StockLaws.{steady-stock, total-stock, total-stock_other}
+use Rattle.atl_campaign.proofs.RegionLaws.{steady-amount, total-amount}
+use Rattle.atl_campaign.proofs.StockLaws.{steady-stock, total-stock, total-stock_other}
 use Rattle.atl_phase.specs.Meaning.{BookBound, LeavesWell, moves_only}
 use Rattle.atl_phase.specs.Bounds.{HasRoom, HaveRoom}
 use Rattle.atl_phase.proofs.BookingLaws.{booked-near, within-pos}

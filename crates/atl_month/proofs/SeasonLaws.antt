@@ -8,27 +8,27 @@ use Rattle.std.specs.Option.{option_map_or}
 use Rattle.std.proofs.lemmas.List.{length-map}
 use Rattle.std.proofs.lemmas.Int.{ints}
 use Rattle.std.proofs.lemmas.Bool.Decides.{nat_tests}
-use Rattle.atl_tables.specs.Worlds.{WorldValue, IsWorld}
-use Rattle.atl_tables.specs.Limits.{most_amount, most_regions}
-use Rattle.atl_tables.specs.declared.world.Terrain.{Terrain}
-use Rattle.atl_tables.specs.declared.world.RegionPlan.{RegionPlan}
-use Rattle.atl_tables.specs.ByNumber.{terrain_of}
+use Rattle.atl_world.specs.Worlds.{WorldValue, IsWorld}
+use Rattle.atl_world.specs.Limits.{most_amount, most_regions}
+use Rattle.atl_world.specs.declared.world.Terrain.{Terrain}
+use Rattle.atl_world.specs.declared.world.RegionPlan.{RegionPlan}
+use Rattle.atl_world.specs.ByNumber.{terrain_of}
 use Rattle.atl_records.specs.declared.books.Entry.{Entry}
 use Rattle.atl_records.specs.declared.books.Entry.TheVariants.{Births, Income, Stocked}
 use Rattle.atl_records.specs.declared.books.Thing.{Thing}
 use Rattle.atl_records.specs.declared.books.Thing.TheVariants.{Money, People, Item}
 use Rattle.atl_records.specs.declared.records.Region.{Region}
 use Rattle.atl_records.specs.Books.{BooksValue, amount_in, entry_index, after_booking, amount_number}
-use Rattle.atl_state.specs.Good.{IsSteady}
+use Rattle.atl_campaign.specs.Good.{IsSteady}
 use Rattle.atl_records.specs.Holdings.{amount_of}
-use Rattle.atl_state.specs.Covers.{MarksChanges}
-use Rattle.atl_state.specs.Marking.{mark_amount, mark_region}
-use Rattle.atl_state.specs.Campaign.{MarkedCampaign, CampaignValue, with_amount, with_peasants, with_region_money}
+use Rattle.atl_campaign.specs.Covers.{MarksChanges}
+use Rattle.atl_campaign.specs.Marking.{mark_amount, mark_region}
+use Rattle.atl_campaign.specs.Campaign.{MarkedCampaign, CampaignValue, with_amount, with_peasants, with_region_money}
 use Rattle.atl_records.specs.Amounts.{region_amount}
-use Rattle.atl_state.specs.Totals.{Balances, total}
+use Rattle.atl_campaign.specs.Totals.{Balances, total}
 use Rattle.atl_records.proofs.BookLaws.{booked-after_booking, share_of}
-use Rattle.atl_state.proofs.CoverLaws.{marks-amount, marks-region, marks-trans}
-use Rattle.atl_state.proofs.RegionLaws.{IsRegion-money, IsRegion-peasants, region-changed, steady-amount, steady-region, total-amount, total-region}
+use Rattle.atl_campaign.proofs.CoverLaws.{marks-amount, marks-region, marks-trans}
+use Rattle.atl_campaign.proofs.RegionLaws.{IsRegion-money, IsRegion-peasants, region-changed, steady-amount, steady-region, total-amount, total-region}
 use Rattle.atl_records.proofs.EveryLaws.{none_some}
 use Rattle.atl_phase.specs.Meaning.{IsNear, LeavesWell, both_move, most_moved, moves_only}
 use Rattle.atl_phase.specs.Bounds.{HaveRoom, moved_times}

@@ -8,10 +8,10 @@ use Rattle.std.proofs.lemmas.Option.{same_Some}
 use Rattle.std.specs.Option.{option_map_or}
 use Rattle.std.specs.Ordering.{nat_cmp}
 use Rattle.std.specs.FinMap.{FinMap, entries, get, len-entries}
-use Rattle.atl_tables.specs.Worlds.{WorldValue}
-use Rattle.atl_tables.specs.Limits.{most_amount}
-use Rattle.atl_tables.proofs.SumLaws.{chosen-cons}
-use Rattle.atl_tables.proofs.GeneralLaws.{is_equal, is_unequal}
+use Rattle.atl_world.specs.Worlds.{WorldValue}
+use Rattle.atl_world.specs.Limits.{most_amount}
+use Rattle.atl_world.proofs.SumLaws.{chosen-cons}
+use Rattle.atl_world.proofs.GeneralLaws.{is_equal, is_unequal}
 use Rattle.atl_records.specs.Books.{amount_in, entry_index, thing_index}
 use Rattle.atl_records.specs.declared.books.Entry.{Entry}
 use Rattle.atl_records.specs.declared.books.Entry.TheVariants.{Lost}
@@ -20,17 +20,17 @@ use Rattle.atl_records.specs.declared.books.Thing.TheVariants.{People}
 use Rattle.atl_records.specs.declared.records.Faction.{Faction}
 use Rattle.atl_records.specs.declared.records.Unit.{Unit}
 use Rattle.atl_records.specs.Every.{Every}
-use Rattle.atl_state.specs.Good.{HaveMen, IsSteady, UnitlessAreGone}
-use Rattle.atl_state.specs.Owners.{without_unit}
-use Rattle.atl_state.specs.Campaign.{CampaignValue, active, numbers_of, with_gone}
+use Rattle.atl_campaign.specs.Good.{HaveMen, IsSteady, UnitlessAreGone}
+use Rattle.atl_campaign.specs.Owners.{without_unit}
+use Rattle.atl_campaign.specs.Campaign.{CampaignValue, active, numbers_of, with_gone}
 use Rattle.atl_records.proofs.EveryLaws.{none_some}
 use Rattle.atl_phase.specs.Meaning.{LeavesWell, BookBound, both_move, most_moved}
 use Rattle.atl_phase.specs.Bounds.{moved_times}
 use Rattle.atl_phase.proofs.MeaningLaws.{both_leave_well, fold_leaves_well, near_same, same_month_among, well_unchanged, well_within}
 use Rattle.atl_month.specs.Sweep.{IsKept, after_passing_all, after_sweeping_faction, after_sweeping_unit, is_empty, loses_by, menless_units, receiver, sweep}
 use Rattle.atl_month.specs.AfterSweep.{IsSwept}
-use Rattle.atl_state.proofs.NumberListLaws.{IsListed, passing_listed}
-use Rattle.atl_state.proofs.GoneLaws.{as_gone, count-gone, get-gone, get-gone_other, known-gone, none-gone, steady-gone, total-gone}
+use Rattle.atl_campaign.proofs.NumberListLaws.{IsListed, passing_listed}
+use Rattle.atl_campaign.proofs.GoneLaws.{as_gone, count-gone, get-gone, get-gone_other, known-gone, none-gone, steady-gone, total-gone}
 use Rattle.atl_month.proofs.PassingLaws.{kept-refl, kept-trans}
 use Rattle.atl_month.proofs.SweepLaws.{others_keep, others_were, swept_leaves_well}
 use Rattle.atl_records.specs.Limits.{most_units}

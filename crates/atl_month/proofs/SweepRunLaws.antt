@@ -3,28 +3,28 @@ use Rattle.std.proofs.Common.{◌≡◌, ◌≢◌, ℕ, suc, ◌+◌, ◌-◌, 
 use Rattle.std.specs.Prelude.{pos, neg_ℤ}
 use Rattle.std.specs.FinMap.{entries, get}
 use Rattle.std.specs.Option.{option_map_or}
-use Rattle.atl_tables.specs.Worlds.{WorldValue}
-use Rattle.atl_tables.specs.Limits.{most_amount}
+use Rattle.atl_world.specs.Worlds.{WorldValue}
+use Rattle.atl_world.specs.Limits.{most_amount}
 use Rattle.atl_records.specs.Books.{amount_in}
-use Rattle.atl_state.specs.Covers.{MarksChanges}
+use Rattle.atl_campaign.specs.Covers.{MarksChanges}
 use Rattle.atl_records.specs.declared.books.Entry.{Entry}
 use Rattle.atl_records.specs.declared.books.Entry.TheVariants.{Lost}
 use Rattle.atl_records.specs.declared.books.Thing.{Thing}
 use Rattle.atl_records.specs.declared.books.Thing.TheVariants.{Item, Money}
 use Rattle.atl_records.specs.declared.records.Unit.{Unit}
 use Rattle.atl_records.specs.Holdings.{amount_of}
-use Rattle.atl_state.specs.Good.{IsSteady}
-use Rattle.atl_state.specs.Marking.{mark_amount, mark_faction, mark_unit_row}
-use Rattle.atl_state.specs.Campaign.{MarkedCampaign, CampaignValue, with_gone, with_item, with_money}
-use Rattle.atl_state.proofs.CoverLaws.{marks-amount, marks-trans}
-use Rattle.atl_state.proofs.HoldingLaws.{marks-unit_row}
+use Rattle.atl_campaign.specs.Good.{IsSteady}
+use Rattle.atl_campaign.specs.Marking.{mark_amount, mark_faction, mark_unit_row}
+use Rattle.atl_campaign.specs.Campaign.{MarkedCampaign, CampaignValue, with_gone, with_item, with_money}
+use Rattle.atl_campaign.proofs.CoverLaws.{marks-amount, marks-trans}
+use Rattle.atl_campaign.proofs.HoldingLaws.{marks-unit_row}
 use Rattle.atl_phase.specs.Meaning.{BookBound, IsNear, both_move, moves_only}
 use Rattle.atl_phase.specs.Bounds.{HaveRoom, moving_items}
 use Rattle.atl_phase.proofs.MarkLaws.{marks_by}
 use Rattle.atl_phase.proofs.MeaningLaws.{near_room, room_less}
 use Rattle.atl_instant.proofs.QuitLaws.{part_of}
 use Rattle.atl_month.specs.Sweep.{accepted_of, after_passing_item, after_passing_money, loses_by, with_lost}
-use Rattle.atl_state.proofs.GoneLaws.{marks-gone_faction}
+use Rattle.atl_campaign.proofs.GoneLaws.{marks-gone_faction}
 use Rattle.atl_month.proofs.PassingLaws.{PassesOn, pass_item, pass_money}
 use Rattle.atl_month.proofs.SweepLaws.{moves_little, moving_all}
 

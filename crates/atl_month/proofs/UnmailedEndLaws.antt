@@ -5,14 +5,14 @@ use Rattle.std.specs.Ordering.{nat_cmp}
 use Rattle.std.specs.FinMap.{FinMap, get}
 use Rattle.std.proofs.lemmas.Bool.{cases_eq}
 use Rattle.std.proofs.lemmas.List.Sums.{sum_by-append, sum_by-cons}
-use Rattle.atl_tables.specs.Worlds.{WorldValue}
-use Rattle.atl_tables.proofs.GeneralLaws.{is_equal}
+use Rattle.atl_world.specs.Worlds.{WorldValue}
+use Rattle.atl_world.proofs.GeneralLaws.{is_equal}
 use Rattle.atl_records.specs.declared.event.Event.{Event}
 use Rattle.atl_records.specs.declared.records.Unit.{Unit}
 use Rattle.atl_records.specs.Holdings.{HoldingValue}
-use Rattle.atl_state.specs.Campaign.{CampaignValue}
+use Rattle.atl_campaign.specs.Campaign.{CampaignValue}
 use Rattle.atl_records.proofs.EveryLaws.{get-insert_other, other_number}
-use Rattle.atl_state.proofs.RegionLaws.{get-insert_same}
+use Rattle.atl_campaign.proofs.RegionLaws.{get-insert_same}
 use Rattle.atl_phase.specs.Month.{MonthValue}
 use Rattle.atl_phase.specs.OrderEffects.{IsUnaffected}
 use Rattle.atl_phase.specs.Unmailed.{IsLessBy, men_starved_by, starved_in}

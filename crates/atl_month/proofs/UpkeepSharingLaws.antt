@@ -8,11 +8,11 @@ use Rattle.std.proofs.lemmas.Bool.{and_parts}
 use Rattle.std.proofs.lemmas.Bool.Decides.{nat_tests}
 use Rattle.std.proofs.lemmas.List.Elements.{filter-append}
 use Rattle.std.proofs.lemmas.List.Sums.{sum_by-append}
-use Rattle.atl_tables.specs.Limits.{most_per_head}
-use Rattle.atl_tables.specs.Groups.{group_of}
+use Rattle.atl_world.specs.Limits.{most_per_head}
+use Rattle.atl_world.specs.Groups.{group_of}
 use Rattle.atl_records.specs.Limits.{holding_limit, men_limit}
 use Rattle.atl_records.proofs.EveryLaws.{get-insert_other, same_number}
-use Rattle.atl_state.proofs.RegionLaws.{get-insert_same}
+use Rattle.atl_campaign.proofs.RegionLaws.{get-insert_same}
 use Rattle.atl_month.specs.declared.accounts.Account.{Account}
 use Rattle.atl_month.specs.declared.upkeep_sharing.UpkeepInput.{UpkeepInput}
 use Rattle.atl_month.specs.declared.upkeep_sharing.UpkeepResult.{UpkeepResult}

@@ -8,7 +8,7 @@ use Rattle.atl_month.specs.declared.accounts.Account.{Account}
 use Rattle.atl_month.specs.declared.upkeep_sharing.UpkeepInput.{UpkeepInput}
 use Rattle.atl_month.specs.declared.upkeep_sharing.UpkeepResult.{UpkeepResult}
 use Rattle.atl_month.specs.UpkeepSharing.{given_among, left_of, paid_by, peers_of, short_of, starved_of}
-use Rattle.atl_tables.specs.Groups.{group_of}
+use Rattle.atl_world.specs.Groups.{group_of}
 
 -- accounts by region, and then by faction
 abbrev pub FactionAccounts : Type 0

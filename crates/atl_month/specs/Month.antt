@@ -4,14 +4,14 @@ use Rattle.std.specs.Prelude.{◌≡◌, ◌≤◌, ℕ, ◌+◌, ◌*◌, List,
 use Rattle.std.specs.Ordering.{nat_cmp}
 use Rattle.std.specs.List.Sorted.{IsPermutation}
 use Rattle.std.specs.FinMap.{FinMap, empty}
-use Rattle.atl_tables.specs.Worlds.{WorldValue}
+use Rattle.atl_world.specs.Worlds.{WorldValue}
 use Rattle.atl_orders.specs.Mailing.{Reading, reading_of}
 use Rattle.atl_orders.specs.declared.mailing.Mailing.{Mailing}
 use Rattle.atl_records.specs.declared.books.Entry.{Entry}
 use Rattle.atl_records.specs.declared.books.Thing.{Thing}
 use Rattle.atl_records.specs.declared.event.Event.{Event}
 use Rattle.atl_records.specs.Books.{amount_in}
-use Rattle.atl_state.specs.Campaign.{CampaignValue, with_month, without_mail}
+use Rattle.atl_campaign.specs.Campaign.{CampaignValue, with_month, without_mail}
 use Rattle.atl_phase.specs.Month.{MonthValue, HaveOwnFactions, by_faction}
 use Rattle.atl_phase.specs.Meaning.{BookBound, Frame, IsNear, Meaning, both_keep, both_move, most_moved, then_also}
 use Rattle.atl_phase.specs.PhaseSpecs.{EachPhase, MovesItsOwn, PhaseSpec, keeps_of, meaning_of, moving_of, moving_phases_of}

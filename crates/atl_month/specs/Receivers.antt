@@ -3,9 +3,9 @@ use Rattle.std.specs.Prelude.{◌≡◌, ◌==◌, ◌&&◌, ℕ, nat_lt, unwrap
 use Rattle.std.specs.Ordering.{nat_cmp}
 use Rattle.std.specs.FinMap.{FinMap, get, insert}
 use Rattle.atl_records.specs.declared.records.Unit.{Unit}
-use Rattle.atl_state.specs.Campaign.{CampaignValue}
+use Rattle.atl_campaign.specs.Campaign.{CampaignValue}
 use Rattle.atl_month.specs.Sweep.{receiver}
-use Rattle.atl_tables.specs.Groups.{group_of}
+use Rattle.atl_world.specs.Groups.{group_of}
 
 -- the numbers of receiving units, by region and then by faction
 abbrev pub ReceiverMap : Type 0

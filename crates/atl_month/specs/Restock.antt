@@ -4,14 +4,14 @@ use Rattle.std.specs.Prelude.{ℕ, pos, ◌+◌, ◌-◌, ◌==◌, ◌&&◌, mi
 use Rattle.std.specs.Ordering.{nat_cmp}
 use Rattle.std.specs.FinMap.{FinMap, empty, get}
 use Rattle.std.specs.Option.{option_map_or}
-use Rattle.atl_tables.specs.Worlds.{WorldValue}
-use Rattle.atl_tables.specs.declared.world.Market.{Market}
+use Rattle.atl_world.specs.Worlds.{WorldValue}
+use Rattle.atl_world.specs.declared.world.Market.{Market}
 use Rattle.atl_records.specs.declared.books.Entry.TheVariants.{Stocked}
 use Rattle.atl_records.specs.declared.books.Thing.{Thing}
 use Rattle.atl_records.specs.declared.books.Thing.TheVariants.{Item, Money, People}
 use Rattle.atl_records.specs.Books.{entry_index}
-use Rattle.atl_state.specs.Campaign.{CampaignValue, with_amount, with_stock}
-use Rattle.atl_state.specs.Stocks.{stock_of}
+use Rattle.atl_campaign.specs.Campaign.{CampaignValue, with_amount, with_stock}
+use Rattle.atl_campaign.specs.Stocks.{stock_of}
 use Rattle.atl_phase.specs.Meaning.{BookBound}
 
 -- the markets of a region of the world, by their items; none where there is no such region

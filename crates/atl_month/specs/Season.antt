@@ -2,13 +2,13 @@
 use Rattle.std.specs.Prelude.{◌≡◌, ℕ, pos, ◌+◌, ◌-◌, ◌*◌, ◌/◌, ◌%◌, min, List, [], ◌∷◌, map, fold, zip}
 use Rattle.std.specs.FinMap.{entries}
 use Rattle.std.specs.Option.{option_map_or}
-use Rattle.atl_tables.specs.Worlds.{WorldValue}
-use Rattle.atl_tables.specs.declared.world.Terrain.{Terrain}
-use Rattle.atl_tables.specs.ByNumber.{terrain_of}
+use Rattle.atl_world.specs.Worlds.{WorldValue}
+use Rattle.atl_world.specs.declared.world.Terrain.{Terrain}
+use Rattle.atl_world.specs.ByNumber.{terrain_of}
 use Rattle.atl_records.specs.declared.books.Entry.TheVariants.{Births, Income, Stocked}
 use Rattle.atl_records.specs.declared.books.Thing.TheVariants.{Money, People}
 use Rattle.atl_records.specs.declared.records.Region.{Region}
-use Rattle.atl_state.specs.Campaign.{CampaignValue, with_amount, with_peasants, with_region_money}
+use Rattle.atl_campaign.specs.Campaign.{CampaignValue, with_amount, with_peasants, with_region_money}
 use Rattle.atl_phase.specs.Month.{MonthValue}
 use Rattle.atl_phase.specs.Meaning.{BookBound, Frame, both_move, most_moved, moves_only}
 use Rattle.atl_month.specs.Limits.{per_hundred}

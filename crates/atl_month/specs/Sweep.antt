@@ -3,8 +3,8 @@
 use Rattle.std.specs.Prelude.{◌≡◌, ◌≤◌, ◌+◌, ◌-◌, ◌==◌, ◌&&◌, not, min, ℕ, pos, neg_ℤ, nat_lt, Bool, true, false, List, [], ◌∷◌, fold, Some, if◌then◌else◌}
 use Rattle.std.specs.FinMap.{entries, get}
 use Rattle.std.specs.Option.{option_map_or}
-use Rattle.atl_tables.specs.Worlds.{WorldValue}
-use Rattle.atl_tables.specs.Sums.{numbers_where}
+use Rattle.atl_world.specs.Worlds.{WorldValue}
+use Rattle.atl_world.specs.Sums.{numbers_where}
 use Rattle.atl_records.specs.Books.{entry_index, thing_index}
 use Rattle.atl_records.specs.declared.books.Entry.TheVariants.{Lost}
 use Rattle.atl_records.specs.declared.books.Thing.{Thing}
@@ -13,8 +13,8 @@ use Rattle.atl_records.specs.declared.records.Unit.{Unit}
 use Rattle.atl_records.specs.Every.{Every}
 use Rattle.atl_records.specs.Holdings.{amount_of}
 use Rattle.atl_records.specs.Limits.{holding_limit}
-use Rattle.atl_state.specs.Owners.{first_or_zero, without_unit}
-use Rattle.atl_state.specs.Campaign.{CampaignValue, active, numbers_of, with_amount, with_gone, with_item, with_money}
+use Rattle.atl_campaign.specs.Owners.{first_or_zero, without_unit}
+use Rattle.atl_campaign.specs.Campaign.{CampaignValue, active, numbers_of, with_amount, with_gone, with_item, with_money}
 use Rattle.atl_phase.specs.Month.{MonthValue}
 use Rattle.atl_phase.specs.Meaning.{BookBound, Frame, most_moved}
 use Rattle.atl_phase.specs.NoWorse.{IsNoWorse}

@@ -4,7 +4,7 @@ use Rattle.std.specs.List.{All}
 use Rattle.atl_orders.specs.declared.mailing.Mailing.{Mailing}
 use Rattle.atl_records.specs.declared.event.Event.{Event}
 use Rattle.atl_records.specs.Every.{Every}
-use Rattle.atl_state.specs.Campaign.{CampaignValue}
+use Rattle.atl_campaign.specs.Campaign.{CampaignValue}
 use Rattle.atl_phase.specs.Unmailed.{IsLeft, starved_in}
 
 -- none of `mailings` is from the faction

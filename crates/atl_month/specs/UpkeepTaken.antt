@@ -2,12 +2,12 @@
 use Rattle.std.specs.Prelude.{◌≡◌, ◌*◌, ◌/◌, ℕ, List, map, Some}
 use Rattle.std.specs.Ordering.{nat_cmp}
 use Rattle.std.specs.FinMap.{FinMap, entries, get}
-use Rattle.atl_tables.specs.Limits.{most_amount}
-use Rattle.atl_tables.specs.Worlds.{WorldValue}
+use Rattle.atl_world.specs.Limits.{most_amount}
+use Rattle.atl_world.specs.Worlds.{WorldValue}
 use Rattle.atl_records.specs.declared.records.Unit.{Unit}
-use Rattle.atl_state.specs.Good.{IsSteady}
-use Rattle.atl_state.specs.Lending.{with_held}
-use Rattle.atl_state.specs.Campaign.{CampaignValue}
+use Rattle.atl_campaign.specs.Good.{IsSteady}
+use Rattle.atl_campaign.specs.Lending.{with_held}
+use Rattle.atl_campaign.specs.Campaign.{CampaignValue}
 use Rattle.atl_phase.specs.Bounds.{HaveRoom}
 use Rattle.atl_month.specs.declared.upkeep_sharing.UpkeepResult.{UpkeepResult}
 use Rattle.atl_month.specs.UpkeepSharing.{CanSpare}

@@ -4,7 +4,7 @@ ghost use Rattle.std.specs.Prelude.{◌≡◌, OnOk};
 ghost use Rattle.atl_month.specs.Accounts.{account_at, with_account};
 
 use crate::upkeep_sharing::UpkeepInput;
-use atl_tables::Numbered;
+use atl_world::Numbered;
 use std::alloc::{AllocError, Global};
 
 /// The money that a faction's units in a region have left after their own upkeep and are short of,

@@ -2,9 +2,9 @@
 ghost use Rattle.std.specs.Prelude.{◌≡◌, ◌<◌, ℕ, All, IfOk, length, map};
 ghost use Rattle.std.specs.FinMap.{len};
 ghost use Rattle.atl_orders.specs.Mailing.{IsReadWith, reading_of};
-ghost use Rattle.atl_state.specs.Covers.{MarksChanges};
+ghost use Rattle.atl_campaign.specs.Covers.{MarksChanges};
 ghost use Rattle.atl_records.specs.Every.{IsThere};
-ghost use Rattle.atl_state.specs.Good.{IsGood, IsSound};
+ghost use Rattle.atl_campaign.specs.Good.{IsGood, IsSound};
 ghost use Rattle.atl_records.specs.Limits.{last_month};
 ghost use Rattle.atl_phase.specs.Month.{HaveOwnFactions, by_faction};
 ghost use Rattle.atl_phase.specs.Fit.{AreFit};
@@ -17,11 +17,11 @@ use crate::orders::OrderPhases;
 use crate::season::SeasonPhase;
 use crate::sweep::SweepPhase;
 use crate::upkeep::UpkeepPhase;
+use atl_campaign::{Campaign, Event};
 use atl_market::WorkPhase;
 use atl_orders::Mailing;
 use atl_phase::{Month, Phase, PhaseResult};
-use atl_state::{Campaign, Event};
-use atl_tables::World;
+use atl_world::World;
 use std::alloc::{AllocError, Global};
 
 /// Runs all phases of a month, one after the other.

@@ -1,15 +1,15 @@
 //! The phases from FORM to PRODUCE as one phase. See docs/RULES.md, "Closing a month".
-ghost use Rattle.atl_state.specs.Good.{IsEarly};
+ghost use Rattle.atl_campaign.specs.Good.{IsEarly};
 ghost use Rattle.atl_month.specs.Month.{orders_keep, orders_meaning, orders_moving};
 
 use atl_action::{LearnPhase, MovePhase, SailPhase};
+use atl_campaign::Campaign;
 use atl_instant::{
     FormPhase, GivePhase, GuardPhase, NamePhase, PlacePhase, QuitPhase, TransferPhase,
 };
 use atl_market::{BuildPhase, BuyPhase, ProducePhase, RecruitPhase, SellPhase, TaxPhase};
 use atl_phase::{Month, Phase, PhaseResult};
-use atl_state::Campaign;
-use atl_tables::World;
+use atl_world::World;
 use std::alloc::Global;
 
 /// The phases from FORM to PRODUCE, in order, as one phase. WORK is not among them, since units

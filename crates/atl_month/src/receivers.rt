@@ -4,8 +4,8 @@ ghost use Rattle.std.specs.Prelude.{◌≡◌, ◌≤◌, IfOk, OnOk};
 ghost use Rattle.atl_records.specs.Every.{Every};
 ghost use Rattle.atl_month.specs.Receivers.{AreReceivers, receiver_in, with_receiver_of};
 
-use atl_state::{Campaign, Unit};
-use atl_tables::Numbered;
+use atl_campaign::{Campaign, Unit};
+use atl_world::Numbered;
 use std::alloc::{AllocError, Global};
 
 /// The number of the lowest-numbered unit with men, by region and then by faction.

@@ -1,20 +1,20 @@
 //! Gives the markets of a region their new goods. See docs/RULES.md, "Season".
 ghost use Rattle.std.specs.Prelude.{◌≡◌, ◌<◌, Some, OnOk, length};
 ghost use Rattle.std.specs.FinMap.{entries};
-ghost use Rattle.atl_tables.specs.ByNumber.{market_of};
-ghost use Rattle.atl_tables.specs.Limits.{most_amount};
-ghost use Rattle.atl_tables.specs.Worlds.{IsMarket, IsWorld};
-ghost use Rattle.atl_state.specs.Covers.{MarksChanges};
+ghost use Rattle.atl_world.specs.ByNumber.{market_of};
+ghost use Rattle.atl_world.specs.Limits.{most_amount};
+ghost use Rattle.atl_world.specs.Worlds.{IsMarket, IsWorld};
+ghost use Rattle.atl_campaign.specs.Covers.{MarksChanges};
 ghost use Rattle.atl_records.specs.Every.{IsThere};
-ghost use Rattle.atl_state.specs.Good.{IsSteady};
+ghost use Rattle.atl_campaign.specs.Good.{IsSteady};
 ghost use Rattle.atl_records.specs.declared.books.Entry.TheVariants.{Stocked};
 ghost use Rattle.atl_records.specs.declared.books.Thing.TheVariants.{Item};
 ghost use Rattle.atl_phase.specs.Meaning.{moves_only};
 ghost use Rattle.atl_phase.specs.Bounds.{HaveRoom};
 ghost use Rattle.atl_month.specs.Restock.{after_market_restock, after_restock, markets_of, restock, stocks_by};
 
-use atl_state::{Campaign, Entry, Thing};
-use atl_tables::{Market, World};
+use atl_campaign::{Campaign, Entry, Thing};
+use atl_world::{Market, World};
 use std::alloc::AllocError;
 
 /// How many new goods a market with this stock gets: its `restock`, at most up to its limit.

@@ -1,18 +1,18 @@
 //! The phase of the season: births, income and new goods of markets. See docs/RULES.md, "Season".
 ghost use Rattle.std.specs.Prelude.{◌≡◌, ◌≤◌, ◌<◌, ◌+◌, OnOk};
-ghost use Rattle.atl_tables.specs.Worlds.{IsWorld};
-ghost use Rattle.atl_tables.specs.Limits.{most_amount, most_growth};
-ghost use Rattle.atl_state.specs.Covers.{MarksChanges};
-ghost use Rattle.atl_state.specs.Good.{IsSteady};
+ghost use Rattle.atl_world.specs.Worlds.{IsWorld};
+ghost use Rattle.atl_world.specs.Limits.{most_amount, most_growth};
+ghost use Rattle.atl_campaign.specs.Covers.{MarksChanges};
+ghost use Rattle.atl_campaign.specs.Good.{IsSteady};
 ghost use Rattle.atl_phase.specs.Meaning.{most_moved};
 ghost use Rattle.atl_phase.specs.Bounds.{HaveRoom};
 ghost use Rattle.atl_month.specs.Season.{births, grows_by, income, season, season_at, season_keeps, season_meaning, season_moves, with_growth};
 
 use crate::limits::PER_HUNDRED;
 use crate::restock::restock_region;
+use atl_campaign::{Campaign, Entry, Thing};
 use atl_phase::{Month, Phase, PhaseResult};
-use atl_state::{Campaign, Entry, Thing};
-use atl_tables::World;
+use atl_world::World;
 use std::alloc::{AllocError, Global};
 
 /// The season: each region has births and income, and its markets get new goods. The words of the

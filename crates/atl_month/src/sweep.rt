@@ -1,12 +1,12 @@
 //! The phase of the sweep: removes units without men; factions without units are gone then. See
 //! docs/RULES.md, "Sweep".
 ghost use Rattle.std.specs.Prelude.{◌≡◌, ◌≤◌, ◌<◌, ◌+◌, IfOk, OnOk, fold, length};
-ghost use Rattle.atl_tables.specs.Limits.{most_amount};
+ghost use Rattle.atl_world.specs.Limits.{most_amount};
 ghost use Rattle.atl_records.specs.Books.{amount_in, thing_index};
-ghost use Rattle.atl_state.specs.Covers.{MarksChanges};
+ghost use Rattle.atl_campaign.specs.Covers.{MarksChanges};
 ghost use Rattle.atl_records.specs.Every.{EachOf};
-ghost use Rattle.atl_state.specs.Good.{IsSteady};
-ghost use Rattle.atl_state.specs.Marking.{mark_amount};
+ghost use Rattle.atl_campaign.specs.Good.{IsSteady};
+ghost use Rattle.atl_campaign.specs.Marking.{mark_amount};
 ghost use Rattle.atl_records.specs.declared.books.Entry.TheVariants.{Lost};
 ghost use Rattle.atl_records.specs.declared.books.Thing.TheVariants.{Item, Money};
 ghost use Rattle.atl_phase.specs.Meaning.{most_moved};
@@ -16,9 +16,9 @@ ghost use Rattle.atl_month.specs.Receivers.{AreReceivers};
 ghost use Rattle.atl_month.specs.AfterSweep.{IsSwept};
 
 use crate::receivers::{Receivers, receiver_in, receivers_of};
+use atl_campaign::{Campaign, Entry, HOLDING_LIMIT, Thing};
 use atl_phase::{Month, Phase, PhaseResult, book_taken, items_of};
-use atl_state::{Campaign, Entry, HOLDING_LIMIT, Thing};
-use atl_tables::World;
+use atl_world::World;
 use std::alloc::{AllocError, Global};
 
 /// The sweep: each unit without men leaves its money and items to a unit of its faction in its

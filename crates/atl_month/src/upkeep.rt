@@ -1,7 +1,7 @@
 //! The phase of upkeep: units pay, and men who aren't paid for starve. See docs/RULES.md, "Upkeep".
 ghost use Rattle.std.specs.Prelude.{◌≡◌, ◌≤◌, ◌++◌, All, IfOk, OnOk, Some, filter, map};
-ghost use Rattle.atl_tables.specs.Worlds.{WorldValue};
-ghost use Rattle.atl_state.specs.Covers.{MarksChanges};
+ghost use Rattle.atl_world.specs.Worlds.{WorldValue};
+ghost use Rattle.atl_campaign.specs.Covers.{MarksChanges};
 ghost use Rattle.atl_phase.specs.Holdings.{MarksNoGoods, MarksNoItems};
 ghost use Rattle.atl_phase.specs.Meaning.{most_moved};
 ghost use Rattle.atl_market.specs.Bounds.{CanInTurn};
@@ -10,9 +10,9 @@ ghost use Rattle.atl_month.specs.UpkeepTaken.{CanPayUpkeep, IsAfterUpkeep, stayi
 ghost use Rattle.atl_month.specs.Upkeep.{starved_event, starves, takes_up_to, upkeep, upkeep_at, upkeep_inputs_of, upkeep_keeps, upkeep_meaning};
 
 use crate::upkeep_sharing::{UpkeepInput, UpkeepResult, upkeep_payments};
+use atl_campaign::{Campaign, Entry, Event, EventVerb, Holding, Outcome, Thing};
 use atl_phase::{Month, Phase, PhaseResult, book_taken, set_people};
-use atl_state::{Campaign, Entry, Event, EventVerb, Holding, Outcome, Thing};
-use atl_tables::World;
+use atl_world::World;
 use std::alloc::{AllocError, Global};
 
 /// The upkeep of all units: those of one faction in one region pay for each other, and men who

@@ -1,12 +1,12 @@
 //! How the units of one faction in one region share their upkeep: what each pays and how many of
 //! its men starve. See docs/RULES.md, "Upkeep".
 ghost use Rattle.std.specs.Prelude.{◌≡◌, ◌≤◌, [], ℕ, All, IfOk};
-ghost use Rattle.atl_tables.specs.Limits.{most_per_head};
+ghost use Rattle.atl_world.specs.Limits.{most_per_head};
 ghost use Rattle.atl_month.specs.Accounts.{IsOpen, account_after, account_at, account_of, upkeep_result_by};
 ghost use Rattle.atl_month.specs.UpkeepSharing.{AreInOrder, EachCanSpare, IsUpkeepInput, left_of, short_of, upkeep_results_of};
 
 use crate::accounts::{Account, Accounts, account_of, put_account};
-use atl_tables::Numbered;
+use atl_world::Numbered;
 use std::alloc::{AllocError, Global};
 
 /// What upkeep reads of a unit: its number, its region, its faction, its men and its money.

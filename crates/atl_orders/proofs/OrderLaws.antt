@@ -8,16 +8,16 @@ use Rattle.std.proofs.lemmas.Bool.Decides.{nat_tests}
 use Rattle.std.proofs.lemmas.List.Elements.{All-nil, All-cons}
 use Rattle.std.proofs.lemmas.List.Quantifiers.{position-Some}
 use Rattle.atl_orders.specs.Limits.{last_alias, most_number}
-use Rattle.atl_tables.specs.Names.{name_ok}
-use Rattle.atl_tables.specs.Worlds.{WorldValue}
-use Rattle.atl_tables.specs.Lookup.{index_named, name_of}
+use Rattle.atl_world.specs.Names.{name_ok}
+use Rattle.atl_world.specs.Worlds.{WorldValue}
+use Rattle.atl_world.specs.Lookup.{index_named, name_of}
 use Rattle.atl_orders.specs.declared.order.UnitRef.{UnitRef}
 use Rattle.atl_orders.specs.declared.order.NameKind.{NameKind}
 use Rattle.atl_orders.specs.declared.fault.LineFault.{LineFault}
 use Rattle.atl_orders.specs.declared.fault.LineFault.TheVariants.{BadNumber, UnknownThing, BadAlias, BadName}
 use Rattle.atl_orders.specs.declared.verb.Verb.{Verb}
 use Rattle.atl_orders.specs.Words.{WordText, is_word, number_of}
-use Rattle.atl_tables.specs.Steps.{◌>>=◌}
+use Rattle.atl_world.specs.Steps.{◌>>=◌}
 use Rattle.atl_orders.specs.Operands.{or_fault, not_zero, word_at, count_at, number_at, alias_at, unit_at, item_at, amount_of_item_at, skill_at, kind_at, direction_at, numbered, new_unit_ref, and_then_units, units_of, some_units_at}
 use Rattle.atl_orders.specs.declared.order.Operands.TheVariants as operands
 use Rattle.atl_orders.specs.declared.verb.Shape.{Shape}

@@ -2,7 +2,7 @@
 use Rattle.std.proofs.Common.{◌≡◌, ℕ, suc, ◌+◌, ◌<◌, ◌≤◌, ◌++◌, Bool, true, false, cond, List, [], ◌∷◌, length, Option, Some, None, Result, Err, nat_lt, refl, sym, ap, ◌∙◌, arith}
 use Rattle.std.proofs.lemmas.Bool.Decides.{nat_tests}
 use Rattle.std.proofs.lemmas.List.Elements.{All-nil, All-cons, All-head, All-tail}
-use Rattle.atl_tables.specs.Worlds.{WorldValue}
+use Rattle.atl_world.specs.Worlds.{WorldValue}
 use Rattle.atl_orders.specs.declared.fault.MailFault.{MailFault}
 use Rattle.atl_orders.specs.declared.fault.MailFault.TheVariants.{TooLong, NoHeader}
 use Rattle.atl_orders.specs.declared.reading.ReaderState.TheVariants.{Nowhere}

@@ -6,7 +6,7 @@ use Rattle.atl_orders.specs.declared.order.UnitRef.TheVariants.{Number, Alias}
 use Rattle.atl_orders.specs.declared.fault.LineFault.{LineFault}
 use Rattle.atl_orders.specs.declared.fault.LineFault.TheVariants.{BadNumber, MissingWord, BadAlias}
 use Rattle.atl_orders.specs.Words.{WordText, is_word, number_of}
-use Rattle.atl_tables.specs.Steps.{◌>>=◌}
+use Rattle.atl_world.specs.Steps.{◌>>=◌}
 use Rattle.atl_orders.specs.Operands.{or_fault, not_zero, count_at, unit_at, units_of, and_then_units}
 use Rattle.atl_orders.specs.Views.{with_units}
 use Rattle.std.proofs.lemmas.List.{append_assoc, append-nil}

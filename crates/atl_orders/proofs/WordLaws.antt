@@ -10,7 +10,7 @@ use Rattle.std.proofs.lemmas.Bool.Decides.{nat_tests}
 use Rattle.std.proofs.lemmas.Bool.{cond-true, cond-false, or_parts, true≢false}
 use Rattle.std.proofs.lemmas.List.{length-append, drop_at, take_at, drop-drop, take-append-drop, append_assoc, drop_min, take_rest, at_drop_more, at_drop_all}
 use Rattle.std.proofs.Math.Nat.{min_comm}
-use Rattle.atl_tables.specs.Letters.{quote}
+use Rattle.atl_world.specs.Letters.{quote}
 use Rattle.atl_orders.specs.Letters.{semicolon}
 use Rattle.atl_orders.specs.Words.{is_blank, is_quote, ends_word, words_after, words}
 use Rattle.atl_orders.specs.Standing.{IsPartOf, EndsWith, EndsAt}

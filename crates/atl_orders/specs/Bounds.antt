@@ -2,8 +2,8 @@
 use Rattle.std.specs.Prelude.{◌≡◌, ◌≤◌, ◌<◌, ℕ, true, List, [], ◌∷◌, length, Some, None, Ok}
 use Rattle.std.specs.List.{All}
 use Rattle.atl_orders.specs.Limits.{most_number, last_alias, last_faction}
-use Rattle.atl_tables.specs.Names.{name_ok}
-use Rattle.atl_tables.specs.Worlds.{WorldValue}
+use Rattle.atl_world.specs.Names.{name_ok}
+use Rattle.atl_world.specs.Worlds.{WorldValue}
 use Rattle.atl_orders.specs.declared.order.UnitRef.{UnitRef}
 use Rattle.atl_orders.specs.declared.order.UnitRef.TheVariants.{Number, Alias}
 use Rattle.atl_orders.specs.declared.order.Operands.TheVariants as operands

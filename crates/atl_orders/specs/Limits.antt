@@ -1,6 +1,6 @@
 -- The limits of mailings. See docs/RULES.md, "Limits".
 use Rattle.std.specs.Prelude.{ℕ}
-use Rattle.atl_tables.specs.Limits.{most_amount}
+use Rattle.atl_world.specs.Limits.{most_amount}
 
 -- the most bytes of a mailing
 abbrev pub most_bytes : ℕ

@@ -1,9 +1,9 @@
 -- What each order says: its verb, and what the words after it name. See docs/RULES.md, "Orders".
 use Rattle.std.specs.Prelude.{ℕ, List, [], ◌∷◌, codes, Option, Some, None, Result, Ok, Err, ◌==◌, if◌then◌else◌}
 use Rattle.std.specs.List.{slice_range}
-use Rattle.atl_tables.specs.Names.{name_ok}
-use Rattle.atl_tables.specs.Worlds.{WorldValue}
-use Rattle.atl_tables.specs.Lookup.{name_of}
+use Rattle.atl_world.specs.Names.{name_ok}
+use Rattle.atl_world.specs.Worlds.{WorldValue}
+use Rattle.atl_world.specs.Lookup.{name_of}
 use Rattle.atl_orders.specs.declared.order.NameKind.{NameKind}
 use Rattle.atl_orders.specs.declared.order.NameKind.TheVariants as kinds
 use Rattle.atl_orders.specs.declared.order.Span.{Span}
@@ -18,7 +18,7 @@ use Rattle.atl_orders.specs.declared.verb.Verb.{Verb}
 use Rattle.atl_orders.specs.declared.verb.Verb.TheVariants as verbs
 use Rattle.atl_orders.specs.Verbs.{row_of}
 use Rattle.atl_orders.specs.Words.{WordText, is_word, number_of}
-use Rattle.atl_tables.specs.Steps.{◌>>=◌}
+use Rattle.atl_world.specs.Steps.{◌>>=◌}
 use Rattle.atl_orders.specs.Operands.{or_fault, word_at, number_at, alias_at, unit_at, item_at, amount_of_item_at, skill_at, kind_at, direction_at, some_units_at}
 
 -- an order, with a name by its bytes, and items, skills and kinds by their numbers in the world

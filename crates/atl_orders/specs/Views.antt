@@ -11,7 +11,7 @@ use Rattle.atl_orders.specs.declared.reading.LineResult.TheVariants as outcomes
 use Rattle.atl_orders.specs.declared.words.Word.{Word}
 use Rattle.atl_orders.specs.Lines.{lines}
 use Rattle.atl_orders.specs.Mailing.{EntryValue, entry_value, HeaderValue}
-use Rattle.atl_tables.specs.Steps.{◌>>=◌}
+use Rattle.atl_world.specs.Steps.{◌>>=◌}
 use Rattle.atl_orders.specs.Orders.{order_value}
 use Rattle.atl_orders.specs.Reading.{Effect, nothing, faulty, says}
 use Rattle.atl_orders.specs.Words.{WordText}

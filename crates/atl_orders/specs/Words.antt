@@ -4,7 +4,7 @@ use Rattle.std.specs.List.{position_or_len, before_first, list_all}
 use Rattle.std.specs.Char.{is_ascii_digit}
 use Rattle.std.specs.Str.{str_eq_ignore_ascii_case}
 use Rattle.std.specs.Str.Parse.{digits_value}
-use Rattle.atl_tables.specs.Letters.{space, quote}
+use Rattle.atl_world.specs.Letters.{space, quote}
 use Rattle.atl_orders.specs.Letters.{tab, semicolon}
 
 -- a word: its bytes, and whether it is in quotes

@@ -3,7 +3,7 @@
 ghost use Rattle.std.specs.Prelude.{◌≡◌};
 ghost use Rattle.atl_orders.specs.declared.fault.MailFault.TheVariants.{Memory};
 
-use atl_tables::name_of;
+use atl_world::name_of;
 use std::alloc::{AllocError, AllocFailed};
 use std::error::Error;
 use std::fmt;

@@ -15,7 +15,7 @@ mod rules;
 mod verb;
 mod words;
 
-pub use atl_tables::Direction;
+pub use atl_world::Direction;
 pub use fault::{FaultyLine, LineFault, MailFault};
 pub use limits::{LAST_ALIAS, LAST_FACTION, MOST_BYTES, MOST_NUMBER};
 pub use mailing::{Entry, Mailing, is_mailing_of, read_mailing};

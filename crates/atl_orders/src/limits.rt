@@ -1,5 +1,5 @@
 //! The limits of mailings. See docs/RULES.md, "Limits".
-use atl_tables::limits::MOST_AMOUNT;
+use atl_world::limits::MOST_AMOUNT;
 
 /// The most bytes that a mailing may have.
 pub const MOST_BYTES: usize = 65_536;

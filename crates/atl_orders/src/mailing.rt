@@ -1,7 +1,7 @@
 //! Reads a mailing: finds its header and reads its lines. See docs/RULES.md, "Reading a mailing".
 ghost use Rattle.std.specs.Prelude.{List, ℕ, IfSome, ◌≡◌, ◌≢◌, ◌+◌, ◌<◌, ◌≤◌, ◌++◌, ◌^◌, length, IfOk, IfErr, OnOk, ◌↔◌, IsTrue};
 ghost use Rattle.std.specs.List.{flat_map, slice_range};
-ghost use Rattle.atl_tables.specs.Lookup.{name_of};
+ghost use Rattle.atl_world.specs.Lookup.{name_of};
 ghost use Rattle.std.specs.Option.{option_copied};
 ghost use Rattle.atl_orders.specs.declared.fault.MailFault.TheVariants.{Memory};
 ghost use Rattle.atl_orders.specs.declared.reading.ReaderState.TheVariants.{Nowhere};
@@ -20,8 +20,8 @@ use crate::lines::next_line;
 use crate::order::{Order, Span, UnitRef};
 use crate::reading::{LineResult, ReaderState, read_line};
 use crate::words::{Cursor, begins, next_word, number};
-use atl_tables::lookup::letter_of;
-use atl_tables::{Sequence, World, let_go};
+use atl_world::lookup::letter_of;
+use atl_world::{Sequence, World, let_go};
 use std::alloc::{AllocError, Global};
 
 /// An order of a mailing, with its line's number and the unit that it is for.

@@ -11,7 +11,7 @@ use crate::fault::LineFault;
 use crate::limits::{LAST_ALIAS, MOST_NUMBER};
 use crate::order::UnitRef;
 use crate::words::{Word, is_same, next_word, number};
-use atl_tables::{Direction, Sequence, World};
+use atl_world::{Direction, Sequence, World};
 use std::alloc::{AllocError, Global};
 
 /// The next word of a line, and the rest of the line after it; else MissingWord.

@@ -14,7 +14,7 @@ use crate::operands::{
 use crate::order::{NameKind, Operands, Order, Span};
 use crate::verb::{Shape, Verb};
 use crate::words::{Cursor, Word, is_same, next_word, number};
-use atl_tables::{World, word_ok};
+use atl_world::{World, word_ok};
 use std::alloc::{AllocError, Global};
 
 /// Reads the operands of a verb that takes an alias, else MissingWord or BadAlias.

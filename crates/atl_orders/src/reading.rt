@@ -16,8 +16,8 @@ use crate::order::{Operands, Order, UnitRef};
 use crate::orders::order_at;
 use crate::verb::Verb;
 use crate::words::{Cursor, Word, is_same, next_word};
-use atl_tables::World;
-use atl_tables::letters::{SPACE, TILDE};
+use atl_world::World;
+use atl_world::letters::{SPACE, TILDE};
 use std::alloc::{AllocError, Global};
 
 /// The keyword that a line of a mailing begins with: UNIT, END, FORM, or that of another order.

@@ -6,7 +6,7 @@ ghost use Rattle.atl_orders.specs.Views.{word_text};
 ghost use Rattle.atl_orders.specs.Verbs.{row, row_value};
 
 use crate::words::{Word, is_same};
-use atl_tables::variants;
+use atl_world::variants;
 
 /// The verb of an order, one for each row of the order table.
 #[derive(Drop, Clone, Copy, Debug, PartialEq, Eq)]

@@ -3,14 +3,14 @@
 ghost use Rattle.std.specs.Prelude.{◌≡◌, ◌≤◌, ◌<◌, ◌∷◌, [], MatchOption, IfSome, length, slice_index, false};
 ghost use Rattle.std.specs.List.{position, position_or_len};
 ghost use Rattle.std.specs.Str.{str_eq_ignore_ascii_case};
-ghost use Rattle.atl_tables.specs.Letters.{quote};
+ghost use Rattle.atl_world.specs.Letters.{quote};
 ghost use Rattle.atl_orders.specs.Limits.{most_number};
 ghost use Rattle.atl_orders.specs.Words.{is_quote, is_blank, ends_word, words, begins, number_of};
 ghost use Rattle.atl_orders.specs.Views.{word_text};
 ghost use Rattle.atl_orders.specs.Standing.{IsPartOf, EndsWith};
 
 use crate::letters::{SEMICOLON, TAB};
-use atl_tables::letters::{QUOTE, SPACE};
+use atl_world::letters::{QUOTE, SPACE};
 
 /// A word of a line: a part of the line without blanks, or in quotes.
 #[derive(Drop, Clone, Copy, Debug)]

@@ -4,12 +4,12 @@ use Rattle.std.specs.Prelude.{ℤ, neg_ℤ, pos, negsuc, ◌+ℤ◌, ◌≤ℤ�
 use Rattle.std.specs.Int.{w64}
 use Rattle.std.specs.Int.RustNames.{FitsSigned}
 use Rattle.std.proofs.lemmas.Int.{ints}
-use Rattle.atl_tables.proofs.GeneralLaws.{is_unequal}
+use Rattle.atl_world.proofs.GeneralLaws.{is_unequal}
 use Rattle.atl_records.specs.declared.books.Entry.{Entry}
 use Rattle.atl_records.specs.declared.books.Thing.{Thing}
 use Rattle.atl_records.specs.Books.{BooksValue, IsWithin, amount_in, after_booking, amount_number}
 use Rattle.atl_records.proofs.BookLaws.{amount-after_booking}
-use Rattle.atl_state.proofs.RegionLaws.{amount-other}
+use Rattle.atl_campaign.proofs.RegionLaws.{amount-other}
 use Rattle.atl_phase.specs.Meaning.{BookBound, IsNear, moves_only}
 use Rattle.atl_phase.specs.Bounds.{HasRoom, amount_limit}
 use Rattle.atl_phase.proofs.MeaningLaws.{near_room}

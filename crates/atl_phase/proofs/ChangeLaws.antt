@@ -2,19 +2,19 @@
 use Rattle.std.proofs.Common.{◌≡◌, ◌≢◌, ℕ, Option, Some, None, refl, sym, ap, ◌∙◌}
 use Rattle.std.specs.Ordering.{nat_cmp}
 use Rattle.std.specs.FinMap.{FinMap, get, insert}
-use Rattle.atl_tables.specs.Sums.{changed_at}
-use Rattle.atl_tables.proofs.Maps.{insert_over}
-use Rattle.atl_tables.proofs.SumLaws.{put_same}
+use Rattle.atl_world.specs.Sums.{changed_at}
+use Rattle.atl_world.proofs.Maps.{insert_over}
+use Rattle.atl_world.proofs.SumLaws.{put_same}
 use Rattle.atl_records.specs.declared.records.Unit.{Unit}
 use Rattle.atl_records.specs.Holdings.{HoldingValue, with_amount_of}
-use Rattle.atl_state.specs.Lending.{with_held}
-use Rattle.atl_state.specs.Marking.{mark_item, mark_skill, mark_unit_row}
-use Rattle.atl_state.specs.Marks.{Marks}
-use Rattle.atl_state.specs.Campaign.{MarkedCampaign, CampaignValue, unit_changed, with_item, with_men, with_money, with_skill}
-use Rattle.atl_state.proofs.CoverLaws.{marks-refl, marks-trans}
+use Rattle.atl_campaign.specs.Lending.{with_held}
+use Rattle.atl_campaign.specs.Marking.{mark_item, mark_skill, mark_unit_row}
+use Rattle.atl_campaign.specs.Marks.{Marks}
+use Rattle.atl_campaign.specs.Campaign.{MarkedCampaign, CampaignValue, unit_changed, with_item, with_men, with_money, with_skill}
+use Rattle.atl_campaign.proofs.CoverLaws.{marks-refl, marks-trans}
 use Rattle.atl_records.proofs.EveryLaws.{get-insert_other}
-use Rattle.atl_state.proofs.HoldingLaws.{marks-item, marks-skill, marks-unit_row}
-use Rattle.atl_state.proofs.RegionLaws.{get-insert_same}
+use Rattle.atl_campaign.proofs.HoldingLaws.{marks-item, marks-skill, marks-unit_row}
+use Rattle.atl_campaign.proofs.RegionLaws.{get-insert_same}
 use Rattle.atl_phase.specs.Holdings.{ChangesHolding}
 use Rattle.atl_phase.proofs.MarkLaws.{marks_by}
 

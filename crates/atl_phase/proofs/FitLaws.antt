@@ -1,7 +1,7 @@
 -- Laws of mailings that were read with a world: what they say is within the bounds of the world.
 use Rattle.std.proofs.Common.{List, [], ◌∷◌, map}
 use Rattle.std.specs.List.{AllByRecursion}
-use Rattle.atl_tables.specs.Worlds.{WorldValue}
+use Rattle.atl_world.specs.Worlds.{WorldValue}
 use Rattle.atl_orders.proofs.BoundLaws.{readings_keep_bounds}
 use Rattle.atl_orders.specs.Bounds.{IsReading}
 use Rattle.atl_orders.specs.Mailing.{IsReadWith, reading_of}

@@ -2,17 +2,17 @@
 use Rattle.std.proofs.Common.{◌≡◌, ◌==◌, ℕ, Bool, true, false, Option, Some, None, refl, sym, ◌∙◌}
 use Rattle.std.specs.Prelude.{ℤ, Result, Ok, Err, OnOk, if◌then◌else◌}
 use Rattle.std.specs.FinMap.{get}
-use Rattle.atl_state.specs.Covers.{MarksChanges}
+use Rattle.atl_campaign.specs.Covers.{MarksChanges}
 use Rattle.atl_records.specs.declared.books.Entry.{Entry}
 use Rattle.atl_records.specs.declared.books.Thing.{Thing}
 use Rattle.atl_records.specs.declared.records.Unit.{Unit}
-use Rattle.atl_state.specs.Marking.{handed_marked, mark_amount, place_marked, place_marked_at, put_marked}
-use Rattle.atl_state.specs.Owners.{heir, with_place}
-use Rattle.atl_state.specs.Campaign.{MarkedCampaign, with_amount}
-use Rattle.atl_state.proofs.CoverLaws.{marks-amount, marks-refl, marks-trans}
-use Rattle.atl_state.proofs.HoldingLaws.{marks-unit_row}
-use Rattle.atl_state.proofs.LeavingLaws.{marks-after_handover}
-use Rattle.atl_state.proofs.OwnerLaws.{place-what}
+use Rattle.atl_campaign.specs.Marking.{handed_marked, mark_amount, place_marked, place_marked_at, put_marked}
+use Rattle.atl_campaign.specs.Owners.{heir, with_place}
+use Rattle.atl_campaign.specs.Campaign.{MarkedCampaign, with_amount}
+use Rattle.atl_campaign.proofs.CoverLaws.{marks-amount, marks-refl, marks-trans}
+use Rattle.atl_campaign.proofs.HoldingLaws.{marks-unit_row}
+use Rattle.atl_campaign.proofs.LeavingLaws.{marks-after_handover}
+use Rattle.atl_campaign.proofs.OwnerLaws.{place-what}
 
 -- a change marks all that it changes, if it has the value and the marks of another change that does
 pub marks_by : (a b m : MarkedCampaign) → b.value ≡ m.value → b.marks ≡ m.marks → MarksChanges a m → MarksChanges a b

@@ -5,14 +5,14 @@ use Rattle.std.specs.Ordering.{nat_cmp}
 use Rattle.std.specs.FinMap.{FinMap, len}
 use Rattle.std.proofs.lemmas.Int.{ints}
 use Rattle.std.proofs.Math.Nat.{suc-mul}
-use Rattle.atl_tables.specs.Worlds.{WorldValue}
-use Rattle.atl_state.specs.Campaign.{CampaignValue}
+use Rattle.atl_world.specs.Worlds.{WorldValue}
+use Rattle.atl_campaign.specs.Campaign.{CampaignValue}
 use Rattle.atl_records.specs.declared.books.Entry.{Entry}
 use Rattle.atl_records.specs.declared.books.Thing.{Thing}
 use Rattle.atl_records.specs.Books.{IsWithin, amount_in}
 use Rattle.atl_records.specs.declared.records.Faction.{Faction}
 use Rattle.atl_records.specs.Every.{IsThere}
-use Rattle.atl_state.specs.Good.{IsSound, amount_bound}
+use Rattle.atl_campaign.specs.Good.{IsSound, amount_bound}
 use Rattle.atl_phase.specs.Month.{MonthValue}
 use Rattle.atl_phase.specs.Meaning.{BookBound, Condition, Frame, IsNear, IsSameMonth, LeavesWell, Meaning, both_keep, both_move}
 use Rattle.atl_phase.specs.Bounds.{HasRoom, HaveRoom, moved_times}

@@ -1,7 +1,7 @@
 -- Laws of being no worse off: it is reflexive and transitive, for a unit and for all units of a campaign.
 use Rattle.std.proofs.Common.{refl, ◌∙◌, arith}
 use Rattle.atl_records.specs.declared.records.Unit.{Unit}
-use Rattle.atl_state.specs.Campaign.{CampaignValue}
+use Rattle.atl_campaign.specs.Campaign.{CampaignValue}
 use Rattle.atl_phase.specs.NoWorse.{AreNoWorse, IsNoWorse}
 
 -- an unchanged unit is no worse off

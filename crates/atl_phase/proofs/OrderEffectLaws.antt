@@ -7,8 +7,8 @@ use Rattle.std.proofs.lemmas.List.Elements.{recursion_from_All}
 use Rattle.std.specs.FinMap.{FinMap, get, values}
 use Rattle.std.specs.Ordering.{nat_cmp}
 use Rattle.std.proofs.lemmas.Int.{ints}
-use Rattle.atl_tables.specs.Worlds.{WorldValue}
-use Rattle.atl_tables.proofs.GeneralLaws.{is_equal}
+use Rattle.atl_world.specs.Worlds.{WorldValue}
+use Rattle.atl_world.proofs.GeneralLaws.{is_equal}
 use Rattle.atl_orders.specs.declared.verb.Verb.{Verb}
 use Rattle.atl_orders.specs.Bounds.{IsEntry, IsOrderOf, IsReading}
 use Rattle.atl_orders.specs.Mailing.{EntryValue, Reading}
@@ -18,7 +18,7 @@ use Rattle.atl_records.specs.declared.event.Outcome.{Outcome}
 use Rattle.atl_records.specs.declared.event.Outcome.TheVariants.{Fault}
 use Rattle.atl_records.specs.declared.records.Unit.{Unit}
 use Rattle.atl_records.specs.Books.{amount_in}
-use Rattle.atl_state.specs.Campaign.{CampaignValue}
+use Rattle.atl_campaign.specs.Campaign.{CampaignValue}
 use Rattle.atl_phase.specs.Month.{Aliases, MonthValue}
 use Rattle.atl_phase.specs.Fit.{AreFit}
 use Rattle.atl_phase.specs.Meaning.{BookBound, Condition, IsNear, LeavesWell}

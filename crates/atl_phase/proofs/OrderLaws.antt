@@ -14,9 +14,9 @@ use Rattle.std.proofs.lemmas.List.Sorted.{All-permutation, IsPermutation-map}
 use Rattle.atl_orders.specs.declared.mailing.Mailing.{Mailing}
 use Rattle.atl_orders.specs.declared.verb.Verb.{Verb}
 use Rattle.atl_orders.specs.Mailing.{EntryValue, Reading, reading_of}
-use Rattle.atl_tables.proofs.Maps.{entries_of}
-use Rattle.atl_state.proofs.KeyLaws.{IsDistinct-map}
-use Rattle.atl_state.proofs.BackLaws.{append_apart, append_each}
+use Rattle.atl_world.proofs.Maps.{entries_of}
+use Rattle.atl_campaign.proofs.KeyLaws.{IsDistinct-map}
+use Rattle.atl_campaign.proofs.BackLaws.{append_apart, append_each}
 use Rattle.atl_phase.specs.declared.order_indices.OrderIndex.{OrderIndex}
 use Rattle.atl_phase.specs.declared.phase_order.Arrangement.{Arrangement}
 use Rattle.atl_phase.specs.declared.phase_order.Arrangement.TheVariants.{ByUnit, ByFaction}

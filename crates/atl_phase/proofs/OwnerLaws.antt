@@ -2,16 +2,16 @@
 use Rattle.std.proofs.Common.{◌≡◌, ◌≢◌, ◌==◌, ℕ, ◌≤◌, not, Some, sym, ap, subst, ◌∙◌, inl, inr}
 use Rattle.std.proofs.lemmas.Bool.{cases_eq, not-true, not-false}
 use Rattle.std.specs.FinMap.{get}
-use Rattle.atl_tables.proofs.GeneralLaws.{is_equal, is_unequal}
+use Rattle.atl_world.proofs.GeneralLaws.{is_equal, is_unequal}
 use Rattle.atl_records.specs.declared.records.Structure.{Structure}
 use Rattle.atl_records.specs.declared.records.Unit.{Unit}
 use Rattle.atl_records.specs.Every.{Every}
-use Rattle.atl_state.specs.Good.{IsOwned}
-use Rattle.atl_state.specs.Owners.{heir}
-use Rattle.atl_state.specs.Campaign.{CampaignValue, numbers_inside}
-use Rattle.atl_state.proofs.InsideLaws.{inside_is_listed, listed_is_inside}
-use Rattle.atl_state.proofs.LeavingLaws.{owned_by}
-use Rattle.atl_state.proofs.NumberListLaws.{IsListed, first_of}
+use Rattle.atl_campaign.specs.Good.{IsOwned}
+use Rattle.atl_campaign.specs.Owners.{heir}
+use Rattle.atl_campaign.specs.Campaign.{CampaignValue, numbers_inside}
+use Rattle.atl_campaign.proofs.InsideLaws.{inside_is_listed, listed_is_inside}
+use Rattle.atl_campaign.proofs.LeavingLaws.{owned_by}
+use Rattle.atl_campaign.proofs.NumberListLaws.{IsListed, first_of}
 
 -- two campaigns c and d, in which all units but n are the same
 module _ (c d : CampaignValue) (n : ℕ) (away : (k : ℕ) → k ≢ n → get d.units k ≡ get c.units k) where

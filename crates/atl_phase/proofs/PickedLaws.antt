@@ -11,7 +11,7 @@ use Rattle.std.proofs.lemmas.List.Elements.{filter-append}
 use Rattle.atl_orders.specs.declared.mailing.Mailing.{Mailing}
 use Rattle.atl_orders.specs.declared.verb.Verb.{Verb}
 use Rattle.atl_orders.specs.Mailing.{Reading, reading_of}
-use Rattle.atl_state.proofs.KeyLaws.{IsDistinct-map, next_of}
+use Rattle.atl_campaign.proofs.KeyLaws.{IsDistinct-map, next_of}
 use Rattle.atl_phase.specs.declared.order_indices.OrderIndex.{OrderIndex}
 use Rattle.atl_phase.specs.declared.phase_order.Arrangement.{Arrangement}
 use Rattle.atl_phase.specs.declared.phase_order.PhaseOrder.{PhaseOrder}

@@ -5,21 +5,21 @@ use Rattle.std.proofs.lemmas.Bool.{true≢false}
 use Rattle.std.proofs.lemmas.Option.{same_Some}
 use Rattle.std.specs.Prelude.{option_map, if◌then◌else◌}
 use Rattle.std.specs.FinMap.{get}
-use Rattle.atl_tables.specs.Worlds.{WorldValue}
-use Rattle.atl_tables.specs.ByNumber.{is_land_at}
-use Rattle.atl_tables.proofs.GeneralLaws.{is_equal, is_unequal}
+use Rattle.atl_world.specs.Worlds.{WorldValue}
+use Rattle.atl_world.specs.ByNumber.{is_land_at}
+use Rattle.atl_world.proofs.GeneralLaws.{is_equal, is_unequal}
 use Rattle.atl_records.specs.declared.records.Structure.{Structure}
 use Rattle.atl_records.specs.declared.records.Unit.{Unit}
 use Rattle.atl_records.specs.Every.{Every}
-use Rattle.atl_state.specs.Good.{IsEarly, IsOwned, IsSteady, is_ship}
+use Rattle.atl_campaign.specs.Good.{IsEarly, IsOwned, IsSteady, is_ship}
 use Rattle.atl_records.specs.declared.books.Thing.{Thing}
-use Rattle.atl_state.specs.Owners.{after_handover, heir, is_owned_by, placed, with_place, with_place_at}
-use Rattle.atl_state.specs.Campaign.{CampaignValue, with_owner}
-use Rattle.atl_state.specs.Totals.{total}
+use Rattle.atl_campaign.specs.Owners.{after_handover, heir, is_owned_by, placed, with_place, with_place_at}
+use Rattle.atl_campaign.specs.Campaign.{CampaignValue, with_owner}
+use Rattle.atl_campaign.specs.Totals.{total}
 use Rattle.atl_records.proofs.EveryLaws.{get-insert_other, other_number}
-use Rattle.atl_state.proofs.InsideLaws.{is_no_zero}
-use Rattle.atl_state.proofs.LeavingLaws.{owned_by}
-use Rattle.atl_state.proofs.RegionLaws.{changed-known, get-insert_same}
+use Rattle.atl_campaign.proofs.InsideLaws.{is_no_zero}
+use Rattle.atl_campaign.proofs.LeavingLaws.{owned_by}
+use Rattle.atl_campaign.proofs.RegionLaws.{changed-known, get-insert_same}
 use Rattle.atl_phase.specs.Bounds.{StepsWell, books_nothing}
 use Rattle.atl_phase.proofs.MeaningLaws.{same_month_by}
 use Rattle.atl_phase.proofs.OwnerLaws.{heir_owns, owner_stays}

@@ -4,24 +4,24 @@ use Rattle.std.proofs.Common.{◌≡◌, ◌≢◌, ◌==◌, ℕ, ◌+◌, ◌*
 use Rattle.std.specs.Prelude.{IsTrue, option_map}
 use Rattle.std.specs.Ordering.{nat_cmp}
 use Rattle.std.specs.FinMap.{FinMap, get, insert, len}
-use Rattle.atl_tables.specs.Names.{name_ok}
-use Rattle.atl_tables.specs.Worlds.{WorldValue}
-use Rattle.atl_tables.specs.Sums.{sum_over}
-use Rattle.atl_tables.proofs.SumLaws.{numbers_where-insert_known, put_same, sum_over-insert_known}
-use Rattle.atl_tables.specs.ByNumber.{is_land_at, size_of}
+use Rattle.atl_world.specs.Names.{name_ok}
+use Rattle.atl_world.specs.Worlds.{WorldValue}
+use Rattle.atl_world.specs.Sums.{sum_over}
+use Rattle.atl_world.proofs.SumLaws.{numbers_where-insert_known, put_same, sum_over-insert_known}
+use Rattle.atl_world.specs.ByNumber.{is_land_at, size_of}
 use Rattle.atl_records.specs.Limits.{most_days}
 use Rattle.atl_records.specs.declared.books.Thing.{Thing}
 use Rattle.atl_records.specs.declared.records.Region.{Region}
 use Rattle.atl_records.specs.declared.records.Structure.{Structure}
 use Rattle.atl_records.specs.declared.records.Unit.{Unit}
 use Rattle.atl_records.specs.Every.{Every}
-use Rattle.atl_state.specs.Good.{AreAfloat, AreInRange, AreKnown, AreNamed, AreNumbered, AreOfOneFaction, GoneHaveNone, IsAboard, IsBuilt, IsEarly, IsOwned, IsPlaced, IsSteady, guards, is_ship}
+use Rattle.atl_campaign.specs.Good.{AreAfloat, AreInRange, AreKnown, AreNamed, AreNumbered, AreOfOneFaction, GoneHaveNone, IsAboard, IsBuilt, IsEarly, IsOwned, IsPlaced, IsSteady, guards, is_ship}
 use Rattle.atl_records.specs.Holdings.{IsHolding}
-use Rattle.atl_state.specs.Campaign.{CampaignValue}
+use Rattle.atl_campaign.specs.Campaign.{CampaignValue}
 use Rattle.atl_records.specs.Amounts.{region_amount, unit_amount}
-use Rattle.atl_state.specs.Totals.{total}
+use Rattle.atl_campaign.specs.Totals.{total}
 use Rattle.atl_records.proofs.EveryLaws.{every-insert, get-insert_other, none_some}
-use Rattle.atl_state.proofs.RegionLaws.{same_len}
+use Rattle.atl_campaign.proofs.RegionLaws.{same_len}
 
 -- The structure after is the structure before, but for owner and name; the name follows the name rule if it did before.
 pub record IsRelabelled (before after : Structure) : Type 0 where

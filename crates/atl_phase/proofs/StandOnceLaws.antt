@@ -10,8 +10,8 @@ use Rattle.std.specs.Cmp.Lexicographic.{slice_cmp, nat_list_cmp_total}
 use Rattle.std.specs.List.{AllByRecursion, IsDistinct}
 use Rattle.std.specs.FinMap.{FinMap, entries, entries_sorted, from_entries, get, is_sorted, nat_cmp-IsAntisymmetric, slice_cmp-IsAntisymmetric}
 use Rattle.std.specs.FinMap.Entries.{below_all}
-use Rattle.atl_tables.specs.Worlds.{WorldValue}
-use Rattle.atl_tables.proofs.GeneralLaws.{is_equal, is_true}
+use Rattle.atl_world.specs.Worlds.{WorldValue}
+use Rattle.atl_world.proofs.GeneralLaws.{is_equal, is_true}
 use Rattle.atl_orders.specs.Bounds.{LinesRise}
 use Rattle.atl_orders.specs.Mailing.{EntryValue, Reading}
 use Rattle.atl_orders.specs.Verbs.{row_of}
@@ -19,7 +19,7 @@ use Rattle.atl_orders.specs.declared.verb.Slot.{Slot}
 use Rattle.atl_orders.specs.declared.verb.Slot.TheVariants.{MonthLong, Selling, Buying, Taxing, Recruiting}
 use Rattle.atl_orders.specs.declared.verb.Verb.{Verb}
 use Rattle.atl_records.specs.Every.{EachOf}
-use Rattle.atl_state.proofs.BackLaws.{append_each}
+use Rattle.atl_campaign.proofs.BackLaws.{append_each}
 use Rattle.atl_records.proofs.EveryLaws.{each-from_every}
 use Rattle.atl_phase.specs.declared.phase_order.Arrangement.{Arrangement}
 use Rattle.atl_phase.specs.Month.{Aliases}

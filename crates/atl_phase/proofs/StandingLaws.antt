@@ -4,13 +4,13 @@ use Rattle.std.specs.Prelude.{unwrap_or}
 use Rattle.std.specs.Ordering.{nat_cmp}
 use Rattle.std.specs.Cmp.{nat_cmp_total, unsigned_ties}
 use Rattle.std.specs.FinMap.{get, insert, empty, get-insert, get-empty}
-use Rattle.atl_tables.specs.Groups.{group_of}
-use Rattle.atl_tables.proofs.GeneralLaws.{equal_turned, is_equal}
+use Rattle.atl_world.specs.Groups.{group_of}
+use Rattle.atl_world.proofs.GeneralLaws.{equal_turned, is_equal}
 use Rattle.atl_orders.specs.declared.mailing.Entry.{Entry}
 use Rattle.atl_orders.specs.declared.verb.Slot.{Slot}
 use Rattle.atl_orders.specs.Mailing.{entry_value}
 use Rattle.atl_orders.specs.Verbs.{row_of}
-use Rattle.atl_state.proofs.KeyLaws.{next_of}
+use Rattle.atl_campaign.proofs.KeyLaws.{next_of}
 use Rattle.atl_phase.specs.Month.{Aliases}
 use Rattle.atl_phase.specs.PhaseOrders.{unit_of, slot_number, is_slot, last_line, tasks_from}
 use Rattle.atl_phase.specs.OrderIndices.{Lines, line_in, with_line}

@@ -5,13 +5,13 @@ use Rattle.std.specs.Ordering.{nat_cmp}
 use Rattle.std.specs.FinMap.{FinMap, get, len}
 use Rattle.std.proofs.lemmas.Bool.{cases_eq}
 use Rattle.std.proofs.lemmas.Bool.Decides.{nat_tests}
-use Rattle.atl_tables.specs.Sums.{changed, changed_at}
+use Rattle.atl_world.specs.Sums.{changed, changed_at}
 use Rattle.atl_records.specs.declared.records.Structure.{Structure}
-use Rattle.atl_state.specs.Owners.{after_handover, is_owned_by}
-use Rattle.atl_state.specs.Campaign.{CampaignValue, with_owner}
+use Rattle.atl_campaign.specs.Owners.{after_handover, is_owned_by}
+use Rattle.atl_campaign.specs.Campaign.{CampaignValue, with_owner}
 use Rattle.atl_records.proofs.EveryLaws.{get-insert_other, other_number}
-use Rattle.atl_state.proofs.LeavingLaws.{owned_by}
-use Rattle.atl_state.proofs.RegionLaws.{get-insert_same, same_len}
+use Rattle.atl_campaign.proofs.LeavingLaws.{owned_by}
+use Rattle.atl_campaign.proofs.RegionLaws.{get-insert_same, same_len}
 
 -- equal numbers pass the test for equality
 pub equal_passes : (a b : ℕ) → a ≡ b → (a == b) ≡ true

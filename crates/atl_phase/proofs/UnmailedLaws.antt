@@ -9,8 +9,8 @@ use Rattle.std.specs.FinMap.{FinMap, get, insert, values}
 use Rattle.std.proofs.lemmas.Bool.{cases_eq}
 use Rattle.std.proofs.lemmas.List.Elements.{recursion_from_All}
 use Rattle.std.proofs.lemmas.List.Sums.{sum_by_push}
-use Rattle.atl_tables.specs.Worlds.{WorldValue}
-use Rattle.atl_tables.specs.Sums.{changed}
+use Rattle.atl_world.specs.Worlds.{WorldValue}
+use Rattle.atl_world.specs.Sums.{changed}
 use Rattle.atl_orders.specs.declared.verb.Verb.{Verb}
 use Rattle.atl_orders.specs.Mailing.{Reading}
 use Rattle.atl_records.specs.declared.event.Event.{Event}
@@ -19,10 +19,10 @@ use Rattle.atl_records.specs.declared.event.Outcome.{Outcome}
 use Rattle.atl_records.specs.declared.records.Unit.{Unit}
 use Rattle.atl_records.specs.Every.{Every}
 use Rattle.atl_records.specs.Holdings.{amount_of}
-use Rattle.atl_state.specs.Campaign.{CampaignValue, with_guard}
-use Rattle.atl_state.specs.Owners.{after_handover, heir, placed, with_place, with_place_at}
+use Rattle.atl_campaign.specs.Campaign.{CampaignValue, with_guard}
+use Rattle.atl_campaign.specs.Owners.{after_handover, heir, placed, with_place, with_place_at}
 use Rattle.atl_records.proofs.EveryLaws.{get-insert_other, none_some}
-use Rattle.atl_state.proofs.RegionLaws.{get-insert_same}
+use Rattle.atl_campaign.proofs.RegionLaws.{get-insert_same}
 use Rattle.atl_phase.specs.Month.{Aliases, MonthValue}
 use Rattle.atl_phase.specs.Meaning.{Frame, Meaning, both_keep, then_also}
 use Rattle.atl_phase.specs.Outcomes.{unless}

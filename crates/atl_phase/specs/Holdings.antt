@@ -2,10 +2,10 @@
 use Rattle.std.specs.Prelude.{◌≡◌, ℕ, List, fold}
 use Rattle.std.specs.Ordering.{nat_cmp}
 use Rattle.std.specs.FinMap.{FinMap}
-use Rattle.atl_state.specs.Covers.{MarksChanges}
+use Rattle.atl_campaign.specs.Covers.{MarksChanges}
 use Rattle.atl_records.specs.Holdings.{HoldingValue, with_amount_of}
-use Rattle.atl_state.specs.Marks.{Marks}
-use Rattle.atl_state.specs.Campaign.{MarkedCampaign, unit_changed}
+use Rattle.atl_campaign.specs.Marks.{Marks}
+use Rattle.atl_campaign.specs.Campaign.{MarkedCampaign, unit_changed}
 
 -- Unit n, if it is there, holds what `change` makes of what it held, and nothing else changes.
 -- All that changed is marked, and the same units as before have all their items and days marked at once.

@@ -1,13 +1,13 @@
 -- What a phase of the month is: its effect, by how much it may change the books, and what it leaves unchanged.
 use Rattle.std.specs.Prelude.{◌≡◌, ℕ, ℤ, pos, ◌+ℤ◌, ◌≤ℤ◌, ◌+◌, ◌==◌, if◌then◌else◌}
 use Rattle.std.specs.FinMap.{len}
-use Rattle.atl_tables.specs.Worlds.{WorldValue}
+use Rattle.atl_world.specs.Worlds.{WorldValue}
 use Rattle.atl_records.specs.declared.books.Entry.{Entry}
 use Rattle.atl_records.specs.declared.books.Thing.{Thing}
 use Rattle.atl_records.specs.Books.{amount_in, amount_number}
 use Rattle.atl_records.specs.Every.{IsThere}
-use Rattle.atl_state.specs.Campaign.{CampaignValue}
-use Rattle.atl_state.specs.Totals.{Balances}
+use Rattle.atl_campaign.specs.Campaign.{CampaignValue}
+use Rattle.atl_campaign.specs.Totals.{Balances}
 use Rattle.atl_phase.specs.Month.{MonthValue}
 
 -- the effect of a phase: from the world, a campaign and a month to the campaign and the month after it

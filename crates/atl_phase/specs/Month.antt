@@ -6,8 +6,8 @@ use Rattle.std.specs.List.{IsDistinct}
 use Rattle.std.specs.List.Sorted.{IsPermutation}
 use Rattle.std.specs.Coded.{Coded, code_by, coded×, coded_ℕ, coded_list}
 use Rattle.std.specs.FinMap.{FinMap, code, from_entries, get, insert}
-use Rattle.atl_tables.specs.contracts.sequence.Sequence as sequence
-use Rattle.atl_tables.specs.Groups.{group_of}
+use Rattle.atl_world.specs.contracts.sequence.Sequence as sequence
+use Rattle.atl_world.specs.Groups.{group_of}
 use Rattle.atl_orders.specs.declared.mailing.Mailing.{Mailing}
 use Rattle.atl_orders.specs.declared.fault.FaultyLine.{FaultyLine}
 use Rattle.atl_orders.specs.declared.order.UnitRef.{UnitRef}

@@ -4,7 +4,7 @@ use Rattle.atl_records.specs.declared.event.EventFault.{EventFault}
 use Rattle.atl_records.specs.declared.event.Outcome.{Outcome}
 use Rattle.atl_records.specs.declared.event.Outcome.TheVariants.{Fault}
 use Rattle.atl_records.specs.Events.{event_fault_number}
-use Rattle.atl_state.specs.Campaign.{CampaignValue}
+use Rattle.atl_campaign.specs.Campaign.{CampaignValue}
 
 -- the first fault of the list whose test is true; None where there is none
 abbrev pub first_fault : List (Bool × EventFault) → Option EventFault

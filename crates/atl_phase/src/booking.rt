@@ -1,11 +1,11 @@
 //! Books an amount that a phase takes out of the campaign. See docs/RULES.md, "Books".
 ghost use Rattle.std.specs.Prelude.{pos, neg_ℤ, ◌≡◌, ◌<◌};
 ghost use Rattle.atl_records.specs.Books.{amount_in, thing_index};
-ghost use Rattle.atl_state.specs.Marking.{mark_amount};
-ghost use Rattle.atl_state.specs.Campaign.{with_amount};
+ghost use Rattle.atl_campaign.specs.Marking.{mark_amount};
+ghost use Rattle.atl_campaign.specs.Campaign.{with_amount};
 ghost use Rattle.atl_phase.specs.Bounds.{HasRoom};
 
-use atl_state::{Campaign, Entry, Thing};
+use atl_campaign::{Campaign, Entry, Thing};
 
 /// Books under an entry that this amount of a thing is taken out of the campaign. It takes no
 /// memory.

@@ -3,7 +3,7 @@ ghost use Rattle.std.specs.Prelude.{◌≡◌, ◌≤◌, OnOk};
 ghost use Rattle.atl_records.specs.Limits.{men_limit};
 ghost use Rattle.atl_phase.specs.Holdings.{ChangesHolding, with_days};
 
-use atl_state::Campaign;
+use atl_campaign::Campaign;
 use std::alloc::AllocError;
 
 /// Sets the days of study of each listed skill that all men of a unit have together.

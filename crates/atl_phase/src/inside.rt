@@ -2,7 +2,7 @@
 ghost use Rattle.std.specs.Prelude.{◌≡◌};
 ghost use Rattle.atl_phase.specs.Inside.{inside, region_of};
 
-use atl_state::Campaign;
+use atl_campaign::Campaign;
 
 /// The number of the structure that a unit is inside; 0 where it is in none, or isn't there.
 pub fn structure_of(campaign: &Campaign, unit: u32) -> u32

@@ -3,8 +3,8 @@ ghost use Rattle.std.specs.Prelude.{◌≡◌, ◌<◌, IfOk, length};
 ghost use Rattle.std.specs.FinMap.{entries};
 ghost use Rattle.atl_records.specs.Every.{Every};
 
-use atl_state::Holding;
-use atl_tables::World;
+use atl_campaign::Holding;
+use atl_world::World;
 use std::alloc::{AllocError, Global};
 
 /// Each item that a unit holds, by its number, with its amount, in rising order of the numbers.

@@ -10,9 +10,9 @@ use crate::order_indices::{OrderIndex, order_indices};
 use crate::orders::{PhaseVerbs, orders_of};
 use crate::phase_order::{Arrangement, PhaseOrder};
 use crate::standing::unit_of;
+use atl_campaign::Event;
 use atl_orders::{Mailing, UnitRef};
-use atl_state::Event;
-use atl_tables::{Numbered, let_go};
+use atl_world::{Numbered, let_go};
 use std::alloc::{AllocError, Global};
 use std::marker::Model;
 

@@ -9,7 +9,7 @@ ghost use Rattle.atl_phase.specs.OrderIndices.{AddsMailing, AreByFaction, AreInd
 use crate::phase_order::Arrangement;
 use crate::standing::{LastLines, last_lines, stands, unit_of};
 use atl_orders::Mailing;
-use atl_tables::Numbered;
+use atl_world::Numbered;
 use std::alloc::{AllocError, Global};
 
 /// Where an order that counts is (the index of its mailing, and its own index in the mailing), with

@@ -3,7 +3,7 @@
 ghost use Rattle.std.specs.Prelude.{◌≡◌, IfOk, IfSome, OnOk, Some};
 ghost use Rattle.std.specs.FinMap.{get};
 ghost use Rattle.std.specs.Option.{option_copied};
-ghost use Rattle.atl_state.specs.Covers.{MarksChanges};
+ghost use Rattle.atl_campaign.specs.Covers.{MarksChanges};
 ghost use Rattle.atl_orders.specs.Bounds.{IsOrderOf};
 ghost use Rattle.atl_phase.specs.Fit.{AreFit};
 ghost use Rattle.atl_phase.specs.Meaning.{BookBound, Condition, LeavesWell};
@@ -18,8 +18,8 @@ use crate::month::{Month, add_events};
 use crate::orders::PhaseVerbs;
 use crate::phase::{Phase, PhaseResult};
 use crate::phase_order::{Arrangement, PhaseOrder};
-use atl_state::{Campaign, Event, Outcome, Unit};
-use atl_tables::World;
+use atl_campaign::{Campaign, Event, Outcome, Unit};
+use atl_world::World;
 use std::alloc::{AllocError, Global};
 
 /// A phase that carries out its orders one by one, each on the campaign that the one before left.

@@ -13,7 +13,7 @@ use crate::order_indices::{OrderIndex, order_indices};
 use crate::phase_order::{Arrangement, PhaseOrder};
 use crate::standing::is_slot;
 use atl_orders::{Mailing, Slot, Verb};
-use atl_tables::Numbered;
+use atl_world::Numbered;
 use std::alloc::{AllocError, Global};
 
 /// The verbs of the orders that a phase carries out.

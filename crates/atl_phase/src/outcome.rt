@@ -3,7 +3,7 @@ ghost use Rattle.std.specs.Prelude.{◌≡◌};
 ghost use Rattle.atl_records.specs.Events.{event_fault_number};
 ghost use Rattle.atl_records.specs.declared.event.Outcome.TheVariants.{Fault};
 
-use atl_state::{EventFault, Outcome};
+use atl_campaign::{EventFault, Outcome};
 
 /// The outcome of an order with this fault: the fault by its number.
 pub fn fault_outcome(fault: EventFault) -> Outcome

@@ -1,15 +1,15 @@
 //! A phase of the month, and two phases in turn. See docs/RULES.md, "Closing a month".
 ghost use Rattle.std.specs.Prelude.{◌≡◌, IfOk};
-ghost use Rattle.atl_state.specs.Covers.{MarksChanges};
-ghost use Rattle.atl_state.specs.Good.{IsSteady};
+ghost use Rattle.atl_campaign.specs.Covers.{MarksChanges};
+ghost use Rattle.atl_campaign.specs.Good.{IsSteady};
 ghost use Rattle.atl_phase.specs.Fit.{AreFit};
 ghost use Rattle.atl_phase.specs.Meaning.{Meaning, Condition, Frame, BookBound, LeavesWell, then_also, both_need, both_keep, both_move};
 ghost use Rattle.atl_phase.specs.Bounds.{HaveRoom};
 ghost use Rattle.atl_phase.specs.Unbooked.{moves_nothing};
 
 use crate::month::Month;
-use atl_state::Campaign;
-use atl_tables::World;
+use atl_campaign::Campaign;
+use atl_world::World;
 use std::alloc::{AllocError, Global};
 
 /// The campaign and the month that a phase leaves, or AllocError where memory ran out.

@@ -3,8 +3,8 @@ ghost use Rattle.std.specs.Prelude.{◌≡◌};
 ghost use Rattle.atl_phase.specs.PhaseOrders.{task_of};
 ghost use Rattle.atl_phase.specs.OrderEffects.{event_for};
 
+use atl_campaign::{Event, EventVerb, Outcome};
 use atl_orders::{Mailing, Order};
-use atl_state::{Event, EventVerb, Outcome};
 
 /// The order in which a phase carries out its orders.
 #[derive(Drop, Clone, Copy, Debug, PartialEq, Eq)]

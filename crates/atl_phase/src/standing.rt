@@ -7,7 +7,7 @@ ghost use Rattle.atl_phase.specs.OrderIndices.{AreLastLines, line_in, stands_by,
 
 use crate::month::unit_under;
 use atl_orders::{Mailing, Slot, UnitRef};
-use atl_tables::Numbered;
+use atl_world::Numbered;
 use std::alloc::{AllocError, Global};
 
 /// The number of a slot, from 0 to 4.

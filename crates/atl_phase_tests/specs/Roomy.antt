@@ -1,6 +1,6 @@
 -- For these tests alone: campaigns whose books have room for any of the phases that the cases play.
 use Rattle.std.specs.Prelude.{ℕ}
-use Rattle.atl_state.specs.Campaign.{CampaignValue}
+use Rattle.atl_campaign.specs.Campaign.{CampaignValue}
 use Rattle.atl_phase.specs.Bounds.{HaveRoom}
 
 -- The room that the proofs ask for: far more than one month can book.

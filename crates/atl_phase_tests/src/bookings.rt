@@ -4,8 +4,8 @@ ghost use Rattle.std.specs.Prelude.{◌≡◌};
 ghost use Rattle.atl_records.specs.Books.{thing_index};
 
 use crate::lines::number;
-use atl_state::{Campaign, ENTRY_COUNT, Entry, Thing};
-use atl_tables::World;
+use atl_campaign::{Campaign, ENTRY_COUNT, Entry, Thing};
+use atl_world::World;
 use std::alloc::{AllocError, Global};
 
 /// The index of money among the things of the books.

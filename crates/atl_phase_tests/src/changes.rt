@@ -1,8 +1,8 @@
 //! Prints the differences between two campaigns, a line for each number or text that changed.
 use crate::bookings::tell_books;
 use crate::lines::{number, text};
-use atl_state::{Campaign, Faction, Region, Structure, Unit};
-use atl_tables::World;
+use atl_campaign::{Campaign, Faction, Region, Structure, Unit};
+use atl_world::World;
 use std::alloc::{AllocError, Global};
 
 // ---- units

@@ -8,7 +8,7 @@ use crate::failed::Failed;
 use atl_orders::{Mailing, read_mailing};
 use atl_phase::Month;
 use atl_state::are_distinct;
-use atl_tables::World;
+use atl_world::World;
 use std::alloc::{AllocError, Global};
 
 /// The mailings of some texts, in the same order; a text that is refused is a failure.

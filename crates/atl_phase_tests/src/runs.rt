@@ -1,7 +1,7 @@
 //! Plays the phases that a case asks for, on its campaign and its month.
 ghost use Rattle.std.specs.Prelude.{All};
 ghost use Rattle.atl_orders.specs.Mailing.{IsReadWith};
-ghost use Rattle.atl_state.specs.Good.{IsEarly};
+ghost use Rattle.atl_campaign.specs.Good.{IsEarly};
 ghost use Rattle.atl_phase.specs.Month.{HaveOwnFactions};
 ghost use Rattle.atl_phase.specs.Fit.{AreFit};
 ghost use Rattle.atl_phase_tests.specs.Roomy.{IsRoomy};
@@ -9,12 +9,12 @@ ghost use Rattle.atl_phase_tests.specs.Roomy.{IsRoomy};
 use crate::failed::Failed;
 use crate::months::month_of;
 use crate::settings::{Setting, campaign_of, good_campaign};
+use atl_campaign::{Campaign, Event, LAST_MONTH};
 use atl_market::WorkPhase;
 use atl_month::{OrderPhases, SeasonPhase, SweepPhase, UpkeepPhase, close_month};
 use atl_orders::Mailing;
 use atl_phase::{Month, Phase};
-use atl_state::{Campaign, Event, LAST_MONTH};
-use atl_tables::World;
+use atl_world::World;
 use std::alloc::{AllocError, Global};
 
 /// Which phases a case plays.

@@ -1,6 +1,6 @@
 //! Reads the lines of a file of cases (data/README.md has a table of them).
 use crate::settings::{Built, Had, Setting, Stocked, Stood};
-use atl_tables::{World, let_go};
+use atl_world::{World, let_go};
 use std::alloc::{AllocError, Global};
 
 /// A case: its title, the mailings and the words of its month,

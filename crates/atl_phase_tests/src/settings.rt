@@ -1,15 +1,16 @@
 //! Builds the campaign that a case begins with, by way of rows of the tables and their check.
 ghost use Rattle.std.specs.Prelude.{◌≡◌, IfOk};
-ghost use Rattle.atl_state.specs.Good.{IsEarly, IsGood};
+ghost use Rattle.atl_campaign.specs.Good.{IsEarly, IsGood};
 ghost use Rattle.atl_phase_tests.specs.Roomy.{IsRoomy};
 
 use crate::failed::Failed;
-use atl_state::parts::{
+use atl_campaign::parts::{
     Parts, StoredBooks, StoredCampaignRow, StoredFaction, StoredHas, StoredMarket, StoredReport,
     StoredStructure, StoredUnit,
 };
-use atl_state::{Campaign, check_as, founded};
-use atl_tables::{Format, Numbered, Sequence, Text, World, let_go};
+use atl_campaign::{Campaign, founded};
+use atl_state::check_as;
+use atl_world::{Format, Numbered, Sequence, Text, World, let_go};
 use std::alloc::{AllocError, Global};
 
 /// A unit of the campaign that a case begins with, of faction 1 or 2.

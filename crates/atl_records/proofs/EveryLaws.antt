@@ -7,9 +7,9 @@ use Rattle.std.specs.Cmp.{nat_cmp_total, ranked}
 use Rattle.std.specs.FinMap.{FinMap, get, insert, find, entries, entries_sorted, is_sorted, get-entries, get-insert, get-empty, empty, nat_cmp-IsAntisymmetric}
 use Rattle.std.specs.FinMap.Entries.{below_all}
 use Rattle.std.proofs.lemmas.Bool.{and_parts, false≢true}
-use Rattle.atl_tables.specs.Sums.{numbers_where, mapped}
-use Rattle.atl_tables.proofs.MadeLaws.{get-mapped}
-use Rattle.atl_tables.proofs.SumLaws.{chosen-cons}
+use Rattle.atl_world.specs.Sums.{numbers_where, mapped}
+use Rattle.atl_world.proofs.MadeLaws.{get-mapped}
+use Rattle.atl_world.proofs.SumLaws.{chosen-cons}
 use Rattle.atl_records.specs.Every.{EachOf, Every, IsThere}
 use Rattle.std.proofs.lemmas.Bool.Decides.{nat_tests}
 

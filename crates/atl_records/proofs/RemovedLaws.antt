@@ -4,8 +4,8 @@ use Rattle.std.specs.declared.cmp.Ordering.TheVariants.{Less, Equal, Greater}
 use Rattle.std.specs.Ordering.{nat_cmp, is_eq}
 use Rattle.std.specs.Cmp.{nat_cmp_total, ranked}
 use Rattle.std.specs.FinMap.{FinMap, contains_key, get, get-insert, get-remove, insert, len, len-remove, nat_cmp-IsAntisymmetric, remove}
-use Rattle.atl_tables.specs.Sums.{sum_over}
-use Rattle.atl_tables.proofs.SumLaws.{put_back, sum_over-insert_new}
+use Rattle.atl_world.specs.Sums.{sum_over}
+use Rattle.atl_world.proofs.SumLaws.{put_back, sum_over-insert_new}
 use Rattle.atl_records.specs.Every.{Every}
 use Rattle.atl_records.proofs.EveryLaws.{none_some}
 

@@ -3,8 +3,8 @@ use Rattle.std.specs.Prelude.{◌==◌, ◌+◌, ◌*◌, ℕ, zero, suc, Bool, 
 use Rattle.std.specs.List.{slice_get}
 use Rattle.std.specs.Option.{option_map_or}
 use Rattle.std.specs.FinMap.{entries}
-use Rattle.atl_tables.specs.Limits.{last_level}
-use Rattle.atl_tables.specs.Worlds.{WorldValue}
+use Rattle.atl_world.specs.Limits.{last_level}
+use Rattle.atl_world.specs.Worlds.{WorldValue}
 use Rattle.atl_records.specs.declared.levels.Measure.{Measure}
 use Rattle.atl_records.specs.declared.levels.Measure.TheVariants.{Weight, Carry}
 use Rattle.atl_records.specs.Holdings.{HoldingValue, amount_of}

@@ -1,8 +1,8 @@
 -- The limits of a campaign. See docs/RULES.md, "Limits".
 use Rattle.std.specs.Prelude.{◌+◌, ℕ}
-use Rattle.atl_tables.specs.Limits.{most_amount, most_items}
-use Rattle.atl_tables.specs.declared.format.Format.{Format}
-use Rattle.atl_tables.specs.declared.format.Format.TheVariants.{First, Second}
+use Rattle.atl_world.specs.Limits.{most_amount, most_items}
+use Rattle.atl_world.specs.declared.format.Format.{Format}
+use Rattle.atl_world.specs.declared.format.Format.TheVariants.{First, Second}
 
 -- the number of the last month that can be closed; the first is 1
 abbrev pub last_month : ℕ

@@ -6,7 +6,7 @@ ghost use Rattle.atl_records.specs.Limits.{entry_count, possible_things};
 ghost use Rattle.atl_records.specs.Books.{AreBooks, entry_index, entry_numbered, thing_index, thing_at, sum_of, amount_in, booked, after_booking, no_amounts, amount_number, with_amount};
 
 use crate::limits::{ENTRY_COUNT, FIRST_ITEM};
-use atl_tables::variants;
+use atl_world::variants;
 use std::alloc::{AllocError, Global};
 use std::marker::Model;
 

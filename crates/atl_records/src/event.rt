@@ -2,7 +2,7 @@
 ghost use Rattle.std.specs.Prelude.{◌≡◌};
 
 use atl_orders::Verb;
-use atl_tables::{name_of, variants};
+use atl_world::{name_of, variants};
 use std::error::Error;
 use std::fmt;
 

@@ -4,7 +4,7 @@ ghost use Rattle.std.specs.FinMap as map;
 ghost use Rattle.atl_records.specs.Limits.{men_limit, holding_limit};
 ghost use Rattle.atl_records.specs.Holdings.{amount_of, with_amount_of, AreAmounts};
 
-use atl_tables::{Entries, Numbered, Text, let_go};
+use atl_world::{Entries, Numbered, Text, let_go};
 use std::alloc::AllocError;
 use std::marker::Model;
 

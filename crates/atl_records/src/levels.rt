@@ -1,13 +1,13 @@
 //! Levels of skills, and what units weigh and carry. See docs/RULES.md, "Levels and loads".
 ghost use Rattle.std.specs.Prelude.{◌≡◌, ◌≤◌, ◌*◌, nat_le};
-ghost use Rattle.atl_tables.specs.Limits.{last_level, most_items, most_weight};
+ghost use Rattle.atl_world.specs.Limits.{last_level, most_items, most_weight};
 ghost use Rattle.atl_records.specs.Limits.{most_u32};
 ghost use Rattle.atl_records.specs.Levels.{days_for, level_in, level_in_any, level_of, weight_of, carry_of, goods_of, carried_by_goods, load_of, carried_by, measure_of, goods_measure};
 
 use crate::holding::Holding;
 use crate::limits::LEVEL_DAYS;
-use atl_tables::World;
-use atl_tables::limits::LAST_LEVEL;
+use atl_world::World;
+use atl_world::limits::LAST_LEVEL;
 
 /// Whether the days of study of all men of a unit together are enough for a level, which is at most
 /// 5.

@@ -1,7 +1,7 @@
 //! The limits of a campaign. See docs/RULES.md, "Limits".
 
 use crate::books::Entry;
-use atl_tables::limits::MOST_AMOUNT;
+use atl_world::limits::MOST_AMOUNT;
 
 /// The most units at one time.
 pub const MOST_UNITS: usize = 100_000;

@@ -1,6 +1,6 @@
 //! The records of a campaign: factions, units, regions and structures.
 use crate::holding::{Holding, amount_under};
-use atl_tables::{Numbered, Text, let_go};
+use atl_world::{Numbered, Text, let_go};
 use std::error::Error;
 use std::fmt;
 
@@ -45,9 +45,9 @@ impl Drop for Unit {
 
 /// What a region holds besides its units: peasants, money, and the stocks of its markets.
 pub struct Region {
-    /// The people that are of no faction, from 0 to atl_tables' MOST_AMOUNT.
+    /// The people that are of no faction, from 0 to atl_world's MOST_AMOUNT.
     pub peasants: u32,
-    /// The money that no unit has, from 0 to atl_tables' MOST_AMOUNT.
+    /// The money that no unit has, from 0 to atl_world's MOST_AMOUNT.
     pub money: u32,
     /// The stocks of its markets: how many pieces of each item, where they are not 0, up to the
     /// limit of the item's market.

@@ -9,14 +9,14 @@ use Rattle.std.specs.FinMap.{FinMap, get, get-entries, get-empty, get-insert, ge
 use Rattle.std.specs.FinMap.Entries.{below_all, where_key, is_sorted-where_key, find-where_key}
 use Rattle.std.proofs.lemmas.Bool.{false≢true, and_parts}
 use Rattle.std.proofs.lemmas.Cmp.{tied_itself}
-use Rattle.atl_tables.specs.Sums.{numbers_among, numbers_where}
-use Rattle.atl_tables.proofs.SumLaws.{chosen-cons}
-use Rattle.atl_tables.proofs.TrackLaws.{is_true}
-use Rattle.atl_tables.proofs.GeneralLaws.{key_turned}
+use Rattle.atl_world.specs.Sums.{numbers_among, numbers_where}
+use Rattle.atl_world.proofs.SumLaws.{chosen-cons}
+use Rattle.atl_world.proofs.TrackLaws.{is_true}
+use Rattle.atl_world.proofs.GeneralLaws.{key_turned}
 use Rattle.atl_records.specs.declared.records.Region.{Region}
 use Rattle.atl_records.specs.declared.records.Unit.{Unit}
 use Rattle.atl_records.specs.Every.{EachOf}
-use Rattle.atl_state.specs.Campaign.{CampaignValue, numbers_of}
+use Rattle.atl_campaign.specs.Campaign.{CampaignValue, numbers_of}
 use Rattle.atl_records.proofs.EveryLaws.{each-from_every}
 use Rattle.atl_report.specs.Watching.{is_watching, sees_region}
 use Rattle.atl_report.specs.Gathering.{with_region, with_watched, with_all_watched}

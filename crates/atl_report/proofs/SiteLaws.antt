@@ -4,11 +4,11 @@ use Rattle.std.specs.Ordering.{nat_cmp}
 use Rattle.std.specs.Cmp.{nat_cmp_total}
 use Rattle.std.specs.FinMap.{FinMap, get, get-insert, get-empty, empty}
 use Rattle.std.proofs.lemmas.List.{append_assoc}
-use Rattle.atl_tables.specs.Sums.{numbers_among}
-use Rattle.atl_tables.proofs.SumLaws.{chosen-cons}
-use Rattle.atl_tables.proofs.GeneralLaws.{is_equal, key_turned}
+use Rattle.atl_world.specs.Sums.{numbers_among}
+use Rattle.atl_world.proofs.SumLaws.{chosen-cons}
+use Rattle.atl_world.proofs.GeneralLaws.{is_equal, key_turned}
 use Rattle.atl_records.specs.declared.records.Structure.{Structure}
-use Rattle.atl_state.specs.KeptLists.{list_of}
+use Rattle.atl_campaign.specs.KeptLists.{list_of}
 use Rattle.atl_report.specs.Sites.{with_site}
 
 -- a region's list and the numbers still to come are together the same, whether n is added to the list or still to come

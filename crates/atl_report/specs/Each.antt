@@ -1,6 +1,6 @@
 -- Texts joined one after another.
 use Rattle.std.specs.Prelude.{ℕ, List, [], ◌∷◌}
-use Rattle.atl_tables.specs.Texts.{◌▸◌}
+use Rattle.atl_world.specs.Texts.{◌▸◌}
 
 -- the texts of a list's elements, one after another
 abbrev pub each_text : {A : Type 0} → (A → List ℕ) → List A → List ℕ

@@ -2,7 +2,7 @@
 use Rattle.std.specs.Prelude.{◌==◌, ℕ, List, [], codes, find, filter}
 use Rattle.std.specs.Fmt.{decimal}
 use Rattle.std.specs.Option.{option_map_or}
-use Rattle.atl_tables.specs.Texts.{◌▸◌}
+use Rattle.atl_world.specs.Texts.{◌▸◌}
 use Rattle.atl_orders.specs.Faulting.{fault_number, fault_name}
 use Rattle.atl_orders.specs.declared.fault.FaultyLine.{FaultyLine}
 use Rattle.atl_records.specs.declared.event.Event.{Event}

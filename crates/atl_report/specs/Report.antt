@@ -4,16 +4,16 @@ use Rattle.std.specs.Fmt.{decimal}
 use Rattle.std.specs.FinMap.{get}
 use Rattle.std.specs.List.{filter_map, slice_get}
 use Rattle.std.specs.Option.{option_map_or}
-use Rattle.atl_tables.specs.Texts.{◌▸◌}
-use Rattle.atl_tables.specs.ByNumber.{market_of}
-use Rattle.atl_tables.specs.Worlds.{WorldValue}
-use Rattle.atl_tables.specs.declared.world.Market.{Market}
-use Rattle.atl_tables.specs.declared.world.RegionPlan.{RegionPlan}
-use Rattle.atl_tables.specs.declared.world.Item.{Item}
-use Rattle.atl_tables.specs.declared.world.Kind.{Kind}
+use Rattle.atl_world.specs.Texts.{◌▸◌}
+use Rattle.atl_world.specs.ByNumber.{market_of}
+use Rattle.atl_world.specs.Worlds.{WorldValue}
+use Rattle.atl_world.specs.declared.world.Market.{Market}
+use Rattle.atl_world.specs.declared.world.RegionPlan.{RegionPlan}
+use Rattle.atl_world.specs.declared.world.Item.{Item}
+use Rattle.atl_world.specs.declared.world.Kind.{Kind}
 use Rattle.atl_orders.specs.declared.fault.FaultyLine.{FaultyLine}
 use Rattle.atl_records.specs.declared.event.Event.{Event}
-use Rattle.atl_state.specs.Campaign.{CampaignValue}
+use Rattle.atl_campaign.specs.Campaign.{CampaignValue}
 use Rattle.atl_report.specs.Each.{each_text, separated_texts}
 use Rattle.atl_report.specs.Events.{own_events, orders_part}
 use Rattle.atl_report.specs.Sight.{view_of}

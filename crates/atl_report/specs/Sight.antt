@@ -4,18 +4,18 @@ use Rattle.std.specs.List.{filter_map}
 use Rattle.std.specs.Option.{option_map_or}
 use Rattle.std.specs.Ordering.{nat_cmp}
 use Rattle.std.specs.FinMap.{FinMap, get, entries}
-use Rattle.atl_tables.specs.Worlds.{WorldValue}
-use Rattle.atl_tables.specs.Sums.{numbers_where}
-use Rattle.atl_tables.specs.declared.world.Market.{Market}
-use Rattle.atl_tables.specs.declared.world.RegionPlan.{RegionPlan}
+use Rattle.atl_world.specs.Worlds.{WorldValue}
+use Rattle.atl_world.specs.Sums.{numbers_where}
+use Rattle.atl_world.specs.declared.world.Market.{Market}
+use Rattle.atl_world.specs.declared.world.RegionPlan.{RegionPlan}
 use Rattle.atl_records.specs.declared.records.Faction.{Faction}
 use Rattle.atl_records.specs.declared.records.Region.{Region}
 use Rattle.atl_records.specs.declared.records.Structure.{Structure}
 use Rattle.atl_records.specs.declared.records.Unit.{Unit}
-use Rattle.atl_state.specs.Good.{guards}
+use Rattle.atl_campaign.specs.Good.{guards}
 use Rattle.atl_records.specs.Holdings.{HoldingValue, amount_of}
 use Rattle.atl_records.specs.Levels.{level_of}
-use Rattle.atl_state.specs.Campaign.{CampaignValue, numbers_in}
+use Rattle.atl_campaign.specs.Campaign.{CampaignValue, numbers_in}
 use Rattle.atl_report.specs.declared.views.View.{View}
 use Rattle.atl_report.specs.declared.views.RegionView.{RegionView}
 use Rattle.atl_report.specs.declared.views.MarketView.{MarketView}

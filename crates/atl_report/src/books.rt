@@ -1,12 +1,12 @@
 //! Writes the text of the books. See docs/FORMATS.md, "Books".
 ghost use Rattle.std.specs.Prelude.{◌≡◌, ◌++◌, IfOk, OnOk, length, string_bytes};
 ghost use Rattle.std.specs.List.{slice_get};
-ghost use Rattle.atl_state.specs.Founding.{things_of};
-ghost use Rattle.atl_state.specs.Totals.{IsCountable};
+ghost use Rattle.atl_campaign.specs.Founding.{things_of};
+ghost use Rattle.atl_campaign.specs.Totals.{IsCountable};
 ghost use Rattle.atl_report.specs.Books.{IsThing, entry_name, item_name, thing_name, amount_text, amount_line, amount_lines, total_line, thing_part, item_parts, books_of};
 
-use atl_state::{Campaign, Entry, Thing};
-use atl_tables::{World, text_of};
+use atl_campaign::{Campaign, Entry, Thing};
+use atl_world::{World, text_of};
 use std::alloc::{AllocError, Global};
 use std::fmt::Write;
 

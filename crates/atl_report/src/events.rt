@@ -4,8 +4,8 @@ ghost use Rattle.std.specs.Prelude.{◌≡◌, ◌==◌, ◌++◌, ◌&&◌, not
 ghost use Rattle.std.specs.List.{list_any};
 ghost use Rattle.atl_report.specs.Events.{faulty_line, faulty_lines, name_of_number, event_line, event_lines, own_events, results_text, orders_part};
 
+use atl_campaign::{Event, EventFault, Outcome};
 use atl_orders::FaultyLine;
-use atl_state::{Event, EventFault, Outcome};
 use std::alloc::AllocError;
 use std::fmt::Write;
 

@@ -8,16 +8,16 @@ use crate::events::write_orders;
 use crate::views::{
     ItemView, MarketView, RegionView, Side, SkillView, StructureView, UnitView, View,
 };
+use atl_campaign::Event;
 use atl_orders::FaultyLine;
-use atl_state::Event;
-use atl_tables::{Item, Kind, Market, RegionPlan, World};
+use atl_world::{Item, Kind, Market, RegionPlan, World};
 use std::alloc::{AllocError, Global};
 use std::fmt::Write;
 
 /// A part of a view that has a text in reports; the world gives the names in the text.
 trait InReport {
     ghost use Rattle.std.specs.Prelude.{List, ℕ};
-    ghost use Rattle.atl_tables.specs.Worlds.{WorldValue};
+    ghost use Rattle.atl_world.specs.Worlds.{WorldValue};
 
     // The text of the part in a report.
     ghost text: { WorldValue → Self → List ℕ };

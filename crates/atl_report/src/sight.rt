@@ -11,8 +11,8 @@ use crate::views::{
     ItemView, MarketView, RegionView, Side, SkillView, StructureView, UnitView, View,
 };
 use crate::watch::{Watch, is_guard, is_seen, is_seen_there, is_watching, watch_over};
-use atl_state::{Campaign, Holding, Region, Structure, Unit, level};
-use atl_tables::{Market, Numbered, RegionPlan, Sequence, Text, World};
+use atl_campaign::{Campaign, Holding, Region, Structure, Unit, level};
+use atl_world::{Market, Numbered, RegionPlan, Sequence, Text, World};
 use std::alloc::{AllocError, Global};
 
 /// A copy of a faction's shown name; empty where there is no such faction.

@@ -1,10 +1,10 @@
 //! Lists the numbers of the structures of each region, for the views of what factions see.
 ghost use Rattle.std.specs.Prelude.{◌≡◌, IfOk, OnOk};
-ghost use Rattle.atl_state.specs.KeptLists.{list_of};
+ghost use Rattle.atl_campaign.specs.KeptLists.{list_of};
 ghost use Rattle.atl_report.specs.Sites.{AreSites, with_site};
 
-use atl_state::Campaign;
-use atl_tables::{Numbered, Sequence};
+use atl_campaign::Campaign;
+use atl_world::{Numbered, Sequence};
 use std::alloc::{AllocError, Global};
 
 /// The numbers of each region's structures, sorted, by the region's number.

@@ -1,5 +1,5 @@
 //! The view of a faction: all that its report shows.
-use atl_tables::{Sequence, Text, let_go};
+use atl_world::{Sequence, Text, let_go};
 
 /// What a faction sees of a campaign: all that its report shows besides orders.
 pub struct View {

@@ -1,12 +1,12 @@
 //! Which regions a faction sees, and which units there. See docs/RULES.md, "Sight".
 ghost use Rattle.std.specs.Prelude.{◌≡◌, Some, nat_le};
 ghost use Rattle.std.specs.Option.{option_copied};
-ghost use Rattle.atl_state.specs.Good.{guards};
+ghost use Rattle.atl_campaign.specs.Good.{guards};
 ghost use Rattle.atl_records.specs.Levels.{level_in_any};
 ghost use Rattle.atl_report.specs.Watching.{is_watching, observation_of, observation_in, watch_over, is_seen, is_seen_there};
 
-use atl_state::{Campaign, Unit, level_in_any};
-use atl_tables::World;
+use atl_campaign::{Campaign, Unit, level_in_any};
+use atl_world::World;
 
 /// A faction in a region that it sees, with the best observation level of its units there.
 #[derive(Drop, Clone, Copy)]

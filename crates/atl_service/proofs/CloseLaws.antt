@@ -9,10 +9,10 @@ use Rattle.std.proofs.lemmas.Map.Keys.{IsDistinct-from_sorted}
 use Rattle.std.specs.List.{AllByRecursion, IsDistinct, flat_map}
 use Rattle.std.specs.Ordering.{nat_cmp, eq_by_cmp}
 use Rattle.std.specs.FinMap.{FinMap, empty, entries, get, insert, same_entries_map}
-use Rattle.atl_tables.specs.Worlds.{WorldValue, IsWorld}
-use Rattle.atl_tables.specs.Sums.{mapped, numbers_among}
-use Rattle.atl_tables.proofs.MadeLaws.{entries-mapped, get-mapped, insert_last}
-use Rattle.atl_tables.proofs.Maps.{entries-empty}
+use Rattle.atl_world.specs.Worlds.{WorldValue, IsWorld}
+use Rattle.atl_world.specs.Sums.{mapped, numbers_among}
+use Rattle.atl_world.proofs.MadeLaws.{entries-mapped, get-mapped, insert_last}
+use Rattle.atl_world.proofs.Maps.{entries-empty}
 use Rattle.atl_orders.specs.declared.fault.FaultyLine.{FaultyLine}
 use Rattle.atl_orders.specs.declared.fault.MailFault.{MailFault}
 use Rattle.atl_orders.specs.declared.fault.MailFault.TheVariants.{TooLong, NoHeader, BadHeader, Memory}
@@ -22,18 +22,18 @@ use Rattle.atl_orders.specs.Lines.{lines}
 use Rattle.atl_orders.specs.Mailing.{IsMailingOf, IsReadWith, Reading, Reads, after_header, header_from, reading, reading_of}
 use Rattle.atl_records.specs.declared.event.Event.{Event}
 use Rattle.atl_records.specs.declared.records.Faction.{Faction}
-use Rattle.atl_state.specs.Covers.{MarksChanges}
+use Rattle.atl_campaign.specs.Covers.{MarksChanges}
 use Rattle.atl_records.specs.Every.{EachOf, IsThere}
-use Rattle.atl_state.specs.Good.{IsGood}
+use Rattle.atl_campaign.specs.Good.{IsGood}
 use Rattle.atl_records.specs.Limits.{most_things}
-use Rattle.atl_state.specs.Marking.{mark_all_mail, mark_campaign_row, mark_report}
-use Rattle.atl_state.specs.Marks.{Marks}
-use Rattle.atl_state.specs.Campaign.{CampaignValue, MarkedCampaign, active, with_month, without_mail}
-use Rattle.atl_state.proofs.CoverLaws.{marks-trans}
+use Rattle.atl_campaign.specs.Marking.{mark_all_mail, mark_campaign_row, mark_report}
+use Rattle.atl_campaign.specs.Marks.{Marks}
+use Rattle.atl_campaign.specs.Campaign.{CampaignValue, MarkedCampaign, active, with_month, without_mail}
+use Rattle.atl_campaign.proofs.CoverLaws.{marks-trans}
 use Rattle.atl_records.proofs.EveryLaws.{each-from_every, sorted}
-use Rattle.atl_state.proofs.GoodLaws.{IsGood-with_report}
-use Rattle.atl_state.proofs.PostLaws.{marks-month, marks-no_mail, marks-report}
-use Rattle.atl_state.proofs.SlotLaws.{keys_rise}
+use Rattle.atl_campaign.proofs.GoodLaws.{IsGood-with_report}
+use Rattle.atl_campaign.proofs.PostLaws.{marks-month, marks-no_mail, marks-report}
+use Rattle.atl_campaign.proofs.SlotLaws.{keys_rise}
 use Rattle.atl_phase.specs.Month.{HaveOwnFactions, by_faction}
 use Rattle.atl_month.specs.Month.{after_month, month_of}
 use Rattle.atl_report.specs.Report.{report_of}

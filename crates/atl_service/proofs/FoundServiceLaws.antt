@@ -5,10 +5,10 @@ use Rattle.sqlite_trees.specs.declared.store.Store.{Ghosts}
 use Rattle.sqlite.specs.Held.{Held, state}
 use Rattle.atl_tables.specs.World.{world_of}
 use Rattle.atl_tables.specs.declared.fault.WorldFault.{WorldFault}
-use Rattle.atl_tables.specs.Worlds.{WorldValue}
-use Rattle.atl_state.specs.Campaign.{CampaignValue}
-use Rattle.atl_state.specs.Founding.{founded_of}
-use Rattle.atl_state.specs.Good.{IsGood}
+use Rattle.atl_world.specs.Worlds.{WorldValue}
+use Rattle.atl_campaign.specs.Campaign.{CampaignValue}
+use Rattle.atl_campaign.specs.Founding.{founded_of}
+use Rattle.atl_campaign.specs.Good.{IsGood}
 use Rattle.atl_sql.specs.Making.{has_campaign}
 use Rattle.atl_store.specs.Keeps.{Keeps, IsLater, IsReadyToCreate, MayFound, Creates, BreaksOffCreation, FailsToCreate, RefusesToCreate, HoldsCampaign}
 use Rattle.atl_store.proofs.StayLaws.{spares_itself}

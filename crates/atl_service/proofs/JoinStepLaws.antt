@@ -1,12 +1,12 @@
 -- Laws on a command Join: what `step` returns for each result of `join_of`, and that the store can write the result.
 use Rattle.std.proofs.Common.{◌≡◌, ◌+◌, ◌-◌, ℕ, pos, List, [], Bool, true, false, cond, not, Option, Some, is_some, IsSome, Ok, Err, refl, sym, ap, ◌∙◌, subst, arith}
 use Rattle.std.specs.FinMap.{get, insert}
-use Rattle.atl_tables.specs.Names.{name_ok, pass_ok}
-use Rattle.atl_tables.specs.Worlds.{WorldValue}
+use Rattle.atl_world.specs.Names.{name_ok, pass_ok}
+use Rattle.atl_world.specs.Worlds.{WorldValue}
 use Rattle.atl_records.specs.declared.records.JoinFault.TheVariants.{NameTaken, Full}
-use Rattle.atl_state.specs.Campaign.{CampaignValue, with_report}
-use Rattle.atl_state.specs.Good.{IsGood}
-use Rattle.atl_state.specs.Joining.{join_of, joined, name_taken, is_full, new_faction, first_unit}
+use Rattle.atl_campaign.specs.Campaign.{CampaignValue, with_report}
+use Rattle.atl_campaign.specs.Good.{IsGood}
+use Rattle.atl_campaign.specs.Joining.{join_of, joined, name_taken, is_full, new_faction, first_unit}
 use Rattle.atl_report.specs.Report.{report_of}
 use Rattle.atl_report.specs.Sight.{view_of}
 use Rattle.atl_store.specs.Keeps.{IsJoining}

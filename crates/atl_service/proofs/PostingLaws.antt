@@ -5,12 +5,12 @@ use Rattle.std.specs.Option.{option_or}
 use Rattle.std.specs.Ordering.{nat_cmp, eq_by_cmp}
 use Rattle.std.specs.Cmp.{nat_cmp_total, unsigned_ties}
 use Rattle.std.specs.FinMap.{FinMap, get, insert, get-insert, same_map, nat_cmp-IsAntisymmetric}
-use Rattle.atl_tables.specs.Worlds.{WorldValue}
+use Rattle.atl_world.specs.Worlds.{WorldValue}
 use Rattle.atl_orders.specs.declared.fault.MailFault.{MailFault}
 use Rattle.atl_orders.specs.declared.fault.MailFault.TheVariants.{TooLong, NoHeader, BadHeader, Memory}
 use Rattle.atl_orders.specs.Mailing.{Reading, reading}
 use Rattle.atl_records.specs.declared.records.Faction.{Faction}
-use Rattle.atl_state.specs.Campaign.{CampaignValue, with_mail}
+use Rattle.atl_campaign.specs.Campaign.{CampaignValue, with_mail}
 use Rattle.atl_service.specs.declared.command.Command.{Command}
 use Rattle.atl_service.specs.declared.command.Command.TheVariants.{Join, Mail, Close, Report}
 use Rattle.atl_service.specs.declared.command.Answer.{Answer}

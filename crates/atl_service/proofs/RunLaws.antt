@@ -5,8 +5,8 @@ use Rattle.std.proofs.lemmas.Bool.{false≢true}
 use Rattle.sqlite_trees.specs.declared.store.Store.{Ghosts}
 use Rattle.sqlite.specs.Held.{Held, state}
 use Rattle.atl_tables.specs.World.{world_of}
-use Rattle.atl_tables.specs.Worlds.{WorldValue}
-use Rattle.atl_state.specs.Campaign.{CampaignValue}
+use Rattle.atl_world.specs.Worlds.{WorldValue}
+use Rattle.atl_campaign.specs.Campaign.{CampaignValue}
 use Rattle.atl_store.specs.Keeps.{Keeps}
 use Rattle.atl_store.proofs.WorldTextLaws.{world_text_is}
 use Rattle.atl_service.specs.declared.command.Command.{Command}

@@ -2,8 +2,8 @@
 use Rattle.std.proofs.Common.{List, ℕ, true, Some, refl}
 use Rattle.sqlite_trees.specs.declared.store.Store.{Ghosts}
 use Rattle.sqlite.specs.Held.{Held, state}
-use Rattle.atl_tables.specs.Worlds.{WorldValue}
-use Rattle.atl_state.specs.Campaign.{MarkedCampaign}
+use Rattle.atl_world.specs.Worlds.{WorldValue}
+use Rattle.atl_campaign.specs.Campaign.{MarkedCampaign}
 use Rattle.atl_store.specs.Keeps.{IsLater}
 use Rattle.atl_store.specs.Upgrading.{Upgrades}
 use Rattle.atl_store.proofs.WorldTextLaws.{world_text_is}

@@ -2,12 +2,12 @@
 use Rattle.std.specs.Prelude.{ℕ, List, [], ◌∷◌, fold, Option, Some, None, Result, Ok, Err}
 use Rattle.std.specs.List.{flat_map}
 use Rattle.std.specs.FinMap.{entries, get}
-use Rattle.atl_tables.specs.Worlds.{WorldValue}
+use Rattle.atl_world.specs.Worlds.{WorldValue}
 use Rattle.atl_orders.specs.declared.fault.FaultyLine.{FaultyLine}
 use Rattle.atl_orders.specs.declared.fault.MailFault.{MailFault}
 use Rattle.atl_orders.specs.Mailing.{Reading, reading}
 use Rattle.atl_records.specs.declared.event.Event.{Event}
-use Rattle.atl_state.specs.Campaign.{CampaignValue, active, with_report}
+use Rattle.atl_campaign.specs.Campaign.{CampaignValue, active, with_report}
 use Rattle.atl_phase.specs.Month.{by_faction}
 use Rattle.atl_month.specs.Month.{after_month, month_of}
 use Rattle.atl_report.specs.Report.{report_of}

@@ -3,13 +3,13 @@ use Rattle.std.specs.Prelude.{◌≡◌, ◌⊎◌, ℕ, List, Bool, true, false
 use Rattle.sqlite_trees.specs.declared.store.Store.{Ghosts}
 use Rattle.sqlite.specs.Held.{Held, state}
 use Rattle.sqlite.specs.State.{HasCleanDisk}
-use Rattle.atl_tables.specs.Names.{pass_ok}
-use Rattle.atl_tables.specs.Worlds.{WorldValue}
+use Rattle.atl_world.specs.Names.{pass_ok}
+use Rattle.atl_world.specs.Worlds.{WorldValue}
 use Rattle.atl_tables.specs.World.{world_of}
 use Rattle.atl_tables.specs.declared.fault.WorldFault.{WorldFault}
 use Rattle.atl_tables.specs.declared.fault.WorldFault.TheVariants as world
-use Rattle.atl_state.specs.Campaign.{CampaignValue}
-use Rattle.atl_state.specs.Founding.{founded_of}
+use Rattle.atl_campaign.specs.Campaign.{CampaignValue}
+use Rattle.atl_campaign.specs.Founding.{founded_of}
 use Rattle.atl_sql.specs.Making.{has_campaign}
 use Rattle.atl_store.specs.Keeps.{HoldsCampaign, IsLater, IsReadyToCreate, ChangesNothing, MayFound}
 use Rattle.atl_store.specs.declared.fault.CreateFault.{CreateFault}

@@ -4,11 +4,11 @@ use Rattle.std.specs.Coded.{Coded, code_by, coded×, coded_option}
 use Rattle.sqlite_trees.specs.declared.store.Store.{Ghosts}
 use Rattle.sqlite.specs.Held.{Held, held_code, state}
 use Rattle.sqlite.specs.State.{HasCleanDisk}
-use Rattle.atl_tables.specs.Worlds.{WorldValue, world_code}
+use Rattle.atl_world.specs.Worlds.{WorldValue, world_code}
 use Rattle.atl_tables.specs.World.{world_of}
-use Rattle.atl_state.specs.Campaign.{CampaignValue, MarkedCampaign, campaign_code}
-use Rattle.atl_state.specs.Marks.{no_marks}
-use Rattle.atl_state.specs.Good.{IsGood}
+use Rattle.atl_campaign.specs.Campaign.{CampaignValue, MarkedCampaign, campaign_code}
+use Rattle.atl_campaign.specs.Marks.{no_marks}
+use Rattle.atl_campaign.specs.Good.{IsGood}
 use Rattle.atl_store.specs.Keeps.{HoldsCampaign}
 use Rattle.atl_store.specs.WorldText.{world_text}
 

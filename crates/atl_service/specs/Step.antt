@@ -2,8 +2,8 @@
 use Rattle.std.specs.Prelude.{◌==◌, ◌+◌, ◌∷◌, [], ℕ, List, length, not, nat_eq, nat_lt, if◌then◌else◌, Option, Some, None, Result, Ok, Err, unwrap_or}
 use Rattle.std.specs.Cmp.Lexicographic.{pointwise}
 use Rattle.std.specs.FinMap.{get, len}
-use Rattle.atl_tables.specs.Names.{name_ok, pass_ok}
-use Rattle.atl_tables.specs.Worlds.{WorldValue}
+use Rattle.atl_world.specs.Names.{name_ok, pass_ok}
+use Rattle.atl_world.specs.Worlds.{WorldValue}
 use Rattle.atl_orders.specs.declared.fault.MailFault.{MailFault}
 use Rattle.atl_orders.specs.declared.fault.MailFault.TheVariants as mail
 use Rattle.atl_orders.specs.Mailing.{Reading, reading}
@@ -11,8 +11,8 @@ use Rattle.atl_records.specs.declared.records.Faction.{Faction}
 use Rattle.atl_records.specs.declared.records.JoinFault.{JoinFault}
 use Rattle.atl_records.specs.declared.records.JoinFault.TheVariants.{NameTaken, Full, Memory}
 use Rattle.atl_records.specs.Limits.{last_month}
-use Rattle.atl_state.specs.Campaign.{CampaignValue, with_mail}
-use Rattle.atl_state.specs.Joining.{join_of}
+use Rattle.atl_campaign.specs.Campaign.{CampaignValue, with_mail}
+use Rattle.atl_campaign.specs.Joining.{join_of}
 use Rattle.atl_service.specs.Closing.{closed, reported_with}
 use Rattle.atl_service.specs.declared.command.Command.{Command}
 use Rattle.atl_service.specs.declared.command.Command.TheVariants.{Join, Mail, Close, Report}

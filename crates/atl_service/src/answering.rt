@@ -3,9 +3,9 @@
 ghost use Rattle.std.specs.Prelude.{◌≡◌, length, false, Ok, Err, Some, IfOk, IfErr, OnOk, OnErr};
 ghost use Rattle.std.specs.FinMap as map;
 ghost use Rattle.atl_orders.specs.Mailing.{IsMailingOf};
-ghost use Rattle.atl_state.specs.Good.{IsGood, IsActive};
-ghost use Rattle.atl_state.specs.Marks.{no_marks};
-ghost use Rattle.atl_state.specs.Campaign.{with_mail};
+ghost use Rattle.atl_campaign.specs.Good.{IsGood, IsActive};
+ghost use Rattle.atl_campaign.specs.Marks.{no_marks};
+ghost use Rattle.atl_campaign.specs.Campaign.{with_mail};
 ghost use Rattle.atl_service.specs.Step.{faction_with_pass, step};
 ghost use Rattle.atl_service.specs.Answering.{Answers, Denies, GivesUp, IsNoFault, LeavesIdle, of_write, mail_error};
 ghost use Rattle.atl_service.specs.Causes.{OfCommand, HasCause};
@@ -13,10 +13,10 @@ ghost use Rattle.atl_service.specs.Causes.{OfCommand, HasCause};
 use crate::closing::close;
 use crate::command::{Answer, Command, Refusal};
 use crate::reporting::store_report;
+use atl_campaign::{Campaign, Faction, JoinFault};
 use atl_orders::{MailFault, Mailing, read_mailing};
-use atl_state::{Campaign, Faction, JoinFault};
 use atl_store::{WriteFault, write_join, write_mail};
-use atl_tables::{Sequence, Text, World, name_ok, pass_ok};
+use atl_world::{Sequence, Text, World, name_ok, pass_ok};
 use sqlite::{Alter, Connection};
 use std::alloc::{AllocError, Global};
 

@@ -4,10 +4,10 @@ ghost use Rattle.std.specs.Prelude.{◌≡◌, ◌<◌, ℕ, false, IfOk, IfErr,
 ghost use Rattle.std.specs.FinMap as map;
 ghost use Rattle.atl_orders.specs.declared.fault.MailFault.TheVariants.{Memory};
 ghost use Rattle.atl_orders.specs.Mailing.{IsMailingOf, IsReadWith};
-ghost use Rattle.atl_state.specs.Covers.{MarksChanges};
-ghost use Rattle.atl_state.specs.Good.{IsGood};
+ghost use Rattle.atl_campaign.specs.Covers.{MarksChanges};
+ghost use Rattle.atl_campaign.specs.Good.{IsGood};
 ghost use Rattle.atl_records.specs.Limits.{last_month};
-ghost use Rattle.atl_state.specs.Marks.{no_marks};
+ghost use Rattle.atl_campaign.specs.Marks.{no_marks};
 ghost use Rattle.atl_service.specs.declared.command.Command.TheVariants as command;
 ghost use Rattle.atl_service.specs.Answering.{Answers, GivesUp, LeavesIdle, of_write};
 ghost use Rattle.atl_service.specs.Causes.{OfCommand, HasCause};
@@ -17,11 +17,11 @@ ghost use Rattle.atl_service.specs.Step.{step};
 
 use crate::command::{Answer, Refusal};
 use crate::reporting::{MonthResult, report_to_all};
+use atl_campaign::{Campaign, LAST_MONTH};
 use atl_month::close_month;
 use atl_orders::{FaultyLine, MailFault, Mailing, read_mailing};
-use atl_state::{Campaign, LAST_MONTH};
 use atl_store::{WriteFault, write_changes};
-use atl_tables::{Numbered, Sequence, World};
+use atl_world::{Numbered, Sequence, World};
 use sqlite::{Alter, Connection};
 use std::alloc::{AllocError, Global};
 use std::mem;

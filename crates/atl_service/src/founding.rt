@@ -2,12 +2,13 @@
 //! "Founding".
 ghost use Rattle.std.specs.Prelude.{◌≤◌, Bool, IfOk, IfErr};
 ghost use Rattle.atl_records.specs.Limits.{most_things};
-ghost use Rattle.atl_state.specs.Good.{IsGood};
+ghost use Rattle.atl_campaign.specs.Good.{IsGood};
 ghost use Rattle.atl_service.specs.Found.{Prepares, MayBeCause};
 
 use crate::command::Cause;
-use atl_state::{Campaign, founded};
-use atl_tables::{World, pass_ok, read_world};
+use atl_campaign::{Campaign, founded};
+use atl_tables::read_world;
+use atl_world::{World, pass_ok};
 use std::alloc::Global;
 
 /// Makes the world of a text and the campaign founded in it; or returns the cause of the first

@@ -2,18 +2,18 @@
 //! "Reports".
 ghost use Rattle.std.specs.Prelude.{◌≡◌, OnOk, OnErr, unwrap_or, []};
 ghost use Rattle.std.specs.FinMap as map;
-ghost use Rattle.atl_state.specs.Covers.{MarksChanges};
-ghost use Rattle.atl_state.specs.Marking.{mark_report};
+ghost use Rattle.atl_campaign.specs.Covers.{MarksChanges};
+ghost use Rattle.atl_campaign.specs.Marking.{mark_report};
 ghost use Rattle.atl_report.specs.Sites.{AreSites};
 ghost use Rattle.atl_service.specs.Closing.{reported_to, reported_with};
 ghost use Rattle.atl_service.specs.Months.{reported_to_all};
 ghost use Rattle.atl_service.specs.Sorting.{AreSorted};
 
 use crate::sorting::{events_by_faction, list_of};
+use atl_campaign::{Campaign, Event};
 use atl_orders::FaultyLine;
 use atl_report::{Sites, report_text, sites_of, view_over};
-use atl_state::{Campaign, Event};
-use atl_tables::{Numbered, Sequence, Text, World, let_go};
+use atl_world::{Numbered, Sequence, Text, World, let_go};
 use std::alloc::{AllocError, Global};
 
 /// What the reports of a month need: the factions that get one, the faulty lines of each faction's

@@ -5,7 +5,7 @@ ghost use Rattle.std.specs.Option.{option_copied};
 ghost use Rattle.sqlite.specs.Held.{state};
 ghost use Rattle.sqlite.specs.State.{HasCleanDisk};
 ghost use Rattle.atl_tables.specs.World.{world_of};
-ghost use Rattle.atl_state.specs.Totals.{Balances};
+ghost use Rattle.atl_campaign.specs.Totals.{Balances};
 ghost use Rattle.atl_report.specs.Books.{books_of};
 ghost use Rattle.atl_service.specs.Found.{Founds, RefusesFounding};
 ghost use Rattle.atl_service.specs.Opened.{ComesBack, Opens, RefusesOpening};
@@ -14,10 +14,10 @@ ghost use Rattle.atl_service.specs.Upgraded.{UpgradesTo, RefusesUpgrade};
 use crate::answering::answer_to;
 use crate::command::{Answer, Cause, Command, Fault, Refused};
 use crate::founding::world_and_campaign;
+use atl_campaign::Campaign;
 use atl_report::books_text;
-use atl_state::Campaign;
 use atl_store::{create, load};
-use atl_tables::{World, let_go};
+use atl_world::{World, let_go};
 use sqlite::{Alter, Connection};
 use std::alloc::{AllocError, Global};
 use std::marker::Model;
@@ -53,8 +53,8 @@ impl<S: Alter> Model for Service<S> {
 }
 
 impl<S: Alter> Service<S> {
-    ghost use Rattle.atl_state.specs.Good.{IsGood};
-    ghost use Rattle.atl_state.specs.Marks.{no_marks};
+    ghost use Rattle.atl_campaign.specs.Good.{IsGood};
+    ghost use Rattle.atl_campaign.specs.Marks.{no_marks};
     ghost use Rattle.atl_store.specs.Keeps.{HoldsCampaign, IsLater, LeavesOthersAlone};
     ghost use Rattle.std.specs.Prelude.{Some, true};
     ghost use Rattle.atl_service.specs.Service.{IsService, text_in};

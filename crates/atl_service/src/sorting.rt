@@ -3,8 +3,8 @@ ghost use Rattle.std.specs.Prelude.{◌≡◌, IfOk, OnOk, unwrap_or, []};
 ghost use Rattle.std.specs.FinMap as map;
 ghost use Rattle.atl_service.specs.Sorting.{AreSorted, with_event};
 
-use atl_state::Event;
-use atl_tables::{Numbered, Sequence};
+use atl_campaign::Event;
+use atl_world::{Numbered, Sequence};
 use std::alloc::{AllocError, Global};
 
 /// Adds an event at the end of its faction's list. If memory runs out, the lists are no longer

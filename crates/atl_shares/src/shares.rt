@@ -1,6 +1,6 @@
 //! The shares of a pot among wants. See docs/RULES.md, "Shares".
 ghost use Rattle.std.specs.Prelude.{◌≡◌, ◌≤◌, ◌<◌, ◌*◌, ℕ, length, sum, min, slice_index, All, IfOk};
-ghost use Rattle.atl_tables.specs.Limits.{most_amount};
+ghost use Rattle.atl_world.specs.Limits.{most_amount};
 ghost use Rattle.atl_shares.specs.Share.{IsNearPart, SplittingKeepsOthers, shares};
 
 use std::alloc::{AllocError, Global};

@@ -7,7 +7,7 @@ use Rattle.sqlite.specs.Effect.{Database}
 use Rattle.sqlite.specs.Held.{Held, state}
 use Rattle.sqlite.specs.Order.{Row}
 use Rattle.sqlite.specs.State.{State, Shown}
-use Rattle.atl_tables.specs.declared.format.Format.{Format}
+use Rattle.atl_world.specs.declared.format.Format.{Format}
 use Rattle.atl_sql.specs.Tables.{HasTablesOf}
 use Rattle.atl_sql.specs.Stored.{Form, first_columns}
 use Rattle.atl_sql.specs.Reading.{IsAsked, ReadsRows, GivesTable}

@@ -20,8 +20,8 @@ use Rattle.sqlite_value.specs.Keys.{ascending}
 use Rattle.sqlite_schema.specs.Names.{place_of}
 use Rattle.sqlite_sql.specs.Term.{eval_all}
 use Rattle.sqlite_trees.specs.Tree.{Trees}
-use Rattle.atl_tables.specs.declared.format.Format.{Format}
-use Rattle.atl_tables.specs.declared.format.Format.TheVariants.{First, Second}
+use Rattle.atl_world.specs.declared.format.Format.{Format}
+use Rattle.atl_world.specs.declared.format.Format.TheVariants.{First, Second}
 use Rattle.atl_sql.specs.Tables.{Part, Own, Goods, Books, Markets, has_table, books_table, table_of, market_table, market_unique, all_tables, first_and, table_count_in, index_count_in, IsHarmless, HasTablesOf}
 use Rattle.atl_sql.specs.Reading.{listing_of}
 use Rattle.atl_sql.specs.Stored.{first_columns}

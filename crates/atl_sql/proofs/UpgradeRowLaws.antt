@@ -6,7 +6,7 @@ use Rattle.sqlite.specs.Term.{Term, lit, col}
 use Rattle.sqlite.specs.Listing.{understood}
 use Rattle.sqlite.specs.Order.{Row, column}
 use Rattle.sqlite_trees.specs.Tree.{rowid}
-use Rattle.atl_tables.specs.declared.format.Format.TheVariants.{First}
+use Rattle.atl_world.specs.declared.format.Format.TheVariants.{First}
 use Rattle.atl_sql.specs.Sets.{visible}
 use Rattle.atl_sql.specs.Tables.{campaign_table}
 use Rattle.atl_sql.specs.Shown.{CampaignRowValue, int, campaign_row, campaign_row_in, campaign_row_values}

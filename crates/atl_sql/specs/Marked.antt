@@ -5,9 +5,9 @@ use Rattle.std.specs.FinMap.{get}
 use Rattle.std.specs.FinSet.{FinSet, contains}
 use Rattle.sqlite.specs.declared.types.Value.TheVariants.{Int}
 use Rattle.sqlite.specs.Order.{Row}
-use Rattle.atl_tables.specs.Groups.{group_of}
+use Rattle.atl_world.specs.Groups.{group_of}
 use Rattle.atl_records.specs.Limits.{entry_count}
-use Rattle.atl_state.specs.Marks.{Marks, Things}
+use Rattle.atl_campaign.specs.Marks.{Marks, Things}
 use Rattle.atl_sql.specs.declared.rows.has.ThingKind.{ThingKind}
 use Rattle.atl_sql.specs.declared.rows.has.ThingKind.TheVariants.{Item, Skill}
 use Rattle.atl_sql.specs.Tables.{Part, Own, Factions, Regions, Units, Goods, Structures, Mail, Reports, Books, Markets}

@@ -1,7 +1,7 @@
 -- What putting the campaign row does to its table.
 use Rattle.std.specs.Prelude.{◌≡◌, List, ℕ, []}
 use Rattle.sqlite.specs.Effect.{Database}
-use Rattle.atl_tables.specs.declared.format.Format.TheVariants.{First}
+use Rattle.atl_world.specs.declared.format.Format.TheVariants.{First}
 use Rattle.atl_sql.specs.Sets.{rows_in, Is}
 use Rattle.atl_sql.specs.Tables.{campaign_table}
 use Rattle.atl_sql.specs.Shown.{CampaignRowValue, campaign_row, campaign_row_in}

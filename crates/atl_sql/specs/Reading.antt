@@ -10,8 +10,8 @@ use Rattle.sqlite.specs.State.{State, HasCleanDisk, Survives, Shown, FailsToQuer
 use Rattle.sqlite.specs.Table.{Table}
 use Rattle.atl_sql.specs.Sets.{rows_in, visible}
 use Rattle.atl_sql.specs.Statements.{column_names, selection, selection_with_ids}
-use Rattle.atl_tables.specs.declared.format.Format.{Format}
-use Rattle.atl_tables.specs.declared.format.Format.TheVariants.{First, Second}
+use Rattle.atl_world.specs.declared.format.Format.{Format}
+use Rattle.atl_world.specs.declared.format.Format.TheVariants.{First, Second}
 use Rattle.atl_sql.specs.Tables.{Part, Goods, Books, Markets, has_table, books_table, market_table, table_of, HasTablesOf}
 use Rattle.atl_sql.specs.Errors.{read_fault}
 use Rattle.atl_sql.specs.Stored.{Form, first_columns, AreTyped, IsTyped}

@@ -11,13 +11,13 @@ ghost use Rattle.atl_sql.specs.Rows.{RowsOf, lines_of, rows_for};
 ghost use Rattle.atl_sql.specs.Marked.{begins_marked, is_marked};
 ghost use Rattle.atl_sql.specs.Statements.{deletion};
 ghost use Rattle.atl_sql.specs.Writes.{WritesRow, WritesRows, TakesOut};
-ghost use Rattle.atl_tables.specs.Tracking.{Lists};
-ghost use Rattle.atl_state.specs.Marks.{Marks};
-ghost use Rattle.atl_state.specs.Campaign.{CampaignValue};
+ghost use Rattle.atl_world.specs.Tracking.{Lists};
+ghost use Rattle.atl_campaign.specs.Marks.{Marks};
+ghost use Rattle.atl_campaign.specs.Campaign.{CampaignValue};
 
 use crate::statement::run;
-use atl_state::Campaign;
-use atl_tables::{Entries, MarkedNumbers};
+use atl_campaign::Campaign;
+use atl_world::{Entries, MarkedNumbers};
 use sqlite::{Alter, Error, Transaction, params};
 
 /// A kind of thing with a number, such as factions: each has one row, whose key is the number.

@@ -10,7 +10,7 @@ pub(crate) mod keys;
 pub(crate) mod shapes;
 
 use crate::tables::{FIRST_INDEXES, FIRST_TABLES, INDEXES, TABLES, are_first_tables};
-use atl_tables::Format;
+use atl_world::Format;
 use indexes::are_indexes;
 use sqlite_schema::schema::{Schema, Table};
 

@@ -9,21 +9,21 @@ use Rattle.std.specs.FinMap.{entries, get, is_sorted}
 use Rattle.std.specs.FinMap.Entries.{below_all}
 use Rattle.std.proofs.lemmas.Bool.{and_parts, false≢true}
 use Rattle.std.proofs.lemmas.List.Sorted.{IsPermutation-sym, IsPermutation-trans}
-use Rattle.atl_state.specs.declared.parts.StoredBooks.{StoredBooks}
+use Rattle.atl_campaign.specs.declared.parts.StoredBooks.{StoredBooks}
 use Rattle.atl_records.specs.declared.books.Entry.{Entry}
 use Rattle.atl_records.specs.declared.books.Thing.{Thing}
 use Rattle.atl_records.specs.Books.{Account, BooksValue, account_cmp, amount_in, AreBooks, entry_index, entry_numbered, no_amounts, thing_at, thing_index}
-use Rattle.atl_state.specs.FromRows.{put_amounts}
-use Rattle.atl_state.specs.RowRules.{books_key, HaveKeys}
-use Rattle.atl_state.specs.Rows.{amounts_rows, books_row, books_rows}
-use Rattle.atl_state.proofs.BackLaws.{each_permuted, each_back, read_whole, apart_keys, keys_permuted, same_size}
+use Rattle.atl_campaign.specs.FromRows.{put_amounts}
+use Rattle.atl_campaign.specs.RowRules.{books_key, HaveKeys}
+use Rattle.atl_campaign.specs.Rows.{amounts_rows, books_row, books_rows}
+use Rattle.atl_campaign.proofs.BackLaws.{each_permuted, each_back, read_whole, apart_keys, keys_permuted, same_size}
 use Rattle.atl_records.proofs.AccountLaws.{account_total, at_place, same_account}
 use Rattle.atl_records.proofs.BookLaws.{AreBooks-no_amounts, same_books}
 use Rattle.atl_records.proofs.EveryEntryLaws.{entry_small, numbered_entry}
 use Rattle.atl_records.proofs.ListedLaws.{amounts_sorted, each_amount, amount_of_each}
 use Rattle.atl_state.proofs.BooksRowLaws.{IsBooked, books_order}
-use Rattle.atl_state.proofs.FromRowLaws.{put-books}
-use Rattle.atl_state.proofs.HasLaws.{same}
+use Rattle.atl_campaign.proofs.FromRowLaws.{put-books}
+use Rattle.atl_campaign.proofs.HasLaws.{same}
 
 -- ---- each row
 

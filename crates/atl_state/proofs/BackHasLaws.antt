@@ -8,16 +8,16 @@ use Rattle.std.specs.FinMap.{FinMap, get, entries}
 use Rattle.std.proofs.lemmas.Bool.{and_parts}
 use Rattle.std.proofs.lemmas.Bool.Decides.{nat_tests}
 use Rattle.atl_records.specs.Limits.{most_u32}
-use Rattle.atl_state.specs.declared.parts.StoredHas.{StoredHas}
+use Rattle.atl_campaign.specs.declared.parts.StoredHas.{StoredHas}
 use Rattle.atl_records.specs.declared.records.Unit.{Unit}
-use Rattle.atl_state.specs.FromRows.{as_u32, is_of, things_had}
+use Rattle.atl_campaign.specs.FromRows.{as_u32, is_of, things_had}
 use Rattle.atl_records.specs.Every.{Every}
-use Rattle.atl_state.specs.RowRules.{has_key, HaveKeys}
-use Rattle.atl_state.specs.Rows.{is_zero, has_row, rows_of_sort, held_rows, has_rows}
-use Rattle.atl_state.proofs.BackLaws.{each_permuted, read_whole, written_whole, apart_keys, append_each, each_appended, append_apart, flat_apart, entries_rise, keys_permuted, same_size}
-use Rattle.atl_state.proofs.AssemblyLaws.{is_same}
+use Rattle.atl_campaign.specs.RowRules.{has_key, HaveKeys}
+use Rattle.atl_campaign.specs.Rows.{is_zero, has_row, rows_of_sort, held_rows, has_rows}
+use Rattle.atl_campaign.proofs.BackLaws.{each_permuted, read_whole, written_whole, apart_keys, append_each, each_appended, append_apart, flat_apart, entries_rise, keys_permuted, same_size}
+use Rattle.atl_campaign.proofs.AssemblyLaws.{is_same}
 use Rattle.atl_state.proofs.BackGroupLaws.{groups_each, each_group, lines_each, each_line, lines_apart, amounts_back}
-use Rattle.atl_state.proofs.HasLaws.{IsKeyed, same, things_apart}
+use Rattle.atl_campaign.proofs.HasLaws.{IsKeyed, same, things_apart}
 
 -- a unit's items for sort 0, and its days of study for any other
 abbrev pub goods_of : ℕ → Unit → FinMap nat_cmp ℕ

@@ -6,18 +6,18 @@ use Rattle.std.specs.List.Sorted.{IsPermutation}
 use Rattle.std.specs.Ordering.{nat_cmp}
 use Rattle.std.specs.FinMap.{FinMap, get, entries}
 use Rattle.std.proofs.lemmas.Bool.Decides.{nat_tests}
-use Rattle.atl_tables.specs.declared.format.Format.TheVariants.{Second}
+use Rattle.atl_world.specs.declared.format.Format.TheVariants.{Second}
 use Rattle.atl_records.specs.Limits.{most_u32}
-use Rattle.atl_state.specs.declared.parts.StoredMarket.{StoredMarket}
+use Rattle.atl_campaign.specs.declared.parts.StoredMarket.{StoredMarket}
 use Rattle.atl_records.specs.declared.records.Region.{Region}
-use Rattle.atl_state.specs.FromRows.{as_u32, stocks_of}
+use Rattle.atl_campaign.specs.FromRows.{as_u32, stocks_of}
 use Rattle.atl_records.specs.Every.{Every}
-use Rattle.atl_state.specs.RowRules.{market_key, HaveKeys}
-use Rattle.atl_state.specs.Rows.{is_zero, market_row, stock_rows, market_rows}
-use Rattle.atl_state.proofs.AssemblyLaws.{is_same}
+use Rattle.atl_campaign.specs.RowRules.{market_key, HaveKeys}
+use Rattle.atl_campaign.specs.Rows.{is_zero, market_row, stock_rows, market_rows}
+use Rattle.atl_campaign.proofs.AssemblyLaws.{is_same}
 use Rattle.atl_state.proofs.BackGroupLaws.{groups_each, each_group, lines_each, each_line, lines_apart, amounts_back}
-use Rattle.atl_state.proofs.BackLaws.{each_permuted, read_whole, written_whole, apart_keys, flat_apart, entries_rise, keys_permuted, same_size}
-use Rattle.atl_state.proofs.HasLaws.{same}
+use Rattle.atl_campaign.proofs.BackLaws.{each_permuted, read_whole, written_whole, apart_keys, flat_apart, entries_rise, keys_permuted, same_size}
+use Rattle.atl_campaign.proofs.HasLaws.{same}
 use Rattle.atl_state.proofs.StockRowLaws.{IsKeyed, is_in, items_apart}
 
 -- whether a row's stock is 0

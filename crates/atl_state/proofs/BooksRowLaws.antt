@@ -12,18 +12,18 @@ use Rattle.std.proofs.lemmas.Bool.{false≢true}
 use Rattle.std.proofs.lemmas.Bool.Decides.{nat_tests}
 use Rattle.std.proofs.lemmas.List.{append-nil}
 use Rattle.std.proofs.lemmas.List.Sorted.{IsPermutation-map, IsPermutation-refl, IsPermutation-sym, IsPermutation-trans, IsPermutation-append_left, IsPermutation-append_right, IsPermutation-middle}
-use Rattle.atl_state.specs.declared.parts.StoredBooks.{StoredBooks}
+use Rattle.atl_campaign.specs.declared.parts.StoredBooks.{StoredBooks}
 use Rattle.atl_records.specs.Books.{Account, BooksValue, account_cmp, AreBooks, entry_index, entry_numbered, no_amounts, thing_at, thing_index, with_amount}
-use Rattle.atl_state.specs.FromRows.{as_u32, with_books_row, put_amounts}
+use Rattle.atl_campaign.specs.FromRows.{as_u32, with_books_row, put_amounts}
 use Rattle.atl_records.specs.Limits.{entry_count}
-use Rattle.atl_state.specs.RowRules.{Key, books_key}
-use Rattle.atl_state.specs.Rows.{amounts_rows, books_row, books_rows}
+use Rattle.atl_campaign.specs.RowRules.{Key, books_key}
+use Rattle.atl_campaign.specs.Rows.{amounts_rows, books_row, books_rows}
 use Rattle.atl_records.proofs.AccountLaws.{account_total, cases_account, place_at}
 use Rattle.atl_records.proofs.BookLaws.{AreBooks-no_amounts, AreBooks-with_amount, get-with_amount, listed, zero_not}
 use Rattle.atl_records.proofs.EveryEntryLaws.{entry_at, numbered_entry}
 use Rattle.atl_records.proofs.EveryLaws.{none_some}
 use Rattle.atl_records.proofs.ListedLaws.{entries-none}
-use Rattle.atl_state.proofs.HasLaws.{IsWhole, same, ties_itself}
+use Rattle.atl_campaign.proofs.HasLaws.{IsWhole, same, ties_itself}
 
 -- ---- one more amount
 

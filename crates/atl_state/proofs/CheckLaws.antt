@@ -4,33 +4,33 @@ use Rattle.std.specs.Prelude.{pos, unwrap_or, Some, None}
 use Rattle.std.specs.Bool.{Decides}
 use Rattle.std.proofs.lemmas.Bool.{and_parts, cases_eq, false≢true}
 use Rattle.std.specs.FinMap.{empty, get}
-use Rattle.atl_tables.specs.declared.format.Format.{Format}
-use Rattle.atl_tables.specs.declared.format.Format.TheVariants.{First, Second}
-use Rattle.atl_tables.specs.Worlds.{WorldValue, IsWorld}
+use Rattle.atl_world.specs.declared.format.Format.{Format}
+use Rattle.atl_world.specs.declared.format.Format.TheVariants.{First, Second}
+use Rattle.atl_world.specs.Worlds.{WorldValue, IsWorld}
 use Rattle.atl_state.specs.declared.checking.Rule.{Rule}
 use Rattle.atl_state.specs.declared.checking.Rule.TheVariants.{OneRow, Ranges, Names, Known, Next, Days, Gone, Owners, Water, Guards, Books, Mail}
-use Rattle.atl_state.specs.declared.parts.Parts.{Parts}
+use Rattle.atl_campaign.specs.declared.parts.Parts.{Parts}
 use Rattle.atl_records.specs.declared.books.Entry.{Entry}
 use Rattle.atl_records.specs.declared.books.Thing.{Thing}
-use Rattle.atl_state.specs.declared.parts.StoredBooks.{StoredBooks}
-use Rattle.atl_state.specs.declared.parts.StoredCampaignRow.{StoredCampaignRow}
+use Rattle.atl_campaign.specs.declared.parts.StoredBooks.{StoredBooks}
+use Rattle.atl_campaign.specs.declared.parts.StoredCampaignRow.{StoredCampaignRow}
 use Rattle.atl_state.specs.Checking.{rule_number, KeepsRule, KeepsRulesBelow, IsFirstBroken, Fits}
 use Rattle.std.specs.List.{list_all, AllByRecursion}
 use Rattle.atl_records.specs.Books.{BooksValue, amount_in, AreBooks, entry_index, no_amounts}
-use Rattle.atl_state.specs.Founding.{things_of}
-use Rattle.atl_state.specs.FromRows.{as_u32, stocks_of, region_of, put_amounts, campaign_row_of, campaign_of}
+use Rattle.atl_campaign.specs.Founding.{things_of}
+use Rattle.atl_campaign.specs.FromRows.{as_u32, stocks_of, region_of, put_amounts, campaign_row_of, campaign_of}
 use Rattle.atl_records.specs.Every.{Every, IsThere}
-use Rattle.atl_state.specs.Good.{AreOfMarkets, HasNoStocks, IsGood}
-use Rattle.atl_state.specs.RowRules.{is_one_campaign_row, is_entry_in, is_booked, campaign_row_in_range, people_in_range, region_in_range, structure_in_range, books_in_range, books_bound, market_in_range}
-use Rattle.atl_state.specs.Totals.{IsCountable}
+use Rattle.atl_campaign.specs.Good.{AreOfMarkets, HasNoStocks, IsGood}
+use Rattle.atl_campaign.specs.RowRules.{is_one_campaign_row, is_entry_in, is_booked, campaign_row_in_range, people_in_range, region_in_range, structure_in_range, books_in_range, books_bound, market_in_range}
+use Rattle.atl_campaign.specs.Totals.{IsCountable}
 use Rattle.atl_records.specs.Limits.{first_entry_count}
-use Rattle.atl_state.specs.Rows.{books_rows, AreRowsOf}
+use Rattle.atl_campaign.specs.Rows.{books_rows, AreRowsOf}
 use Rattle.atl_state.proofs.BackBooksLaws.{line_at}
-use Rattle.atl_state.proofs.BackLaws.{each_back, read_whole}
+use Rattle.atl_campaign.proofs.BackLaws.{each_back, read_whole}
 use Rattle.atl_records.proofs.EveryEntryLaws.{entry_small}
-use Rattle.atl_state.proofs.FromRowLaws.{by_number-every, from_le, AreInRange-said, HaveMen-said}
+use Rattle.atl_campaign.proofs.FromRowLaws.{by_number-every, from_le, AreInRange-said, HaveMen-said}
 use Rattle.atl_state.proofs.NamedLaws.{AreNamed-said, AreAmountsWithin-said}
-use Rattle.atl_state.proofs.OrderLaws.{each_passes}
+use Rattle.atl_campaign.proofs.OrderLaws.{each_passes}
 use Rattle.atl_state.proofs.SaidLaws.{RowsKeep, ranges, none_in_first, books_said, rows_said}
 
 -- the rule with a number from 1 to 12; the last rule for any other number

@@ -6,43 +6,43 @@ use Rattle.std.specs.List.Sorted.{IsPermutation}
 use Rattle.std.specs.Ordering.{nat_cmp}
 use Rattle.std.specs.FinMap.{FinMap, get, entries, len}
 use Rattle.std.proofs.lemmas.List.Sorted.{length_permutation}
-use Rattle.atl_tables.specs.Limits.{most_amount, last_region}
-use Rattle.atl_tables.specs.Worlds.{WorldValue, IsWorld}
-use Rattle.atl_tables.specs.ByNumber.{market_of, size_of}
-use Rattle.atl_tables.specs.declared.format.Format.{Format}
-use Rattle.atl_tables.specs.declared.format.Format.TheVariants.{First, Second}
+use Rattle.atl_world.specs.Limits.{most_amount, last_region}
+use Rattle.atl_world.specs.Worlds.{WorldValue, IsWorld}
+use Rattle.atl_world.specs.ByNumber.{market_of, size_of}
+use Rattle.atl_world.specs.declared.format.Format.{Format}
+use Rattle.atl_world.specs.declared.format.Format.TheVariants.{First, Second}
 use Rattle.atl_orders.specs.Limits.{last_faction}
-use Rattle.atl_state.specs.declared.parts.Parts.{Parts}
-use Rattle.atl_state.specs.declared.parts.StoredCampaignRow.{StoredCampaignRow}
-use Rattle.atl_state.specs.declared.parts.StoredHas.{StoredHas}
-use Rattle.atl_state.specs.declared.parts.StoredMarket.{StoredMarket}
+use Rattle.atl_campaign.specs.declared.parts.Parts.{Parts}
+use Rattle.atl_campaign.specs.declared.parts.StoredCampaignRow.{StoredCampaignRow}
+use Rattle.atl_campaign.specs.declared.parts.StoredHas.{StoredHas}
+use Rattle.atl_campaign.specs.declared.parts.StoredMarket.{StoredMarket}
 use Rattle.atl_records.specs.declared.records.Faction.{Faction}
 use Rattle.atl_records.specs.declared.records.Region.{Region}
 use Rattle.atl_records.specs.declared.records.Structure.{Structure}
 use Rattle.atl_records.specs.declared.records.Unit.{Unit}
 use Rattle.atl_records.specs.Books.{no_amounts}
 use Rattle.atl_state.specs.Checking.{Fits}
-use Rattle.atl_state.specs.Founding.{things_of}
-use Rattle.atl_state.specs.FromRows.{as_u32, as_u16, is_set, faction_of, stocks_of, region_of, structure_of, unit_of, by_number, put_amounts, things_had, no_campaign_row, campaign_row_of, campaign_of}
+use Rattle.atl_campaign.specs.Founding.{things_of}
+use Rattle.atl_campaign.specs.FromRows.{as_u32, as_u16, is_set, faction_of, stocks_of, region_of, structure_of, unit_of, by_number, put_amounts, things_had, no_campaign_row, campaign_row_of, campaign_of}
 use Rattle.atl_records.specs.Every.{Every, IsThere}
-use Rattle.atl_state.specs.Good.{IsNumbered, IsGood}
+use Rattle.atl_campaign.specs.Good.{IsNumbered, IsGood}
 use Rattle.atl_records.specs.Holdings.{AreAmounts}
 use Rattle.atl_records.specs.Limits.{last_month, last_unit, men_limit, holding_limit, most_structures, most_days, most_u16, most_u32}
-use Rattle.atl_state.specs.RowRules.{one_key, market_key, HaveKeys}
-use Rattle.atl_state.specs.Rows.{flag, rows_by, campaign_row, faction_row, region_row, unit_row, structure_row, mail_row, report_row, has_rows, books_rows, market_row, market_rows, rows_of, AreRowsOf}
-use Rattle.atl_state.specs.Campaign.{CampaignValue}
-use Rattle.atl_state.proofs.AssemblyLaws.{min_small}
-use Rattle.atl_state.proofs.BackLaws.{each_permuted, read_whole, written_whole, map_back, rows_so, rows_apart, entries_rise, keys_permuted, apart_numbers}
+use Rattle.atl_campaign.specs.RowRules.{one_key, market_key, HaveKeys}
+use Rattle.atl_campaign.specs.Rows.{flag, rows_by, campaign_row, faction_row, region_row, unit_row, structure_row, mail_row, report_row, has_rows, books_rows, market_row, market_rows, rows_of, AreRowsOf}
+use Rattle.atl_campaign.specs.Campaign.{CampaignValue}
+use Rattle.atl_campaign.proofs.AssemblyLaws.{min_small}
+use Rattle.atl_campaign.proofs.BackLaws.{each_permuted, read_whole, written_whole, map_back, rows_so, rows_apart, entries_rise, keys_permuted, apart_numbers}
 use Rattle.atl_state.proofs.BackBooksLaws.{books_back}
 use Rattle.atl_state.proofs.BackHasLaws.{AreHad, goods_of, goods_back}
 use Rattle.atl_state.proofs.BackStockRowLaws.{AreStocked, stocks_each, market_keys, stocks_back}
 use Rattle.atl_records.proofs.EveryLaws.{every-from_each}
-use Rattle.atl_state.proofs.HasLaws.{IsWhole, same}
-use Rattle.atl_state.proofs.OrderLaws.{Apart-keys}
-use Rattle.atl_state.proofs.RuleLaws.{each_numbered, every_before}
-use Rattle.atl_state.proofs.StateLaws.{same_state}
+use Rattle.atl_campaign.proofs.HasLaws.{IsWhole, same}
+use Rattle.atl_campaign.proofs.OrderLaws.{Apart-keys}
+use Rattle.atl_campaign.proofs.RuleLaws.{each_numbered, every_before}
+use Rattle.atl_campaign.proofs.StateLaws.{same_state}
 use Rattle.atl_state.proofs.SaidLaws.{one_apart, none_or_below, small_size, small_limit}
-use Rattle.atl_state.proofs.MarketLaws.{market_known}
+use Rattle.atl_campaign.proofs.MarketLaws.{market_known}
 
 -- ---- numbers in a good campaign
 

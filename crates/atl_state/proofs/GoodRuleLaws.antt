@@ -13,44 +13,44 @@ use Rattle.std.proofs.lemmas.Int.{ints}
 use Rattle.std.proofs.lemmas.Map.Keys.{IsDistinct-IsPermutation}
 use Rattle.std.proofs.lemmas.Map.Text.{is_eq-slice_cmp}
 use Rattle.std.proofs.lemmas.Slice.Eq.{bytes_eq-Decides}
-use Rattle.atl_tables.specs.Limits.{most_amount, most_regions}
-use Rattle.atl_tables.specs.Names.{name_ok, pass_ok}
-use Rattle.atl_tables.specs.Worlds.{WorldValue, IsWorld}
-use Rattle.atl_tables.specs.ByNumber.{market_of, size_of}
-use Rattle.atl_tables.specs.declared.format.Format.{Format}
-use Rattle.atl_tables.specs.declared.format.Format.TheVariants.{First, Second}
+use Rattle.atl_world.specs.Limits.{most_amount, most_regions}
+use Rattle.atl_world.specs.Names.{name_ok, pass_ok}
+use Rattle.atl_world.specs.Worlds.{WorldValue, IsWorld}
+use Rattle.atl_world.specs.ByNumber.{market_of, size_of}
+use Rattle.atl_world.specs.declared.format.Format.{Format}
+use Rattle.atl_world.specs.declared.format.Format.TheVariants.{First, Second}
 use Rattle.atl_orders.specs.Limits.{last_faction}
 use Rattle.atl_state.specs.declared.checking.CheckFault.{CheckFault}
 use Rattle.atl_state.specs.declared.checking.CheckFault.TheVariants.{Damaged, Memory}
 use Rattle.atl_state.specs.declared.checking.Rule.{Rule}
 use Rattle.atl_state.specs.declared.checking.Rule.TheVariants.{OneRow, Ranges, Names, Known, Next, Days, Gone, Owners, Water, Guards, Books, Mail}
-use Rattle.atl_state.specs.declared.parts.Parts.{Parts}
-use Rattle.atl_state.specs.declared.parts.StoredCampaignRow.{StoredCampaignRow}
-use Rattle.atl_state.specs.declared.parts.StoredFaction.{StoredFaction}
+use Rattle.atl_campaign.specs.declared.parts.Parts.{Parts}
+use Rattle.atl_campaign.specs.declared.parts.StoredCampaignRow.{StoredCampaignRow}
+use Rattle.atl_campaign.specs.declared.parts.StoredFaction.{StoredFaction}
 use Rattle.atl_records.specs.declared.records.Faction.{Faction}
 use Rattle.atl_records.specs.Books.{amount_in, entry_index, thing_index, IsWithin}
 use Rattle.atl_state.specs.Checking.{KeepsRule, IsWithoutMarkets, Fits, Checks, GivesBack}
 use Rattle.atl_records.specs.Every.{EachOf}
 use Rattle.atl_state.specs.Deciding.{JoinedNamesDiffer}
-use Rattle.atl_state.specs.Founding.{things_of}
-use Rattle.atl_state.specs.FromRows.{as_u32, faction_of, region_of, structure_of, unit_of, campaign_row_of, campaign_of}
-use Rattle.atl_state.specs.Good.{AreKnown, AreNumbered, AreDays, GoneHaveNone, UnitlessAreGone, AreOwned, AreAfloat, AreOfOneFaction, guards, IsMail, AreReported, amount_bound, IsGood}
+use Rattle.atl_campaign.specs.Founding.{things_of}
+use Rattle.atl_campaign.specs.FromRows.{as_u32, faction_of, region_of, structure_of, unit_of, campaign_row_of, campaign_of}
+use Rattle.atl_campaign.specs.Good.{AreKnown, AreNumbered, AreDays, GoneHaveNone, UnitlessAreGone, AreOwned, AreAfloat, AreOfOneFaction, guards, IsMail, AreReported, amount_bound, IsGood}
 use Rattle.atl_records.specs.Limits.{entry_count, first_entry_count, entries_in, holding_limit, last_month, last_unit, men_limit, most_in_joining, most_in_month, most_structures, most_units}
-use Rattle.atl_state.specs.RowRules.{is_from, is_one_campaign_row, are_of_format, is_within, campaign_row_in_range, faction_in_range, region_in_range, unit_in_range, has_in_range, structure_in_range, books_in_range, books_bound, market_in_range, are_few, AreKeyed, AreRowsInRange, faction_named, AreRowsNamed, is_of_unit, is_of_market, is_entry_in, is_booked}
-use Rattle.atl_state.specs.Rows.{flag, rows_by, campaign_row, faction_row, region_row, unit_row, structure_row, mail_row, report_row, has_row, has_rows, books_rows, market_rows, is_zero, AreRowsOf}
-use Rattle.atl_state.specs.Stocks.{stock_limit}
-use Rattle.atl_state.specs.Campaign.{CampaignValue, MarkedCampaign}
-use Rattle.atl_state.specs.Totals.{Balances}
+use Rattle.atl_campaign.specs.RowRules.{is_from, is_one_campaign_row, are_of_format, is_within, campaign_row_in_range, faction_in_range, region_in_range, unit_in_range, has_in_range, structure_in_range, books_in_range, books_bound, market_in_range, are_few, AreKeyed, AreRowsInRange, faction_named, AreRowsNamed, is_of_unit, is_of_market, is_entry_in, is_booked}
+use Rattle.atl_campaign.specs.Rows.{flag, rows_by, campaign_row, faction_row, region_row, unit_row, structure_row, mail_row, report_row, has_row, has_rows, books_rows, market_rows, is_zero, AreRowsOf}
+use Rattle.atl_campaign.specs.Stocks.{stock_limit}
+use Rattle.atl_campaign.specs.Campaign.{CampaignValue, MarkedCampaign}
+use Rattle.atl_campaign.specs.Totals.{Balances}
 use Rattle.atl_records.specs.declared.books.Entry.{Entry}
 use Rattle.atl_records.specs.declared.books.Thing.{Thing}
 use Rattle.atl_records.proofs.BookLaws.{zero_not}
 use Rattle.atl_records.proofs.EveryEntryLaws.{entry_small}
-use Rattle.atl_state.proofs.BackLaws.{each_permuted, all_pass, read_whole, rows_pass, count_rows}
+use Rattle.atl_campaign.proofs.BackLaws.{each_permuted, all_pass, read_whole, rows_pass, count_rows}
 use Rattle.atl_state.proofs.BackBooksLaws.{amount_is, lines_each, books_keys}
 use Rattle.atl_state.proofs.BackHasLaws.{has_each, has_keys, goods_of}
 use Rattle.atl_state.proofs.DifferLaws.{entries_differ}
 use Rattle.atl_state.proofs.GoodRowLaws as row
-use Rattle.atl_state.proofs.KeyLaws.{IsDistinct-map}
+use Rattle.atl_campaign.proofs.KeyLaws.{IsDistinct-map}
 
 -- ---- tests that pass
 

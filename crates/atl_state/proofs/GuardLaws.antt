@@ -7,12 +7,12 @@ use Rattle.std.specs.declared.cmp.Ordering.TheVariants.{Less, Equal, Greater}
 use Rattle.std.specs.Option.{option_or}
 use Rattle.std.specs.Ordering.{nat_cmp, is_eq}
 use Rattle.std.specs.FinMap.{FinMap, get, find, entries, get-entries, nat_cmp-IsAntisymmetric}
-use Rattle.atl_tables.specs.Sums.{numbers_where}
-use Rattle.atl_tables.proofs.SumLaws.{chosen-cons}
+use Rattle.atl_world.specs.Sums.{numbers_where}
+use Rattle.atl_world.proofs.SumLaws.{chosen-cons}
 use Rattle.atl_records.specs.declared.records.Unit.{Unit}
-use Rattle.atl_state.specs.Campaign.{CampaignValue, numbers_in}
+use Rattle.atl_campaign.specs.Campaign.{CampaignValue, numbers_in}
 use Rattle.atl_records.specs.Every.{Every, IsThere}
-use Rattle.atl_state.specs.Good.{AreOfOneFaction, guards}
+use Rattle.atl_campaign.specs.Good.{AreOfOneFaction, guards}
 use Rattle.atl_state.specs.Deciding.{agree, guard_of, one_holder}
 use Rattle.atl_records.proofs.EveryLaws.{none_some, passes-listed}
 

@@ -8,28 +8,28 @@ use Rattle.std.specs.Cmp.Lexicographic.{slice_cmp, nat_list_cmp_total}
 use Rattle.std.specs.FinMap.{FinMap, get}
 use Rattle.std.proofs.lemmas.Bool.{and_parts, false≢true}
 use Rattle.std.proofs.lemmas.Int.{ints}
-use Rattle.atl_tables.specs.Names.{name_ok, pass_ok}
-use Rattle.atl_tables.specs.Worlds.{WorldValue}
-use Rattle.atl_tables.specs.declared.format.Format.{Format}
+use Rattle.atl_world.specs.Names.{name_ok, pass_ok}
+use Rattle.atl_world.specs.Worlds.{WorldValue}
+use Rattle.atl_world.specs.declared.format.Format.{Format}
 use Rattle.atl_records.specs.Limits.{most_in_joining, most_in_month}
-use Rattle.atl_state.specs.declared.parts.Parts.{Parts}
-use Rattle.atl_state.specs.declared.parts.StoredFaction.{StoredFaction}
-use Rattle.atl_state.specs.declared.parts.StoredUnit.{StoredUnit}
-use Rattle.atl_state.specs.declared.parts.StoredStructure.{StoredStructure}
-use Rattle.atl_state.specs.declared.parts.StoredBooks.{StoredBooks}
+use Rattle.atl_campaign.specs.declared.parts.Parts.{Parts}
+use Rattle.atl_campaign.specs.declared.parts.StoredFaction.{StoredFaction}
+use Rattle.atl_campaign.specs.declared.parts.StoredUnit.{StoredUnit}
+use Rattle.atl_campaign.specs.declared.parts.StoredStructure.{StoredStructure}
+use Rattle.atl_campaign.specs.declared.parts.StoredBooks.{StoredBooks}
 use Rattle.atl_records.specs.declared.records.Faction.{Faction}
 use Rattle.atl_records.specs.declared.books.Entry.{Entry}
 use Rattle.atl_records.specs.declared.books.Thing.{Thing}
 use Rattle.atl_records.specs.Books.{account_cmp, amount_in, AreBooks, BooksValue, IsWithin, no_amounts, with_amount}
-use Rattle.atl_state.specs.Founding.{things_of}
-use Rattle.atl_state.specs.FromRows.{as_u32, faction_of, structure_of, unit_of, by_number, put_amounts, campaign_row_of, campaign_of}
-use Rattle.atl_state.specs.Good.{AreNamed, AreAmountsWithin, amount_bound}
-use Rattle.atl_state.specs.RowRules.{faction_named, books_in_range, books_bound, is_within, AreJoinedNamesDistinct, AreRowsNamed}
-use Rattle.atl_state.specs.Rows.{is_zero}
+use Rattle.atl_campaign.specs.Founding.{things_of}
+use Rattle.atl_campaign.specs.FromRows.{as_u32, faction_of, structure_of, unit_of, by_number, put_amounts, campaign_row_of, campaign_of}
+use Rattle.atl_campaign.specs.Good.{AreNamed, AreAmountsWithin, amount_bound}
+use Rattle.atl_campaign.specs.RowRules.{faction_named, books_in_range, books_bound, is_within, AreJoinedNamesDistinct, AreRowsNamed}
+use Rattle.atl_campaign.specs.Rows.{is_zero}
 use Rattle.atl_records.proofs.BookLaws.{amount-no_amounts, amount-with_amount, AreBooks-no_amounts, AreBooks-with_amount}
 use Rattle.atl_state.proofs.BooksRowLaws.{IsBooked, account_there, with_booked_row}
-use Rattle.atl_state.proofs.FromRowLaws.{by_number-every, from_le}
-use Rattle.atl_state.proofs.OrderLaws.{HasNumber, row_of, rows_found, same_count, each_passes}
+use Rattle.atl_campaign.proofs.FromRowLaws.{by_number-every, from_le}
+use Rattle.atl_campaign.proofs.OrderLaws.{HasNumber, row_of, rows_found, same_count, each_passes}
 use Rattle.atl_state.proofs.SaidLaws.{RowsKeep, factions_apart, all_booked, ranges}
 
 -- ---- joined names

@@ -9,45 +9,45 @@ use Rattle.std.specs.FinMap.{FinMap, get, entries}
 use Rattle.std.proofs.lemmas.Bool.{and_parts, false≢true, not-true}
 use Rattle.std.proofs.lemmas.Bool.Decides.{nat_tests}
 use Rattle.std.proofs.lemmas.List.Sorted.{IsPermutation-refl}
-use Rattle.atl_tables.specs.Formats.{format_number}
-use Rattle.atl_tables.specs.Limits.{most_amount, most_size, last_region}
-use Rattle.atl_tables.specs.Worlds.{WorldValue, IsWorld}
-use Rattle.atl_tables.specs.declared.format.Format.{Format}
-use Rattle.atl_tables.specs.declared.format.Format.TheVariants.{First, Second}
-use Rattle.atl_tables.specs.declared.world.Kind.{Kind}
-use Rattle.atl_tables.specs.declared.world.Market.{Market}
-use Rattle.atl_tables.specs.declared.world.RegionPlan.{RegionPlan}
-use Rattle.atl_tables.specs.ByNumber.{market_of, size_of}
+use Rattle.atl_world.specs.Formats.{format_number}
+use Rattle.atl_world.specs.Limits.{most_amount, most_size, last_region}
+use Rattle.atl_world.specs.Worlds.{WorldValue, IsWorld}
+use Rattle.atl_world.specs.declared.format.Format.{Format}
+use Rattle.atl_world.specs.declared.format.Format.TheVariants.{First, Second}
+use Rattle.atl_world.specs.declared.world.Kind.{Kind}
+use Rattle.atl_world.specs.declared.world.Market.{Market}
+use Rattle.atl_world.specs.declared.world.RegionPlan.{RegionPlan}
+use Rattle.atl_world.specs.ByNumber.{market_of, size_of}
 use Rattle.atl_orders.specs.Limits.{last_faction}
-use Rattle.atl_state.specs.declared.parts.Parts.{Parts}
-use Rattle.atl_state.specs.declared.parts.StoredCampaignRow.{StoredCampaignRow}
-use Rattle.atl_state.specs.declared.parts.StoredFaction.{StoredFaction}
-use Rattle.atl_state.specs.declared.parts.StoredRegion.{StoredRegion}
-use Rattle.atl_state.specs.declared.parts.StoredUnit.{StoredUnit}
-use Rattle.atl_state.specs.declared.parts.StoredHas.{StoredHas}
-use Rattle.atl_state.specs.declared.parts.StoredStructure.{StoredStructure}
-use Rattle.atl_state.specs.declared.parts.StoredBooks.{StoredBooks}
-use Rattle.atl_state.specs.declared.parts.StoredMarket.{StoredMarket}
+use Rattle.atl_campaign.specs.declared.parts.Parts.{Parts}
+use Rattle.atl_campaign.specs.declared.parts.StoredCampaignRow.{StoredCampaignRow}
+use Rattle.atl_campaign.specs.declared.parts.StoredFaction.{StoredFaction}
+use Rattle.atl_campaign.specs.declared.parts.StoredRegion.{StoredRegion}
+use Rattle.atl_campaign.specs.declared.parts.StoredUnit.{StoredUnit}
+use Rattle.atl_campaign.specs.declared.parts.StoredHas.{StoredHas}
+use Rattle.atl_campaign.specs.declared.parts.StoredStructure.{StoredStructure}
+use Rattle.atl_campaign.specs.declared.parts.StoredBooks.{StoredBooks}
+use Rattle.atl_campaign.specs.declared.parts.StoredMarket.{StoredMarket}
 use Rattle.atl_records.specs.declared.records.Region.{Region}
 use Rattle.atl_records.specs.declared.records.Unit.{Unit}
 use Rattle.atl_records.specs.Books.{no_amounts}
-use Rattle.atl_state.specs.Founding.{things_of}
-use Rattle.atl_state.specs.FromRows.{as_u32, as_u16, is_set, is_of, faction_of, region_of, structure_of, unit_of, things_had, by_number, put_amounts, no_campaign_row, campaign_row_of, campaign_of}
+use Rattle.atl_campaign.specs.Founding.{things_of}
+use Rattle.atl_campaign.specs.FromRows.{as_u32, as_u16, is_set, is_of, faction_of, region_of, structure_of, unit_of, things_had, by_number, put_amounts, no_campaign_row, campaign_row_of, campaign_of}
 use Rattle.atl_records.specs.Every.{Every, IsThere}
-use Rattle.atl_state.specs.Good.{IsPlaced, IsBuilt, AreKnown, AreDays}
+use Rattle.atl_campaign.specs.Good.{IsPlaced, IsBuilt, AreKnown, AreDays}
 use Rattle.atl_records.specs.Limits.{last_month, last_unit, men_limit, holding_limit, most_structures, entry_count, entries_in, most_u16, most_u32}
-use Rattle.atl_state.specs.RowRules.{one_key, is_from, is_one_campaign_row, are_of_format, campaign_row_in_range, faction_in_range, region_in_range, unit_in_range, has_in_range, structure_in_range, books_in_range, books_bound, market_in_range, is_within, faction_key, region_key, unit_key, structure_key, mail_key, report_key, AreRowsInRange, is_of_unit, is_of_market, is_entry_in, is_booked}
-use Rattle.atl_state.specs.Rows.{flag, is_zero, rows_by, faction_row, region_row, unit_row, structure_row, mail_row, report_row, has_rows, books_rows, market_rows, AreRowsOf, rows_of}
-use Rattle.atl_state.specs.Stocks.{stock_limit}
-use Rattle.atl_state.proofs.AssemblyLaws.{from_range}
+use Rattle.atl_campaign.specs.RowRules.{one_key, is_from, is_one_campaign_row, are_of_format, campaign_row_in_range, faction_in_range, region_in_range, unit_in_range, has_in_range, structure_in_range, books_in_range, books_bound, market_in_range, is_within, faction_key, region_key, unit_key, structure_key, mail_key, report_key, AreRowsInRange, is_of_unit, is_of_market, is_entry_in, is_booked}
+use Rattle.atl_campaign.specs.Rows.{flag, is_zero, rows_by, faction_row, region_row, unit_row, structure_row, mail_row, report_row, has_rows, books_rows, market_rows, AreRowsOf, rows_of}
+use Rattle.atl_campaign.specs.Stocks.{stock_limit}
+use Rattle.atl_campaign.proofs.AssemblyLaws.{from_range}
 use Rattle.atl_records.proofs.BookLaws.{not_zero}
 use Rattle.atl_state.proofs.BooksRowLaws.{IsBooked, booked_row, books_order}
-use Rattle.atl_state.proofs.FromRowLaws.{in_range, from_le, by_number-every, unit_ranges, number_ranges, head_ranges, NumberRanges}
-use Rattle.atl_state.proofs.GroupLaws.{unkept}
-use Rattle.atl_state.proofs.HasLaws.{IsWhole, IsKeyed, IsExact, IsOfUnits, same, ties_itself, things_apart, has_order}
-use Rattle.atl_state.proofs.MarketLaws.{market_known}
+use Rattle.atl_campaign.proofs.FromRowLaws.{in_range, from_le, by_number-every, unit_ranges, number_ranges, head_ranges, NumberRanges}
+use Rattle.atl_campaign.proofs.GroupLaws.{unkept}
+use Rattle.atl_campaign.proofs.HasLaws.{IsWhole, IsKeyed, IsExact, IsOfUnits, same, ties_itself, things_apart, has_order}
+use Rattle.atl_campaign.proofs.MarketLaws.{market_known}
 use Rattle.atl_state.proofs.StockRowLaws as market
-use Rattle.atl_state.proofs.OrderLaws.{Apart, HasNumber, Apart-keys, rows_order, rows_there, rows_found, each_row, row_of, each_passes, each_with, each_so}
+use Rattle.atl_campaign.proofs.OrderLaws.{Apart, HasNumber, Apart-keys, rows_order, rows_there, rows_found, each_row, row_of, each_passes, each_with, each_so}
 
 -- ---- numbers that are read as they are
 

@@ -5,18 +5,18 @@ use Rattle.std.specs.List.{flat_map, AllByRecursion, IsDistinct}
 use Rattle.std.specs.List.Sorted.{IsPermutation}
 use Rattle.std.specs.FinMap.{entries}
 use Rattle.std.proofs.lemmas.List.Sorted.{IsPermutation-sym, IsPermutation-trans}
-use Rattle.atl_tables.specs.declared.format.Format.TheVariants.{Second}
-use Rattle.atl_state.specs.declared.parts.StoredMarket.{StoredMarket}
-use Rattle.atl_state.specs.declared.parts.StoredRegion.{StoredRegion}
+use Rattle.atl_world.specs.declared.format.Format.TheVariants.{Second}
+use Rattle.atl_campaign.specs.declared.parts.StoredMarket.{StoredMarket}
+use Rattle.atl_campaign.specs.declared.parts.StoredRegion.{StoredRegion}
 use Rattle.atl_records.specs.declared.records.Region.{Region}
-use Rattle.atl_state.specs.FromRows.{as_u32, stocks_of, region_of, by_number}
-use Rattle.atl_state.specs.RowRules.{Key, market_key}
-use Rattle.atl_state.specs.Rows.{is_zero, market_row, stock_rows, market_rows}
-use Rattle.atl_state.proofs.AssemblyLaws.{is_same}
-use Rattle.atl_state.proofs.GroupLaws as group
-use Rattle.atl_state.proofs.GroupLaws.{gathered, lines_order}
-use Rattle.atl_state.proofs.HasLaws.{IsWhole, same, ties_itself}
-use Rattle.atl_state.proofs.OrderLaws.{Apart, HasNumber, each_so, flat_order}
+use Rattle.atl_campaign.specs.FromRows.{as_u32, stocks_of, region_of, by_number}
+use Rattle.atl_campaign.specs.RowRules.{Key, market_key}
+use Rattle.atl_campaign.specs.Rows.{is_zero, market_row, stock_rows, market_rows}
+use Rattle.atl_campaign.proofs.AssemblyLaws.{is_same}
+use Rattle.atl_campaign.proofs.GroupLaws as group
+use Rattle.atl_campaign.proofs.GroupLaws.{gathered, lines_order}
+use Rattle.atl_campaign.proofs.HasLaws.{IsWhole, same, ties_itself}
+use Rattle.atl_campaign.proofs.OrderLaws.{Apart, HasNumber, each_so, flat_order}
 
 -- the region and the item of a row of a market fit 32 bits, so both are read as they are
 pub record IsKeyed (m : StoredMarket) : Type 0 where

@@ -1,25 +1,25 @@
 -- The twelve rules of the tables, and what `check` may answer. See docs/FORMATS.md, "Rules of the tables".
 use Rattle.std.specs.Prelude.{◌≡◌, ◌≤◌, ℕ, ◌<◌, pos, IsTrue, Result, Ok, Err, ⊤}
 use Rattle.std.specs.List.{list_all}
-use Rattle.atl_tables.specs.Worlds.{WorldValue}
-use Rattle.atl_tables.specs.declared.format.Format.{Format}
-use Rattle.atl_tables.specs.declared.format.Format.TheVariants.{First, Second}
+use Rattle.atl_world.specs.Worlds.{WorldValue}
+use Rattle.atl_world.specs.declared.format.Format.{Format}
+use Rattle.atl_world.specs.declared.format.Format.TheVariants.{First, Second}
 use Rattle.atl_records.specs.declared.books.Entry.{Entry}
 use Rattle.atl_records.specs.declared.books.Thing.{Thing}
 use Rattle.atl_state.specs.declared.checking.CheckFault.{CheckFault}
 use Rattle.atl_state.specs.declared.checking.CheckFault.TheVariants.{Damaged, Memory}
 use Rattle.atl_state.specs.declared.checking.Rule.{Rule}
 use Rattle.atl_state.specs.declared.checking.Rule.TheVariants.{OneRow, Ranges, Names, Known, Next, Days, Gone, Owners, Water, Guards, Books, Mail}
-use Rattle.atl_state.specs.declared.parts.Parts.{Parts}
+use Rattle.atl_campaign.specs.declared.parts.Parts.{Parts}
 use Rattle.atl_records.specs.Books.{amount_in, entry_index}
-use Rattle.atl_state.specs.FromRows.{campaign_of}
-use Rattle.atl_state.specs.Good.{AreKnown, AreNumbered, AreDays, GoneHaveNone, UnitlessAreGone, AreOwned, AreAfloat, AreOfOneFaction, guards, IsMail, AreReported, HasNoStocks, IsGood}
+use Rattle.atl_campaign.specs.FromRows.{campaign_of}
+use Rattle.atl_campaign.specs.Good.{AreKnown, AreNumbered, AreDays, GoneHaveNone, UnitlessAreGone, AreOwned, AreAfloat, AreOfOneFaction, guards, IsMail, AreReported, HasNoStocks, IsGood}
 use Rattle.atl_records.specs.Limits.{first_entry_count}
-use Rattle.atl_state.specs.Marks.{no_marks}
-use Rattle.atl_state.specs.RowRules.{is_one_campaign_row, are_of_format, AreRowsInRange, AreRowsNamed, is_of_unit, is_of_market, is_booked}
-use Rattle.atl_state.specs.Rows.{AreRowsOf}
-use Rattle.atl_state.specs.Campaign.{CampaignValue, MarkedCampaign}
-use Rattle.atl_state.specs.Totals.{Balances}
+use Rattle.atl_campaign.specs.Marks.{no_marks}
+use Rattle.atl_campaign.specs.RowRules.{is_one_campaign_row, are_of_format, AreRowsInRange, AreRowsNamed, is_of_unit, is_of_market, is_booked}
+use Rattle.atl_campaign.specs.Rows.{AreRowsOf}
+use Rattle.atl_campaign.specs.Campaign.{CampaignValue, MarkedCampaign}
+use Rattle.atl_campaign.specs.Totals.{Balances}
 
 -- the number of a rule, from 1 to 12
 abbrev pub rule_number : Rule → ℕ

@@ -5,8 +5,8 @@ use Rattle.std.specs.FinMap.{get}
 use Rattle.atl_records.specs.declared.records.Faction.{Faction}
 use Rattle.atl_records.specs.declared.records.Structure.{Structure}
 use Rattle.atl_records.specs.declared.records.Unit.{Unit}
-use Rattle.atl_state.specs.Campaign.{CampaignValue}
-use Rattle.atl_state.specs.Good.{guards}
+use Rattle.atl_campaign.specs.Campaign.{CampaignValue}
+use Rattle.atl_campaign.specs.Good.{guards}
 use Rattle.atl_records.specs.Every.{EachOf}
 
 -- the owner of structure n is a unit inside it, or 0

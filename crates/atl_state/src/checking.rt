@@ -2,26 +2,26 @@
 //! tables".
 ghost use Rattle.std.specs.Prelude.{◌≡◌, IsTrue, ◌↔◌};
 ghost use Rattle.std.specs.List.{list_all};
-ghost use Rattle.atl_tables.specs.Worlds.{IsWorld};
-ghost use Rattle.atl_tables.specs.declared.format.Format.TheVariants.{Second};
+ghost use Rattle.atl_world.specs.Worlds.{IsWorld};
+ghost use Rattle.atl_world.specs.declared.format.Format.TheVariants.{Second};
 ghost use Rattle.atl_state.specs.declared.checking.Rule.TheVariants as rule;
 ghost use Rattle.atl_state.specs.Checking.{rule_number, KeepsRule, KeepsRulesBelow, Passes, Checks, GivesBack};
-ghost use Rattle.atl_state.specs.FromRows.{campaign_of};
-ghost use Rattle.atl_state.specs.Good.{AreKnown, IsMail, AreReported};
+ghost use Rattle.atl_campaign.specs.FromRows.{campaign_of};
+ghost use Rattle.atl_campaign.specs.Good.{AreKnown, IsMail, AreReported};
 ghost use Rattle.atl_records.specs.Limits.{entries_in};
-ghost use Rattle.atl_state.specs.RowRules.{is_one_campaign_row, are_of_format, is_of_unit, is_of_market, is_booked};
+ghost use Rattle.atl_campaign.specs.RowRules.{is_one_campaign_row, are_of_format, is_of_unit, is_of_market, is_booked};
 
-use crate::campaign::{Campaign, assemble};
-use crate::parts::{Parts, StoredBooks};
 use crate::row_rules::{
-    are_of_format, are_of_markets, as_u32, is_one_campaign_row, rows_in_range, rows_named,
+    are_of_format, are_of_markets, is_one_campaign_row, rows_in_range, rows_named,
 };
 use crate::rules::{
     are_afloat, are_balanced, are_days, are_gone, are_guarded, are_known, are_mailings,
     are_numbered, are_owned, are_reported,
 };
+use atl_campaign::parts::{Parts, StoredBooks};
+use atl_campaign::{Campaign, as_u32, assemble};
 use atl_records::{ENTRY_COUNT, FIRST_ENTRY_COUNT, FIRST_ITEM};
-use atl_tables::{Format, World};
+use atl_world::{Format, World};
 use std::alloc::Global;
 use std::error::Error;
 use std::fmt;

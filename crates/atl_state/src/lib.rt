@@ -1,31 +1,16 @@
-//! The state of a campaign: factions, units, regions, structures, mail, reports and books.
+//! Judges the rows of a campaign by the rules of the tables, and gives the campaign that they say.
 #![tactic(auto)]
 
-mod arena;
-mod assembly;
-pub mod campaign;
 mod checking;
-mod early;
-mod gap_vec;
-mod index;
-mod lists;
-mod numbers;
-pub mod parts;
-mod regions;
 mod row_rules;
-mod rows;
 mod rules;
-mod totals;
-mod units;
 
-pub use arena::SlotEntries;
-pub use atl_records::{
-    Books, ENTRY_COUNT, Entry, Event, EventFault, EventVerb, FIRST_ITEM, Faction, HOLDING_LIMIT,
-    Holding, JoinFault, LAST_MONTH, LAST_UNIT, MEN_LIMIT, MOST_DAYS, MOST_STRUCTURES, MOST_UNITS,
-    Outcome, Region, Structure, Thing, Unit, carry, goods, level, level_in, level_in_any, load,
+pub use atl_campaign::{
+    Books, Campaign, ENTRY_COUNT, Entry, Event, EventFault, EventVerb, FIRST_ITEM, Faction,
+    HOLDING_LIMIT, Holding, JoinFault, LAST_MONTH, LAST_UNIT, MEN_LIMIT, MOST_DAYS,
+    MOST_STRUCTURES, MOST_UNITS, Outcome, Parts, Region, SlotEntries, Structure, Thing, Unit,
+    campaign, carry, founded, good_campaigns_are_early, goods, level, level_in, level_in_any, load,
+    parts,
 };
-pub use campaign::{Campaign, founded};
 pub use checking::{CheckFault, Rule, check, check_as};
-pub use early::good_campaigns_are_early;
-pub use parts::Parts;
 pub use row_rules::are_distinct;

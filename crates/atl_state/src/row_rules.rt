@@ -7,9 +7,8 @@ mod names;
 mod numbers;
 mod ranges;
 
-pub(crate) use head::{are_of_format, campaign_row_of, is_one_campaign_row};
+pub(crate) use head::{are_of_format, is_one_campaign_row};
 pub use keys::are_distinct;
 pub(crate) use markets::are_of_markets;
 pub(crate) use names::rows_named;
-pub(crate) use numbers::{as_u16, as_u32, is_set};
 pub(crate) use ranges::rows_in_range;

@@ -6,19 +6,19 @@ use Rattle.std.specs.FinMap.{FinMap, get}
 use Rattle.std.proofs.lemmas.Option.{same_Some}
 use Rattle.sqlite.specs.Order.{Row}
 use Rattle.sqlite_trees.specs.Tree.{Trees}
-use Rattle.atl_tables.specs.Worlds.{WorldValue}
+use Rattle.atl_world.specs.Worlds.{WorldValue}
 use Rattle.atl_records.specs.Books.{Account, amount_in, AreBooks, BooksValue, entry_index, thing_index}
-use Rattle.atl_state.specs.Founding as founding
+use Rattle.atl_campaign.specs.Founding as founding
 use Rattle.atl_records.specs.Every.{Every}
-use Rattle.atl_state.specs.Good.{IsGood}
-use Rattle.atl_state.specs.Campaign.{CampaignValue}
+use Rattle.atl_campaign.specs.Good.{IsGood}
+use Rattle.atl_campaign.specs.Campaign.{CampaignValue}
 use Rattle.atl_records.specs.declared.books.Entry.{Entry}
 use Rattle.atl_records.specs.declared.books.Thing.{Thing}
 use Rattle.atl_records.specs.declared.records.Faction.{Faction}
 use Rattle.atl_records.specs.declared.records.Region.{Region}
 use Rattle.atl_records.specs.declared.records.Structure.{Structure}
 use Rattle.atl_records.specs.declared.records.Unit.{Unit}
-use Rattle.atl_state.proofs.BackLaws.{agree}
+use Rattle.atl_campaign.proofs.BackLaws.{agree}
 use Rattle.atl_records.proofs.AccountLaws.{same_account}
 use Rattle.atl_records.proofs.BookLaws.{same_books}
 use Rattle.atl_store.specs.OneCampaign.{HoldsOne}
@@ -29,7 +29,7 @@ use Rattle.atl_sql.specs.Shown.{flag, mail_row, report_row, has_row, books_row, 
 use Rattle.atl_sql.specs.Written.{sort_number}
 use Rattle.atl_sql.specs.declared.rows.has.ThingKind.{ThingKind}
 use Rattle.atl_sql.specs.declared.rows.has.ThingKind.TheVariants.{Item, Skill}
-use Rattle.atl_state.proofs.StateLaws.{same_state}
+use Rattle.atl_campaign.proofs.StateLaws.{same_state}
 use Rattle.atl_store.proofs.ThingLaws.{same_sort}
 
 -- ---- maps whose rows determine their numbers and values

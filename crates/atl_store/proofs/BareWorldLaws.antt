@@ -4,13 +4,13 @@ use Rattle.std.specs.Prelude.{option_map}
 use Rattle.std.specs.Option.{option_map_or}
 use Rattle.std.specs.Ordering.{nat_cmp}
 use Rattle.std.specs.FinMap.{FinMap, get, get-empty}
-use Rattle.atl_tables.specs.ByNumber.{is_land_at}
-use Rattle.atl_tables.specs.Worlds.{WorldValue, is_land, without_market, without_markets}
-use Rattle.atl_tables.specs.declared.world.RegionPlan.{RegionPlan}
-use Rattle.atl_tables.proofs.MadeLaws.{get-mapped}
-use Rattle.atl_state.specs.Campaign.{CampaignValue}
+use Rattle.atl_world.specs.ByNumber.{is_land_at}
+use Rattle.atl_world.specs.Worlds.{WorldValue, is_land, without_market, without_markets}
+use Rattle.atl_world.specs.declared.world.RegionPlan.{RegionPlan}
+use Rattle.atl_world.proofs.MadeLaws.{get-mapped}
+use Rattle.atl_campaign.specs.Campaign.{CampaignValue}
 use Rattle.atl_records.specs.Every.{IsThere}
-use Rattle.atl_state.specs.Good.{HasNoStocks, IsGood}
+use Rattle.atl_campaign.specs.Good.{HasNoStocks, IsGood}
 use Rattle.atl_records.specs.declared.records.Region.{Region}
 
 -- a region of a campaign with nothing in stock has no stock entry

@@ -13,8 +13,8 @@ use Rattle.sqlite_rules.specs.Lists.{Has}
 use Rattle.sqlite_value.specs.declared.value.Value.TheVariants.{Int}
 use Rattle.atl_records.specs.Limits.{entry_count}
 use Rattle.atl_records.specs.Books.{Account, all_entries, amount_in, entry_index, thing_index, amount_number}
-use Rattle.atl_state.specs.Marks.{AreOfThings}
-use Rattle.atl_state.specs.Campaign.{MarkedCampaign}
+use Rattle.atl_campaign.specs.Marks.{AreOfThings}
+use Rattle.atl_campaign.specs.Campaign.{MarkedCampaign}
 use Rattle.atl_records.specs.declared.books.Entry.{Entry}
 use Rattle.atl_records.specs.declared.books.Thing.{Thing}
 use Rattle.atl_records.proofs.AccountLaws.{same_account}

@@ -10,11 +10,11 @@ use Rattle.sqlite.specs.Effect.{Database}
 use Rattle.sqlite.specs.Order.{Row}
 use Rattle.sqlite_trees.specs.Tree.{Trees}
 use Rattle.sqlite_rules.specs.Lists.{Has}
-use Rattle.atl_state.specs.Covers.{SameBut, SameThings, Covers, bare, own_row, unstocked}
+use Rattle.atl_campaign.specs.Covers.{SameBut, SameThings, Covers, bare, own_row, unstocked}
 use Rattle.atl_records.specs.Books.{BooksValue, amount_in, entry_index, thing_index, amount_number}
-use Rattle.atl_state.specs.Marks.{Marks, is_thing_marked}
-use Rattle.atl_state.specs.Campaign.{CampaignValue, MarkedCampaign}
-use Rattle.atl_state.specs.Stocks.{stock_in}
+use Rattle.atl_campaign.specs.Marks.{Marks, is_thing_marked}
+use Rattle.atl_campaign.specs.Campaign.{CampaignValue, MarkedCampaign}
+use Rattle.atl_campaign.specs.Stocks.{stock_in}
 use Rattle.atl_records.specs.declared.books.Entry.{Entry}
 use Rattle.atl_records.specs.Limits.{entry_count}
 use Rattle.atl_records.proofs.EveryEntryLaws.{entry_small}

@@ -7,7 +7,7 @@ use Rattle.std.specs.FinMap.{FinMap, get, get-entries, entries, entries_sorted, 
 use Rattle.std.specs.FinMap.Entries.{below_all}
 use Rattle.std.proofs.lemmas.Bool.{and_parts}
 use Rattle.std.proofs.lemmas.Cmp.{tied_itself}
-use Rattle.atl_tables.proofs.TrackLaws.{is_true}
+use Rattle.atl_world.proofs.TrackLaws.{is_true}
 use Rattle.sqlite.specs.Order.{Row}
 use Rattle.sqlite_rules.specs.Lists.{Has}
 use Rattle.sqlite_rules.proofs.ListLemmas.{has_either, has_left, has_right}

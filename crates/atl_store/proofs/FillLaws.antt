@@ -7,7 +7,7 @@ use Rattle.sqlite.specs.Order.{Row}
 use Rattle.sqlite.specs.Effect.{Database}
 use Rattle.sqlite.specs.State.{State}
 use Rattle.sqlite_rules.specs.Lists.{Has}
-use Rattle.atl_state.specs.Campaign.{CampaignValue}
+use Rattle.atl_campaign.specs.Campaign.{CampaignValue}
 use Rattle.atl_sql.specs.Sets.{Is, put, puts, rows_in}
 use Rattle.atl_sql.specs.Tables.{Part, Own, Books, table_of, all_parts, campaign_table, books_table}
 use Rattle.atl_sql.specs.Shown.{int}

@@ -10,8 +10,8 @@ use Rattle.sqlite.specs.Order.{Row}
 use Rattle.sqlite.specs.State.{State, HasCleanDisk, Survives, Shown, ShowsRows}
 use Rattle.sqlite_rules.specs.Lists.{Has}
 use Rattle.sqlite_rules.proofs.ListLemmas.{has_left, has_right, has_either, test_has}
-use Rattle.atl_tables.specs.declared.format.Format.{Format}
-use Rattle.atl_tables.specs.declared.format.Format.TheVariants.{First, Second}
+use Rattle.atl_world.specs.declared.format.Format.{Format}
+use Rattle.atl_world.specs.declared.format.Format.TheVariants.{First, Second}
 use Rattle.atl_store.specs.Gathering.{IsSettled, rows_or_none, ReadRows, AreRows, AreAllRows, AreOfFormat, AreNone, second_format_parts, selects_by, Found, AnswersOne, FailsToRead, ReadsSome}
 use Rattle.atl_store.specs.Loading.{Stays, AfterReads, SelectShows, AllSelectsShow, AllSelectsShowTyped, HasOtherType, RefusesOne, other_parts, other_selects}
 use Rattle.atl_sql.specs.Reading.{ReadsRows, GivesTable, Rests, Selects, RefusesToSelect, listing_of}

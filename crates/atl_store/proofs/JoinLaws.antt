@@ -9,11 +9,11 @@ use Rattle.sqlite.specs.Table.{Table}
 use Rattle.sqlite.specs.Effect.{Database}
 use Rattle.sqlite.specs.State.{State}
 use Rattle.sqlite_rules.specs.Lists.{Has}
-use Rattle.atl_state.specs.Campaign.{CampaignValue, with_mail}
+use Rattle.atl_campaign.specs.Campaign.{CampaignValue, with_mail}
 use Rattle.atl_records.specs.Books.{BooksValue, amount_in, after_booking, entry_index, thing_index}
 use Rattle.atl_records.proofs.AccountLaws.{apart_entries, apart_things}
 use Rattle.atl_records.proofs.BookLaws.{other_amount}
-use Rattle.atl_state.specs.Joining.{joined, new_faction, first_unit}
+use Rattle.atl_campaign.specs.Joining.{joined, new_faction, first_unit}
 use Rattle.atl_records.specs.declared.books.Entry.{Entry}
 use Rattle.atl_records.specs.declared.books.Entry.TheVariants.{Joining}
 use Rattle.atl_records.specs.declared.books.Thing.{Thing}

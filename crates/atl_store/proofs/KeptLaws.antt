@@ -7,8 +7,8 @@ use Rattle.std.specs.FinSet.{FinSet}
 use Rattle.sqlite.specs.Effect.{Database}
 use Rattle.sqlite.specs.Order.{Row}
 use Rattle.sqlite_rules.specs.Lists.{Has}
-use Rattle.atl_state.specs.Campaign.{CampaignValue, MarkedCampaign}
-use Rattle.atl_state.specs.Marks.{Marks}
+use Rattle.atl_campaign.specs.Campaign.{CampaignValue, MarkedCampaign}
+use Rattle.atl_campaign.specs.Marks.{Marks}
 use Rattle.atl_sql.specs.Sets.{Set, Is, rows_in}
 use Rattle.atl_sql.specs.Tables.{Part, Own, Goods, Books, Markets, IsNumberedPart, key_of, table_of}
 use Rattle.atl_sql.specs.Shown.{int}

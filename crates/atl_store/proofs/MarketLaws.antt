@@ -7,10 +7,10 @@ use Rattle.std.specs.Option.{option_map_or}
 use Rattle.sqlite_rules.specs.Lists.{Has}
 use Rattle.atl_records.specs.Holdings.{amount_of}
 use Rattle.atl_records.specs.declared.records.Region.{Region}
-use Rattle.atl_state.specs.Stocks.{stock_in}
+use Rattle.atl_campaign.specs.Stocks.{stock_in}
 use Rattle.sqlite.specs.State.{State}
 use Rattle.sqlite_value.specs.declared.value.Value.TheVariants.{Int}
-use Rattle.atl_state.specs.Campaign.{CampaignValue}
+use Rattle.atl_campaign.specs.Campaign.{CampaignValue}
 use Rattle.atl_sql.specs.Shown.{int, market_key, market_row}
 use Rattle.atl_sql.specs.Tables.{market_table}
 use Rattle.atl_sql.specs.Inside.{Inside, HasTables, Puts, Drops}

@@ -5,11 +5,11 @@ use Rattle.sqlite.specs.Held.{Held, state}
 use Rattle.sqlite.specs.Order.{Row, column}
 use Rattle.sqlite_rules.specs.Lists.{Has}
 use Rattle.sqlite_trees.specs.declared.store.Store.{Ghosts}
-use Rattle.atl_tables.specs.Worlds.{WorldValue}
+use Rattle.atl_world.specs.Worlds.{WorldValue}
 use Rattle.atl_tables.specs.World.{world_by}
-use Rattle.atl_tables.specs.declared.format.Format.{Format}
+use Rattle.atl_world.specs.declared.format.Format.{Format}
 use Rattle.atl_state.specs.declared.checking.Rule.TheVariants.{OneRow, Ranges, Names, Known, Next, Days, Gone, Owners, Water, Guards, Books, Mail}
-use Rattle.atl_state.specs.declared.parts.StoredCampaignRow.{StoredCampaignRow}
+use Rattle.atl_campaign.specs.declared.parts.StoredCampaignRow.{StoredCampaignRow}
 use Rattle.atl_store.specs.Gathering.{own_fault, IsOwn, Judges, JudgesOwn, JudgesRows, JudgesFormat, OwnRead}
 use Rattle.atl_store.specs.Loading.{own_stored, AreOwnRow, RefusesToLoadIn}
 use Rattle.atl_sql.specs.Reading.{Selects, RefusesToSelect}
@@ -23,7 +23,7 @@ use Rattle.atl_store.specs.declared.fault.LoadFault.{LoadFault}
 use Rattle.atl_store.specs.declared.fault.LoadFault.TheVariants.{Store, Damaged, NotACampaign, OtherFormat, Memory}
 use Rattle.atl_sql.specs.Tables.{Own, campaign_table}
 use Rattle.atl_sql.specs.declared.rows.campaign.StoredCampaign.{StoredCampaign}
-use Rattle.atl_tables.specs.declared.format.Format.TheVariants.{First}
+use Rattle.atl_world.specs.declared.format.Format.TheVariants.{First}
 use Rattle.atl_sql.proofs.RowsLaws.{asked_rows}
 use Rattle.atl_sql.proofs.SelectLaws.{reads_part}
 use Rattle.atl_sql.proofs.SelectingLaws.{never_other}

@@ -12,23 +12,23 @@ use Rattle.sqlite.specs.Table.{Table}
 use Rattle.sqlite_trees.specs.Tree.{Trees}
 use Rattle.sqlite_rules.specs.Lists.{Has}
 use Rattle.sqlite_rules.proofs.ListLemmas.{has_either, has_left, has_right, has_filtered, has_kept}
-use Rattle.atl_tables.specs.declared.format.Format.{Format}
-use Rattle.atl_tables.specs.declared.format.Format.TheVariants.{First, Second}
+use Rattle.atl_world.specs.declared.format.Format.{Format}
+use Rattle.atl_world.specs.declared.format.Format.TheVariants.{First, Second}
 use Rattle.atl_records.specs.Books.{Account, AreBooks, BooksValue, amount_in}
 use Rattle.atl_records.specs.Holdings.{HoldingValue}
-use Rattle.atl_tables.specs.Formats.{format_number}
-use Rattle.atl_tables.specs.Worlds.{WorldValue}
+use Rattle.atl_world.specs.Formats.{format_number}
+use Rattle.atl_world.specs.Worlds.{WorldValue}
 use Rattle.atl_state.specs.Checking.{KeepsRule}
-use Rattle.atl_state.specs.RowRules.{is_one_campaign_row, are_of_format}
+use Rattle.atl_campaign.specs.RowRules.{is_one_campaign_row, are_of_format}
 use Rattle.atl_state.specs.declared.checking.Rule.TheVariants.{OneRow}
-use Rattle.atl_state.specs.Rows.{rows_by, rows_of, amount_rows, is_zero, AreRowsOf}
-use Rattle.atl_state.specs.Rows as made
-use Rattle.atl_state.specs.Campaign.{CampaignValue}
-use Rattle.atl_state.specs.declared.parts.Parts.{Parts}
-use Rattle.atl_state.specs.declared.parts.StoredBooks.{StoredBooks}
-use Rattle.atl_state.specs.declared.parts.StoredHas.{StoredHas}
-use Rattle.atl_state.specs.declared.parts.StoredCampaignRow.{StoredCampaignRow}
-use Rattle.atl_state.specs.declared.parts.StoredMarket.{StoredMarket}
+use Rattle.atl_campaign.specs.Rows.{rows_by, rows_of, amount_rows, is_zero, AreRowsOf}
+use Rattle.atl_campaign.specs.Rows as made
+use Rattle.atl_campaign.specs.Campaign.{CampaignValue}
+use Rattle.atl_campaign.specs.declared.parts.Parts.{Parts}
+use Rattle.atl_campaign.specs.declared.parts.StoredBooks.{StoredBooks}
+use Rattle.atl_campaign.specs.declared.parts.StoredHas.{StoredHas}
+use Rattle.atl_campaign.specs.declared.parts.StoredCampaignRow.{StoredCampaignRow}
+use Rattle.atl_campaign.specs.declared.parts.StoredMarket.{StoredMarket}
 use Rattle.atl_records.specs.declared.records.Faction.{Faction}
 use Rattle.atl_records.specs.declared.records.Region.{Region}
 use Rattle.atl_records.specs.declared.records.Unit.{Unit}

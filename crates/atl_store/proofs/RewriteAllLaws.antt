@@ -5,7 +5,7 @@ use Rattle.sqlite.specs.Effect.{Database}
 use Rattle.sqlite.specs.Order.{Row}
 use Rattle.sqlite.specs.State.{State}
 use Rattle.sqlite_rules.specs.Lists.{Has}
-use Rattle.atl_state.specs.Campaign.{MarkedCampaign}
+use Rattle.atl_campaign.specs.Campaign.{MarkedCampaign}
 use Rattle.atl_sql.specs.Sets.{rows_in}
 use Rattle.atl_sql.specs.Tables.{Part, Own, table_of, all_parts, campaign_table}
 use Rattle.atl_sql.specs.Shown.{campaign_row}

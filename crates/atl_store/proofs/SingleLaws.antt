@@ -10,7 +10,7 @@ use Rattle.sqlite.specs.Effect.{Database}
 use Rattle.sqlite.specs.Order.{Row}
 use Rattle.sqlite.specs.State.{State}
 use Rattle.sqlite.specs.Table.{Table}
-use Rattle.atl_state.specs.Marks.{Things}
+use Rattle.atl_campaign.specs.Marks.{Things}
 use Rattle.atl_sql.specs.Sets.{Set}
 use Rattle.atl_sql.specs.Inside.{Inside, HasTables}
 use Rattle.atl_sql.specs.Marked.{has_thing}

@@ -8,7 +8,7 @@ use Rattle.sqlite.specs.Schema.{Schema}
 use Rattle.atl_sql.specs.Making.{has_campaign}
 use Rattle.sqlite.specs.Effect.{Database}
 use Rattle.sqlite.specs.State.{State, HasCleanDisk, Survives}
-use Rattle.atl_state.specs.Campaign.{CampaignValue}
+use Rattle.atl_campaign.specs.Campaign.{CampaignValue}
 use Rattle.atl_sql.specs.Rows.{Holds}
 use Rattle.atl_sql.specs.Inside.{HasTables, Carries, Commits, LeavesOff, MayLeave}
 use Rattle.atl_store.specs.Keeps.{Stores, Keeps, IsLater, IsReadyToCreate, FailsToCreate, BreaksOffCreation, RefusesToCreate, LeavesAfterFault, ChangesNothing, LeavesOthersAlone, MayFound}

@@ -9,9 +9,9 @@ use Rattle.sqlite.specs.State.{State}
 use Rattle.sqlite.specs.Table.{Table}
 use Rattle.sqlite_rules.specs.Lists.{Has}
 use Rattle.sqlite_rules.proofs.ListLemmas.{has_either, has_left}
-use Rattle.atl_tables.specs.declared.format.Format.TheVariants.{First}
-use Rattle.atl_state.specs.Campaign.{CampaignValue}
-use Rattle.atl_state.specs.Good.{HasNoStocks}
+use Rattle.atl_world.specs.declared.format.Format.TheVariants.{First}
+use Rattle.atl_campaign.specs.Campaign.{CampaignValue}
+use Rattle.atl_campaign.specs.Good.{HasNoStocks}
 use Rattle.atl_sql.specs.Inside.{Inside, HasTables, Carries, Both, Puts}
 use Rattle.atl_sql.specs.Rows.{campaign_row_of, rows_for, campaign_line, Holds, HoldsIn, MarketRowsOf}
 use Rattle.atl_sql.specs.Sets.{Is, IsKeyed, rows_in, put, visible}

@@ -8,12 +8,12 @@ use Rattle.sqlite.specs.Held.{Held, state}
 use Rattle.sqlite.specs.State.{State, HasCleanDisk, Survives}
 use Rattle.atl_tables.specs.Faults.{Reads}
 use Rattle.atl_tables.specs.World.{world_of}
-use Rattle.atl_tables.specs.Worlds.{WorldValue, without_markets}
+use Rattle.atl_world.specs.Worlds.{WorldValue, without_markets}
 use Rattle.atl_tables.specs.declared.fault.WorldFault.{WorldFault}
 use Rattle.atl_tables.specs.declared.fault.WorldFault.TheVariants as world
-use Rattle.atl_tables.specs.declared.format.Format.TheVariants.{First}
+use Rattle.atl_world.specs.declared.format.Format.TheVariants.{First}
 use Rattle.atl_tables.proofs.OldWorldLaws.{old_has_no_markets}
-use Rattle.atl_state.specs.Campaign.{MarkedCampaign}
+use Rattle.atl_campaign.specs.Campaign.{MarkedCampaign}
 use Rattle.atl_sql.specs.Causes.{Gives}
 use Rattle.atl_sql.specs.Errors.{is_memory}
 use Rattle.atl_store.specs.Faults.{first_fault, new_world_fault, upgrade_fault}

@@ -5,7 +5,7 @@ use Rattle.sqlite.specs.Order.{Row}
 use Rattle.sqlite_trees.specs.Tree.{Trees}
 use Rattle.sqlite.specs.Table.{Table}
 use Rattle.sqlite_rules.specs.Lists.{Has}
-use Rattle.atl_state.specs.Campaign.{CampaignValue, MarkedCampaign}
+use Rattle.atl_campaign.specs.Campaign.{CampaignValue, MarkedCampaign}
 use Rattle.atl_sql.specs.Sets.{Set, Is, rows_in}
 use Rattle.atl_sql.specs.Tables.{Part, campaign_table, table_of}
 use Rattle.atl_sql.specs.Shown.{CampaignRowValue, campaign_row}

@@ -2,7 +2,7 @@
 use Rattle.std.specs.Prelude.{◌≡◌, [], ◌∷◌, List, ℕ}
 use Rattle.sqlite.specs.Effect.{Database}
 use Rattle.sqlite.specs.Order.{Row}
-use Rattle.atl_state.specs.Campaign.{CampaignValue}
+use Rattle.atl_campaign.specs.Campaign.{CampaignValue}
 use Rattle.atl_sql.specs.Sets.{Is, rows_in}
 use Rattle.atl_sql.specs.Tables.{Part, campaign_table}
 use Rattle.atl_sql.specs.Inside.{Changes}

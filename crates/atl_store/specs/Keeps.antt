@@ -6,10 +6,10 @@ use Rattle.sqlite.specs.Held.{Held, state}
 use Rattle.sqlite.specs.Schema.{Schema}
 use Rattle.sqlite.specs.State.{State, HasCleanDisk}
 use Rattle.sqlite_disk.specs.Disk.{MoreFaults}
-use Rattle.atl_tables.specs.Worlds.{WorldValue}
-use Rattle.atl_state.specs.Campaign.{CampaignValue, with_report}
-use Rattle.atl_state.specs.Joining.{joined}
-use Rattle.atl_state.specs.Good.{IsGood}
+use Rattle.atl_world.specs.Worlds.{WorldValue}
+use Rattle.atl_campaign.specs.Campaign.{CampaignValue, with_report}
+use Rattle.atl_campaign.specs.Joining.{joined}
+use Rattle.atl_campaign.specs.Good.{IsGood}
 use Rattle.atl_sql.specs.Tables.{HasAll, IsSoundDatabase}
 use Rattle.atl_sql.specs.Inside.{HasTables, Carries, IsBlank}
 use Rattle.atl_sql.specs.Making.{has_campaign}

@@ -1,9 +1,9 @@
 -- A law: a database holds the rows of at most one world text and, for one world, one good campaign.
 use Rattle.std.specs.Prelude.{◌≡◌, ℕ, List}
 use Rattle.sqlite_trees.specs.Tree.{Trees}
-use Rattle.atl_tables.specs.Worlds.{WorldValue}
-use Rattle.atl_state.specs.Good.{IsGood}
-use Rattle.atl_state.specs.Campaign.{CampaignValue}
+use Rattle.atl_world.specs.Worlds.{WorldValue}
+use Rattle.atl_campaign.specs.Good.{IsGood}
+use Rattle.atl_campaign.specs.Campaign.{CampaignValue}
 use Rattle.atl_sql.specs.Rows.{Holds}
 
 -- If the tables hold two world texts with two good campaigns of one world, the texts and the campaigns are equal.

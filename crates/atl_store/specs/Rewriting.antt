@@ -9,8 +9,8 @@ use Rattle.sqlite.specs.Order.{Row}
 use Rattle.sqlite.specs.Table.{Table}
 use Rattle.sqlite_rules.specs.Lists.{Has}
 use Rattle.atl_records.specs.Limits.{entry_count}
-use Rattle.atl_state.specs.Campaign.{CampaignValue, MarkedCampaign}
-use Rattle.atl_state.specs.Marks.{Marks, Things}
+use Rattle.atl_campaign.specs.Campaign.{CampaignValue, MarkedCampaign}
+use Rattle.atl_campaign.specs.Marks.{Marks, Things}
 use Rattle.atl_sql.specs.declared.rows.has.ThingKind.{ThingKind}
 use Rattle.atl_sql.specs.declared.rows.has.ThingKind.TheVariants.{Item, Skill}
 use Rattle.atl_sql.specs.Sets.{Set, Is, rows_in}

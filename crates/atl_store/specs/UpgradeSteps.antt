@@ -4,9 +4,9 @@ use Rattle.sqlite.specs.Effect.{Database}
 use Rattle.sqlite.specs.Table.{Table}
 use Rattle.sqlite_catalog.specs.Listing.{IsSound}
 use Rattle.sqlite_rules.specs.Lists.{Has}
-use Rattle.atl_tables.specs.declared.format.Format.TheVariants.{First}
-use Rattle.atl_state.specs.Campaign.{CampaignValue}
-use Rattle.atl_state.specs.Good.{HasNoStocks}
+use Rattle.atl_world.specs.declared.format.Format.TheVariants.{First}
+use Rattle.atl_campaign.specs.Campaign.{CampaignValue}
+use Rattle.atl_campaign.specs.Good.{HasNoStocks}
 use Rattle.atl_sql.specs.Rows.{Holds, HoldsIn}
 use Rattle.atl_sql.specs.Sets.{IsKeyed}
 use Rattle.atl_sql.specs.Tables.{IsJustOld, market_table, parts_in, table_of}

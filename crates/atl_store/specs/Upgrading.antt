@@ -6,12 +6,12 @@ use Rattle.sqlite.specs.Held.{Held, state}
 use Rattle.sqlite.specs.State.{State, HasCleanDisk}
 use Rattle.sqlite.specs.declared.error.Error.{Error}
 use Rattle.atl_tables.specs.World.{world_of, old_world_of}
-use Rattle.atl_tables.specs.Worlds.{WorldValue, without_markets}
+use Rattle.atl_world.specs.Worlds.{WorldValue, without_markets}
 use Rattle.atl_tables.specs.declared.fault.WorldFault.TheVariants as world
-use Rattle.atl_tables.specs.declared.format.Format.TheVariants.{First}
-use Rattle.atl_state.specs.Campaign.{CampaignValue, MarkedCampaign}
-use Rattle.atl_state.specs.Good.{HasNoStocks, IsGood}
-use Rattle.atl_state.specs.Marks.{no_marks}
+use Rattle.atl_world.specs.declared.format.Format.TheVariants.{First}
+use Rattle.atl_campaign.specs.Campaign.{CampaignValue, MarkedCampaign}
+use Rattle.atl_campaign.specs.Good.{HasNoStocks, IsGood}
+use Rattle.atl_campaign.specs.Marks.{no_marks}
 use Rattle.atl_store.specs.declared.fault.LoadFault.TheVariants as load
 use Rattle.atl_store.specs.declared.fault.UpgradeFault.{UpgradeFault}
 use Rattle.atl_store.specs.declared.fault.UpgradeFault.TheVariants.{Store, Damaged, NotACampaign, NotOld, World, Differs, Memory}

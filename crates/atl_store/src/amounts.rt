@@ -5,7 +5,7 @@ ghost use Rattle.sqlite.specs.Table.{Table};
 ghost use Rattle.atl_store.specs.Lines.{thing_rows, amount_rows};
 ghost use Rattle.atl_sql.specs.Writes.{WritesRow, WritesRows};
 
-use atl_tables::Entries;
+use atl_world::Entries;
 use sqlite::{Alter, Error, Transaction};
 
 /// An owner of amounts of things; each amount that is not 0 has a row of a table.

@@ -10,8 +10,8 @@ ghost use Rattle.atl_store.specs.OwnStatements.{OfChange};
 ghost use Rattle.atl_sql.specs.Writes.{Writes};
 ghost use Rattle.atl_sql.specs.Inside.{Inside, HasTables};
 
+use atl_campaign::Campaign;
 use atl_sql::rows::campaign::{CampaignRow, put_campaign, put_upgraded};
-use atl_state::Campaign;
 use sqlite::{Alter, Error, Transaction};
 
 /// The month, the next numbers and the pass text of a campaign, for its campaign row.

@@ -2,10 +2,10 @@
 ghost use Rattle.std.specs.Prelude.{◌≡◌, ◌≤◌, false, List, ℕ, IfErr, OnOk, OnErr};
 ghost use Rattle.sqlite.specs.Held.{state};
 ghost use Rattle.sqlite.specs.State.{HasCleanDisk};
-ghost use Rattle.atl_state.specs.Covers.{Covers};
+ghost use Rattle.atl_campaign.specs.Covers.{Covers};
 ghost use Rattle.atl_records.specs.Limits.{most_things};
-ghost use Rattle.atl_state.specs.Marks.{no_marks};
-ghost use Rattle.atl_state.specs.Campaign.{CampaignValue};
+ghost use Rattle.atl_campaign.specs.Marks.{no_marks};
+ghost use Rattle.atl_campaign.specs.Campaign.{CampaignValue};
 ghost use Rattle.atl_sql.specs.Causes.{IsFaultOfError};
 ghost use Rattle.atl_store.specs.Changing.{WritesChanges, HoldsUnmarked};
 ghost use Rattle.atl_store.specs.Faults.{write_fault};
@@ -17,7 +17,7 @@ ghost use Rattle.atl_store.specs.Keeps.{Keeps, LeavesAfterFault, IsLater, MayFou
 use crate::campaign_row::rewrite_campaign_row;
 use crate::fault::WriteFault;
 use crate::write_parts::{OtherParts, WrittenPart};
-use atl_state::Campaign;
+use atl_campaign::Campaign;
 use sqlite::{Alter, Connection, Error, Transaction};
 
 /// Writes all that is marked of a campaign, inside a transaction.

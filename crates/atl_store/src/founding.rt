@@ -3,7 +3,7 @@ ghost use Rattle.std.specs.Prelude.{◌≡◌, ◌≤◌, false, IsTrue, OnOk, O
 ghost use Rattle.sqlite.specs.Held.{state};
 ghost use Rattle.atl_sql.specs.Tables.{no_tables};
 ghost use Rattle.atl_records.specs.Limits.{most_things};
-ghost use Rattle.atl_state.specs.Marks.{no_marks};
+ghost use Rattle.atl_campaign.specs.Marks.{no_marks};
 ghost use Rattle.atl_store.specs.OwnStatements.{OfFounding};
 ghost use Rattle.atl_sql.specs.Writes.{Writes, Transacts};
 ghost use Rattle.atl_sql.specs.Inside.{Inside, IsBlank};
@@ -14,8 +14,8 @@ ghost use Rattle.atl_store.specs.Keeps.{Creates, IsReadyToCreate, RefusesToCreat
 use crate::campaign_row::put_campaign_row;
 use crate::fault::CreateFault;
 use crate::write_parts::{OtherParts, WrittenPart};
+use atl_campaign::Campaign;
 use atl_sql::tables::create_tables;
-use atl_state::Campaign;
 use sqlite::{Alter, Connection, Error, Transaction};
 use sqlite_schema::schema::Schema;
 

@@ -13,9 +13,9 @@ ghost use Rattle.atl_store.specs.Rewriting.{RewritesGoods};
 use crate::amounts::{AmountWriter, put_amounts};
 use crate::grouped::{Grouped, rewrite_marked_groups};
 use crate::singles::rewrite_singles;
+use atl_campaign::{Campaign, Holding, SlotEntries, Unit};
 use atl_sql::rows::has::{HasRow, ThingKind, drop_goods, put_has};
-use atl_state::{Campaign, Holding, SlotEntries, Unit};
-use atl_tables::MarkedNumbers;
+use atl_world::MarkedNumbers;
 use sqlite::{Alter, Error, Transaction};
 
 /// A unit and a kind (items or skills), as the owner of the amounts that are written.

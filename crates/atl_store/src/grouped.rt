@@ -11,13 +11,13 @@ ghost use Rattle.atl_store.specs.OwnStatements.{OfChange};
 ghost use Rattle.atl_sql.specs.Writes.{Writes, WritesRows, TakesOut};
 ghost use Rattle.atl_sql.specs.Inside.{Inside, HasTables};
 ghost use Rattle.atl_store.specs.Rewriting.{RewritesGroup, RewritesGroups};
-ghost use Rattle.atl_tables.specs.Tracking.{Lists};
-ghost use Rattle.atl_state.specs.Marks.{Marks};
-ghost use Rattle.atl_state.specs.Campaign.{CampaignValue};
+ghost use Rattle.atl_world.specs.Tracking.{Lists};
+ghost use Rattle.atl_campaign.specs.Marks.{Marks};
+ghost use Rattle.atl_campaign.specs.Campaign.{CampaignValue};
 
+use atl_campaign::Campaign;
 use atl_sql::numbered_rows::NumberedRow;
-use atl_state::Campaign;
-use atl_tables::MarkedNumbers;
+use atl_world::MarkedNumbers;
 use sqlite::{Alter, Error, Transaction};
 
 /// A thing with its own row, and with rows of another table whose key begins with its number.

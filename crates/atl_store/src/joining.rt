@@ -2,7 +2,7 @@
 ghost use Rattle.std.specs.Prelude.{◌≡◌, [], false, List, ℕ, IfErr, OnOk, OnErr};
 ghost use Rattle.sqlite.specs.Held.{state};
 ghost use Rattle.sqlite.specs.State.{HasCleanDisk};
-ghost use Rattle.atl_state.specs.Campaign.{CampaignValue};
+ghost use Rattle.atl_campaign.specs.Campaign.{CampaignValue};
 ghost use Rattle.atl_records.specs.declared.books.Entry.TheVariants.{Joining};
 ghost use Rattle.atl_records.specs.declared.books.Thing.TheVariants.{Money, People};
 ghost use Rattle.atl_sql.specs.Tables.{faction_table, unit_table, report_table};
@@ -20,9 +20,9 @@ ghost use Rattle.atl_store.specs.Keeps.{Keeps, LeavesAfterFault, IsLater, Leaves
 use crate::campaign_row::put_campaign_row;
 use crate::fault::WriteFault;
 use crate::ledger::settle_amount;
+use atl_campaign::{Campaign, Entry, Faction, Thing, Unit};
 use atl_sql::numbered_rows::NumberedRow;
-use atl_state::{Campaign, Entry, Faction, Thing, Unit};
-use atl_tables::Text;
+use atl_world::Text;
 use sqlite::{Alter, Connection, Error, Transaction};
 
 /// A faction that joined, with its report and the unit numbered last, whose number is `place`.

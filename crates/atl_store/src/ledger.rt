@@ -11,8 +11,8 @@ ghost use Rattle.atl_sql.specs.Inside.{Inside, HasTables};
 ghost use Rattle.atl_store.specs.Arriving.{WritesAmount};
 ghost use Rattle.atl_store.specs.Rewriting.{RewritesAmounts, RewritesBooks, is_number, is_among};
 
+use atl_campaign::{Campaign, Entry, Thing};
 use atl_sql::rows::books::{BooksRow, drop_books, put_books};
-use atl_state::{Campaign, Entry, Thing};
 use sqlite::{Alter, Error, Transaction};
 
 /// Puts the row of an amount of the books, if the amount is not 0.

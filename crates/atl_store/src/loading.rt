@@ -11,9 +11,10 @@ mod others;
 mod own;
 
 use crate::fault::{LoadFault, StoreFault};
-use atl_state::parts::Parts;
-use atl_state::{Campaign, Rule, check_as};
-use atl_tables::{Format, World};
+use atl_campaign::Campaign;
+use atl_campaign::parts::Parts;
+use atl_state::{Rule, check_as};
+use atl_world::{Format, World};
 use confirmed::confirm;
 use others::{parts_with, read_others};
 use own::read_own;

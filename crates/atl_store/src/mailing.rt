@@ -2,7 +2,7 @@
 ghost use Rattle.std.specs.Prelude.{◌≡◌, false, List, ℕ, IfErr, OnOk, OnErr};
 ghost use Rattle.sqlite.specs.Held.{state};
 ghost use Rattle.sqlite.specs.State.{HasCleanDisk};
-ghost use Rattle.atl_state.specs.Campaign.{CampaignValue, with_mail};
+ghost use Rattle.atl_campaign.specs.Campaign.{CampaignValue, with_mail};
 ghost use Rattle.atl_sql.specs.Causes.{IsFaultOfError};
 ghost use Rattle.atl_store.specs.Faults.{write_fault};
 ghost use Rattle.atl_store.specs.OwnStatements.{OfMail};

@@ -13,9 +13,9 @@ ghost use Rattle.atl_store.specs.Rewriting.{RewritesStocks};
 use crate::amounts::{AmountWriter, put_amounts};
 use crate::grouped::{Grouped, rewrite_marked_groups};
 use crate::singles::{SingleAmounts, rewrite_singles};
+use atl_campaign::{Campaign, Region};
 use atl_sql::rows::market::{drop_stock, drop_stocks, put_stock};
-use atl_state::{Campaign, Region};
-use atl_tables::{Entries, MarkedNumbers, Numbered};
+use atl_world::{Entries, MarkedNumbers, Numbered};
 use sqlite::{Alter, Error, Transaction};
 
 /// A region, by its number, as the owner of the stocks that are written.

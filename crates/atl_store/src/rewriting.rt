@@ -5,8 +5,8 @@ ghost use Rattle.atl_sql.specs.Writes.{Writes};
 ghost use Rattle.atl_sql.specs.Inside.{Inside, HasTables};
 ghost use Rattle.atl_store.specs.Rewriting.{RewritesNumber, RewritesMarked};
 
+use atl_campaign::Campaign;
 use atl_sql::numbered_rows::{NumberedRow, take_out};
-use atl_state::Campaign;
 use sqlite::{Alter, Error, Transaction};
 
 /// Puts the row of the thing with this number, or deletes the number's row if there is no thing.

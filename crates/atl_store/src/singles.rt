@@ -3,16 +3,16 @@ ghost use Rattle.std.specs.Prelude.{◌≡◌, ℕ, Bool};
 ghost use Rattle.std.specs.FinMap.{entries};
 ghost use Rattle.sqlite.specs.Order.{Row as SqlRow};
 ghost use Rattle.sqlite.specs.Table.{Table};
-ghost use Rattle.atl_state.specs.Campaign.{CampaignValue};
-ghost use Rattle.atl_state.specs.Marks.{Marks, Things};
+ghost use Rattle.atl_campaign.specs.Campaign.{CampaignValue};
+ghost use Rattle.atl_campaign.specs.Marks.{Marks, Things};
 ghost use Rattle.atl_store.specs.OwnStatements.{OfChange};
 ghost use Rattle.atl_sql.specs.Writes.{Writes};
 ghost use Rattle.atl_sql.specs.Inside.{Inside, HasTables};
 ghost use Rattle.atl_sql.specs.Marked.{has_thing};
 ghost use Rattle.atl_store.specs.Rewriting.{FindsByNumbers, Rewrites, is_thing, is_of};
 
-use atl_state::Campaign;
-use atl_tables::{Entries, Numbered};
+use atl_campaign::Campaign;
+use atl_world::{Entries, Numbered};
 use sqlite::{Alter, Error, Transaction};
 
 /// Amounts of one kind, each under the numbers of an owner and a thing, such as a unit's items or a

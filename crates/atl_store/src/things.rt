@@ -9,9 +9,9 @@ ghost use Rattle.atl_sql.specs.Marked.{of_kind};
 ghost use Rattle.atl_store.specs.Rewriting.{RewritesThings, is_thing, marked_things};
 
 use crate::singles::SingleAmounts;
+use atl_campaign::Campaign;
 use atl_sql::rows::has::{HasRow, ThingKind, drop_has, put_has};
-use atl_state::Campaign;
-use atl_tables::{Entries, Numbered};
+use atl_world::{Entries, Numbered};
 use sqlite::{Alter, Error, Transaction};
 
 /// How much of an item, or how many days of a skill, a unit has; 0 if there is no such unit.

@@ -13,10 +13,11 @@ ghost use Rattle.atl_sql.specs.Writes.{Writes, Transacts};
 use crate::campaign_row::upgrade_campaign_row;
 use crate::fault::UpgradeFault;
 use crate::loading::load_as;
+use atl_campaign::Campaign;
 use atl_sql::schema::is_just_old;
 use atl_sql::tables::create_market;
-use atl_state::Campaign;
-use atl_tables::{Format, World, read_world};
+use atl_tables::read_world;
+use atl_world::{Format, World};
 use sqlite::{Alter, Connection, Error, Transaction};
 use std::alloc::Global;
 

@@ -7,7 +7,7 @@ use Rattle.std.proofs.lemmas.Map.Keys.{IsDistinct-from_apart, IsDistinct-cons}
 use Rattle.atl_tables.specs.Each.{each}
 use Rattle.atl_tables.specs.Faults.{Conditions, first_fault}
 use Rattle.atl_tables.specs.Keys.{path, element_path}
-use Rattle.atl_tables.specs.Names.{same_name, NamesDiffer}
+use Rattle.atl_world.specs.Names.{same_name, NamesDiffer}
 use Rattle.atl_tables.specs.Drafts.{ThingNamesDiffer}
 use Rattle.atl_tables.specs.RegionTable.{duplicate_market_items}
 use Rattle.atl_tables.specs.Regions.{duplicate_numbers}

@@ -4,8 +4,8 @@ use Rattle.std.specs.Cmp.{nat_cmp_total, unsigned_tied}
 use Rattle.std.specs.FinMap.{FinMap, empty, get, len, get-empty, get-insert, len-empty}
 use Rattle.std.specs.Ordering.{nat_cmp}
 use Rattle.atl_tables.specs.EachIndex.{EachIndex}
-use Rattle.atl_tables.specs.Sums.{by_number}
-use Rattle.atl_tables.proofs.GeneralLaws.{is_equal, one_more}
+use Rattle.atl_world.specs.Sums.{by_number}
+use Rattle.atl_world.proofs.GeneralLaws.{is_equal, one_more}
 
 -- a map that equals the empty map has no entry
 pub len_none : {V : Type 0} (m : FinMap nat_cmp V) → m ≡ empty → len m ≡ 0

@@ -1,16 +1,3 @@
-pub mod GeneralLaws
-pub mod Maps
-pub mod Lent
-pub mod SetLaws
-pub mod MarkLaws
-pub mod MergeLaws
-pub mod ApartLaws
-pub mod CountLaws
-pub mod LookupLaws
-pub mod SumLaws
-pub mod NameLaws
-pub mod MadeLaws
-pub mod TrackLaws
 pub mod FaultLaws
 pub mod ElementLaws
 pub mod EachLaws
@@ -21,4 +8,3 @@ pub mod SeenLaws
 pub mod DuplicateLaws
 pub mod WorldLaws
 pub mod OldWorldLaws
-pub mod SameLaws

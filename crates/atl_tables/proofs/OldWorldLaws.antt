@@ -8,16 +8,16 @@ use Rattle.toml.specs.Parse.{parse_document}
 use Rattle.atl_tables.specs.Faults.{first_fault, unless}
 use Rattle.atl_tables.specs.EachIndex.{EachIndex}
 use Rattle.atl_tables.specs.OldWorlds.{OldWorldsAreBare}
-use Rattle.atl_tables.specs.Worlds.{WorldValue, without_market, without_markets}
+use Rattle.atl_world.specs.Worlds.{WorldValue, without_market, without_markets}
 use Rattle.atl_tables.specs.RegionTable.{as_draft, region_of}
-use Rattle.atl_tables.specs.Sums.{mapped}
+use Rattle.atl_world.specs.Sums.{mapped}
 use Rattle.atl_tables.specs.World.{conditions, world_by, world_of_tables, regions_in, regions_of, tables_of, world_in}
 use Rattle.atl_tables.specs.declared.fault.WorldFault.{WorldFault}
-use Rattle.atl_tables.specs.declared.format.Format.TheVariants.{First}
+use Rattle.atl_world.specs.declared.format.Format.TheVariants.{First}
 use Rattle.atl_tables.specs.declared.region_table.OldRegion.{OldRegion}
 use Rattle.atl_tables.specs.declared.world_draft.WorldDraft.{WorldDraft}
-use Rattle.atl_tables.specs.declared.world.RegionPlan.{RegionPlan}
-use Rattle.atl_tables.proofs.MadeLaws.{get-mapped}
+use Rattle.atl_world.specs.declared.world.RegionPlan.{RegionPlan}
+use Rattle.atl_world.proofs.MadeLaws.{get-mapped}
 use Rattle.atl_tables.proofs.HasNumberLaws.{at_number}
 
 -- an option mapped by f stays as it is, if f doesn't change its value

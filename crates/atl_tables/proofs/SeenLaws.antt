@@ -7,7 +7,7 @@ use Rattle.std.specs.Char.{to_ascii_lowercase}
 use Rattle.std.specs.List.{list_any}
 use Rattle.std.specs.String.{string_bytes, string_cmp}
 use Rattle.std.specs.declared.string.String.{String}
-use Rattle.atl_tables.specs.Names.{same_name}
+use Rattle.atl_world.specs.Names.{same_name}
 use Rattle.atl_tables.specs.SeenNames.{has_name, HasNames}
 
 -- a law of truth values: true if b is true, else `there`, is "there or b"

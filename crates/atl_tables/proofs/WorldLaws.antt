@@ -7,15 +7,15 @@ use Rattle.std.proofs.lemmas.List.Elements.{All-get_or, All-head, All-tail}
 use Rattle.atl_tables.specs.Drafts.{ThingNamesDiffer, IsWorldDraft}
 use Rattle.atl_tables.specs.EachIndex.{EachIndex}
 use Rattle.atl_tables.specs.ItemTable.{item_of}
-use Rattle.atl_tables.specs.Names.{NamesDiffer}
+use Rattle.atl_world.specs.Names.{NamesDiffer}
 use Rattle.atl_tables.specs.Parts.{world_parts_of, AreWorldPartsOf}
-use Rattle.atl_tables.specs.Worlds.{IsTerrain, IsItem, IsSkill, IsKind, IsRegionPlan, HasNeighbours, IsWorld, land_of}
+use Rattle.atl_world.specs.Worlds.{IsTerrain, IsItem, IsSkill, IsKind, IsRegionPlan, HasNeighbours, IsWorld, land_of}
 use Rattle.atl_tables.specs.RegionTable.{region_of}
 use Rattle.atl_tables.specs.TerrainTable.{terrain_of}
 use Rattle.atl_tables.specs.KindTable.{kind_of}
 use Rattle.atl_tables.specs.World.{world_of_tables, regions_of}
 use Rattle.atl_tables.specs.declared.world_draft.WorldDraft.{WorldDraft}
-use Rattle.atl_tables.specs.declared.world.RegionPlan.{RegionPlan}
+use Rattle.atl_world.specs.declared.world.RegionPlan.{RegionPlan}
 use Rattle.atl_tables.proofs.HasNumberLaws.{few, at_number}
 use Rattle.atl_tables.proofs.DuplicateLaws.{names_kept}
 

@@ -1,9 +1,9 @@
 -- For proofs alone: the bounds of a world file's tables once read, with items, skills and terrains still by name.
 use Rattle.std.specs.Prelude.{◌≡◌, ◌≤◌, true, length, map}
 use Rattle.std.specs.List.{All}
-use Rattle.atl_tables.specs.Limits.{most_terrains, most_items, most_skills, most_kinds, most_regions, last_region, most_amount, most_per_head, most_price, most_fraction, most_growth, most_weight, last_level, most_raw_count, most_size}
-use Rattle.atl_tables.specs.Names.{name_ok, NamesDiffer}
-use Rattle.atl_tables.specs.Worlds.{IsSkill}
+use Rattle.atl_world.specs.Limits.{most_terrains, most_items, most_skills, most_kinds, most_regions, last_region, most_amount, most_per_head, most_price, most_fraction, most_growth, most_weight, last_level, most_raw_count, most_size}
+use Rattle.atl_world.specs.Names.{name_ok, NamesDiffer}
+use Rattle.atl_world.specs.Worlds.{IsSkill}
 use Rattle.atl_tables.specs.declared.item_table.ItemDraft.{ItemDraft}
 use Rattle.atl_tables.specs.declared.item_table.Recipe.{Recipe}
 use Rattle.atl_tables.specs.declared.kind_table.Building.{Building}
@@ -22,7 +22,7 @@ use Rattle.atl_tables.specs.declared.rules_table.RulesDraft.{RulesDraft}
 use Rattle.atl_tables.specs.declared.world_draft.WorldDraft.{WorldDraft}
 use Rattle.atl_tables.specs.declared.terrain_table.Economy.{Economy}
 use Rattle.atl_tables.specs.declared.terrain_table.TerrainDraft.{TerrainDraft}
-use Rattle.atl_tables.specs.declared.world.Skill.{Skill}
+use Rattle.atl_world.specs.declared.world.Skill.{Skill}
 
 -- `maintenance`, `tax_per_man` and `recruit_price` of the table `[rules]` are in their ranges
 pub record ArePrices (p : Prices) : Type 0 where

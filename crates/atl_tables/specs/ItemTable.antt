@@ -5,12 +5,12 @@ use Rattle.toml.specs.Data.{Members}
 use Rattle.atl_tables.specs.Faults.{Conditions}
 use Rattle.atl_tables.specs.KeyByKey.{Table, conditions_of, value_of, ◌>>=◌, says, part, number_key, number_or_key, name_key, optional_text_key}
 use Rattle.atl_tables.specs.Keys.{path, element_path}
-use Rattle.atl_tables.specs.Limits.{most_weight, last_level, most_raw_count}
+use Rattle.atl_world.specs.Limits.{most_weight, last_level, most_raw_count}
 use Rattle.atl_tables.specs.Titles.{known_number_or_none, skill_number, item_number}
 use Rattle.atl_tables.specs.declared.item_table.ItemDraft.{ItemDraft}
 use Rattle.atl_tables.specs.declared.item_table.Recipe.{Recipe}
 use Rattle.atl_tables.specs.declared.world_draft.WorldDraft.{WorldDraft}
-use Rattle.atl_tables.specs.declared.world.Item.{Item}
+use Rattle.atl_world.specs.declared.world.Item.{Item}
 
 -- the keys for what making an item takes: skill, level, raw item and its count
 unfoldable pub making_at : Table Recipe

@@ -3,8 +3,8 @@
 use Rattle.std.specs.Prelude.{ℕ, suc, ℤ, pos, negsuc, Bool, ◌&&◌, nat_le, if◌then◌else◌, List, codes, Option, Some, None, Result, Ok, Err}
 use Rattle.std.specs.Fmt.{decimal}
 use Rattle.toml.specs.Data.{Data, Items, no_items, item, Members, no_members, get_member, as_integer, as_str, as_bool, as_array, as_table}
-use Rattle.atl_tables.specs.Texts.{◌▸◌}
-use Rattle.atl_tables.specs.Names.{name_ok}
+use Rattle.atl_world.specs.Texts.{◌▸◌}
+use Rattle.atl_world.specs.Names.{name_ok}
 use Rattle.atl_tables.specs.declared.fault.WorldFault.{WorldFault}
 use Rattle.atl_tables.specs.declared.fault.WorldFault.TheVariants.{Missing, WrongType, OutOfRange}
 

@@ -5,13 +5,13 @@ use Rattle.toml.specs.Data.{Members}
 use Rattle.atl_tables.specs.Faults.{Conditions}
 use Rattle.atl_tables.specs.KeyByKey.{Table, conditions_of, value_of, ◌>>=◌, says, part, number_key, number_or_key, name_key, text_key, optional_text_key, flag_key}
 use Rattle.atl_tables.specs.Keys.{path, element_path}
-use Rattle.atl_tables.specs.Limits.{most_amount, last_level, most_size}
+use Rattle.atl_world.specs.Limits.{most_amount, last_level, most_size}
 use Rattle.atl_tables.specs.Titles.{known, known_number_or_none, skill_number, item_number}
 use Rattle.atl_tables.specs.declared.kind_table.Building.{Building}
 use Rattle.atl_tables.specs.declared.kind_table.KindDraft.{KindDraft}
 use Rattle.atl_tables.specs.declared.kind_table.Purpose.{Purpose}
 use Rattle.atl_tables.specs.declared.world_draft.WorldDraft.{WorldDraft}
-use Rattle.atl_tables.specs.declared.world.Kind.{Kind}
+use Rattle.atl_world.specs.declared.world.Kind.{Kind}
 
 -- the keys for what building a structure takes: material, size, skill and level
 unfoldable pub building_at : Table Building

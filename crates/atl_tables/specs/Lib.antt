@@ -1,8 +1,3 @@
-pub mod Limits
-pub mod Letters
-pub mod Texts
-pub mod Steps
-pub mod Names
 pub mod Faults
 pub mod Keys
 pub mod KeyByKey
@@ -10,7 +5,6 @@ pub mod Each
 pub mod Arrays
 pub mod Titles
 pub mod Regions
-pub mod Worlds
 pub mod RulesTable
 pub mod OutputTable
 pub mod TerrainTable
@@ -23,18 +17,8 @@ pub mod Neighbours
 pub mod World
 pub mod OldWorlds
 pub mod FaultTexts
-pub mod Formats
-pub mod Lookup
-pub mod ByNumber
-pub mod Sums
-pub mod Lending
-pub mod Groups
-pub mod MarkedMaps
-pub mod Tracking
 pub mod Drafts
 pub mod Parts
 pub mod EachIndex
 pub mod Results
 pub mod SeenNames
-pub mod RoomySets
-pub mod SortedNumbers

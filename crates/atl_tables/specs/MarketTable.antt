@@ -7,12 +7,12 @@ use Rattle.toml.specs.Data.{Members}
 use Rattle.atl_tables.specs.Arrays.{list_conditions, list_of}
 use Rattle.atl_tables.specs.Faults.{Conditions, fault_of, value_or}
 use Rattle.atl_tables.specs.Keys.{Key, path, number_at, text_at, optional_array_at}
-use Rattle.atl_tables.specs.Limits.{most_amount, most_markets, most_price}
-use Rattle.atl_tables.specs.Sums.{by_number}
+use Rattle.atl_world.specs.Limits.{most_amount, most_markets, most_price}
+use Rattle.atl_world.specs.Sums.{by_number}
 use Rattle.atl_tables.specs.Titles.{known, item_number, no_twins}
 use Rattle.atl_tables.specs.declared.market_table.MarketDraft.{MarketDraft}
 use Rattle.atl_tables.specs.declared.world_draft.WorldDraft.{WorldDraft}
-use Rattle.atl_tables.specs.declared.world.Market.{Market}
+use Rattle.atl_world.specs.declared.world.Market.{Market}
 
 -- the key `price` of a market, from 1 to most_price: what a unit pays for one item
 abbrev pub price_at : Key ℕ

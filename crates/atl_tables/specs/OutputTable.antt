@@ -9,9 +9,9 @@ use Rattle.toml.specs.Data.{Data, Members, no_members, member, as_integer}
 use Rattle.atl_tables.specs.Faults.{Conditions, fault_of, value_or}
 use Rattle.atl_tables.specs.KeyByKey.{Table}
 use Rattle.atl_tables.specs.Keys.{path, integer_in_range, optional_table_at}
-use Rattle.atl_tables.specs.Limits.{most_amount}
+use Rattle.atl_world.specs.Limits.{most_amount}
 use Rattle.atl_tables.specs.Titles.{known, item_number}
-use Rattle.atl_tables.specs.Names.{same_name}
+use Rattle.atl_world.specs.Names.{same_name}
 use Rattle.atl_tables.specs.declared.fault.WorldFault.{WorldFault}
 use Rattle.atl_tables.specs.declared.fault.WorldFault.TheVariants.{TwoNames}
 use Rattle.atl_tables.specs.declared.output_table.Output.{Output}

@@ -3,7 +3,7 @@ use Rattle.std.specs.Prelude.{map, length}
 use Rattle.atl_tables.specs.EachIndex.{EachIndex}
 use Rattle.atl_tables.specs.ItemTable.{item_of}
 use Rattle.atl_tables.specs.KindTable.{kind_of}
-use Rattle.atl_tables.specs.Worlds.{AreRules, IsTerrain, IsItem, IsKind, IsRegionPlan}
+use Rattle.atl_world.specs.Worlds.{AreRules, IsTerrain, IsItem, IsKind, IsRegionPlan}
 use Rattle.atl_tables.specs.RegionTable.{region_of}
 use Rattle.atl_tables.specs.RulesTable.{rules_of}
 use Rattle.atl_tables.specs.TerrainTable.{terrain_of}

@@ -5,7 +5,7 @@ use Rattle.toml.specs.Data.{Members}
 use Rattle.atl_tables.specs.Each.{each}
 use Rattle.atl_tables.specs.Faults.{Conditions, fault_of, first_fault, value_or}
 use Rattle.atl_tables.specs.Keys.{Key, path, element_path, number_at, name_at, text_at, optional_number_at}
-use Rattle.atl_tables.specs.Limits.{last_region, most_amount}
+use Rattle.atl_world.specs.Limits.{last_region, most_amount}
 use Rattle.atl_tables.specs.MarketTable.{markets_keys, markets_from, duplicate_items, market_known, markets_of}
 use Rattle.atl_tables.specs.Titles.{known, terrain_number}
 use Rattle.atl_tables.specs.declared.region_table.OldRegion.{OldRegion}
@@ -13,7 +13,7 @@ use Rattle.atl_tables.specs.declared.region_table.RegionBasics.{RegionBasics}
 use Rattle.atl_tables.specs.declared.region_table.RegionDraft.{RegionDraft}
 use Rattle.atl_tables.specs.declared.region_table.Sides.{Sides}
 use Rattle.atl_tables.specs.declared.world_draft.WorldDraft.{WorldDraft}
-use Rattle.atl_tables.specs.declared.world.RegionPlan.{RegionPlan}
+use Rattle.atl_world.specs.declared.world.RegionPlan.{RegionPlan}
 
 -- the key `number` of a region, from 1 to last_region
 abbrev pub region_number_at : Key ℕ

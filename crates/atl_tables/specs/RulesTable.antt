@@ -5,7 +5,7 @@ use Rattle.toml.specs.Data.{Members, no_members}
 use Rattle.atl_tables.specs.Faults.{Conditions, fault_of, value_or}
 use Rattle.atl_tables.specs.KeyByKey.{Table, conditions_of, value_of, ◌>>=◌, says, part, number_key, optional_text_key}
 use Rattle.atl_tables.specs.Keys.{path, table_at}
-use Rattle.atl_tables.specs.Limits.{most_amount, most_per_head, most_price, most_fraction, most_growth, most_weight}
+use Rattle.atl_world.specs.Limits.{most_amount, most_per_head, most_price, most_fraction, most_growth, most_weight}
 use Rattle.atl_tables.specs.Titles.{known_number_or_none, skill_number}
 use Rattle.atl_tables.specs.declared.rules_table.MenRules.{MenRules}
 use Rattle.atl_tables.specs.declared.rules_table.PeasantRules.{PeasantRules}
@@ -13,7 +13,7 @@ use Rattle.atl_tables.specs.declared.rules_table.Prices.{Prices}
 use Rattle.atl_tables.specs.declared.rules_table.RulesDraft.{RulesDraft}
 use Rattle.atl_tables.specs.declared.rules_table.SkillNames.{SkillNames}
 use Rattle.atl_tables.specs.declared.world_draft.WorldDraft.{WorldDraft}
-use Rattle.atl_tables.specs.declared.world.Rules.{Rules}
+use Rattle.atl_world.specs.declared.world.Rules.{Rules}
 
 -- the keys for maintenance, tax per man, and the price of a recruit
 unfoldable pub prices_at : Table Prices

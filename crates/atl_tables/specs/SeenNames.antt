@@ -4,7 +4,7 @@ use Rattle.std.specs.BTreeSet.{BTreeSet, contains_text}
 use Rattle.std.specs.Char.{to_ascii_lowercase}
 use Rattle.std.specs.List.{list_any}
 use Rattle.std.specs.declared.string.String.{String}
-use Rattle.atl_tables.specs.Names.{same_name}
+use Rattle.atl_world.specs.Names.{same_name}
 
 -- whether a set of names, all in lower case, has a given name, ignoring ASCII case
 abbrev pub has_name : {Z : Type 0} → BTreeSet (String Z) → List ℕ → Bool

@@ -4,8 +4,8 @@ use Rattle.std.specs.Prelude.{ℕ, List, codes}
 use Rattle.toml.specs.Data.{Members}
 use Rattle.atl_tables.specs.Faults.{Conditions}
 use Rattle.atl_tables.specs.KeyByKey.{Table, conditions_of, value_of, ◌>>=◌, says, number_key, name_key}
-use Rattle.atl_tables.specs.Limits.{most_price}
-use Rattle.atl_tables.specs.declared.world.Skill.{Skill}
+use Rattle.atl_world.specs.Limits.{most_price}
+use Rattle.atl_world.specs.declared.world.Skill.{Skill}
 
 -- all keys of a table `[[skill]]`, in order: name and fee
 unfoldable pub skill_at : Table Skill

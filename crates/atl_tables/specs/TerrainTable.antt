@@ -6,12 +6,12 @@ use Rattle.atl_tables.specs.Each.{each}
 use Rattle.atl_tables.specs.Faults.{Conditions}
 use Rattle.atl_tables.specs.KeyByKey.{Table, conditions_of, value_of, ◌>>=◌, says, part, number_key, name_key, flag_key}
 use Rattle.atl_tables.specs.Keys.{element_path}
-use Rattle.atl_tables.specs.Limits.{most_amount, most_price}
+use Rattle.atl_world.specs.Limits.{most_amount, most_price}
 use Rattle.atl_tables.specs.OutputTable.{output_path, output_at, duplicate_key_at, known_key_at, amount_of}
 use Rattle.atl_tables.specs.declared.world_draft.WorldDraft.{WorldDraft}
 use Rattle.atl_tables.specs.declared.terrain_table.Economy.{Economy}
 use Rattle.atl_tables.specs.declared.terrain_table.TerrainDraft.{TerrainDraft}
-use Rattle.atl_tables.specs.declared.world.Terrain.{Terrain}
+use Rattle.atl_world.specs.declared.world.Terrain.{Terrain}
 
 -- the keys for what work in a region pays, for how many men, and for the most money and peasants that a region grows to
 unfoldable pub economy_at : Table Economy

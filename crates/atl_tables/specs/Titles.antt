@@ -7,7 +7,7 @@ use Rattle.atl_tables.specs.declared.world_draft.WorldDraft.{WorldDraft}
 use Rattle.atl_tables.specs.Each.{each}
 use Rattle.atl_tables.specs.Faults.{Conditions}
 use Rattle.atl_tables.specs.Keys.{path, element_path}
-use Rattle.atl_tables.specs.Names.{same_name}
+use Rattle.atl_world.specs.Names.{same_name}
 
 module _ {A : Type 0} (title : A → List ℕ) where
   -- the condition that no element before the i-th has the name of the i-th; else the fault TwoNames at the name's key

@@ -11,24 +11,24 @@ use Rattle.atl_tables.specs.Faults.{Conditions, first_fault, unless}
 use Rattle.atl_tables.specs.ItemTable.{item_keys, item_from, item_known, item_of}
 use Rattle.atl_tables.specs.Keys.{array_at, optional_array_at}
 use Rattle.atl_tables.specs.KindTable.{kind_keys, kind_from, kind_known, kind_of}
-use Rattle.atl_tables.specs.Limits.{most_terrains, most_items, most_skills, most_kinds, most_regions}
+use Rattle.atl_world.specs.Limits.{most_terrains, most_items, most_skills, most_kinds, most_regions}
 use Rattle.atl_tables.specs.Neighbours.{neighbours_at}
-use Rattle.atl_tables.specs.Worlds.{WorldValue, land_of}
+use Rattle.atl_world.specs.Worlds.{WorldValue, land_of}
 use Rattle.atl_tables.specs.RegionTable.{old_region_keys, old_region_from, as_draft, region_keys, region_from, duplicate_market_items, region_known, region_of}
 use Rattle.atl_tables.specs.Regions.{duplicate_numbers}
 use Rattle.atl_tables.specs.RulesTable.{rules_conditions, rules_in, rules_known, rules_of}
 use Rattle.atl_tables.specs.SkillTable.{skill_keys, skill_from}
-use Rattle.atl_tables.specs.Sums.{by_number}
+use Rattle.atl_world.specs.Sums.{by_number}
 use Rattle.atl_tables.specs.TerrainTable.{terrain_keys, terrain_from, duplicate_output_keys, terrain_known, terrain_of}
 use Rattle.atl_tables.specs.Titles.{no_twins}
 use Rattle.atl_tables.specs.declared.fault.WorldFault.{WorldFault}
 use Rattle.atl_tables.specs.declared.fault.WorldFault.TheVariants.{NotToml, NoLand}
-use Rattle.atl_tables.specs.declared.format.Format.{Format}
-use Rattle.atl_tables.specs.declared.format.Format.TheVariants.{First, Second}
+use Rattle.atl_world.specs.declared.format.Format.{Format}
+use Rattle.atl_world.specs.declared.format.Format.TheVariants.{First, Second}
 use Rattle.atl_tables.specs.declared.reading.ThingDrafts.{ThingDrafts}
 use Rattle.atl_tables.specs.declared.region_table.RegionDraft.{RegionDraft}
 use Rattle.atl_tables.specs.declared.world_draft.WorldDraft.{WorldDraft}
-use Rattle.atl_tables.specs.declared.world.RegionPlan.{RegionPlan}
+use Rattle.atl_world.specs.declared.world.RegionPlan.{RegionPlan}
 
 -- the items, skills and kinds of a document, read with a default in place of each fault
 unfoldable pub things_of : Members → ThingDrafts

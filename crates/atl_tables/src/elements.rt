@@ -11,8 +11,7 @@ ghost use Rattle.atl_tables.specs.Arrays.{element_table, element_conditions, ele
 
 use crate::fault::WorldFault;
 use crate::keys::{array_of_size, element_path, member};
-use crate::sequence::Sequence;
-use crate::text::Text;
+use atl_world::{Sequence, Text};
 use std::alloc::Global;
 use toml::value::Array;
 use toml::{Table, Value};

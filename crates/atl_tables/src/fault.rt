@@ -4,7 +4,7 @@ ghost use Rattle.std.specs.Option.{option_copied};
 ghost use Rattle.atl_tables.specs.FaultTexts.{fault_number, fault_name, fault_path};
 ghost use Rattle.atl_tables.specs.declared.fault.WorldFault.TheVariants.{Memory};
 
-use crate::text::Text;
+use atl_world::Text;
 use std::alloc::{AllocError, AllocFailed};
 use std::error::Error;
 use std::fmt;

@@ -1,9 +1,9 @@
 //! Values that have a number of their own, and maps of them by that number.
 ghost use Rattle.std.specs.Prelude.{◌≡◌, ◌≤◌, ℕ, length, IfOk};
 ghost use Rattle.std.specs.FinMap.{len};
-ghost use Rattle.atl_tables.specs.Sums.{by_number};
+ghost use Rattle.atl_world.specs.Sums.{by_number};
 
-use crate::numbered::Numbered;
+use atl_world::Numbered;
 use std::alloc::{AllocError, Global};
 
 /// A value with a number of its own, under which a map stores it.

@@ -5,19 +5,17 @@ ghost use Rattle.atl_tables.specs.Results.{Gives};
 ghost use Rattle.atl_tables.specs.ItemTable.{making_at, item_keys, item_from, other_than, item_known, item_of};
 ghost use Rattle.atl_tables.specs.KeyByKey.{conditions_of, value_of};
 ghost use Rattle.atl_tables.specs.Keys.{path};
-ghost use Rattle.atl_tables.specs.Limits.{most_numbered};
-ghost use Rattle.atl_tables.specs.Worlds.{IsItem};
+ghost use Rattle.atl_world.specs.Limits.{most_numbered};
+ghost use Rattle.atl_world.specs.Worlds.{IsItem};
 ghost use Rattle.atl_tables.specs.Titles.{number_of, known_number_or_none};
 
 use crate::elements::Element;
 use crate::fault::WorldFault;
 use crate::keys::{self, element_path, path};
-use crate::let_go;
-use crate::limits::{LAST_LEVEL, MOST_RAW_COUNT, MOST_WEIGHT};
-use crate::text::Text;
-use crate::titles::{Titled, known_number_or_none, number_of};
-use crate::world::Item;
+use crate::titles::{known_number_or_none, number_of};
 use crate::world_draft::{Draft, WorldDraft};
+use atl_world::limits::{LAST_LEVEL, MOST_RAW_COUNT, MOST_WEIGHT};
+use atl_world::{Item, Text, Titled, let_go};
 use std::alloc::Global;
 use toml::Table;
 

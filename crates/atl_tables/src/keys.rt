@@ -4,12 +4,11 @@ ghost use Rattle.std.specs.Prelude.{◌≡◌, ◌≤◌, ℤ, List, option_map,
 ghost use Rattle.toml.specs.Data.{get_member, as_integer, as_str, as_array};
 ghost use Rattle.toml.specs.View.{view, table_view, array_view};
 ghost use Rattle.atl_tables.specs.Faults.{Reads};
-ghost use Rattle.atl_tables.specs.Names.{name_ok};
+ghost use Rattle.atl_world.specs.Names.{name_ok};
 ghost use Rattle.atl_tables.specs.Keys.{path, element_path, within, integer_in_range, typed, number_at, name_at, text_at, flag_at, number_or_at, optional_number_at, optional_text_at, table_at, count_of, array_of_size};
 
 use crate::fault::WorldFault;
-use crate::names::name_ok;
-use crate::text::Text;
+use atl_world::{Text, name_ok};
 use std::alloc::{AllocError, Global};
 use toml::value::Array;
 use toml::{Table, Value};

@@ -3,17 +3,15 @@ ghost use Rattle.std.specs.Prelude.{length};
 ghost use Rattle.atl_tables.specs.Drafts.{IsBuilding, IsPurpose, IsKindDraft};
 ghost use Rattle.atl_tables.specs.KeyByKey.{conditions_of, value_of};
 ghost use Rattle.atl_tables.specs.KindTable.{building_at, purpose_at, kind_keys, kind_from, kind_known, kind_of};
-ghost use Rattle.atl_tables.specs.Worlds.{IsKind};
+ghost use Rattle.atl_world.specs.Worlds.{IsKind};
 
 use crate::elements::Element;
 use crate::fault::WorldFault;
 use crate::keys::{self, element_path};
-use crate::let_go;
-use crate::limits::{LAST_LEVEL, MOST_AMOUNT, MOST_SIZE};
-use crate::text::Text;
-use crate::titles::{Titled, known, known_number_or_none};
-use crate::world::Kind;
+use crate::titles::{known, known_number_or_none};
 use crate::world_draft::{Draft, WorldDraft};
+use atl_world::limits::{LAST_LEVEL, MOST_AMOUNT, MOST_SIZE};
+use atl_world::{Kind, Text, Titled, let_go};
 use std::alloc::Global;
 use toml::Table;
 

@@ -1,51 +1,27 @@
-//! The world of a campaign, and the containers that every crate uses.
+//! Reads world files: their tables, key by key, the names in them, and the faults.
 #![tactic(auto)]
 
-mod by_number;
-mod direction;
-mod drop_by_hand;
 mod elements;
 mod fault;
-mod format;
 mod has_number;
 mod item_table;
 mod keys;
 mod kind_table;
-pub mod letters;
-pub mod limits;
-pub mod lookup;
-mod marked_map;
-mod marked_numbers;
 mod market_table;
-mod marks;
-mod names;
 mod neighbours;
-mod numbered;
 mod output_table;
 mod reading;
 mod region_table;
 mod regions;
 mod rules_table;
-mod same_worlds;
-mod sequence;
 mod skill_table;
-mod sorted_numbers;
 mod terrain_table;
-mod text;
 mod titles;
-mod variants;
-mod world;
 mod world_draft;
 
-pub use direction::Direction;
+pub use atl_world::{
+    Direction, Format, Item, Kind, Market, RegionPlan, Rules, Sequence, Skill, Terrain, Text,
+    World, name_ok, pass_ok, word_ok,
+};
 pub use fault::WorldFault;
-pub use format::Format;
-pub use marked_map::MarkedMap;
-pub use marked_numbers::MarkedNumbers;
-pub use marks::Marks;
-pub use names::{name_ok, pass_ok, word_ok};
-pub use numbered::{Entries, Numbered};
 pub use reading::{old_worlds_have_no_markets, read_old_world, read_world};
-pub use sequence::Sequence;
-pub use text::Text;
-pub use world::{Item, Kind, Market, RegionPlan, Rules, Skill, Terrain, World};

@@ -7,19 +7,16 @@ ghost use Rattle.atl_tables.specs.Drafts.{IsMarketDraft};
 ghost use Rattle.atl_tables.specs.Faults.{first_fault};
 ghost use Rattle.atl_tables.specs.Results.{Gives};
 ghost use Rattle.atl_tables.specs.MarketTable.{market_keys, market_from, markets_keys, markets_from, market_known, market_of};
-ghost use Rattle.atl_tables.specs.Worlds.{IsMarket};
+ghost use Rattle.atl_world.specs.Worlds.{IsMarket};
 
 use crate::elements::{Element, optional_list};
 use crate::fault::WorldFault;
 use crate::has_number::HasNumber;
 use crate::keys::{self, path};
-use crate::let_go;
-use crate::limits::{MOST_AMOUNT, MOST_MARKETS, MOST_PRICE};
-use crate::sequence::Sequence;
-use crate::text::Text;
-use crate::titles::{Titled, known};
-use crate::world::Market;
+use crate::titles::known;
 use crate::world_draft::{Draft, WorldDraft};
+use atl_world::limits::{MOST_AMOUNT, MOST_MARKETS, MOST_PRICE};
+use atl_world::{Market, Sequence, Text, Titled, let_go};
 use std::alloc::Global;
 use toml::Table;
 

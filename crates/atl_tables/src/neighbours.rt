@@ -7,14 +7,13 @@ ghost use Rattle.atl_tables.specs.Faults.{first_fault};
 ghost use Rattle.atl_tables.specs.Results.{Gives};
 ghost use Rattle.atl_tables.specs.Keys.{path};
 ghost use Rattle.atl_tables.specs.Neighbours.{is_number, neighbour, neighbours_at};
-ghost use Rattle.atl_tables.specs.Worlds.{beside, LeadsBack, HasNeighbours};
+ghost use Rattle.atl_world.specs.Worlds.{beside, LeadsBack, HasNeighbours};
 
-use crate::direction::Direction::{self, East, North, South, West};
 use crate::fault::WorldFault;
 use crate::keys::{element_path, path};
-use crate::numbered::Numbered;
 use crate::region_table::RegionDraft;
-use crate::world::RegionPlan;
+use atl_world::Direction::{self, East, North, South, West};
+use atl_world::{Numbered, RegionPlan};
 use std::alloc::Global;
 
 /// The number of a region's neighbour on a side, `None` if there is no such region or no neighbour.

@@ -5,20 +5,17 @@ ghost use Rattle.atl_tables.specs.Drafts.{AreRegionBasics, IsOldRegion, IsRegion
 ghost use Rattle.atl_tables.specs.Faults.{first_fault};
 ghost use Rattle.atl_tables.specs.Results.{Gives};
 ghost use Rattle.atl_tables.specs.RegionTable.{basics_keys, basics_from, side_keys, sides_from, old_region_keys, old_region_from, as_draft, region_keys, region_from, duplicate_market_items, region_known, region_of};
-ghost use Rattle.atl_tables.specs.Worlds.{IsRegionPlan};
+ghost use Rattle.atl_world.specs.Worlds.{IsRegionPlan};
 
 use crate::elements::Element;
 use crate::fault::WorldFault;
 use crate::has_number::{HasNumber, by_number};
 use crate::keys::{self, element_path, path};
-use crate::let_go;
-use crate::limits::{LAST_REGION, MOST_AMOUNT};
 use crate::market_table::{MarketDraft, markets};
-use crate::sequence::Sequence;
-use crate::text::Text;
 use crate::titles::{HasUniqueNames, known, no_duplicate_names};
-use crate::world::RegionPlan;
 use crate::world_draft::{Draft, WorldDraft, resolve_all};
+use atl_world::limits::{LAST_REGION, MOST_AMOUNT};
+use atl_world::{RegionPlan, Sequence, Text, let_go};
 use std::alloc::{AllocError, Global};
 use toml::Table;
 

@@ -5,8 +5,8 @@ ghost use Rattle.atl_tables.specs.Regions.{duplicate_numbers};
 
 use crate::fault::WorldFault;
 use crate::keys::{element_path, path};
-use crate::numbered::Numbered;
 use crate::region_table::RegionDraft;
+use atl_world::Numbered;
 use std::alloc::Global;
 
 /// Checks that no two regions have the same number, else gives the fault TwoNames at the second of

@@ -5,19 +5,18 @@ ghost use Rattle.atl_tables.specs.Drafts.{ArePrices, ArePeasantRules, AreMenRule
 ghost use Rattle.atl_tables.specs.Faults.{first_fault};
 ghost use Rattle.atl_tables.specs.Results.{Gives};
 ghost use Rattle.atl_tables.specs.KeyByKey.{conditions_of, value_of};
-ghost use Rattle.atl_tables.specs.Worlds.{AreRules};
+ghost use Rattle.atl_world.specs.Worlds.{AreRules};
 ghost use Rattle.atl_tables.specs.RulesTable.{prices_at, peasants_at, men_at, skill_names_at, rules_at, rules_conditions, rules_in, rules_known, rules_of};
 
 use crate::elements::Element;
 use crate::fault::WorldFault;
-use crate::limits::{
+use crate::keys;
+use crate::titles::known_number_or_none;
+use crate::world_draft::WorldDraft;
+use atl_world::limits::{
     MOST_AMOUNT, MOST_FRACTION, MOST_GROWTH, MOST_PER_HEAD, MOST_PRICE, MOST_WEIGHT,
 };
-use crate::text::Text;
-use crate::titles::known_number_or_none;
-use crate::world::Rules;
-use crate::world_draft::WorldDraft;
-use crate::{keys, let_go};
+use atl_world::{Rules, Text, let_go};
 use std::alloc::Global;
 use toml::Table;
 

@@ -1,14 +1,12 @@
 //! Reads the tables `[[skill]]`. See docs/FORMATS.md, "The world file".
-ghost use Rattle.atl_tables.specs.Worlds.{IsSkill};
+ghost use Rattle.atl_world.specs.Worlds.{IsSkill};
 ghost use Rattle.atl_tables.specs.SkillTable.{skill_keys, skill_from};
 
 use crate::elements::Element;
 use crate::fault::WorldFault;
 use crate::keys;
-use crate::limits::MOST_PRICE;
-use crate::text::Text;
-use crate::titles::Titled;
-use crate::world::Skill;
+use atl_world::limits::MOST_PRICE;
+use atl_world::{Skill, Text};
 use std::alloc::Global;
 use toml::Table;
 
@@ -26,14 +24,5 @@ impl Element for Skill {
         let name = keys::name(alloc, "name", at, table)?;
         let fee = keys::number(alloc, 0, MOST_PRICE, "fee", at, table)?;
         Ok(Skill { name, fee })
-    }
-}
-
-/// The title of a skill is its name.
-impl Titled for Skill {
-    ghost title_of = { λ x. x.name };
-
-    fn title(&self) -> &Text {
-        &self.name
     }
 }

@@ -3,20 +3,17 @@
 ghost use Rattle.std.specs.Prelude.{length};
 ghost use Rattle.atl_tables.specs.Drafts.{IsEconomy, IsTerrainDraft};
 ghost use Rattle.atl_tables.specs.KeyByKey.{conditions_of, value_of};
-ghost use Rattle.atl_tables.specs.Worlds.{IsTerrain};
+ghost use Rattle.atl_world.specs.Worlds.{IsTerrain};
 ghost use Rattle.atl_tables.specs.TerrainTable.{economy_at, terrain_keys, terrain_from, duplicate_output_keys, terrain_known, terrain_of};
 
 use crate::elements::Element;
 use crate::fault::WorldFault;
 use crate::keys::{self, element_path, path};
-use crate::let_go;
-use crate::limits::{MOST_AMOUNT, MOST_PRICE};
 use crate::output_table::{Output, amounts_of, known_keys, no_duplicate_keys, outputs};
-use crate::sequence::Sequence;
-use crate::text::Text;
-use crate::titles::{HasUniqueNames, Titled};
-use crate::world::Terrain;
+use crate::titles::HasUniqueNames;
 use crate::world_draft::{Draft, WorldDraft};
+use atl_world::limits::{MOST_AMOUNT, MOST_PRICE};
+use atl_world::{Sequence, Terrain, Text, Titled, let_go};
 use std::alloc::Global;
 use toml::Table;
 

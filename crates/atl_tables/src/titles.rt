@@ -6,27 +6,16 @@ ghost use Rattle.atl_tables.specs.Each.{each};
 ghost use Rattle.atl_tables.specs.Faults.{Conditions, first_fault};
 ghost use Rattle.atl_tables.specs.Results.{Gives};
 ghost use Rattle.atl_tables.specs.Keys.{path};
-ghost use Rattle.atl_tables.specs.Limits.{most_numbered};
+ghost use Rattle.atl_world.specs.Limits.{most_numbered};
 ghost use Rattle.atl_tables.specs.Titles.{no_twins, number_of, known, known_number_or_none};
-ghost use Rattle.atl_tables.specs.Names.{same_name};
+ghost use Rattle.atl_world.specs.Names.{same_name};
 ghost use Rattle.atl_tables.specs.SeenNames.{has_name};
 
 use crate::fault::WorldFault;
 use crate::keys::{element_path, path};
-use crate::text::Text;
+use atl_world::{Text, Titled};
 use std::alloc::{AllocError, Global};
 use std::collections::BTreeSet;
-
-/// A thing with a title: the name by which it is looked up, or that no other thing of its array
-/// has.
-pub(crate) trait Titled {
-    // The title of the thing, as bytes.
-    ghost title_of: { Self → List ℕ };
-
-    /// The title of the thing.
-    fn title(&self) -> &Text
-        ensures { result.now ≡ title_of self.now };
-}
 
 /// Whether two names are equal, ignoring ASCII case.
 pub(crate) fn same_name(name: &Text, other: &Text) -> bool

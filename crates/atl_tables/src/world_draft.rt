@@ -12,12 +12,10 @@ ghost use Rattle.atl_tables.specs.declared.world_draft.WorldDraft.{WorldDraft};
 use crate::fault::WorldFault;
 use crate::item_table::ItemDraft;
 use crate::kind_table::KindDraft;
-use crate::let_go;
 use crate::region_table::RegionDraft;
 use crate::rules_table::RulesDraft;
-use crate::sequence::Sequence;
 use crate::terrain_table::TerrainDraft;
-use crate::world::Skill;
+use atl_world::{Sequence, Skill, let_go};
 use std::alloc::Global;
 
 /// All tables of a world file as read, with names not looked up yet.

@@ -5,8 +5,8 @@
 mod rows;
 
 use crate::rows::put_all;
-use atl_state::Campaign;
-use atl_tables::Format;
+use atl_campaign::Campaign;
+use atl_world::Format;
 use sqlite::{Alter, Connection, Error};
 
 /// The SQL statements that make the nine tables of the first format.

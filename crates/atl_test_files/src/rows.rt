@@ -1,6 +1,6 @@
 //! Inserts the rows of a campaign into the nine tables of the first format.
-use atl_state::Parts;
-use atl_state::parts::{
+use atl_campaign::Parts;
+use atl_campaign::parts::{
     StoredBooks, StoredCampaignRow, StoredFaction, StoredHas, StoredMail, StoredRegion,
     StoredReport, StoredStructure, StoredUnit,
 };

@@ -1,6 +1,6 @@
 //! Tests that seven phases and `share` give the results of a plain reference calculation
 //! (`reference`). The phases are SELL, BUY, TAX, RECRUIT, PRODUCE, WORK and upkeep.
-ghost use Rattle.atl_state.specs.Good.{IsGood};
+ghost use Rattle.atl_campaign.specs.Good.{IsGood};
 ghost use Rattle.atl_phase.specs.Fit.{AreFit};
 
 use super::crowd::{crowd, crowd_month, crowd_world};
@@ -9,11 +9,11 @@ use super::reference::sharing::Sharing;
 use super::reference::trade::Trade;
 use super::reference::{shares, sharing, upkeep};
 use super::shares::{are_small, assert_shares};
+use atl_campaign::Campaign;
 use atl_market::{BuyPhase, ProducePhase, RecruitPhase, SellPhase, TaxPhase, WorkPhase, share};
 use atl_month::UpkeepPhase;
 use atl_phase::{Month, Phase};
-use atl_state::Campaign;
-use atl_tables::World;
+use atl_world::World;
 use std::alloc::{AllocError, Global};
 use std::process::Abort;
 use std::test::Fail;

@@ -2,17 +2,19 @@
 //! orders. Four factions have them in twelve regions. What each unit has and orders is picked by
 //! its number from tables of several lengths.
 ghost use Rattle.std.specs.Prelude.{◌≤◌, IfOk, length};
-ghost use Rattle.atl_state.specs.Good.{IsGood};
+ghost use Rattle.atl_campaign.specs.Good.{IsGood};
 ghost use Rattle.atl_phase.specs.Fit.{AreFit};
 
 use super::months::month;
-use atl_phase::Month;
-use atl_state::parts::{
+use atl_campaign::parts::{
     Parts, StoredBooks, StoredCampaignRow, StoredFaction, StoredHas, StoredMarket, StoredReport,
     StoredUnit,
 };
-use atl_state::{Campaign, check, founded};
-use atl_tables::{Sequence, Text, World, read_world};
+use atl_campaign::{Campaign, founded};
+use atl_phase::Month;
+use atl_state::check;
+use atl_tables::read_world;
+use atl_world::{Sequence, Text, World};
 use std::alloc::{AllocError, Global};
 use std::test::Fail;
 

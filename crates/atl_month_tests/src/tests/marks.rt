@@ -1,16 +1,17 @@
 //! Tests of what closing a month marks: each unit that changes, and of its goods only those that
 //! change.
 ghost use Rattle.std.specs.Prelude.{IfOk};
-ghost use Rattle.atl_state.specs.Good.{IsGood};
+ghost use Rattle.atl_campaign.specs.Good.{IsGood};
 
 use super::crowd::checked;
 use super::months::{own_mailings, small_world};
 use super::telling::assert_row;
+use atl_campaign::parts::{Parts, StoredBooks, StoredHas};
+use atl_campaign::{Campaign, LAST_MONTH, founded};
 use atl_month::close_month;
-use atl_state::parts::{Parts, StoredBooks, StoredHas};
-use atl_state::{Campaign, LAST_MONTH, founded};
-use atl_tables::{Entries, MarkedNumbers, Numbered, Text, World, name_ok, read_world};
+use atl_tables::read_world;
 use atl_test_worlds::ISLE_WITH_MARKET;
+use atl_world::{Entries, MarkedNumbers, Numbered, Text, World, name_ok};
 use std::alloc::{AllocError, Global};
 use std::process::Abort;
 use std::test::Fail;

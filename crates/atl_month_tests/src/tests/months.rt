@@ -7,8 +7,9 @@ ghost use Rattle.atl_phase.specs.Fit.{AreFit};
 use atl_orders::{Mailing, read_mailing};
 use atl_phase::Month;
 use atl_state::are_distinct;
-use atl_tables::{World, read_world};
+use atl_tables::read_world;
 use atl_test_worlds::{SMALL, WOOD_AND_SAILING};
+use atl_world::World;
 use std::alloc::{AllocError, Global};
 use std::test::Fail;
 

@@ -3,12 +3,12 @@
 use super::months::{month, world};
 use super::phases::{Studying, Working};
 use super::telling::assert_row;
+use atl_campaign::{Event, EventVerb, Outcome};
 use atl_instant::{FormPhase, GivePhase};
 use atl_market::RecruitPhase;
 use atl_orders::Verb;
 use atl_phase::{Arrangement, Month, MonthLongVerbs, PhaseVerbs};
-use atl_state::{Event, EventVerb, Outcome};
-use atl_tables::World;
+use atl_world::World;
 use std::alloc::Global;
 use std::process::Abort;
 use std::test::Fail;

@@ -5,10 +5,11 @@ ghost use Rattle.atl_market.specs.Pots.{AreWants};
 ghost use Rattle.atl_month_tests.specs.Places.{pot_in};
 
 use super::telling::{assert_row, tell_pair};
+use atl_campaign::{Campaign, Holding, LAST_UNIT, Unit, founded};
 use atl_market::{Pots, pot_shares};
-use atl_state::{Campaign, Holding, LAST_UNIT, Unit, founded};
-use atl_tables::{Numbered, Text, World, read_world};
+use atl_tables::read_world;
 use atl_test_worlds::TWO_REGIONS;
+use atl_world::{Numbered, Text, World};
 use std::alloc::{AllocError, Global};
 use std::process::Abort;
 use std::test::Fail;

@@ -1,7 +1,8 @@
 //! Tests of `Text`, `Sequence` and `Numbered` (a map by number), call by call, and of the names of
 //! world faults.
 use super::asserts::{assert_number, assert_numbers, assert_row};
-use atl_tables::{Numbered, Sequence, Text, WorldFault};
+use atl_tables::WorldFault;
+use atl_world::{Numbered, Sequence, Text};
 use std::alloc::Global;
 use std::process::Abort;
 use std::test::Fail;

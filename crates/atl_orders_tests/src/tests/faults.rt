@@ -7,8 +7,8 @@ use super::changes::{
     TITLE_CHANGES, TOO_MANY_MARKETS, TRUTH_CHANGES, TWIN_CHANGES, TWO_FAULTS,
 };
 use super::worlds::{MORE, changed, fault, small_with, with_markets};
-use atl_tables::Format;
 use atl_test_worlds::SMALL;
+use atl_world::Format;
 use std::alloc::Global;
 use std::process::Abort;
 use std::test::Fail;

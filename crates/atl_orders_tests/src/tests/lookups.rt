@@ -1,7 +1,7 @@
 //! Tests of the look-ups of items, skills and kinds by a word of a mailing.
 use super::asserts::assert_shown;
 use super::worlds::world_with;
-use atl_tables::World;
+use atl_world::World;
 use std::alloc::Global;
 use std::process::Abort;
 use std::test::Fail;

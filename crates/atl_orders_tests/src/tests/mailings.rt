@@ -3,7 +3,7 @@
 use super::asserts::{assert_number, assert_row};
 use super::worlds::{THINGS, world_with};
 use atl_orders::{MailFault, Mailing, Operands, Span, read_mailing};
-use atl_tables::{Text, World};
+use atl_world::{Text, World};
 use std::alloc::Global;
 use std::process::Abort;
 use std::test::Fail;

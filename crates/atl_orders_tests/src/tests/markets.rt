@@ -2,7 +2,8 @@
 //! alone.
 use super::asserts::assert_shown;
 use super::worlds::{MARKET, changed, read_in, with_markets};
-use atl_tables::{Format, World, read_world};
+use atl_tables::read_world;
+use atl_world::{Format, World};
 use std::alloc::Global;
 use std::process::Abort;
 use std::test::Fail;

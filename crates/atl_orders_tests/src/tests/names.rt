@@ -1,6 +1,6 @@
 //! Tests of which texts may be a name, and which a pass text (docs/RULES.md, "Names and pass
 //! texts").
-use atl_tables::{name_ok, pass_ok};
+use atl_world::{name_ok, pass_ok};
 use std::process::Abort;
 
 /// A text of 40 bytes, the most that a name may have, without a space.

@@ -1,7 +1,8 @@
 //! Tests that the small world and the island are read in full, part by part.
 use super::asserts::{assert_number, assert_numbers, assert_row, assert_shown};
-use atl_tables::{RegionPlan, World, read_world};
+use atl_tables::read_world;
 use atl_test_worlds::{ISLE, SMALL};
+use atl_world::{RegionPlan, World};
 use std::alloc::Global;
 use std::process::Abort;
 use std::test::Fail;

@@ -2,7 +2,7 @@
 //! `unmark`.
 use super::asserts::{assert_number, assert_numbers};
 use super::containers::{assert_map, filled};
-use atl_tables::MarkedMap;
+use atl_world::MarkedMap;
 use std::alloc::Global;
 use std::process::Abort;
 use std::test::Fail;

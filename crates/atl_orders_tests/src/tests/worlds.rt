@@ -1,6 +1,7 @@
 //! World texts for these tests, and what the reader makes of them.
-use atl_tables::{Format, Text, World, WorldFault, read_old_world, read_world};
+use atl_tables::{WorldFault, read_old_world, read_world};
 use atl_test_worlds::SMALL;
+use atl_world::{Format, Text, World};
 use std::alloc::Global;
 use std::test::Fail;
 

@@ -9,7 +9,7 @@ use super::opening::rows_in;
 use super::script::{Course, commands_of};
 use super::serving::Served;
 use atl_service::{Answer, Command, Refused, Service, found, open};
-use atl_tables::let_go;
+use atl_world::let_go;
 use sqlite::{Alter, Connection, MemStore, Options};
 use sqlite_disk::{Crash, Files, Fuse, Memory};
 use std::alloc::Global;

@@ -1,7 +1,7 @@
 //! Makes the commands and services of these tests, and names answers.
 use super::serving::Tables;
 use atl_service::{Answer, Command, Fault, Refusal, Service, found, open};
-use atl_tables::Sequence;
+use atl_world::Sequence;
 use sqlite::{Alter, Connection, MemStore};
 use std::alloc::Global;
 use std::test::Fail;

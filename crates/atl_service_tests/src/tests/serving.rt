@@ -1,7 +1,7 @@
 //! The calls of services and databases as traits, so that what tests them is proved without the
 //! contract of a store.
+use atl_campaign::Campaign;
 use atl_service::{Answer, Command, Service};
-use atl_state::Campaign;
 use sqlite::{Alter, Connection};
 use std::alloc::AllocError;
 use std::test::Fail;

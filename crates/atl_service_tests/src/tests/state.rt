@@ -1,15 +1,16 @@
 //! Tests of the calls on a campaign that a service makes: founding, joining, lending a unit, and
 //! storing a report.
 ghost use Rattle.std.specs.Prelude.{IfOk};
-ghost use Rattle.atl_state.specs.Good.{IsGood};
+ghost use Rattle.atl_campaign.specs.Good.{IsGood};
 
 use super::commands::FIRST_REPORT;
 use super::compare::{assert_count, assert_number, assert_numbers, assert_text, assert_total};
+use atl_campaign::{Campaign, Entry, MOST_UNITS, Thing, founded};
 use atl_report::{report_text, view};
-use atl_state::{Campaign, Entry, MOST_UNITS, Thing, founded};
-use atl_tables::limits::MOST_REGIONS;
-use atl_tables::{Text, World, read_world};
+use atl_tables::read_world;
 use atl_test_worlds::SMALL;
+use atl_world::limits::MOST_REGIONS;
+use atl_world::{Text, World};
 use std::alloc::{AllocError, Global};
 use std::process::Abort;
 use std::test::Fail;

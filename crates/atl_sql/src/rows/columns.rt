@@ -5,7 +5,7 @@ ghost use Rattle.sqlite.specs.Order.{column};
 ghost use Rattle.atl_sql.specs.Errors.{is_memory};
 ghost use Rattle.atl_sql.specs.Stored.{IsOf, Number, Utf8Text, TextBytes, Bytes};
 
-use atl_tables::Sequence;
+use atl_world::Sequence;
 use sqlite::types::{Type, ValueRef};
 use sqlite::{Error, ErrorCode, Row};
 use std::alloc::Global;

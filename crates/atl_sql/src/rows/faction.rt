@@ -8,9 +8,9 @@ use crate::numbered_rows::{Mapped, NumberedRow};
 use crate::rows::columns::{integer, text_bytes};
 use crate::rows::stored::{HasSelect, Stored};
 use crate::statement::run;
-use atl_state::parts::StoredFaction;
-use atl_state::{Campaign, Faction};
-use atl_tables::{Entries, Format, MarkedNumbers};
+use atl_campaign::parts::StoredFaction;
+use atl_campaign::{Campaign, Faction};
+use atl_world::{Entries, Format, MarkedNumbers};
 use sqlite::{Alter, Error, Row, Transaction, params};
 use std::alloc::Global;
 

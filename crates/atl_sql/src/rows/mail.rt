@@ -8,9 +8,9 @@ use crate::numbered_rows::{Mapped, NumberedRow};
 use crate::rows::columns::{bytes, integer};
 use crate::rows::stored::{HasSelect, Stored};
 use crate::statement::run;
-use atl_state::Campaign;
-use atl_state::parts::StoredMail;
-use atl_tables::{Entries, Format, MarkedNumbers, Sequence};
+use atl_campaign::Campaign;
+use atl_campaign::parts::StoredMail;
+use atl_world::{Entries, Format, MarkedNumbers, Sequence};
 use sqlite::{Alter, Error, Row, Transaction, params};
 use std::alloc::Global;
 

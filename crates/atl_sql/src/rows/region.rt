@@ -8,9 +8,9 @@ use crate::numbered_rows::{Mapped, NumberedRow};
 use crate::rows::columns::three_integers;
 use crate::rows::stored::{HasSelect, Stored};
 use crate::statement::run;
-use atl_state::parts::StoredRegion;
-use atl_state::{Campaign, Region};
-use atl_tables::{Entries, Format, MarkedNumbers};
+use atl_campaign::parts::StoredRegion;
+use atl_campaign::{Campaign, Region};
+use atl_world::{Entries, Format, MarkedNumbers};
 use sqlite::{Alter, Error, Row, Transaction, params};
 use std::alloc::Global;
 

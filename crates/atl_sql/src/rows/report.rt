@@ -7,9 +7,9 @@ use crate::numbered_rows::{Mapped, NumberedRow};
 use crate::rows::columns::{integer, utf8_text};
 use crate::rows::stored::{HasSelect, Stored};
 use crate::statement::run;
-use atl_state::Campaign;
-use atl_state::parts::StoredReport;
-use atl_tables::{Entries, Format, MarkedNumbers, Text};
+use atl_campaign::Campaign;
+use atl_campaign::parts::StoredReport;
+use atl_world::{Entries, Format, MarkedNumbers, Text};
 use sqlite::{Alter, Error, Row, Transaction, params};
 use std::alloc::Global;
 

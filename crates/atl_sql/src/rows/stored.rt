@@ -11,7 +11,7 @@ ghost use Rattle.atl_sql.specs.declared.fault.ReadFault.TheVariants.{Memory, Oth
 
 use crate::fault::{ReadFault, unread};
 use crate::schema::has_tables_of;
-use atl_tables::Format;
+use atl_world::Format;
 use sqlite::{Alter, Connection, Error, Row};
 use std::alloc::Global;
 

@@ -8,9 +8,9 @@ use crate::numbered_rows::{Mapped, NumberedRow};
 use crate::rows::columns::{text_bytes, three_integers, two_integers};
 use crate::rows::stored::{HasSelect, Stored};
 use crate::statement::run;
-use atl_state::parts::StoredStructure;
-use atl_state::{Campaign, Structure};
-use atl_tables::{Entries, Format, MarkedNumbers};
+use atl_campaign::parts::StoredStructure;
+use atl_campaign::{Campaign, Structure};
+use atl_world::{Entries, Format, MarkedNumbers};
 use sqlite::{Alter, Error, Row, Transaction, params};
 use std::alloc::Global;
 

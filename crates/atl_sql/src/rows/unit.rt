@@ -9,9 +9,9 @@ use crate::numbered_rows::NumberedRow;
 use crate::rows::columns::{text_bytes, three_integers, two_integers};
 use crate::rows::stored::{HasSelect, Stored};
 use crate::statement::run;
-use atl_state::parts::StoredUnit;
-use atl_state::{Campaign, SlotEntries, Unit};
-use atl_tables::{Format, MarkedNumbers};
+use atl_campaign::parts::StoredUnit;
+use atl_campaign::{Campaign, SlotEntries, Unit};
+use atl_world::{Format, MarkedNumbers};
 use sqlite::{Alter, Error, Row, Transaction, params};
 use std::alloc::Global;
 

@@ -1,11 +1,10 @@
 //! The rule that there is one campaign row of a given format, and no rows unknown to that format.
-ghost use Rattle.std.specs.Prelude.{◌≡◌, length};
-ghost use Rattle.atl_state.specs.FromRows.{campaign_row_of};
-ghost use Rattle.atl_state.specs.RowRules.{is_one_campaign_row, are_of_format};
+ghost use Rattle.std.specs.Prelude.{◌≡◌};
+ghost use Rattle.atl_campaign.specs.RowRules.{is_one_campaign_row, are_of_format};
 
 use super::numbers::is_from;
-use crate::parts::{Parts, StoredCampaignRow, StoredMarket};
-use atl_tables::Format;
+use atl_campaign::parts::{Parts, StoredCampaignRow, StoredMarket};
+use atl_world::Format;
 
 /// Whether there is exactly one campaign row, with the id 1 and the number of the given format.
 pub(crate) fn is_one_campaign_row(format: Format, rows: &[StoredCampaignRow]) -> bool
@@ -27,12 +26,4 @@ pub(crate) fn are_of_format(format: Format, rows: &[StoredMarket]) -> bool
         Format::First => rows.len() == 0,
         Format::Second => true,
     }
-}
-
-/// The campaign row, in tables with exactly one.
-pub(crate) fn campaign_row_of(parts: &Parts) -> &StoredCampaignRow
-    requires { length parts.now.campaign ≡ 1 }
-    ensures { result.now ≡ campaign_row_of parts.now }
-{
-    &parts.campaign.as_slice()[0]
 }

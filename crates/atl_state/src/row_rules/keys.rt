@@ -3,9 +3,9 @@ ghost use Rattle.std.specs.Prelude.{◌≡◌, IfOk, map, true, ◌↔◌, IsTru
 ghost use Rattle.std.specs.List.{IsDistinct};
 ghost use Rattle.std.specs.List.Sorted.{IsStrictlySortedBy};
 ghost use Rattle.std.specs.Ordering.{eq_by_cmp};
-ghost use Rattle.atl_state.specs.RowRules.{Key, faction_key, region_key, unit_key, has_key, structure_key, mail_key, report_key, books_key, market_key, HaveKeys, AreKeyed};
+ghost use Rattle.atl_campaign.specs.RowRules.{Key, faction_key, region_key, unit_key, has_key, structure_key, mail_key, report_key, books_key, market_key, HaveKeys, AreKeyed};
 
-use crate::parts::{
+use atl_campaign::parts::{
     Parts, StoredBooks, StoredFaction, StoredHas, StoredMail, StoredMarket, StoredRegion,
     StoredReport, StoredStructure, StoredUnit,
 };

@@ -2,13 +2,13 @@
 ghost use Rattle.std.specs.Prelude.{◌≡◌};
 ghost use Rattle.std.specs.List.{list_all};
 ghost use Rattle.std.specs.Option.{option_copied};
-ghost use Rattle.atl_tables.specs.ByNumber.{market_of};
-ghost use Rattle.atl_state.specs.FromRows.{as_u32};
-ghost use Rattle.atl_state.specs.RowRules.{is_of_market};
+ghost use Rattle.atl_world.specs.ByNumber.{market_of};
+ghost use Rattle.atl_campaign.specs.FromRows.{as_u32};
+ghost use Rattle.atl_campaign.specs.RowRules.{is_of_market};
 
-use super::numbers::as_u32;
-use crate::parts::StoredMarket;
-use atl_tables::{Market, World};
+use atl_campaign::as_u32;
+use atl_campaign::parts::StoredMarket;
+use atl_world::{Market, World};
 
 /// The market of the world for the region and item of a row, where there is one.
 pub(super) fn market_of<'w>(world: &'w World, row: &StoredMarket) -> Option<&'w Market>

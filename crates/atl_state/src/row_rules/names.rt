@@ -1,13 +1,13 @@
 //! Checks the names and pass texts of rows. See docs/RULES.md, "Names and pass texts".
 ghost use Rattle.std.specs.Prelude.{◌≡◌, IfOk, length, map, ◌↔◌, IsTrue};
 ghost use Rattle.std.specs.List.{list_all};
-ghost use Rattle.atl_tables.specs.Names.{name_ok};
-ghost use Rattle.atl_state.specs.RowRules.{faction_named, are_named, AreJoinedNamesDistinct, AreRowsNamed};
+ghost use Rattle.atl_world.specs.Names.{name_ok};
+ghost use Rattle.atl_campaign.specs.RowRules.{faction_named, are_named, AreJoinedNamesDistinct, AreRowsNamed};
 
-use super::head::campaign_row_of;
 use super::keys::are_distinct;
-use crate::parts::{Parts, StoredFaction, StoredStructure, StoredUnit};
-use atl_tables::{name_ok, pass_ok};
+use atl_campaign::campaign_row_of;
+use atl_campaign::parts::{Parts, StoredFaction, StoredStructure, StoredUnit};
+use atl_world::{name_ok, pass_ok};
 use std::alloc::{AllocError, Global};
 
 /// Whether the joined name, the shown name and the pass text of a row of `faction` keep their

@@ -1,23 +1,23 @@
 //! The rule on ranges: keys that differ, numbers in their ranges, and not too many rows.
 ghost use Rattle.std.specs.Prelude.{◌≡◌, IfOk, length, ◌↔◌, IsTrue};
 ghost use Rattle.std.specs.List.{list_all};
-ghost use Rattle.atl_state.specs.RowRules.{campaign_row_in_range, faction_in_range, region_in_range, unit_in_range, has_in_range, structure_in_range, books_bound, books_in_range, market_in_range, are_few, people_in_range, numbers_in_range, AreRowsInRange};
+ghost use Rattle.atl_campaign.specs.RowRules.{campaign_row_in_range, faction_in_range, region_in_range, unit_in_range, has_in_range, structure_in_range, books_bound, books_in_range, market_in_range, are_few, people_in_range, numbers_in_range, AreRowsInRange};
 
-use super::head::campaign_row_of;
 use super::keys::are_keyed;
 use super::markets::market_of;
-use super::numbers::{as_u16, as_u32, is_from, is_set, is_within};
-use crate::parts::{
+use super::numbers::{is_from, is_within};
+use atl_campaign::parts::{
     Parts, StoredBooks, StoredCampaignRow, StoredFaction, StoredHas, StoredMarket, StoredRegion,
     StoredStructure, StoredUnit,
 };
+use atl_campaign::{as_u16, as_u32, campaign_row_of, is_set};
 use atl_orders::LAST_FACTION;
 use atl_records::{
     HOLDING_LIMIT, LAST_MONTH, LAST_UNIT, MEN_LIMIT, MOST_IN_JOINING, MOST_IN_MONTH,
     MOST_STRUCTURES, MOST_UNITS,
 };
-use atl_tables::World;
-use atl_tables::limits::{MOST_AMOUNT, MOST_REGIONS};
+use atl_world::World;
+use atl_world::limits::{MOST_AMOUNT, MOST_REGIONS};
 use std::alloc::{AllocError, Global};
 
 /// Whether the campaign row's month is 0 to LAST_MONTH, and each next number 1 to one above the

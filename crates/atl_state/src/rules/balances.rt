@@ -1,16 +1,16 @@
 //! The rule that the books balance: what is booked is what units and regions hold.
 ghost use Rattle.std.specs.Prelude.{◌≡◌, ◌<◌, ℕ, length, pos, ◌↔◌, IsTrue};
-ghost use Rattle.atl_tables.specs.Worlds.{IsWorld};
+ghost use Rattle.atl_world.specs.Worlds.{IsWorld};
 ghost use Rattle.atl_records.specs.Books.{booked, thing_index, AreBooks};
-ghost use Rattle.atl_state.specs.Founding.{things_of};
+ghost use Rattle.atl_campaign.specs.Founding.{things_of};
 ghost use Rattle.atl_records.specs.Every.{Every};
-ghost use Rattle.atl_state.specs.Good.{AreOfMarkets};
-ghost use Rattle.atl_state.specs.Totals.{total, Balances, IsCountable};
+ghost use Rattle.atl_campaign.specs.Good.{AreOfMarkets};
+ghost use Rattle.atl_campaign.specs.Totals.{total, Balances, IsCountable};
 ghost use Rattle.atl_records.specs.declared.books.Thing.TheVariants.{Money, People, Item};
 
-use crate::campaign::Campaign;
+use atl_campaign::Campaign;
 use atl_records::Thing;
-use atl_tables::World;
+use atl_world::World;
 
 /// Whether the total of a thing equals the sum booked of it under all entries.
 fn is_balanced(campaign: &Campaign, thing: Thing) -> bool

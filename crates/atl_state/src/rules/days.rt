@@ -1,10 +1,10 @@
 //! The rule for days of study. See docs/RULES.md, "Levels and loads".
 ghost use Rattle.std.specs.Prelude.{◌≤◌, ◌*◌, ◌↔◌, IsTrue};
 ghost use Rattle.atl_records.specs.Every.{Every};
-ghost use Rattle.atl_state.specs.Good.{AreDays};
+ghost use Rattle.atl_campaign.specs.Good.{AreDays};
 ghost use Rattle.atl_records.specs.Limits.{most_days};
 
-use crate::campaign::Campaign;
+use atl_campaign::Campaign;
 use atl_records::{Holding, MOST_DAYS};
 
 /// Whether each skill listed of a unit has at least 1 day, and at most MOST_DAYS for each man.

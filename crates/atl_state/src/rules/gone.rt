@@ -1,9 +1,9 @@
 //! The rule that a faction is gone exactly when it has no unit.
 ghost use Rattle.std.specs.Prelude.{◌≡◌, true, [], ◌↔◌, IsTrue};
-ghost use Rattle.atl_state.specs.Good.{GoneHaveNone, UnitlessAreGone};
-ghost use Rattle.atl_state.specs.Campaign.{numbers_of};
+ghost use Rattle.atl_campaign.specs.Good.{GoneHaveNone, UnitlessAreGone};
+ghost use Rattle.atl_campaign.specs.Campaign.{numbers_of};
 
-use crate::campaign::Campaign;
+use atl_campaign::Campaign;
 use atl_records::Faction;
 
 /// Whether a faction is gone exactly where it has no unit.

@@ -2,10 +2,10 @@
 ghost use Rattle.std.specs.Prelude.{◌≡◌, None, ◌↔◌, IsTrue};
 ghost use Rattle.atl_state.specs.Deciding.{agree, guard_of, one_holder};
 ghost use Rattle.atl_records.specs.Every.{Every, IsThere};
-ghost use Rattle.atl_state.specs.Good.{AreOfOneFaction, guards};
-ghost use Rattle.atl_state.specs.Campaign.{numbers_in};
+ghost use Rattle.atl_campaign.specs.Good.{AreOfOneFaction, guards};
+ghost use Rattle.atl_campaign.specs.Campaign.{numbers_in};
 
-use crate::campaign::Campaign;
+use atl_campaign::Campaign;
 
 /// The faction of a unit, if the unit is there and guards; else None.
 fn guard_of(campaign: &Campaign, number: u32) -> Option<u32>

@@ -1,14 +1,14 @@
 //! The rule that everything that is named by number exists.
 ghost use Rattle.std.specs.Prelude.{◌≡◌, ◌≢◌, ◌<◌, ◌↔◌, ℕ, IsSome, Some, length, IsTrue};
 ghost use Rattle.std.specs.FinMap as map;
-ghost use Rattle.atl_tables.specs.ByNumber.{market_of};
+ghost use Rattle.atl_world.specs.ByNumber.{market_of};
 ghost use Rattle.atl_records.specs.declared.records.Structure as builds;
 ghost use Rattle.atl_records.specs.Every.{EachOf, Every, IsThere};
-ghost use Rattle.atl_state.specs.Good.{IsPlaced, IsBuilt, ArePosted, AreKnown, AreOfMarkets};
+ghost use Rattle.atl_campaign.specs.Good.{IsPlaced, IsBuilt, ArePosted, AreKnown, AreOfMarkets};
 
-use crate::campaign::Campaign;
+use atl_campaign::Campaign;
 use atl_records::{Holding, Region, Structure, Unit};
-use atl_tables::{Entries, World};
+use atl_world::{Entries, World};
 
 /// Whether a faction has this number, gone or not.
 fn is_faction(campaign: &Campaign, number: u32) -> bool

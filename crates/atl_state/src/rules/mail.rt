@@ -1,11 +1,11 @@
 //! The rule that mail is of factions that aren't gone, and has the right length and header.
 ghost use Rattle.std.specs.Prelude.{◌↔◌, IsTrue};
 ghost use Rattle.atl_orders.specs.Mailing.{IsMailingOf};
-ghost use Rattle.atl_state.specs.Good.{IsActive, IsMail};
+ghost use Rattle.atl_campaign.specs.Good.{IsActive, IsMail};
 
-use crate::campaign::Campaign;
+use atl_campaign::Campaign;
 use atl_orders::is_mailing_of;
-use atl_tables::Sequence;
+use atl_world::Sequence;
 
 /// Whether a faction is there, and not gone.
 fn is_active(campaign: &Campaign, number: u32) -> bool

@@ -2,10 +2,10 @@
 ghost use Rattle.std.specs.Prelude.{◌≡◌, ◌≤◌, ◌<◌, ◌+◌, ℕ, None, ◌↔◌, IsTrue};
 ghost use Rattle.std.specs.FinMap as map;
 ghost use Rattle.atl_records.specs.Every.{EachOf};
-ghost use Rattle.atl_state.specs.Good.{AreNumbered, IsNumbered};
+ghost use Rattle.atl_campaign.specs.Good.{AreNumbered, IsNumbered};
 
-use crate::campaign::Campaign;
-use atl_tables::Entries;
+use atl_campaign::Campaign;
+use atl_world::Entries;
 
 /// Whether the numbers of all given entries are at least `least` and below `next`.
 fn are_between<V>(mut entries: Entries<'_, V>, least: u32, next: u32) -> bool

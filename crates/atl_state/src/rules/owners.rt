@@ -4,9 +4,9 @@ ghost use Rattle.std.specs.FinMap as map;
 ghost use Rattle.atl_records.specs.declared.records.Structure as builds;
 ghost use Rattle.atl_state.specs.Deciding.{HasOwnerInside};
 ghost use Rattle.atl_records.specs.Every.{Every};
-ghost use Rattle.atl_state.specs.Good.{AreOwned};
+ghost use Rattle.atl_campaign.specs.Good.{AreOwned};
 
-use crate::campaign::Campaign;
+use atl_campaign::Campaign;
 use atl_records::{Structure, Unit};
 
 /// Whether a structure's owner is nobody, or a unit inside.

@@ -1,9 +1,9 @@
 //! The rule that every faction has a report.
 ghost use Rattle.std.specs.Prelude.{◌↔◌, IsTrue};
 ghost use Rattle.atl_records.specs.Every.{IsThere};
-ghost use Rattle.atl_state.specs.Good.{AreReported};
+ghost use Rattle.atl_campaign.specs.Good.{AreReported};
 
-use crate::campaign::Campaign;
+use atl_campaign::Campaign;
 
 /// Whether a report of this faction is stored.
 fn has_report(campaign: &Campaign, number: u32) -> bool

@@ -1,12 +1,12 @@
 //! The rule that units on water are inside ships, and structures on water are complete ships.
 ghost use Rattle.std.specs.Prelude.{◌≡◌, false, true, ◌↔◌, IsTrue};
 ghost use Rattle.atl_records.specs.Every.{Every};
-ghost use Rattle.atl_state.specs.Good.{AreAfloat, IsAboard, is_ship};
-ghost use Rattle.atl_tables.specs.ByNumber.{is_land_at, size_of};
+ghost use Rattle.atl_campaign.specs.Good.{AreAfloat, IsAboard, is_ship};
+ghost use Rattle.atl_world.specs.ByNumber.{is_land_at, size_of};
 
-use crate::campaign::Campaign;
+use atl_campaign::Campaign;
 use atl_records::{Structure, Unit};
-use atl_tables::World;
+use atl_world::World;
 
 /// Whether a unit is inside a ship.
 fn is_aboard(world: &World, campaign: &Campaign, unit: &Unit) -> bool

@@ -1,7 +1,7 @@
 //! Tests of `Books` alone, and of the books of a campaign (docs/RULES.md, "Books").
 use super::compare::{assert_count, assert_number};
 use super::making::founded_by;
-use atl_state::{Books, Campaign, Entry, Thing};
+use atl_campaign::{Books, Campaign, Entry, Thing};
 use atl_test_worlds::ISLE;
 use std::process::Abort;
 use std::test::Fail;

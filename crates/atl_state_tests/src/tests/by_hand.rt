@@ -1,10 +1,10 @@
 //! Builds the rows of the tables of a campaign by hand, so that tests of `check` can put one wrong
 //! value in.
-use atl_state::parts::{
+use atl_campaign::parts::{
     Parts, StoredBooks, StoredCampaignRow, StoredFaction, StoredHas, StoredMarket, StoredRegion,
     StoredReport, StoredStructure, StoredUnit,
 };
-use atl_tables::{Format, Sequence, Text};
+use atl_world::{Format, Sequence, Text};
 use std::alloc::Global;
 use std::test::Fail;
 

@@ -2,10 +2,12 @@
 //! rule that they break.
 use super::by_hand::{Rows, parts};
 use super::compare::{assert_amount, assert_count, assert_row, assert_rows};
-use atl_state::parts::Parts;
-use atl_state::{Campaign, CheckFault, check, check_as};
-use atl_tables::{Format, World, read_world};
+use atl_campaign::Campaign;
+use atl_campaign::parts::Parts;
+use atl_state::{CheckFault, check, check_as};
+use atl_tables::read_world;
 use atl_test_worlds::ISLE_WITH_MARKET;
+use atl_world::{Format, World};
 use std::alloc::Global;
 use std::process::Abort;
 use std::test::Fail;

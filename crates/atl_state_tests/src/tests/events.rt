@@ -1,6 +1,6 @@
 //! Tests of the numbers and names of the faults of orders (docs/RULES.md, "Events").
 use super::compare::{assert_row, assert_text, assert_true};
-use atl_state::EventFault;
+use atl_campaign::EventFault;
 use std::process::Abort;
 
 /// The number and the name of each fault of an order.

@@ -1,8 +1,8 @@
 //! Tests of `Holding` (what a unit has): each call that sets a value, and the reads after it.
 use super::compare::{assert_amount, assert_row_text};
 use super::making::one_man;
-use atl_state::Holding;
-use atl_tables::{Entries, Text};
+use atl_campaign::Holding;
+use atl_world::{Entries, Text};
 use std::alloc::Global;
 use std::process::Abort;
 use std::test::Fail;

@@ -1,6 +1,6 @@
 //! Calls each law of the crates under test once and asserts nothing: a law does nothing, and its
 //! clause is proved.
-use atl_state::good_campaigns_are_early;
+use atl_campaign::good_campaigns_are_early;
 
 /// Asserts nothing: the clause of the law is proved.
 #[test]

@@ -1,9 +1,10 @@
 //! Tests of levels, and of what units weigh and carry (docs/RULES.md, "Levels and loads").
 use super::compare::assert_row;
 use super::making::one_man;
-use atl_state::{Holding, carry, goods, level, load};
-use atl_tables::{World, read_world};
+use atl_campaign::{Holding, carry, goods, level, load};
+use atl_tables::read_world;
 use atl_test_worlds::ISLE;
+use atl_world::World;
 use std::alloc::Global;
 use std::process::Abort;
 use std::test::Fail;

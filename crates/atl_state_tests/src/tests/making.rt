@@ -1,9 +1,10 @@
 //! Makes the campaigns, units and structures that the tests start from.
 ghost use Rattle.std.specs.Prelude.{IfOk};
-ghost use Rattle.atl_state.specs.Good.{IsGood};
+ghost use Rattle.atl_campaign.specs.Good.{IsGood};
 
-use atl_state::{Campaign, Holding, LAST_UNIT, MOST_STRUCTURES, Structure, Unit, founded};
-use atl_tables::{Numbered, Text, World, read_world};
+use atl_campaign::{Campaign, Holding, LAST_UNIT, MOST_STRUCTURES, Structure, Unit, founded};
+use atl_tables::read_world;
+use atl_world::{Numbered, Text, World};
 use std::alloc::Global;
 use std::test::Fail;
 

@@ -2,7 +2,7 @@
 use super::compare::{assert_numbers, assert_row};
 use super::making::{BOAT, LODGE, founded_by};
 use super::steps::{OfStructure, OfUnit, Step, does, does_all};
-use atl_state::Campaign;
+use atl_campaign::Campaign;
 use atl_test_worlds::ISLE;
 use std::alloc::Global;
 use std::process::Abort;

@@ -2,7 +2,7 @@
 use super::compare::assert_rows;
 use super::making::{LODGE, joined_by};
 use super::steps::{OfFaction, OfStructure, OfUnit, Step, does_all};
-use atl_state::parts::Parts;
+use atl_campaign::parts::Parts;
 use atl_test_worlds::ISLE;
 use std::alloc::Global;
 use std::process::Abort;

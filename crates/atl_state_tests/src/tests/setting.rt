@@ -3,7 +3,7 @@
 use super::making::{FAR, LODGE, joined_by};
 use super::shown::{Ask, Row, assert_unmarked_steps};
 use super::steps::{OfFaction, OfRegion, OfStructure, OfUnit, Step, does};
-use atl_state::Campaign;
+use atl_campaign::Campaign;
 use atl_test_worlds::ISLE;
 use std::alloc::Global;
 use std::process::Abort;

@@ -1,9 +1,9 @@
 //! Prints parts of a campaign and its marks as text, and runs tables of steps with both.
 use super::compare::assert_row_text;
 use super::steps::{Step, does};
-use atl_state::{Campaign, Entry, MOST_UNITS, Thing};
-use atl_tables::limits::MOST_REGIONS;
-use atl_tables::{Entries, MarkedNumbers, Numbered};
+use atl_campaign::{Campaign, Entry, MOST_UNITS, Thing};
+use atl_world::limits::MOST_REGIONS;
+use atl_world::{Entries, MarkedNumbers, Numbered};
 use std::alloc::Global;
 use std::process::Abort;
 use std::str;

@@ -1,7 +1,7 @@
 //! The steps of the tables of these tests: calls that change a campaign, as values.
 use super::making::{man_comes, structure_begins};
-use atl_state::{Campaign, Holding};
-use atl_tables::{Sequence, Text};
+use atl_campaign::{Campaign, Holding};
+use atl_world::{Sequence, Text};
 use std::alloc::Global;
 use std::test::Fail;
 

@@ -2,7 +2,7 @@
 use super::making::joined_by;
 use super::shown::{Ask, Row, assert_steps};
 use super::steps::{OfRegion, OfUnit, Step};
-use atl_state::Thing;
+use atl_campaign::Thing;
 use atl_test_worlds::MART;
 use std::test::Fail;
 

@@ -4,7 +4,7 @@ use super::compare::{assert_amount, assert_count, assert_text};
 use super::making::{LODGE, joined_by};
 use super::shown::{Ask, Row, assert_steps};
 use super::steps::{OfUnit, Step, does_all};
-use atl_state::{Campaign, Thing};
+use atl_campaign::{Campaign, Thing};
 use atl_test_worlds::ISLE;
 use std::alloc::Global;
 use std::process::Abort;

@@ -7,7 +7,7 @@ ghost use Rattle.atl_store.specs.Loading.{AfterReads};
 
 use crate::fault::LoadFault;
 use atl_sql::schema::has_tables_of;
-use atl_tables::Format;
+use atl_world::Format;
 use sqlite::{Alter, Connection};
 
 /// Tests that the schema begins with the tables of the format and that the connection is open; the

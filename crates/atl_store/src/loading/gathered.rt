@@ -5,7 +5,7 @@ ghost use Rattle.std.proofs.lemmas.List.{map-append};
 ghost use Rattle.sqlite.specs.Held.{state};
 ghost use Rattle.sqlite.specs.Order.{Row as SqlRow};
 ghost use Rattle.atl_store.specs.declared.fault.LoadFault.TheVariants.{Store};
-ghost use Rattle.atl_tables.specs.declared.format.Format.TheVariants.{First};
+ghost use Rattle.atl_world.specs.declared.format.Format.TheVariants.{First};
 ghost use Rattle.atl_store.specs.Gathering.{IsSettled, ReadRows, AreAllRows, AreNone, AreOfFormat, ReadsSome, FailsWithout, AreApart, rows_or_none, second_format_parts, selects_by};
 ghost use Rattle.atl_store.specs.Loading.{other_parts};
 ghost use Rattle.atl_sql.specs.Reading.{listing_of};
@@ -15,7 +15,7 @@ ghost use Rattle.atl_sql.specs.Tables.{Part};
 use crate::fault::{LoadFault, ReadFault};
 use atl_sql::rows::{HasSelect, RowWithId};
 use atl_state::are_distinct;
-use atl_tables::{Format, Sequence};
+use atl_world::{Format, Sequence};
 use sqlite::{Alter, Connection};
 use std::alloc::{AllocError, Global};
 

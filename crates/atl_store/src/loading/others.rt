@@ -6,12 +6,12 @@ ghost use Rattle.atl_store.specs.Loading.{other_selects};
 
 use crate::fault::LoadFault;
 use crate::loading::gathered::{AllRows, read_by, rows_apart};
-use atl_sql::rows::RowWithId;
-use atl_state::parts::{
+use atl_campaign::parts::{
     Parts, StoredBooks, StoredCampaignRow, StoredFaction, StoredHas, StoredMail, StoredMarket,
     StoredRegion, StoredReport, StoredStructure, StoredUnit,
 };
-use atl_tables::{Format, Sequence};
+use atl_sql::rows::RowWithId;
+use atl_world::{Format, Sequence};
 use sqlite::{Alter, Connection};
 use std::alloc::Global;
 

@@ -2,7 +2,7 @@
 //! call is made at one location alone, since a proof ties its clauses anew at each.
 use super::campaigns::{founded_by, has_arrived, has_few_things, joined};
 use super::words::{done, done_or_fault, text_of};
-use atl_state::Campaign;
+use atl_campaign::Campaign;
 use atl_store::{UpgradeFault, create, load, upgrade, write_changes, write_join, write_mail};
 use atl_test_files::old_file;
 use sqlite::{Alter, Connection};

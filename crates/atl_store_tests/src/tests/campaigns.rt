@@ -1,12 +1,13 @@
 //! World texts by the names that scripts give them, and campaigns of these worlds.
 ghost use Rattle.std.specs.Prelude.{◌≤◌, IsTrue, IfOk};
-ghost use Rattle.atl_state.specs.Good.{IsGood};
+ghost use Rattle.atl_campaign.specs.Good.{IsGood};
 ghost use Rattle.atl_records.specs.Limits.{most_things};
 ghost use Rattle.atl_store.specs.Arriving.{HasArrival};
 
-use atl_state::{Campaign, founded};
-use atl_tables::{Text, World, read_world};
+use atl_campaign::{Campaign, founded};
+use atl_tables::read_world;
 use atl_test_worlds::{ISLE, ISLE_WITH_MARKET, ISLE_WITH_MARKETS, SMALL};
+use atl_world::{Text, World};
 use std::alloc::Global;
 use std::test::Fail;
 

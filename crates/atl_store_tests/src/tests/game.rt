@@ -2,9 +2,9 @@
 //! compare.
 use super::campaigns::founded_by;
 use super::words::{done, yes_or_no};
-use atl_state::Campaign;
-use atl_tables::let_go;
+use atl_campaign::Campaign;
 use atl_test_worlds::SMALL;
+use atl_world::let_go;
 use std::alloc::Global;
 use std::test::Fail;
 

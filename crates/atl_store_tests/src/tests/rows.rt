@@ -2,7 +2,7 @@
 //! commas.
 use super::campaigns::world_text;
 use super::words::text_of;
-use atl_state::parts::{
+use atl_campaign::parts::{
     StoredBooks, StoredFaction, StoredHas, StoredMail, StoredMarket, StoredRegion, StoredReport,
     StoredStructure, StoredUnit,
 };

@@ -13,7 +13,7 @@ use super::game::{Game, is_kept, is_kept_campaign, keep, keep_campaign, new_game
 use super::rows::read;
 use super::setting::{begin, book, lend, numbers, remove, rename, report, set};
 use super::words::{done, text_of, yes_or_no};
-use atl_state::Campaign;
+use atl_campaign::Campaign;
 use atl_store::schema::has_all_tables;
 use sqlite::{Alter, Connection};
 use std::alloc::Global;

@@ -1,6 +1,6 @@
 //! Steps that change the campaign in memory, a function for each.
-use atl_state::{Campaign, Entry, HOLDING_LIMIT, Holding, Structure, Thing};
-use atl_tables::Text;
+use atl_campaign::{Campaign, Entry, HOLDING_LIMIT, Holding, Structure, Thing};
+use atl_world::Text;
 use std::alloc::Global;
 use std::test::Fail;
 

@@ -1,7 +1,7 @@
 use Rattle.std.proofs.Common.{◌≡◌, ◌≤◌, ◌+◌, ◌*◌, drop, sum_by}
 use Rattle.std.specs.Option.{option_map_or}
 use Rattle.std.specs.FinMap.{get}
-use Rattle.atl_state.specs.Campaign.{numbers_inside}
+use Rattle.atl_campaign.specs.Campaign.{numbers_inside}
 use Rattle.atl_action.specs.Sail.{crew_of, sum_inside}
 use Rattle.atl_action.proofs.sail.crew_inside.Given as goal
 

@@ -2,7 +2,7 @@ use Rattle.std.proofs.Common.{◌≡◌, ◌≤◌, ◌+◌, ◌*◌, drop, sum_
 use Rattle.std.specs.Option.{option_map_or}
 use Rattle.std.specs.FinMap.{get}
 use Rattle.atl_records.specs.Levels.{load_of}
-use Rattle.atl_state.specs.Campaign.{numbers_inside}
+use Rattle.atl_campaign.specs.Campaign.{numbers_inside}
 use Rattle.atl_action.specs.Sail.{sum_inside}
 use Rattle.atl_action.proofs.sail.load_inside.Given as goal
 

@@ -1,4 +1,4 @@
-use Rattle.atl_state.proofs.LeavingLaws.{marks-structure}
+use Rattle.atl_campaign.proofs.LeavingLaws.{marks-structure}
 use Rattle.atl_phase.proofs.MarkLaws.{marks_by}
 use Rattle.atl_action.proofs.sail.put_ship.Goals as goal
 

@@ -2,7 +2,7 @@ use Rattle.std.proofs.Common.{ap, ◌∙◌, arith}
 use Rattle.std.specs.Prelude.{neg_ℤ, pos}
 use Rattle.atl_records.specs.declared.books.Entry.TheVariants.{Study}
 use Rattle.atl_records.specs.declared.books.Thing.TheVariants.{Money}
-use Rattle.atl_state.specs.Campaign.{CampaignValue, with_amount}
+use Rattle.atl_campaign.specs.Campaign.{CampaignValue, with_amount}
 use Rattle.atl_phase.proofs.ChangeLaws.{changed_held}
 use Rattle.atl_phase.proofs.MarkLaws.{booked_marks}
 use Rattle.atl_action.specs.Study.{with_study}

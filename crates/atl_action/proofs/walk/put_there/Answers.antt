@@ -1,8 +1,8 @@
 use Rattle.std.proofs.Common.{false, refl}
-use Rattle.atl_state.specs.Marking.{mark_unit_row}
-use Rattle.atl_state.specs.Campaign.{with_guard}
-use Rattle.atl_state.proofs.CoverLaws.{marks-trans}
-use Rattle.atl_state.proofs.HoldingLaws.{marks-unit_row}
+use Rattle.atl_campaign.specs.Marking.{mark_unit_row}
+use Rattle.atl_campaign.specs.Campaign.{with_guard}
+use Rattle.atl_campaign.proofs.CoverLaws.{marks-trans}
+use Rattle.atl_campaign.proofs.HoldingLaws.{marks-unit_row}
 use Rattle.atl_phase.proofs.MarkLaws.{marks-place, marks_by}
 use Rattle.atl_action.proofs.walk.put_there.Goals as goal
 

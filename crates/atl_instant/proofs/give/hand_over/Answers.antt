@@ -1,6 +1,6 @@
 use Rattle.std.proofs.Common.{◌+◌, ◌-◌, sym, ap, arith}
 use Rattle.std.proofs.lemmas.Result.{on_ok_weaker}
-use Rattle.atl_state.proofs.CoverLaws.{marks-trans}
+use Rattle.atl_campaign.proofs.CoverLaws.{marks-trans}
 use Rattle.atl_phase.proofs.ChangeLaws.{changed_held}
 use Rattle.atl_instant.specs.Give.{with_held_of}
 use Rattle.atl_instant.proofs.GiveLaws.{given_is, held_within}

@@ -1,4 +1,4 @@
-use Rattle.atl_state.proofs.CoverLaws.{marks-faction}
+use Rattle.atl_campaign.proofs.CoverLaws.{marks-faction}
 use Rattle.atl_phase.proofs.MarkLaws.{marks_by}
 use Rattle.atl_instant.proofs.name.name_faction.Goals as goal
 

@@ -1,6 +1,6 @@
 use Rattle.std.proofs.Common.{subst, sym, ◌∙◌}
 use Rattle.std.specs.Str.{IsUtf8}
-use Rattle.atl_tables.proofs.NameLaws.{name_ok-IsUtf8}
+use Rattle.atl_world.proofs.NameLaws.{name_ok-IsUtf8}
 use Rattle.atl_instant.proofs.name.name_of.Goals as goal
 
 pub unwrap-letters-requires : goal.unwrap-letters-requires

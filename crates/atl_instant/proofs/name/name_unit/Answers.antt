@@ -1,7 +1,7 @@
 use Rattle.std.proofs.Common.{refl}
-use Rattle.atl_state.specs.Marking.{mark_unit_row}
-use Rattle.atl_state.specs.Campaign.{with_unit_name}
-use Rattle.atl_state.proofs.HoldingLaws.{marks-unit_row}
+use Rattle.atl_campaign.specs.Marking.{mark_unit_row}
+use Rattle.atl_campaign.specs.Campaign.{with_unit_name}
+use Rattle.atl_campaign.proofs.HoldingLaws.{marks-unit_row}
 use Rattle.atl_phase.proofs.MarkLaws.{marks_by}
 use Rattle.atl_instant.proofs.name.name_unit.Goals as goal
 

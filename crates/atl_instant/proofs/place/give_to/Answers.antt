@@ -1,6 +1,6 @@
-use Rattle.atl_state.specs.Marking.{mark_structure}
-use Rattle.atl_state.specs.Campaign.{with_owner}
-use Rattle.atl_state.proofs.LeavingLaws.{marks-structure, owned_by}
+use Rattle.atl_campaign.specs.Marking.{mark_structure}
+use Rattle.atl_campaign.specs.Campaign.{with_owner}
+use Rattle.atl_campaign.proofs.LeavingLaws.{marks-structure, owned_by}
 use Rattle.atl_phase.proofs.MarkLaws.{marks_by}
 use Rattle.atl_instant.proofs.place.give_to.Goals as goal
 

@@ -1,6 +1,6 @@
 use Rattle.std.proofs.Common.{◌≡◌, ◌+◌, ℕ, drop, get_or}
 use Rattle.atl_records.specs.declared.books.Thing.TheVariants.{Item}
-use Rattle.atl_state.proofs.CoverLaws.{marks-trans}
+use Rattle.atl_campaign.proofs.CoverLaws.{marks-trans}
 use Rattle.atl_phase.proofs.FoldLaws.{fold_behind}
 use Rattle.atl_phase.specs.Bounds.{moving_items}
 use Rattle.atl_instant.specs.Quit.{with_item_loss}

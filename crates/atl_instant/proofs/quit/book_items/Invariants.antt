@@ -1,8 +1,8 @@
 use Rattle.std.proofs.Common.{◌≡◌, ◌<◌, length, drop}
 use Rattle.std.specs.Prelude.{fold}
-use Rattle.atl_state.specs.Covers.{MarksChanges}
+use Rattle.atl_campaign.specs.Covers.{MarksChanges}
 use Rattle.atl_records.specs.Every.{EachOf}
-use Rattle.atl_state.specs.Founding.{things_of}
+use Rattle.atl_campaign.specs.Founding.{things_of}
 use Rattle.atl_phase.specs.Bounds.{HaveRoom, moving_items}
 use Rattle.atl_instant.specs.Quit.{with_item_loss}
 use Rattle.atl_instant.proofs.quit.book_items.Given as goal

@@ -1,6 +1,6 @@
 use Rattle.atl_records.specs.declared.books.Entry.TheVariants.{Lost}
 use Rattle.atl_records.specs.declared.books.Thing.TheVariants.{Money, People}
-use Rattle.atl_state.proofs.CoverLaws.{marks-trans}
+use Rattle.atl_campaign.proofs.CoverLaws.{marks-trans}
 use Rattle.atl_phase.specs.Meaning.{both_move, moves_only}
 use Rattle.atl_phase.specs.Bounds.{moving_items}
 use Rattle.atl_instant.specs.Quit.{with_loss}

@@ -1,7 +1,7 @@
 use Rattle.std.proofs.Common.{rules, ◌≡◌, sym}
 use Rattle.std.specs.FinMap.{entries}
-use Rattle.atl_state.proofs.CoverLaws.{marks-trans}
-use Rattle.atl_state.proofs.LeavingLaws.{marks-without}
+use Rattle.atl_campaign.proofs.CoverLaws.{marks-trans}
+use Rattle.atl_campaign.proofs.LeavingLaws.{marks-without}
 use Rattle.atl_instant.proofs.QuitLaws.{held_room, known_held}
 use Rattle.atl_instant.proofs.quit.leave.Goals as goal
 

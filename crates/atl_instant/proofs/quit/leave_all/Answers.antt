@@ -1,5 +1,5 @@
 use Rattle.std.proofs.Common.{◌≡◌, ℕ, get_or}
-use Rattle.atl_state.proofs.CoverLaws.{marks-trans}
+use Rattle.atl_campaign.proofs.CoverLaws.{marks-trans}
 use Rattle.atl_phase.proofs.FoldLaws.{fold_behind}
 use Rattle.atl_phase.proofs.OrderEffectLaws.{room_left}
 use Rattle.atl_instant.specs.Quit.{after_leaving}

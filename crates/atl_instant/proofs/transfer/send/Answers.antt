@@ -4,7 +4,7 @@ use Rattle.std.specs.FinMap.{get}
 use Rattle.atl_records.specs.Every.{Every}
 use Rattle.atl_records.specs.Holdings.{HoldingValue}
 use Rattle.atl_records.specs.declared.records.Unit.{Unit}
-use Rattle.atl_state.proofs.CoverLaws.{marks-trans}
+use Rattle.atl_campaign.proofs.CoverLaws.{marks-trans}
 use Rattle.atl_phase.specs.Holdings.{with_days}
 use Rattle.atl_phase.proofs.ChangeLaws.{changed_held}
 use Rattle.atl_instant.specs.Transfer.{with_fewer, with_more}

@@ -1,7 +1,7 @@
-use Rattle.atl_state.specs.Marking.{mark_structure}
-use Rattle.atl_state.specs.Campaign.{with_done}
-use Rattle.atl_state.proofs.CoverLaws.{marks-trans}
-use Rattle.atl_state.proofs.LeavingLaws.{marks-structure}
+use Rattle.atl_campaign.specs.Marking.{mark_structure}
+use Rattle.atl_campaign.specs.Campaign.{with_done}
+use Rattle.atl_campaign.proofs.CoverLaws.{marks-trans}
+use Rattle.atl_campaign.proofs.LeavingLaws.{marks-structure}
 use Rattle.atl_phase.proofs.MarkLaws.{marks_by}
 use Rattle.atl_market.proofs.build.add.Goals as goal
 

@@ -1,8 +1,8 @@
-use Rattle.atl_state.specs.Marking.{mark_structure_begun}
-use Rattle.atl_state.specs.Campaign.{with_structure_begun}
+use Rattle.atl_campaign.specs.Marking.{mark_structure_begun}
+use Rattle.atl_campaign.specs.Campaign.{with_structure_begun}
 use Rattle.atl_records.specs.declared.records.Structure.{Structure}
 use Rattle.atl_phase.proofs.MarkLaws.{marks_by, on_ok_both}
-use Rattle.atl_state.proofs.BegunLaws.{marks-raised}
+use Rattle.atl_campaign.proofs.BegunLaws.{marks-raised}
 use Rattle.atl_market.proofs.build.raise.Goals as goal
 
 pub returns-clause-marks : goal.returns-clause-marks

@@ -1,7 +1,7 @@
 use Rattle.std.proofs.Common.{◌≡◌, ℕ, ap, ◌∙◌}
-use Rattle.atl_state.specs.Owners.{with_place}
-use Rattle.atl_state.specs.Campaign.{CampaignValue}
-use Rattle.atl_state.proofs.CoverLaws.{marks-trans}
+use Rattle.atl_campaign.specs.Owners.{with_place}
+use Rattle.atl_campaign.specs.Campaign.{CampaignValue}
+use Rattle.atl_campaign.proofs.CoverLaws.{marks-trans}
 use Rattle.atl_phase.proofs.MarkLaws.{marks-place}
 use Rattle.atl_market.specs.Build.{with_new_structure}
 use Rattle.atl_market.specs.Goods.{with_used}

@@ -1,6 +1,6 @@
 use Rattle.std.proofs.Common.{sym, ap, ◌∙◌, ◌-◌, arith}
 use Rattle.std.specs.Prelude.{neg_ℤ, pos}
-use Rattle.atl_state.specs.Campaign.{CampaignValue, with_amount, with_item}
+use Rattle.atl_campaign.specs.Campaign.{CampaignValue, with_amount, with_item}
 use Rattle.atl_records.specs.declared.books.Entry.TheVariants.{Used}
 use Rattle.atl_records.specs.declared.books.Thing.TheVariants.{Item}
 use Rattle.atl_phase.proofs.ChangeLaws.{item_changes}

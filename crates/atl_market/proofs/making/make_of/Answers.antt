@@ -1,4 +1,4 @@
-use Rattle.atl_state.proofs.CoverLaws.{marks-trans}
+use Rattle.atl_campaign.proofs.CoverLaws.{marks-trans}
 use Rattle.atl_market.proofs.making.make_of.Goals as goal
 
 pub returns-clause-marks : goal.returns-clause-marks

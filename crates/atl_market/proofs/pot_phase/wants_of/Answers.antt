@@ -1,7 +1,7 @@
 use Rattle.std.proofs.Common.{◌≤◌, ◌∙◌, ℕ, ap, map}
 use Rattle.atl_phase.specs.PhaseOrders.{task_of}
 use Rattle.std.specs.List.{filter_map}
-use Rattle.atl_tables.specs.Limits.{most_amount}
+use Rattle.atl_world.specs.Limits.{most_amount}
 use Rattle.atl_records.proofs.EveryLaws.{every-empty}
 use Rattle.atl_market.specs.PotPhase.{want_by}
 use Rattle.atl_market.specs.Puts.{with_each}

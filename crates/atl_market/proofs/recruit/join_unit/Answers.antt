@@ -1,7 +1,7 @@
 use Rattle.std.proofs.Common.{◌≡◌, Some, sym, subst, ◌∙◌}
 use Rattle.std.specs.FinMap.{get}
 use Rattle.std.proofs.lemmas.Option.{same_Some}
-use Rattle.atl_state.specs.Lending.{with_holding}
+use Rattle.atl_campaign.specs.Lending.{with_holding}
 use Rattle.atl_market.specs.Recruit.{with_paid_recruits}
 use Rattle.atl_market.proofs.RecruitLaws.{joined_is, joined_marks}
 use Rattle.atl_market.proofs.recruit.join_unit.Goals as goal

@@ -1,9 +1,9 @@
 use Rattle.std.proofs.Common.{◌≡◌, sym, ap, ◌∙◌, rules, arith, to_z, of_z, w64}
 use Rattle.std.proofs.lemmas.Int.{to_z-of_z}
 use Rattle.atl_records.specs.Books.{amount_in}
-use Rattle.atl_state.specs.Lending.{with_holding}
+use Rattle.atl_campaign.specs.Lending.{with_holding}
 use Rattle.atl_records.specs.Limits.{holding_limit}
-use Rattle.atl_state.specs.Campaign.{with_amount, with_stock}
+use Rattle.atl_campaign.specs.Campaign.{with_amount, with_stock}
 use Rattle.atl_records.specs.declared.books.Thing.TheVariants.{Money}
 use Rattle.atl_phase.proofs.BookingLaws.{booking_fits}
 use Rattle.atl_phase.proofs.MarkLaws.{booked_marks}

@@ -1,4 +1,4 @@
-use Rattle.atl_state.proofs.GoodLaws.{sound_early}
+use Rattle.atl_campaign.proofs.GoodLaws.{sound_early}
 use Rattle.atl_month.proofs.MonthLaws.{phases_room}
 use Rattle.atl_month.proofs.close.run_phases.Goals as goal
 

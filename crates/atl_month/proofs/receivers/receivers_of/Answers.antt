@@ -1,9 +1,9 @@
 use Rattle.std.proofs.Common.{rules, ◌≡◌, ◌∷◌, ◌≤◌, ℕ, List, [], sym, ap, subst, ◌∙◌}
 use Rattle.std.specs.FinMap.{entries}
-use Rattle.atl_tables.specs.Sums.{numbers_among}
+use Rattle.atl_world.specs.Sums.{numbers_among}
 use Rattle.atl_records.specs.declared.records.Unit.{Unit}
 use Rattle.atl_records.specs.Every.{EachOf}
-use Rattle.atl_state.specs.Owners.{first_or_zero}
+use Rattle.atl_campaign.specs.Owners.{first_or_zero}
 use Rattle.atl_records.proofs.EveryLaws.{each-from_every}
 use Rattle.atl_month.specs.Receivers.{or_if_zero, receiver_in, with_receiver_of}
 use Rattle.atl_month.specs.Sweep.{receives}

@@ -1,7 +1,7 @@
 use Rattle.std.proofs.Common.{◌≡◌, ◌≤◌, ℕ}
-use Rattle.atl_tables.specs.Sums.{numbers_among}
+use Rattle.atl_world.specs.Sums.{numbers_among}
 use Rattle.atl_records.specs.Every.{EachOf}
-use Rattle.atl_state.specs.Owners.{first_or_zero}
+use Rattle.atl_campaign.specs.Owners.{first_or_zero}
 use Rattle.atl_month.specs.Receivers.{or_if_zero, receiver_in}
 use Rattle.atl_month.specs.Sweep.{receiver, receives}
 use Rattle.atl_month.proofs.receivers.receivers_of.Given as goal

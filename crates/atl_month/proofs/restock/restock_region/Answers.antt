@@ -1,10 +1,10 @@
 use Rattle.std.proofs.Common.{◌≡◌, ◌∙◌, ℕ, Some, sym, ap, subst}
 use Rattle.std.specs.Prelude.{List, fold}
 use Rattle.std.specs.FinMap.{entries, get}
-use Rattle.atl_tables.specs.Limits.{most_amount}
-use Rattle.atl_tables.specs.declared.world.Market.{Market}
+use Rattle.atl_world.specs.Limits.{most_amount}
+use Rattle.atl_world.specs.declared.world.Market.{Market}
 use Rattle.atl_records.specs.Every.{EachOf, IsThere}
-use Rattle.atl_state.proofs.CoverLaws.{marks-refl, marks-trans}
+use Rattle.atl_campaign.proofs.CoverLaws.{marks-refl, marks-trans}
 use Rattle.atl_records.proofs.EveryLaws.{sorted}
 use Rattle.atl_phase.specs.Bounds.{HaveRoom}
 use Rattle.atl_phase.proofs.MeaningLaws.{room_less}

@@ -1,9 +1,9 @@
 use Rattle.std.proofs.Common.{◌≡◌}
 use Rattle.std.specs.Prelude.{fold}
 use Rattle.std.specs.FinMap.{entries}
-use Rattle.atl_state.specs.Covers.{MarksChanges}
+use Rattle.atl_campaign.specs.Covers.{MarksChanges}
 use Rattle.atl_records.specs.Every.{EachOf}
-use Rattle.atl_state.specs.Good.{IsSteady}
+use Rattle.atl_campaign.specs.Good.{IsSteady}
 use Rattle.atl_phase.specs.Bounds.{HaveRoom}
 use Rattle.atl_month.specs.Restock.{after_market_restock, after_restock, markets_of}
 use Rattle.atl_month.proofs.RestockLaws.{IsMarketOf, stocking}

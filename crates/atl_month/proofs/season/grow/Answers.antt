@@ -3,7 +3,7 @@ use Rattle.std.proofs.lemmas.Int.{to_z-of_z}
 use Rattle.atl_records.specs.declared.books.Entry.TheVariants.{Births, Income}
 use Rattle.atl_records.specs.declared.books.Thing.TheVariants.{People, Money}
 use Rattle.atl_records.specs.Books.{amount_in}
-use Rattle.atl_tables.specs.Limits.{most_amount}
+use Rattle.atl_world.specs.Limits.{most_amount}
 use Rattle.atl_phase.specs.Meaning.{moves_only}
 use Rattle.atl_phase.proofs.BookingLaws.{booked-room, booking_fits, within-pos}
 use Rattle.atl_month.proofs.SeasonLaws.{births_first, growth_marks}

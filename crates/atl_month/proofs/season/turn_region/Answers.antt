@@ -1,7 +1,7 @@
 use Rattle.std.proofs.Common.{sym, ◌+◌, arith}
 use Rattle.std.proofs.lemmas.Result.{on_ok_weaker}
-use Rattle.atl_tables.specs.Limits.{most_amount}
-use Rattle.atl_state.proofs.CoverLaws.{marks-trans}
+use Rattle.atl_world.specs.Limits.{most_amount}
+use Rattle.atl_campaign.proofs.CoverLaws.{marks-trans}
 use Rattle.atl_phase.proofs.MeaningLaws.{room_behind, room_less}
 use Rattle.atl_month.specs.Restock.{stocks_by}
 use Rattle.atl_month.specs.Season.{grows_by, season_moves}

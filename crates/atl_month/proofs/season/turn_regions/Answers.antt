@@ -2,8 +2,8 @@ use Rattle.std.proofs.Common.{◌≡◌, ◌+◌, ◌≤◌, ◌∷◌, ◌∙�
 use Rattle.std.specs.Prelude.{fold, zip}
 use Rattle.std.proofs.lemmas.List.{drop_more}
 use Rattle.std.specs.FinMap.{entries, len-entries}
-use Rattle.atl_tables.specs.Limits.{most_amount, most_regions}
-use Rattle.atl_state.proofs.CoverLaws.{marks-refl, marks-trans}
+use Rattle.atl_world.specs.Limits.{most_amount, most_regions}
+use Rattle.atl_campaign.proofs.CoverLaws.{marks-refl, marks-trans}
 use Rattle.atl_phase.specs.Meaning.{most_moved}
 use Rattle.atl_phase.specs.Bounds.{moved_times}
 use Rattle.atl_phase.proofs.MeaningLaws.{room_less}

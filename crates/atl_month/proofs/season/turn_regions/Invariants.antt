@@ -1,8 +1,8 @@
 use Rattle.std.proofs.Common.{◌≡◌, length, map}
 use Rattle.std.specs.Prelude.{fold, zip, drop}
-use Rattle.atl_tables.specs.Limits.{most_amount}
-use Rattle.atl_state.specs.Covers.{MarksChanges}
-use Rattle.atl_state.specs.Good.{IsSteady}
+use Rattle.atl_world.specs.Limits.{most_amount}
+use Rattle.atl_campaign.specs.Covers.{MarksChanges}
+use Rattle.atl_campaign.specs.Good.{IsSteady}
 use Rattle.atl_phase.specs.Bounds.{HaveRoom, moved_times}
 use Rattle.atl_month.specs.Season.{season_moves, season, season_at}
 use Rattle.atl_month.proofs.season.turn_regions.Given as goal

@@ -3,7 +3,7 @@ use Rattle.std.specs.Prelude.{neg_ℤ, pos}
 use Rattle.atl_records.specs.declared.books.Entry.TheVariants.{Lost}
 use Rattle.atl_records.specs.declared.books.Thing.TheVariants.{Item}
 use Rattle.atl_records.specs.Books.{amount_in}
-use Rattle.atl_state.specs.Campaign.{CampaignValue}
+use Rattle.atl_campaign.specs.Campaign.{CampaignValue}
 use Rattle.atl_phase.proofs.ChangeLaws.{item_changes}
 use Rattle.atl_phase.proofs.MarkLaws.{booked_marks}
 use Rattle.atl_phase.proofs.MeaningLaws.{less_room}

@@ -1,5 +1,5 @@
 use Rattle.std.proofs.Common.{◌≡◌, ◌+◌, ℕ, drop, get_or}
-use Rattle.atl_state.proofs.CoverLaws.{marks-trans}
+use Rattle.atl_campaign.proofs.CoverLaws.{marks-trans}
 use Rattle.atl_phase.proofs.FoldLaws.{fold_behind}
 use Rattle.atl_instant.proofs.QuitLaws.{known_ahead, next_room, room_ahead}
 use Rattle.atl_month.specs.Sweep.{after_passing_item}

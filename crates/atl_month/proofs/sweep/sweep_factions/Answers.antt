@@ -1,4 +1,4 @@
-use Rattle.atl_state.proofs.CoverLaws.{marks-trans}
+use Rattle.atl_campaign.proofs.CoverLaws.{marks-trans}
 use Rattle.atl_phase.proofs.FoldLaws.{fold_behind}
 use Rattle.atl_month.specs.Sweep.{after_sweeping_faction}
 use Rattle.atl_month.proofs.sweep.sweep_factions.Goals as goal

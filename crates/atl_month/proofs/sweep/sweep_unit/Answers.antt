@@ -1,11 +1,11 @@
 use Rattle.std.proofs.Common.{rules, ◌≡◌, sym, arith}
 use Rattle.std.specs.FinMap.{entries}
-use Rattle.atl_tables.specs.Limits.{most_amount}
+use Rattle.atl_world.specs.Limits.{most_amount}
 use Rattle.atl_records.specs.declared.books.Entry.TheVariants.{Lost}
 use Rattle.atl_records.specs.declared.books.Thing.TheVariants.{Money}
 use Rattle.atl_records.specs.Books.{amount_in}
-use Rattle.atl_state.proofs.CoverLaws.{marks-trans}
-use Rattle.atl_state.proofs.LeavingLaws.{marks-without}
+use Rattle.atl_campaign.proofs.CoverLaws.{marks-trans}
+use Rattle.atl_campaign.proofs.LeavingLaws.{marks-without}
 use Rattle.atl_phase.proofs.MeaningLaws.{less_room}
 use Rattle.atl_instant.proofs.QuitLaws.{known_held}
 use Rattle.atl_month.proofs.SweepRunLaws.{items_room, money_steady}

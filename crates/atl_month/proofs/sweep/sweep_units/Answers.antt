@@ -1,7 +1,7 @@
 use Rattle.std.proofs.Common.{◌≡◌, ◌∷◌, ◌+◌, ℕ, List, length, drop, get_or, sym, subst, ◌∙◌}
 use Rattle.std.proofs.lemmas.List.{drop_more}
-use Rattle.atl_tables.specs.Limits.{most_amount}
-use Rattle.atl_state.proofs.CoverLaws.{marks-trans}
+use Rattle.atl_world.specs.Limits.{most_amount}
+use Rattle.atl_campaign.proofs.CoverLaws.{marks-trans}
 use Rattle.atl_phase.specs.Bounds.{HaveRoom, moved_times}
 use Rattle.atl_phase.proofs.FoldLaws.{fold_behind}
 use Rattle.atl_phase.proofs.MeaningLaws.{room_behind_one, room_for_one}

@@ -1,8 +1,8 @@
 use Rattle.std.proofs.Common.{◌≡◌, length, drop}
 use Rattle.std.specs.Prelude.{fold}
-use Rattle.atl_tables.specs.Limits.{most_amount}
-use Rattle.atl_state.specs.Covers.{MarksChanges}
-use Rattle.atl_state.specs.Good.{IsSteady}
+use Rattle.atl_world.specs.Limits.{most_amount}
+use Rattle.atl_campaign.specs.Covers.{MarksChanges}
+use Rattle.atl_campaign.specs.Good.{IsSteady}
 use Rattle.atl_phase.specs.Bounds.{HaveRoom, moved_times}
 use Rattle.atl_month.specs.Receivers.{AreReceivers}
 use Rattle.atl_month.specs.Sweep.{after_sweeping_unit, loses_by}

@@ -4,8 +4,8 @@ use Rattle.std.proofs.lemmas.Option.{same_Some}
 use Rattle.std.proofs.lemmas.Result.{on_ok_weaker}
 use Rattle.atl_records.specs.Every.{Every}
 use Rattle.atl_records.specs.Holdings.{HoldingValue}
-use Rattle.atl_state.specs.Lending.{with_held}
-use Rattle.atl_state.specs.Marks.{Marks}
+use Rattle.atl_campaign.specs.Lending.{with_held}
+use Rattle.atl_campaign.specs.Marks.{Marks}
 use Rattle.atl_records.specs.declared.records.Unit.{Unit}
 use Rattle.atl_phase.specs.Holdings.{ChangesHolding, with_days}
 use Rattle.atl_phase.proofs.ChangeLaws.{changed_held, money_changes, then_changes}

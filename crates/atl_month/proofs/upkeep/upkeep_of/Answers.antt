@@ -1,10 +1,10 @@
 use Rattle.std.proofs.Common.{ap, sym, arith}
 use Rattle.std.specs.Prelude.{neg_ℤ, pos}
-use Rattle.atl_tables.specs.Limits.{most_amount}
+use Rattle.atl_world.specs.Limits.{most_amount}
 use Rattle.atl_records.specs.Books.{after_booking, amount_in}
 use Rattle.atl_records.specs.declared.books.Entry.TheVariants.{Starved, Upkeep}
 use Rattle.atl_records.specs.declared.books.Thing.TheVariants.{Money, People}
-use Rattle.atl_state.specs.Campaign.{CampaignValue}
+use Rattle.atl_campaign.specs.Campaign.{CampaignValue}
 use Rattle.atl_phase.specs.Meaning.{moves_only}
 use Rattle.atl_phase.proofs.BookingLaws.{booked-room, within-neg}
 use Rattle.atl_phase.proofs.MeaningLaws.{less_room}

@@ -1,6 +1,6 @@
 use Rattle.std.proofs.Common.{rules, ◌≡◌, ◌+◌, ◌*◌, ◌≤◌, ◌∷◌, [], ◌++◌, get_or, take}
 use Rattle.std.proofs.lemmas.List.{take_more}
-use Rattle.atl_tables.specs.Limits.{most_per_head}
+use Rattle.atl_world.specs.Limits.{most_per_head}
 use Rattle.atl_records.specs.Limits.{holding_limit, men_limit}
 use Rattle.atl_month.specs.declared.accounts.Account.{Account}
 use Rattle.atl_month.specs.declared.upkeep_sharing.UpkeepInput.{UpkeepInput}

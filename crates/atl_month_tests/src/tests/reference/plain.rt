@@ -1,7 +1,7 @@
 //! The campaign of the reference calculation: lists of plain numbers for units, goods, regions,
 //! stocks and books.
-use atl_state::{Campaign, Entry, Event, Region, Thing, Unit};
-use atl_tables::let_go;
+use atl_campaign::{Campaign, Entry, Event, Region, Thing, Unit};
+use atl_world::let_go;
 use std::alloc::{AllocError, Global};
 
 /// A unit's numbers without its goods: faction, region, guard, men and money.

@@ -1,8 +1,8 @@
 //! Shares pots in the reference calculation; for each pot it looks at all units.
 use super::plain::{Person, Plain};
 use super::shares::share;
+use atl_campaign::{EventFault, Outcome};
 use atl_phase::PhaseOrder;
-use atl_state::{EventFault, Outcome};
 use std::alloc::{AllocError, Global};
 
 /// How much of a thing there is to share in a region.

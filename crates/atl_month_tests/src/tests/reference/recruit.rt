@@ -2,10 +2,10 @@
 //! each.
 use super::plain::{Land, Person, Plain};
 use super::pots::{Claim, Given, Pot, own};
+use atl_campaign::{Entry, EventFault, Thing};
 use atl_orders::Operands;
 use atl_phase::PhaseOrder;
-use atl_state::{Entry, EventFault, Thing};
-use atl_tables::World;
+use atl_world::World;
 use std::alloc::AllocError;
 
 /// The most men of a unit.

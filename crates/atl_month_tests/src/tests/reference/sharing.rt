@@ -7,7 +7,7 @@ use super::{produce, recruit, tax, trade, work};
 use atl_market::{BuyPhase, ProducePhase, RecruitPhase, SellPhase, TaxPhase};
 use atl_orders::{Mailing, Operands, Order, Verb};
 use atl_phase::{Arrangement, Month, MonthLongVerbs, PhaseOrder};
-use atl_tables::{Sequence, World};
+use atl_world::{Sequence, World};
 use std::alloc::{AllocError, Global};
 
 /// A phase that shares pots.

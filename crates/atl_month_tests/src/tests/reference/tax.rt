@@ -1,9 +1,9 @@
 //! TAX in the reference calculation: units that guard share the money of their region.
 use super::plain::{Land, Plain};
 use super::pots::{Claim, Given, Pot, own};
+use atl_campaign::EventFault;
 use atl_phase::PhaseOrder;
-use atl_state::EventFault;
-use atl_tables::World;
+use atl_world::World;
 
 /// The most money of a unit.
 pub(crate) const MOST_MONEY: u64 = 999_999_999;

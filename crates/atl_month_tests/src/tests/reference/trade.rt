@@ -3,10 +3,10 @@
 use super::plain::{Good, Person, Plain, Stock};
 use super::pots::{Claim, Given, Pot, own};
 use super::tax::MOST_MONEY;
+use atl_campaign::{Entry, EventFault, Thing};
 use atl_orders::Operands;
 use atl_phase::PhaseOrder;
-use atl_state::{Entry, EventFault, Thing};
-use atl_tables::{Market, World};
+use atl_world::{Market, World};
 use std::alloc::AllocError;
 
 /// The most that a unit may have of an item.

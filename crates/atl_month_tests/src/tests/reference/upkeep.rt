@@ -1,8 +1,8 @@
 //! Upkeep in the reference calculation (docs/RULES.md, "Upkeep"); for each unit it looks at all
 //! units.
 use super::plain::{Person, Plain};
-use atl_state::{Entry, Event, EventVerb, Outcome, Thing};
-use atl_tables::World;
+use atl_campaign::{Entry, Event, EventVerb, Outcome, Thing};
+use atl_world::World;
 use std::alloc::{AllocError, Global};
 
 /// Sums over a faction's units in a region: money left after their own upkeep, and money that they

@@ -2,10 +2,10 @@
 use super::plain::{Person, Plain};
 use super::pots::{Claim, Given, Pot, given_to, own};
 use super::tax::MOST_MONEY;
+use atl_campaign::{Entry, EventFault, Thing};
 use atl_orders::Verb;
 use atl_phase::PhaseOrder;
-use atl_state::{Entry, EventFault, Thing};
-use atl_tables::World;
+use atl_world::World;
 use std::alloc::{AllocError, Global};
 
 /// The number of the only thing that WORK shares: jobs.

@@ -1,12 +1,13 @@
 //! Tests of the text of the books. The wanted texts are worked out by hand.
-ghost use Rattle.atl_state.specs.Good.{IsGood};
+ghost use Rattle.atl_campaign.specs.Good.{IsGood};
 
 use super::compare::assert_text;
 use super::scenes::{CART, MAN, NOBODY, Person, Scene, WOOD, campaign_of};
+use atl_campaign::Campaign;
 use atl_report::books_text;
-use atl_state::Campaign;
-use atl_tables::{World, read_world};
+use atl_tables::read_world;
 use atl_test_worlds::{ISLE, SMALL};
+use atl_world::World;
 use std::alloc::Global;
 use std::process::Abort;
 use std::test::Fail;

@@ -3,8 +3,9 @@
 use super::compare::assert_text;
 use super::scenes::{Built, LODGE, MAN, NOBODY, Person, Scene, campaign_of};
 use atl_report::{report_text, view};
-use atl_tables::{World, read_world};
+use atl_tables::read_world;
 use atl_test_worlds::ISLE;
+use atl_world::World;
 use std::alloc::Global;
 use std::process::Abort;
 use std::test::Fail;

@@ -1,10 +1,11 @@
 //! Tests of the lines on orders in a report: faulty lines and events. The faction sees no region.
 use super::compare::assert_text;
+use atl_campaign::{Event, EventFault, EventVerb, JoinFault, Outcome};
 use atl_orders::{FaultyLine, LineFault, Verb};
 use atl_report::{View, report_text};
-use atl_state::{Event, EventFault, EventVerb, JoinFault, Outcome};
-use atl_tables::{Sequence, Text, World, read_world};
+use atl_tables::read_world;
 use atl_test_worlds::SMALL;
+use atl_world::{Sequence, Text, World};
 use std::alloc::Global;
 use std::process::Abort;
 use std::test::Fail;

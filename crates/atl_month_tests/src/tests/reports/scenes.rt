@@ -1,13 +1,14 @@
 //! Makes campaigns for the tests of reports, from rows that `check` accepts.
 ghost use Rattle.std.specs.Prelude.{IfOk};
-ghost use Rattle.atl_state.specs.Good.{IsGood};
+ghost use Rattle.atl_campaign.specs.Good.{IsGood};
 
-use atl_state::parts::{
+use atl_campaign::parts::{
     Parts, StoredBooks, StoredCampaignRow, StoredFaction, StoredHas, StoredMarket, StoredRegion,
     StoredReport, StoredStructure, StoredUnit,
 };
-use atl_state::{Campaign, check_as, founded};
-use atl_tables::{Format, Sequence, Text, World};
+use atl_campaign::{Campaign, founded};
+use atl_state::check_as;
+use atl_world::{Format, Sequence, Text, World};
 use std::alloc::Global;
 use std::test::Fail;
 

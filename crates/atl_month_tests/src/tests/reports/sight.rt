@@ -5,11 +5,12 @@ use super::scenes::{
     BOAT, Built, CART, LODGE, LUMBERJACK, MAN, NOBODY, OBSERVATION, Person, SAILING, STEALTH,
     Scene, WOOD, campaign_of,
 };
+use atl_campaign::{Campaign, Event, EventVerb, Outcome};
 use atl_orders::{FaultyLine, LineFault, Verb};
 use atl_report::{report_text, view};
-use atl_state::{Campaign, Event, EventVerb, Outcome};
-use atl_tables::{World, read_world};
+use atl_tables::read_world;
 use atl_test_worlds::ISLE;
+use atl_world::World;
 use std::alloc::Global;
 use std::process::Abort;
 use std::test::Fail;

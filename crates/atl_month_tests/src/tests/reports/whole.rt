@@ -1,13 +1,14 @@
 //! A test of a whole report, in the small world after one faction has joined.
 ghost use Rattle.std.specs.Prelude.{IfOk};
-ghost use Rattle.atl_state.specs.Good.{IsGood};
+ghost use Rattle.atl_campaign.specs.Good.{IsGood};
 
 use super::compare::assert_text;
+use atl_campaign::{Campaign, Event, EventVerb, Outcome, founded};
 use atl_orders::{FaultyLine, LineFault, Verb};
 use atl_report::{report_text, view};
-use atl_state::{Campaign, Event, EventVerb, Outcome, founded};
-use atl_tables::{World, read_world};
+use atl_tables::read_world;
 use atl_test_worlds::SMALL;
+use atl_world::World;
 use std::alloc::Global;
 use std::process::Abort;
 use std::test::Fail;

@@ -2,10 +2,10 @@ use Rattle.std.proofs.Common.{◌≡◌, ℕ, List, [], ◌∷◌, ◌+◌, drop
 use Rattle.std.proofs.Math.ListN.{drop_of_length-le}
 use Rattle.std.proofs.lemmas.List.{drop_more}
 use Rattle.atl_records.specs.declared.records.Unit.{Unit}
-use Rattle.atl_state.specs.Campaign.{CampaignValue, unit_changed}
+use Rattle.atl_campaign.specs.Campaign.{CampaignValue, unit_changed}
 use Rattle.atl_records.specs.Holdings.{with_amount_of}
-use Rattle.atl_state.specs.Marks.{Marks}
-use Rattle.atl_state.proofs.CoverLaws.{marks-refl, marks-trans}
+use Rattle.atl_campaign.specs.Marks.{Marks}
+use Rattle.atl_campaign.proofs.CoverLaws.{marks-refl, marks-trans}
 use Rattle.atl_phase.specs.Holdings.{with_days}
 use Rattle.atl_phase.proofs.ChangeLaws.{changed_twice, same_held, skill_changes}
 use Rattle.atl_phase.proofs.holdings.set_each.Goals as goal

@@ -1,6 +1,6 @@
 use Rattle.std.proofs.Common.{◌≡◌, drop}
-use Rattle.atl_state.specs.Campaign.{unit_changed}
-use Rattle.atl_state.specs.Covers.{MarksChanges}
+use Rattle.atl_campaign.specs.Campaign.{unit_changed}
+use Rattle.atl_campaign.specs.Covers.{MarksChanges}
 use Rattle.atl_phase.specs.Holdings.{with_days}
 use Rattle.atl_phase.proofs.holdings.set_each.Given as goal
 

@@ -1,6 +1,6 @@
 use Rattle.std.proofs.Common.{ap, ◌∙◌}
 use Rattle.std.proofs.lemmas.Result.{on_ok_weaker}
-use Rattle.atl_state.specs.Marks.{Marks}
+use Rattle.atl_campaign.specs.Marks.{Marks}
 use Rattle.atl_phase.specs.Holdings.{with_days}
 use Rattle.atl_phase.proofs.ChangeLaws.{men_changes, then_changes}
 use Rattle.atl_phase.proofs.holdings.set_people.Goals as goal

@@ -1,6 +1,6 @@
 use Rattle.std.proofs.Common.{◌≡◌, [], drop}
 use Rattle.std.specs.Prelude.{fold}
-use Rattle.atl_state.specs.Covers.{MarksChanges}
+use Rattle.atl_campaign.specs.Covers.{MarksChanges}
 use Rattle.atl_phase.specs.Month.{with_events}
 use Rattle.atl_phase.specs.PhaseOrders.{task_of}
 use Rattle.atl_phase.specs.OrderEffects.{one_order}

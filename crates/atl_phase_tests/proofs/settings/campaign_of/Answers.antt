@@ -1,4 +1,4 @@
-use Rattle.atl_state.proofs.GoodLaws.{IsEarly-good}
+use Rattle.atl_campaign.proofs.GoodLaws.{IsEarly-good}
 use Rattle.atl_phase_tests.proofs.RunLaws.{roomy_when_good}
 use Rattle.atl_phase_tests.proofs.settings.campaign_of.Goals as goal
 

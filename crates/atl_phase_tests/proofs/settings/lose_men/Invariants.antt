@@ -1,5 +1,5 @@
 use Rattle.std.proofs.Common.{◌≡◌}
-use Rattle.atl_state.specs.Good.{IsEarly}
+use Rattle.atl_campaign.specs.Good.{IsEarly}
 use Rattle.atl_phase_tests.proofs.settings.lose_men.Given as goal
 
 abbrev pub invariant-loop-number : goal.invariant-loop-number

@@ -1,15 +1,15 @@
 use Rattle.std.proofs.Common.{◌≡◌, ◌≤◌, ◌<◌, ◌*◌, ◌&&◌, ℕ, Bool, true, false, Option, Some, None, option_map, length, refl, sym, ap, subst, ◌∙◌, arith, rules}
 use Rattle.std.specs.FinMap.{empty, get}
 use Rattle.std.proofs.lemmas.Bool.{false≢true}
-use Rattle.atl_tables.specs.Worlds.{WorldValue}
-use Rattle.atl_state.specs.Good.{IsEarly, IsSteady}
+use Rattle.atl_world.specs.Worlds.{WorldValue}
+use Rattle.atl_campaign.specs.Good.{IsEarly, IsSteady}
 use Rattle.atl_records.specs.Holdings.{HoldingValue}
-use Rattle.atl_state.specs.Lending.{with_held, with_holding}
+use Rattle.atl_campaign.specs.Lending.{with_held, with_holding}
 use Rattle.atl_records.specs.Limits.{most_days}
-use Rattle.atl_state.specs.Campaign.{CampaignValue}
+use Rattle.atl_campaign.specs.Campaign.{CampaignValue}
 use Rattle.atl_records.specs.declared.records.Unit.{Unit}
 use Rattle.atl_records.proofs.EveryLaws.{every-empty}
-use Rattle.atl_state.proofs.HoldingLaws.{MayHold, of_one_faction_kept, steady-unit_amount}
+use Rattle.atl_campaign.proofs.HoldingLaws.{MayHold, of_one_faction_kept, steady-unit_amount}
 use Rattle.atl_phase_tests.proofs.settings.loses_men.Goals as goal
 
 -- the holding without its men, and so without days of study

@@ -3,7 +3,7 @@ use Rattle.std.proofs.lemmas.Grind.{common_steps}
 use Rattle.std.proofs.lemmas.Option.{gets}
 use Rattle.std.specs.List.{slice_get}
 use Rattle.std.specs.Option.{option_map_or}
-use Rattle.atl_tables.specs.declared.world.Item.{Item}
+use Rattle.atl_world.specs.declared.world.Item.{Item}
 use Rattle.atl_records.proofs.levels.carriage.Goals as goal
 
 pub returns-in-Some-clause-small : goal.returns-in-Some-clause-small

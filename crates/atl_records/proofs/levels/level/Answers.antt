@@ -1,6 +1,6 @@
 use Rattle.std.proofs.Common.{◌≡◌, ℕ, ◌-◌, Bool, true, false, nat_le, sym, ap, ◌∙◌, arith}
 use Rattle.std.specs.Prelude.{if◌then◌else◌}
-use Rattle.atl_tables.specs.Limits.{last_level}
+use Rattle.atl_world.specs.Limits.{last_level}
 use Rattle.atl_records.specs.Levels.{greatest, days_for, level_of}
 use Rattle.atl_records.proofs.LevelLaws.{greatest_here, greatest_below, unreached_level_is_above_0}
 use Rattle.atl_records.proofs.EveryLaws.{other_number}

@@ -1,5 +1,5 @@
 use Rattle.std.proofs.Common.{◌≡◌, ◌≤◌, nat_le}
-use Rattle.atl_tables.specs.Limits.{last_level}
+use Rattle.atl_world.specs.Limits.{last_level}
 use Rattle.atl_records.specs.Levels.{greatest, days_for}
 use Rattle.atl_records.proofs.levels.level.Given as goal
 

@@ -1,6 +1,6 @@
 use Rattle.std.proofs.Common.{◌≡◌, drop}
 use Rattle.std.specs.FinMap.{empty}
-use Rattle.atl_state.specs.Campaign.{numbers_of}
+use Rattle.atl_campaign.specs.Campaign.{numbers_of}
 use Rattle.atl_report.specs.Gathering.{with_all_watched}
 use Rattle.atl_report.proofs.sight.regions_seen.Given as goal
 

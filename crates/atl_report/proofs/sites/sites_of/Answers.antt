@@ -1,8 +1,8 @@
 use Rattle.std.proofs.Common.{rules, ◌≡◌, ◌==◌, ◌++◌, ◌∷◌, ℕ, List, sym, ap, ◌∙◌}
 use Rattle.std.specs.FinMap.{entries}
-use Rattle.atl_tables.specs.Sums.{numbers_among}
+use Rattle.atl_world.specs.Sums.{numbers_among}
 use Rattle.atl_records.specs.declared.records.Structure.{Structure}
-use Rattle.atl_state.specs.KeptLists.{list_of}
+use Rattle.atl_campaign.specs.KeptLists.{list_of}
 use Rattle.atl_report.specs.Sites.{with_site}
 use Rattle.atl_report.proofs.SiteLaws.{no_sites, site_goes_on}
 use Rattle.atl_report.proofs.sites.sites_of.Goals as goal

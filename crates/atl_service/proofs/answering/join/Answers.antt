@@ -1,6 +1,6 @@
 use Rattle.std.proofs.Common.{◌≡◌, ap, sym, ◌∙◌, subst}
 use Rattle.sqlite.specs.Held.{state}
-use Rattle.atl_state.specs.Campaign.{CampaignValue, MarkedCampaign}
+use Rattle.atl_campaign.specs.Campaign.{CampaignValue, MarkedCampaign}
 use Rattle.atl_sql.specs.Causes.{IsFaultOfError}
 use Rattle.atl_store.specs.Faults.{write_fault}
 use Rattle.atl_store.specs.Keeps.{LeavesAfterFault}
@@ -13,7 +13,7 @@ use Rattle.atl_service.specs.Causes.{OfCommand}
 use Rattle.atl_service.proofs.CauseLaws.{ended_by}
 use Rattle.atl_service.specs.Answering.{GivesUp}
 use Rattle.atl_service.proofs.AnswerLaws.{is_refused}
-use Rattle.atl_state.proofs.GoodLaws.{IsGood-joined}
+use Rattle.atl_campaign.proofs.GoodLaws.{IsGood-joined}
 use Rattle.atl_service.proofs.JoinStepLaws.{bad_name, bad_pass, is_taken, is_too_full, steps_on, joining_is, arrives}
 use Rattle.atl_service.proofs.answering.join.Goals as goal
 

@@ -1,6 +1,6 @@
 use Rattle.std.proofs.Common.{◌≡◌, sym, ap, ◌∙◌, subst}
 use Rattle.sqlite.specs.Held.{state}
-use Rattle.atl_state.specs.Campaign.{CampaignValue, MarkedCampaign, with_mail}
+use Rattle.atl_campaign.specs.Campaign.{CampaignValue, MarkedCampaign, with_mail}
 use Rattle.atl_sql.specs.Causes.{IsFaultOfError}
 use Rattle.atl_store.specs.Faults.{write_fault}
 use Rattle.atl_store.specs.Keeps.{LeavesAfterFault}
@@ -8,7 +8,7 @@ use Rattle.atl_store.specs.OwnStatements.{OfMail}
 use Rattle.atl_store.proofs.StayLaws.{on_err}
 use Rattle.atl_service.specs.declared.command.Command.TheVariants.{Mail}
 use Rattle.atl_service.specs.Answering.{GivesUp}
-use Rattle.atl_state.proofs.GoodLaws.{IsGood-with_mail}
+use Rattle.atl_campaign.proofs.GoodLaws.{IsGood-with_mail}
 use Rattle.atl_service.proofs.CauseLaws.{ended_by}
 use Rattle.atl_service.proofs.answering.mail.Goals as goal
 

@@ -1,5 +1,5 @@
 use Rattle.std.proofs.Common.{◌≡◌, false}
-use Rattle.atl_tables.specs.Names.{pass_ok}
+use Rattle.atl_world.specs.Names.{pass_ok}
 use Rattle.atl_service.proofs.founding.world_and_campaign.Goals as goal
 
 pub returns-then-not-pass_ok-clause-err : goal.returns-then-not-pass_ok-clause-err

@@ -1,6 +1,6 @@
 use Rattle.std.proofs.Common.{unwrap_or, []}
 use Rattle.std.specs.FinMap.{get}
-use Rattle.atl_state.proofs.CoverLaws.{marks-trans}
+use Rattle.atl_campaign.proofs.CoverLaws.{marks-trans}
 use Rattle.atl_service.specs.Closing.{reported_to}
 use Rattle.atl_service.specs.Months.{reported_to_all}
 use Rattle.atl_service.proofs.CloseLaws.{fold_further, sites_stay}

@@ -1,7 +1,7 @@
 use Rattle.std.proofs.Common.{◌≡◌, [], drop}
 use Rattle.std.specs.Prelude.{fold, unwrap_or}
 use Rattle.std.specs.FinMap.{get}
-use Rattle.atl_state.specs.Covers.{MarksChanges}
+use Rattle.atl_campaign.specs.Covers.{MarksChanges}
 use Rattle.atl_report.specs.Sites.{AreSites}
 use Rattle.atl_service.specs.Closing.{reported_to}
 use Rattle.atl_service.specs.Months.{reported_to_all}

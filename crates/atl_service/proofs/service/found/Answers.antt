@@ -1,5 +1,5 @@
 use Rattle.std.proofs.Common.{Some, true, sym, ap, subst}
-use Rattle.atl_state.specs.Campaign.{CampaignValue, MarkedCampaign}
+use Rattle.atl_campaign.specs.Campaign.{CampaignValue, MarkedCampaign}
 use Rattle.atl_service.specs.Service.{IsConsistent}
 use Rattle.atl_service.specs.Found.{Founds}
 use Rattle.atl_service.proofs.FoundServiceLaws.{spared, founded_consistent, founds_on, refused_by_store}

@@ -1,7 +1,7 @@
 use Rattle.std.proofs.Common.{sym, subst}
 use Rattle.atl_records.specs.Every.{Every, IsThere}
-use Rattle.atl_state.specs.Good.{AreOwned, AreAfloat, AreOfOneFaction, guards}
-use Rattle.atl_state.specs.Campaign.{CampaignValue}
+use Rattle.atl_campaign.specs.Good.{AreOwned, AreAfloat, AreOfOneFaction, guards}
+use Rattle.atl_campaign.specs.Campaign.{CampaignValue}
 use Rattle.atl_state.specs.declared.checking.Rule.TheVariants.{Owners, Water, Guards, Books, Mail}
 use Rattle.atl_state.proofs.CheckLaws.{below_next, places-said}
 use Rattle.atl_state.proofs.checking.check_holders.Goals as goal

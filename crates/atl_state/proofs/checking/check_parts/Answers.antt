@@ -1,8 +1,8 @@
 use Rattle.std.proofs.Common.{sym, subst, arith}
 use Rattle.atl_state.specs.Checking.{KeepsRulesBelow, Fits}
-use Rattle.atl_state.specs.Good.{IsGood}
-use Rattle.atl_state.specs.Rows.{AreRowsOf}
-use Rattle.atl_state.specs.Campaign.{CampaignValue}
+use Rattle.atl_campaign.specs.Good.{IsGood}
+use Rattle.atl_campaign.specs.Rows.{AreRowsOf}
+use Rattle.atl_campaign.specs.Campaign.{CampaignValue}
 use Rattle.atl_state.specs.declared.checking.Rule.TheVariants.{Names}
 use Rattle.atl_state.proofs.CheckLaws.{one-said, people-said, checked-rows, checked-fits, checked-good}
 use Rattle.atl_state.proofs.checking.check_parts.Goals as goal

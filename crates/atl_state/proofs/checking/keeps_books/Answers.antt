@@ -1,10 +1,10 @@
 use Rattle.std.proofs.Common.{◌<◌, length, sym, subst}
 use Rattle.atl_records.specs.Books.{AreBooks}
-use Rattle.atl_state.specs.Founding.{things_of}
+use Rattle.atl_campaign.specs.Founding.{things_of}
 use Rattle.atl_records.specs.Every.{Every}
-use Rattle.atl_state.specs.Good.{AreOfMarkets}
-use Rattle.atl_state.specs.Campaign.{CampaignValue}
-use Rattle.atl_state.specs.Totals.{IsCountable}
+use Rattle.atl_campaign.specs.Good.{AreOfMarkets}
+use Rattle.atl_campaign.specs.Campaign.{CampaignValue}
+use Rattle.atl_campaign.specs.Totals.{IsCountable}
 use Rattle.atl_state.proofs.CheckLaws.{few-said, books-said, items-said, stocks-said}
 use Rattle.atl_state.proofs.checking.keeps_books.Goals as goal
 

@@ -1,6 +1,6 @@
 use Rattle.std.proofs.Common.{sym, subst, ◌∙◌}
 use Rattle.std.proofs.lemmas.Bool.{false≢true}
-use Rattle.atl_state.specs.Good.{IsMail, AreReported}
+use Rattle.atl_campaign.specs.Good.{IsMail, AreReported}
 use Rattle.atl_state.proofs.checking.keeps_mail.Goals as goal
 
 pub returns-then-are_mailings : goal.returns-then-are_mailings

@@ -1,7 +1,7 @@
 use Rattle.std.proofs.Common.{◌≡◌, ◌+◌, ◌-◌, suc, map, ap, subst, ◌∙◌, arith}
 use Rattle.std.specs.List.{range_with_len}
 use Rattle.atl_records.specs.Books.{all_entries, entry_index, thing_index}
-use Rattle.atl_state.specs.Marks.{AreOfThings}
+use Rattle.atl_campaign.specs.Marks.{AreOfThings}
 use Rattle.atl_records.proofs.AccountLaws.{place_at}
 use Rattle.atl_sql.specs.Tables.{books_table}
 use Rattle.atl_sql.specs.Inside.{Inside, HasTables}

@@ -1,5 +1,5 @@
 use Rattle.sqlite.specs.Held.{state}
-use Rattle.atl_state.specs.Campaign.{with_mail}
+use Rattle.atl_campaign.specs.Campaign.{with_mail}
 use Rattle.atl_sql.specs.Inside.{HasTables}
 use Rattle.atl_store.specs.Arriving.{WritesMail}
 use Rattle.atl_store.specs.Faults.{write_fault}

@@ -1,7 +1,7 @@
 use Rattle.std.proofs.Common.{◌≡◌, ◌++◌, ◌∷◌, [], length, sym, ap, ◌∙◌, arith, append_assoc, length-append}
 use Rattle.std.specs.FinMap.{len, insert}
 use Rattle.std.proofs.lemmas.List.{append-nil}
-use Rattle.atl_tables.proofs.GeneralLaws.{one_more}
+use Rattle.atl_world.proofs.GeneralLaws.{one_more}
 use Rattle.atl_tables.proofs.HasNumberLaws.{len_none}
 use Rattle.atl_tables.proofs.has_number.by_number.Goals as goal
 

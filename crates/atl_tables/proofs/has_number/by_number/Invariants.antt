@@ -1,6 +1,6 @@
 use Rattle.std.proofs.Common.{◌≡◌, ◌+◌, ◌≤◌, ◌++◌, List, length}
 use Rattle.std.specs.FinMap.{len}
-use Rattle.atl_tables.specs.Sums.{by_number}
+use Rattle.atl_world.specs.Sums.{by_number}
 use Rattle.atl_tables.proofs.has_number.by_number.Given as goal
 
 abbrev pub invariant-loop-value : goal.invariant-loop-value

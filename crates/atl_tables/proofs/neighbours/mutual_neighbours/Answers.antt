@@ -3,7 +3,7 @@ use Rattle.std.specs.List.{All}
 use Rattle.std.proofs.lemmas.List.{take_more, take_all}
 use Rattle.std.proofs.lemmas.List.Elements.{All-push}
 use Rattle.atl_tables.specs.Neighbours.{neighbours_at}
-use Rattle.atl_tables.specs.Worlds.{HasNeighbours}
+use Rattle.atl_world.specs.Worlds.{HasNeighbours}
 use Rattle.atl_tables.specs.declared.region_table.RegionDraft.{RegionDraft}
 use Rattle.atl_tables.proofs.FaultLaws.{exits}
 use Rattle.atl_tables.proofs.EachLaws.{goes_on_at, ends_at}

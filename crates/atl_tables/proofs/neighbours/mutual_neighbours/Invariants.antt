@@ -3,7 +3,7 @@ use Rattle.std.specs.List.{All}
 use Rattle.atl_tables.specs.Each.{each}
 use Rattle.atl_tables.specs.Faults.{first_fault}
 use Rattle.atl_tables.specs.Neighbours.{neighbours_at}
-use Rattle.atl_tables.specs.Worlds.{HasNeighbours}
+use Rattle.atl_world.specs.Worlds.{HasNeighbours}
 use Rattle.atl_tables.proofs.neighbours.mutual_neighbours.Given as goal
 
 abbrev pub invariant-loop-i : goal.invariant-loop-i

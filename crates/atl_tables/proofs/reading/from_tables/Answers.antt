@@ -1,6 +1,6 @@
 use Rattle.std.proofs.Common.{◌++◌}
 use Rattle.atl_tables.specs.Faults.{Conditions}
-use Rattle.atl_tables.specs.Worlds.{land_of}
+use Rattle.atl_world.specs.Worlds.{land_of}
 use Rattle.atl_tables.specs.World.{names_differ, names_are_known, neighbours_are_mutual, is_some_land, world_of_tables}
 use Rattle.atl_tables.specs.declared.world_draft.WorldDraft.{WorldDraft}
 use Rattle.atl_tables.proofs.FaultLaws.{exits, stops_on, stops_after, gives_after}

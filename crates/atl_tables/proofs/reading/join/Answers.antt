@@ -4,12 +4,12 @@ use Rattle.std.specs.Ordering.{nat_cmp}
 use Rattle.atl_tables.specs.Faults.{Conditions, first_fault}
 use Rattle.atl_tables.specs.Results.{Gives}
 use Rattle.atl_tables.specs.Parts.{world_parts_of, AreWorldPartsOf}
-use Rattle.atl_tables.specs.Worlds.{WorldValue, IsWorld, land_of, world_of_parts}
-use Rattle.atl_tables.specs.Sums.{by_number}
+use Rattle.atl_world.specs.Worlds.{WorldValue, IsWorld, land_of, world_of_parts}
+use Rattle.atl_world.specs.Sums.{by_number}
 use Rattle.atl_tables.specs.World.{neighbours_are_mutual, is_some_land, world_of_tables, regions_of}
 use Rattle.atl_tables.specs.declared.reading.WorldParts.{WorldParts}
 use Rattle.atl_tables.specs.declared.world_draft.WorldDraft.{WorldDraft}
-use Rattle.atl_tables.specs.declared.world.RegionPlan.{RegionPlan}
+use Rattle.atl_world.specs.declared.world.RegionPlan.{RegionPlan}
 use Rattle.atl_tables.proofs.FaultLaws.{exits, stops_on, gives_after}
 use Rattle.atl_tables.proofs.WorldLaws.{is_world}
 use Rattle.atl_tables.proofs.reading.join.Goals as goal

@@ -1,6 +1,6 @@
 use Rattle.std.proofs.Common.{◌≡◌, ◌++◌}
-use Rattle.atl_tables.specs.Worlds.{is_land}
-use Rattle.atl_tables.specs.Sums.{numbers_among, numbers_where}
+use Rattle.atl_world.specs.Worlds.{is_land}
+use Rattle.atl_world.specs.Sums.{numbers_among, numbers_where}
 use Rattle.atl_tables.proofs.reading.land.Given as goal
 
 abbrev pub invariant-loop-number : goal.invariant-loop-number

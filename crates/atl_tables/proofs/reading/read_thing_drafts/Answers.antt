@@ -6,7 +6,7 @@ use Rattle.atl_tables.specs.Faults.{Conditions}
 use Rattle.atl_tables.specs.ItemTable.{item_keys}
 use Rattle.atl_tables.specs.Keys.{optional_array_at}
 use Rattle.atl_tables.specs.KindTable.{kind_keys}
-use Rattle.atl_tables.specs.Limits.{most_items, most_skills, most_kinds}
+use Rattle.atl_world.specs.Limits.{most_items, most_skills, most_kinds}
 use Rattle.atl_tables.specs.SkillTable.{skill_keys}
 use Rattle.atl_tables.specs.World.{things_conditions, things_of}
 use Rattle.atl_tables.proofs.FaultLaws.{exits, stops_on, stops_after, passes_both}

@@ -4,11 +4,11 @@ use Rattle.toml.specs.View.{table_view}
 use Rattle.atl_tables.specs.Arrays.{list_conditions}
 use Rattle.atl_tables.specs.Faults.{Conditions}
 use Rattle.atl_tables.specs.Keys.{array_at}
-use Rattle.atl_tables.specs.Limits.{most_terrains}
+use Rattle.atl_world.specs.Limits.{most_terrains}
 use Rattle.atl_tables.specs.RulesTable.{rules_conditions}
 use Rattle.atl_tables.specs.TerrainTable.{terrain_keys}
 use Rattle.atl_tables.specs.World.{things_conditions, regions_conditions, keys_conditions, tables_of}
-use Rattle.atl_tables.specs.declared.format.Format.{Format}
+use Rattle.atl_world.specs.declared.format.Format.{Format}
 use Rattle.atl_tables.proofs.FaultLaws.{exits, stops_on, stops_after, passes_both}
 use Rattle.atl_tables.proofs.reading.tables.Goals as goal
 

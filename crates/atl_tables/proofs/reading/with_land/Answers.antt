@@ -1,6 +1,6 @@
 use Rattle.std.proofs.Common.{◌<◌, length, arith}
-use Rattle.atl_tables.specs.Worlds.{is_land}
-use Rattle.atl_tables.specs.Sums.{numbers_where}
+use Rattle.atl_world.specs.Worlds.{is_land}
+use Rattle.atl_world.specs.Sums.{numbers_where}
 use Rattle.atl_tables.proofs.reading.with_land.Goals as goal
 
 pub from_parts-requires-clause-world : goal.from_parts-requires-clause-world

@@ -4,7 +4,7 @@ use Rattle.atl_tables.specs.declared.fault.WorldFault.TheVariants.{TwoNames}
 use Rattle.atl_tables.specs.Faults.{first_fault}
 use Rattle.atl_tables.specs.Keys.{path, element_path}
 use Rattle.atl_tables.specs.Titles.{no_twin_before, no_twins}
-use Rattle.atl_tables.specs.Names.{same_name}
+use Rattle.atl_world.specs.Names.{same_name}
 use Rattle.atl_tables.proofs.EachLaws.{goes_on_at, ends_at}
 use Rattle.atl_tables.proofs.SeenLaws.{stands_before, stands_first, has_one_more}
 use Rattle.atl_tables.proofs.titles.no_duplicate_names.Goals as goal

@@ -1,6 +1,6 @@
 use Rattle.std.proofs.Common.{◌≡◌, drop}
 use Rattle.std.specs.List.{position_from}
-use Rattle.atl_tables.specs.Names.{same_name}
+use Rattle.atl_world.specs.Names.{same_name}
 use Rattle.atl_tables.proofs.titles.number_of.Given as goal
 
 abbrev pub invariant-loop-i : goal.invariant-loop-i

@@ -1,6 +1,6 @@
 use Rattle.std.proofs.lemmas.Bool.Decides.{same_from_decides}
 use Rattle.std.proofs.lemmas.Slice.Eq.{bytes_eq-Decides}
-use Rattle.atl_tables.specs.Names.{same_name}
+use Rattle.atl_world.specs.Names.{same_name}
 use Rattle.atl_tables.proofs.titles.same_name.Goals as goal
 
 pub returns : goal.returns

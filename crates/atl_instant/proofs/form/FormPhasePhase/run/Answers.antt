@@ -1,9 +1,9 @@
 use Rattle.std.proofs.Common.{◌≡◌, refl, ap, subst, sym, ◌∙◌, get_or, arith}
 use Rattle.std.specs.Prelude.{fold, Some}
 use Rattle.std.specs.FinMap.{get}
-use Rattle.atl_state.specs.Good.{IsEarly}
-use Rattle.atl_state.specs.Campaign.{CampaignValue}
-use Rattle.atl_state.proofs.CoverLaws.{marks-refl, marks-trans}
+use Rattle.atl_campaign.specs.Good.{IsEarly}
+use Rattle.atl_campaign.specs.Campaign.{CampaignValue}
+use Rattle.atl_campaign.proofs.CoverLaws.{marks-refl, marks-trans}
 use Rattle.atl_phase.specs.Month.{MonthValue}
 use Rattle.atl_phase.specs.Bounds.{StepsWell, books_nothing}
 use Rattle.atl_phase.proofs.FoldLaws.{fold_behind, fold_ended}

@@ -1,9 +1,9 @@
 use Rattle.std.proofs.Common.{◌≡◌, Some, drop}
 use Rattle.std.specs.Prelude.{fold}
 use Rattle.std.specs.FinMap.{get}
-use Rattle.atl_state.specs.Covers.{MarksChanges}
+use Rattle.atl_campaign.specs.Covers.{MarksChanges}
 use Rattle.atl_records.specs.Every.{Every}
-use Rattle.atl_state.specs.Good.{IsEarly}
+use Rattle.atl_campaign.specs.Good.{IsEarly}
 use Rattle.atl_phase.specs.Bounds.{StepsWell, books_nothing}
 use Rattle.atl_instant.proofs.form.FormPhasePhase.run.Given as goal
 use Rattle.atl_instant.specs.Forming.{form_apart}

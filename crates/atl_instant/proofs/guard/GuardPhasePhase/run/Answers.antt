@@ -2,9 +2,9 @@ use Rattle.std.proofs.Common.{◌≡◌, [], ap, subst, sym, ◌∙◌, map, ari
 use Rattle.std.proofs.lemmas.List.{append-nil}
 use Rattle.std.specs.Prelude.{fold}
 use Rattle.atl_orders.specs.Bounds.{IsOrderOf}
-use Rattle.atl_state.specs.Good.{IsSteady}
-use Rattle.atl_state.specs.Campaign.{CampaignValue}
-use Rattle.atl_state.proofs.CoverLaws.{marks-refl, marks-trans}
+use Rattle.atl_campaign.specs.Good.{IsSteady}
+use Rattle.atl_campaign.specs.Campaign.{CampaignValue}
+use Rattle.atl_campaign.proofs.CoverLaws.{marks-refl, marks-trans}
 use Rattle.atl_phase.specs.Month.{MonthValue, with_events}
 use Rattle.atl_phase.specs.PhaseOrders.{orders_by_unit, task_of}
 use Rattle.atl_phase.specs.NoWorse.{IsNoWorse}

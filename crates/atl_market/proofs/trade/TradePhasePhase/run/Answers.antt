@@ -1,5 +1,5 @@
 use Rattle.std.proofs.Common.{◌≡◌, map, subst, sym, rules}
-use Rattle.atl_state.specs.Good.{IsEarly}
+use Rattle.atl_campaign.specs.Good.{IsEarly}
 use Rattle.atl_phase.specs.Meaning.{LeavesWell, most_moved}
 use Rattle.atl_phase.specs.Bounds.{HaveRoom}
 use Rattle.atl_phase.specs.PhaseOrders.{orders_by_unit, task_of}

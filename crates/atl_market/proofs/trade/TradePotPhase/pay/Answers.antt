@@ -1,6 +1,6 @@
 use Rattle.std.proofs.Common.{◌≡◌, Some, sym, ap, ◌∙◌, rules}
 use Rattle.std.specs.FinMap.{get}
-use Rattle.atl_state.specs.Stocks.{stock_of}
+use Rattle.atl_campaign.specs.Stocks.{stock_of}
 use Rattle.atl_market.specs.Trade.{market_for}
 use Rattle.atl_market.proofs.TradeLaws.{can_book_result}
 use Rattle.atl_market.proofs.trade.TradePotPhase.pay.Goals as goal

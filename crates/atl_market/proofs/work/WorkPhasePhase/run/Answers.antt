@@ -1,5 +1,5 @@
 use Rattle.std.proofs.Common.{map, subst, sym}
-use Rattle.atl_state.specs.Good.{IsSteady}
+use Rattle.atl_campaign.specs.Good.{IsSteady}
 use Rattle.atl_phase.specs.PhaseOrders.{task_of}
 use Rattle.atl_phase.specs.Meaning.{LeavesWell, most_moved}
 use Rattle.atl_phase.specs.NoWorse.{AreNoWorse}

@@ -1,7 +1,7 @@
 use Rattle.std.proofs.Common.{rules, ◌≡◌, length, refl, arith}
 use Rattle.std.proofs.lemmas.Grind.{common_steps}
-use Rattle.atl_tables.specs.Limits.{most_amount}
-use Rattle.atl_state.proofs.CoverLaws.{marks-trans}
+use Rattle.atl_world.specs.Limits.{most_amount}
+use Rattle.atl_campaign.proofs.CoverLaws.{marks-trans}
 use Rattle.atl_phase.specs.Meaning.{most_moved}
 use Rattle.atl_phase.specs.Bounds.{moved_times}
 use Rattle.atl_phase.proofs.MeaningLaws.{room_less}

@@ -1,5 +1,5 @@
 use Rattle.std.proofs.Common.{arith}
-use Rattle.atl_state.proofs.GoodLaws.{IsEarly-good}
+use Rattle.atl_campaign.proofs.GoodLaws.{IsEarly-good}
 use Rattle.atl_month_tests.proofs.RoomLaws.{room_for_selling}
 use Rattle.atl_month_tests.proofs.tests.agreeing.run_sell.Goals as goal
 

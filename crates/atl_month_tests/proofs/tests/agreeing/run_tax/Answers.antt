@@ -1,4 +1,4 @@
-use Rattle.atl_state.proofs.GoodLaws.{IsEarly-good}
+use Rattle.atl_campaign.proofs.GoodLaws.{IsEarly-good}
 use Rattle.atl_month_tests.proofs.RoomLaws.{room_for_tax}
 use Rattle.atl_month_tests.proofs.tests.agreeing.run_tax.Goals as goal
 

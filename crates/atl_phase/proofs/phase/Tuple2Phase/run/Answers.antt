@@ -1,6 +1,6 @@
 use Rattle.std.proofs.Common.{subst, sym}
 use Rattle.atl_phase.specs.Fit.{AreFit}
-use Rattle.atl_state.proofs.CoverLaws.{marks-trans}
+use Rattle.atl_campaign.proofs.CoverLaws.{marks-trans}
 use Rattle.atl_phase.proofs.MeaningLaws.{both_keep_well, both_leave_well, room_behind}
 use Rattle.atl_phase.proofs.phase.Tuple2Phase.run.Goals as goal
 

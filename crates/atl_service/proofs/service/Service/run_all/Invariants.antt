@@ -1,6 +1,6 @@
 use Rattle.std.proofs.Common.{◌≡◌, ◌≤◌, ◌++◌, List, IfSome, length, drop, vec_len, vec_capacity}
 use Rattle.atl_service.specs.declared.command.Answer.{Answer}
-use Rattle.atl_state.specs.Totals.{Balances}
+use Rattle.atl_campaign.specs.Totals.{Balances}
 use Rattle.atl_store.specs.Keeps.{HoldsCampaign}
 use Rattle.atl_service.specs.Service.{ServiceValue, text_in}
 use Rattle.atl_service.specs.Runs.{RunsAll}

@@ -3,7 +3,7 @@ use Rattle.std.specs.List.{list_any, IsDistinct}
 use Rattle.std.specs.Ordering.{eq_by_cmp}
 use Rattle.std.proofs.lemmas.Bool.{false≢true}
 use Rattle.std.proofs.lemmas.Map.Keys.{IsDistinct-from_sorted}
-use Rattle.atl_state.proofs.KeyLaws.{stands_twice, still_apart, seen_more}
+use Rattle.atl_campaign.proofs.KeyLaws.{stands_twice, still_apart, seen_more}
 use Rattle.atl_state.proofs.row_rules.keys.are_distinct.Goals as goal
 
 -- if r is `not b`, and r is false, b is true

@@ -1,5 +1,5 @@
 use Rattle.std.proofs.Common.{◌∙◌, sym, arith}
-use Rattle.atl_state.proofs.KeyLaws.{rises, rises_more}
+use Rattle.atl_campaign.proofs.KeyLaws.{rises, rises_more}
 use Rattle.atl_state.proofs.row_rules.keys.are_sorted.Goals as goal
 
 pub loop-i-init : goal.loop-i-init

@@ -3,7 +3,7 @@ use Rattle.std.specs.Prelude.{IfOk}
 use Rattle.std.specs.Bool.{Decides}
 use Rattle.std.specs.List.{IsDistinct}
 use Rattle.std.specs.Ordering.{eq_by_cmp}
-use Rattle.atl_state.specs.RowRules.{Key, key_cmp}
+use Rattle.atl_campaign.specs.RowRules.{Key, key_cmp}
 use Rattle.atl_state.proofs.row_rules.keys.have_keys.Goals as goal
 
 pub returns : goal.returns

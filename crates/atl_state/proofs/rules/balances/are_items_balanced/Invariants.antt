@@ -1,6 +1,6 @@
 use Rattle.std.proofs.Common.{◌≡◌, ◌<◌, ℕ, pos}
 use Rattle.atl_records.specs.Books.{booked}
-use Rattle.atl_state.specs.Totals.{total}
+use Rattle.atl_campaign.specs.Totals.{total}
 use Rattle.atl_records.specs.declared.books.Thing.TheVariants.{Item}
 use Rattle.atl_state.proofs.rules.balances.are_items_balanced.Given as goal
 

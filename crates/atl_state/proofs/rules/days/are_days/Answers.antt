@@ -3,7 +3,7 @@ use borrow.Author.Tests.{tests}
 use Rattle.atl_records.specs.Every.{Every}
 use Rattle.atl_records.specs.Limits.{most_days}
 use Rattle.atl_records.specs.declared.records.Unit.{Unit}
-use Rattle.atl_state.proofs.RuleLaws.{every_by_all}
+use Rattle.atl_campaign.proofs.RuleLaws.{every_by_all}
 use Rattle.atl_state.proofs.rules.days.are_days.Goals as goal
 
 -- each skill listed of a unit has at least 1 day, and at most 450 for each of its men

@@ -1,7 +1,7 @@
 use Rattle.std.proofs.Common.{◌≤◌, ◌*◌, ℕ, rules}
 use borrow.Author.Tests.{tests}
 use Rattle.atl_records.specs.Limits.{most_days}
-use Rattle.atl_state.proofs.RuleLaws.{every_by_all}
+use Rattle.atl_campaign.proofs.RuleLaws.{every_by_all}
 use Rattle.atl_state.proofs.rules.days.has_days.Goals as goal
 
 -- days of a skill are at least 1, and at most 450 for each of `men` men

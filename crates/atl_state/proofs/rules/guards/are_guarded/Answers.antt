@@ -2,7 +2,7 @@ use Rattle.std.proofs.Common.{rules}
 use borrow.Author.Tests.{tests}
 use Rattle.std.proofs.lemmas.Bool.Decides.{Decides-like}
 use Rattle.atl_state.proofs.GuardLaws.{IsHeldByOne, of_one_faction, held_by_one}
-use Rattle.atl_state.proofs.RuleLaws.{every_by_all}
+use Rattle.atl_campaign.proofs.RuleLaws.{every_by_all}
 use Rattle.atl_state.proofs.rules.guards.are_guarded.Goals as goal
 
 pub returns : goal.returns

@@ -1,6 +1,6 @@
 use Rattle.std.proofs.Common.{◌≡◌, drop, None}
 use Rattle.atl_state.specs.Deciding.{guard_of, one_holder}
-use Rattle.atl_state.specs.Campaign.{numbers_in}
+use Rattle.atl_campaign.specs.Campaign.{numbers_in}
 use Rattle.atl_state.proofs.rules.guards.has_one_holder.Given as goal
 
 abbrev pub invariant-loop-number : goal.invariant-loop-number

@@ -1,6 +1,6 @@
 use Rattle.std.proofs.Common.{◌<◌, rules}
 use borrow.Author.Tests.{tests}
-use Rattle.atl_state.proofs.RuleLaws.{each_by_all}
+use Rattle.atl_campaign.proofs.RuleLaws.{each_by_all}
 use Rattle.atl_state.proofs.rules.known.are_below.Goals as goal
 
 pub returns : goal.returns

@@ -1,7 +1,7 @@
 use Rattle.std.proofs.Common.{rules}
 use borrow.Author.Tests.{tests}
 use Rattle.atl_records.specs.Every.{IsThere}
-use Rattle.atl_state.proofs.RuleLaws.{every_by_all}
+use Rattle.atl_campaign.proofs.RuleLaws.{every_by_all}
 use Rattle.atl_state.proofs.rules.known.are_reports_known.Goals as goal
 
 pub returns : goal.returns

@@ -1,7 +1,7 @@
 use Rattle.std.proofs.Common.{IsSome, rules}
 use borrow.Author.Tests.{tests}
-use Rattle.atl_tables.specs.ByNumber.{market_of}
-use Rattle.atl_state.proofs.RuleLaws.{every_by_all}
+use Rattle.atl_world.specs.ByNumber.{market_of}
+use Rattle.atl_campaign.proofs.RuleLaws.{every_by_all}
 use Rattle.atl_state.proofs.rules.known.is_of_markets.Goals as goal
 
 pub returns : goal.returns

@@ -1,5 +1,5 @@
 use Rattle.std.proofs.Common.{is_some, sym, ap, ◌∙◌}
-use Rattle.atl_state.proofs.RuleLaws.{Decides-there, copied_some}
+use Rattle.atl_campaign.proofs.RuleLaws.{Decides-there, copied_some}
 use Rattle.atl_state.proofs.rules.known.is_region.Goals as goal
 
 pub returns : goal.returns

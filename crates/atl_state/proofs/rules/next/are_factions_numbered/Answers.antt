@@ -1,6 +1,6 @@
 use Rattle.std.proofs.Common.{◌≡◌, false, sym, ◌∙◌, rules}
 use Rattle.std.proofs.lemmas.Bool.{false≢true}
-use Rattle.atl_state.proofs.RuleLaws.{numbered, each_numbered}
+use Rattle.atl_campaign.proofs.RuleLaws.{numbered, each_numbered}
 use Rattle.atl_state.proofs.rules.next.are_factions_numbered.Goals as goal
 
 pub returns-then-are_between : goal.returns-then-are_between

@@ -2,10 +2,10 @@ use Rattle.std.proofs.Common.{◌≡◌, ◌≢◌, false, Some, sym, ap, ◌∙
 use Rattle.std.proofs.lemmas.Bool.{false≢true}
 use Rattle.std.specs.FinMap.{get}
 use Rattle.atl_records.specs.declared.records.Structure.{Structure}
-use Rattle.atl_state.specs.Campaign.{CampaignValue}
+use Rattle.atl_campaign.specs.Campaign.{CampaignValue}
 use Rattle.atl_state.specs.Deciding.{HasOwnerInside}
 use Rattle.atl_records.specs.Every.{Every}
-use Rattle.atl_state.specs.Good.{AreOwned}
+use Rattle.atl_campaign.specs.Good.{AreOwned}
 use Rattle.atl_state.proofs.rules.owners.are_owned.Goals as goal
 
 -- the owner of each structure is a unit inside it, or 0

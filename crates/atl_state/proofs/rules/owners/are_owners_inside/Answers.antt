@@ -1,7 +1,7 @@
 use Rattle.std.proofs.Common.{rules}
 use borrow.Author.Tests.{tests}
 use Rattle.atl_state.specs.Deciding.{HasOwnerInside}
-use Rattle.atl_state.proofs.RuleLaws.{every_by_all}
+use Rattle.atl_campaign.proofs.RuleLaws.{every_by_all}
 use Rattle.atl_state.proofs.rules.owners.are_owners_inside.Goals as goal
 
 pub returns : goal.returns

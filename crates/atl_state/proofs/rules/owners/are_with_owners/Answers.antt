@@ -4,7 +4,7 @@ use Rattle.std.specs.Ordering.{nat_cmp}
 use Rattle.std.specs.FinMap.{FinMap, get}
 use Rattle.atl_records.specs.declared.records.Structure.{Structure}
 use Rattle.atl_records.specs.declared.records.Unit.{Unit}
-use Rattle.atl_state.proofs.RuleLaws.{every_by_all}
+use Rattle.atl_campaign.proofs.RuleLaws.{every_by_all}
 use Rattle.atl_state.proofs.rules.owners.are_with_owners.Goals as goal
 
 -- the structure that a unit is inside, if it is there, has an owner

@@ -1,5 +1,5 @@
 use Rattle.std.proofs.Common.{◌++◌, ◌∙◌, Ok}
-use Rattle.atl_tables.specs.declared.format.Format.TheVariants.{First, Second}
+use Rattle.atl_world.specs.declared.format.Format.TheVariants.{First, Second}
 use Rattle.atl_store.proofs.GatherLaws.{fails_as, reads_by, reads_first, reads_second}
 use Rattle.atl_store.proofs.loading.gathered.read_by.Goals as goal
 

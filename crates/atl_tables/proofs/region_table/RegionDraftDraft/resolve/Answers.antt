@@ -1,10 +1,10 @@
 use Rattle.std.proofs.Common.{length, refl, sym, ap, ◌∙◌}
 use Rattle.std.specs.FinMap.{FinMap, get}
 use Rattle.std.specs.Ordering.{nat_cmp}
-use Rattle.atl_tables.specs.Worlds.{IsMarket}
+use Rattle.atl_world.specs.Worlds.{IsMarket}
 use Rattle.atl_tables.specs.RegionTable.{region_known, region_of}
-use Rattle.atl_tables.specs.Sums.{by_number}
-use Rattle.atl_tables.specs.declared.world.Market.{Market}
+use Rattle.atl_world.specs.Sums.{by_number}
+use Rattle.atl_world.specs.declared.world.Market.{Market}
 use Rattle.atl_tables.proofs.FaultLaws.{exits, stops_here}
 use Rattle.atl_tables.proofs.HasNumberLaws.{at_number}
 use Rattle.atl_tables.proofs.region_table.RegionDraftDraft.resolve.Goals as goal

@@ -1,5 +1,5 @@
 use Rattle.std.proofs.Common.{sym, subst}
-use Rattle.atl_tables.specs.declared.format.Format.{Format}
+use Rattle.atl_world.specs.declared.format.Format.{Format}
 use Rattle.sqlite.specs.Given.{IsPlain}
 use Rattle.sqlite.specs.Listing.{understood}
 use Rattle.atl_sql.specs.Reading.{listing_of}

@@ -1,0 +1,59 @@
+-- Laws of items that are not in the world: their total and the sum booked of them are both 0, so they balance.
+use Rattle.std.proofs.Common.{◌≡◌, ℕ, ◌+◌, ◌<◌, ◌≤◌, List, [], ◌∷◌, length, sum_by, refl, sym, ap, ◌∙◌, inl, inr, arith}
+use Rattle.std.specs.Prelude.{pos, unwrap_or}
+use Rattle.std.proofs.lemmas.Bool.{cases_lt}
+use Rattle.std.proofs.lemmas.List.Sums.{sum_by-cons}
+use Rattle.std.specs.Ordering.{nat_cmp}
+use Rattle.std.specs.FinMap.{FinMap, entries}
+use Rattle.atl_world.specs.Worlds.{IsWorld, WorldValue}
+use Rattle.atl_world.specs.Sums.{sum_over}
+use Rattle.atl_records.specs.declared.books.Thing.TheVariants.{Money, People, Item}
+use Rattle.atl_records.specs.declared.records.Region.{Region}
+use Rattle.atl_records.specs.declared.records.Unit.{Unit}
+use Rattle.atl_campaign.specs.Campaign.{CampaignValue}
+use Rattle.atl_records.specs.Holdings.{amount_of}
+use Rattle.atl_campaign.specs.Founding.{things_of}
+use Rattle.atl_records.specs.Amounts.{region_amount, unit_amount}
+use Rattle.atl_campaign.specs.Totals.{total, Balances}
+use Rattle.atl_records.specs.Books.{booked, AreBooks}
+use Rattle.atl_records.specs.Every.{EachOf, Every}
+use Rattle.atl_campaign.specs.Good.{AreOfMarkets}
+use Rattle.atl_records.proofs.BookLaws.{booked_past}
+use Rattle.atl_records.proofs.EveryLaws.{each-from_every}
+use Rattle.atl_campaign.proofs.RuleLaws.{free_from}
+use Rattle.atl_campaign.proofs.MarketLaws.{market_known}
+
+-- ---- items that no world has
+
+-- the sum over entries that each add 0 is 0
+pub none_weighed : {V : Type 0} (f : V → ℕ) (es : List (ℕ × V)) → EachOf (λ _ v. f v ≡ 0) es → sum_by (λ e. f e.1) es ≡ 0
+none_weighed f [] each = refl
+none_weighed {V} f (e ∷ es) each = let more = sum_by-cons (λ (e : ℕ × V). f e.1) e es in omega (arith, more, each.0, none_weighed f es each.1)
+
+-- if all listed items have numbers below `count`, an item with a number of `count` or more has the amount 0
+unheld : (items : FinMap nat_cmp ℕ) (count i : ℕ) → Every (λ k amount. k < count) items → count ≤ i → amount_of items i ≡ 0
+unheld items count i known l = ap (λ o. unwrap_or o 0) (free_from items i (λ there. let few = known i there.0 there.1 in omega (arith, few)))
+
+module _ (w : WorldValue) (c : CampaignValue) (world : IsWorld w) (are : AreBooks (things_of w) c.books) (known : Every (λ n u. Every (λ i amount. i < length w.items) u.holding.items) c.units)
+    (stocks : Every (λ n r. AreOfMarkets w n r.stocks) c.regions) where
+  -- no region has an item in stock that is not in the world
+  none_kept : (i : ℕ) → length w.items ≤ i → EachOf (λ _ r. region_amount (Item i) r ≡ 0) (entries c.regions)
+  none_kept i l = each-from_every (λ _ r. region_amount (Item i) r ≡ 0) c.regions (λ n r is. unheld r.stocks (length w.items) i (λ k amount at. market_known w world n k (stocks n r is k amount at)) l)
+
+  -- the total of an item not in the world is 0
+  unknown_total : (i : ℕ) → length w.items ≤ i → total c (Item i) ≡ 0
+  unfolding total
+  unknown_total i l =
+      let units = none_weighed (λ (u : Unit). unit_amount (Item i) u.holding) (entries c.units) (each-from_every (λ _ u. unit_amount (Item i) u.holding ≡ 0) c.units (λ n u is. unheld u.holding.items (length w.items) i (known n u is) l)) in
+      let regions = none_weighed (λ (r : Region). region_amount (Item i) r) (entries c.regions) (none_kept i l) in
+      ap (λ n. n + sum_over (λ (r : Region). region_amount (Item i) r) c.regions) units ∙ ap (λ n. 0 + n) regions
+
+  -- the sum booked of an item not in the world is 0
+  unknown_booked : (i : ℕ) → length w.items ≤ i → booked c.books (Item i) ≡ pos 0
+  unknown_booked i l = booked_past (things_of w) c.books are (Item i) (omega arith)
+
+  -- the books balance for all things if they do for money, for people, and for each item of the world
+  pub all_balance : (pos (total c Money) ≡ booked c.books Money) × (pos (total c People) ≡ booked c.books People) → ((i : ℕ) → i < length w.items → pos (total c (Item i)) ≡ booked c.books (Item i)) → Balances c
+  all_balance both items Money = both.0
+  all_balance both items People = both.1
+  all_balance both items (Item i) = elim (cases_lt i (length w.items)) [ inl l ↦ items i l | inr past ↦ ap pos (unknown_total i past) ∙ sym (unknown_booked i past) ]

@@ -1,0 +1,144 @@
+-- Laws of assembling a campaign from rows in range: their numbers are read as themselves, and items are within limits.
+use Rattle.std.proofs.Common.{◌≡◌, ◌≢◌, ◌==◌, ℕ, zero, suc, ◌≤◌, ◌<◌, ◌&&◌, ◌||◌, List, [], ◌∷◌, Bool, true, false, cond, filter, length, get_or, Some, None, nat_le, refl, sym, ap, subst, ◌∙◌, arith, inl, inr}
+use Rattle.std.specs.Prelude.{ℤ, pos, negsuc, min, Result, Ok, Err, IfOk, IsUtf8}
+use Rattle.std.specs.List.{list_all}
+use Rattle.std.specs.declared.cmp.Ordering.TheVariants.{Less, Equal, Greater}
+use Rattle.std.specs.Ordering.{nat_cmp, is_eq, eq_by_cmp}
+use Rattle.std.specs.Cmp.{nat_cmp_total, eq_by_cmp_equiv}
+use Rattle.std.specs.FinMap.{FinMap, get, insert, empty, get-insert, get-empty, nat_cmp-IsAntisymmetric}
+use Rattle.std.proofs.lemmas.Bool.{cases_eq, and_parts, false≢true}
+use Rattle.std.proofs.lemmas.Bool.Decides.{nat_tests}
+use Rattle.atl_campaign.specs.declared.parts.StoredHas.{StoredHas}
+use Rattle.atl_campaign.specs.FromRows.{as_u32, is_of, put_rows, things_had}
+use Rattle.atl_records.specs.Holdings.{AreAmounts}
+use Rattle.atl_records.specs.Limits.{holding_limit, most_u32}
+use Rattle.atl_campaign.specs.RowRules.{is_from, has_in_range}
+
+-- ---- what a map has under a number after an insertion
+
+-- a map has the value v under k once v is put in under k
+pub get_same : {V : Type 0} (m : FinMap nat_cmp V) (k : ℕ) (v : V) → get (insert m k v) k ≡ Some v
+get_same m k v = get-insert nat_cmp_total m k v k ∙ ap (λ b. cond b (Some v) (get m k)) ((eq_by_cmp_equiv nat_cmp_total).refl k)
+
+-- different numbers do not compare equal
+other_key : (n k : ℕ) → n ≢ k → eq_by_cmp nat_cmp n k ≡ false
+other_key n k h = elim (nat_cmp n k) as (λ r. nat_cmp n k ≡ r → is_eq r ≡ false) [
+  | Less ↦ λ _. refl
+  | Equal ↦ λ e. absurd (h (nat_cmp-IsAntisymmetric n k e))
+  | Greater ↦ λ _. refl
+] refl
+
+-- putting a value in under k changes nothing under another number n
+pub get_other : {V : Type 0} (m : FinMap nat_cmp V) (k n : ℕ) (v : V) → n ≢ k → get (insert m k v) n ≡ get m n
+get_other m k n v h = get-insert nat_cmp_total m k v n ∙ ap (λ b. cond b (Some v) (get m n)) (other_key n k h)
+
+-- ---- what units have, and regions in stock
+
+module _ {R : Type 0} (thing amount : R → ℕ) (test : R → Bool) where
+  -- putting in rows that pass a test puts in the first, if it passes, and then those of the rest that pass
+  pub taken_or_not : (r : R) (rows : List R) (b : Bool) (m : FinMap nat_cmp ℕ) → test r ≡ b → put_rows thing amount (filter test (r ∷ rows)) m ≡ put_rows thing amount (filter test rows) (cond b (insert m (thing r) (amount r)) m)
+  taken_or_not r rows true m h = ap (λ b. put_rows thing amount (cond b (r ∷ filter test rows) (filter test rows)) m) h
+  taken_or_not r rows false m h = ap (λ b. put_rows thing amount (cond b (r ∷ filter test rows) (filter test rows)) m) h
+
+-- ---- rows in their ranges
+
+-- the minimum of n and a bound that n is at most is n
+pub min_small : (n most : ℕ) → n ≤ most → min n most ≡ n
+min_small n most h = grind arith
+
+-- a number of a row from low to high, with high at most most_u32, is read as itself, which is from low to high
+pub from_range : (low high : ℕ) (z : ℤ) → high ≤ most_u32 → is_from low high z ≡ true → (z ≡ pos (as_u32 z)) × (low ≤ as_u32 z) × (as_u32 z ≤ high)
+from_range low high (pos n) h e =
+    let parts = and_parts (nat_le low n) (nat_le n high) e in
+    let least : low ≤ n = grind (arith, nat_tests, parts.0) in
+    let most : n ≤ high = grind (arith, nat_tests, parts.1) in
+    let same = min_small n most_u32 (omega arith) in
+    (ap pos (sym same), rw same least, rw same most)
+from_range low high (negsuc n) h e = absurd (false≢true e)
+
+-- the number of the item or skill in a row of `has`, as it is read
+abbrev thing_of : StoredHas → ℕ
+thing_of r = as_u32 r.thing
+
+-- the amount in a row of `has`, as it is read
+abbrev amount_of : StoredHas → ℕ
+amount_of r = as_u32 r.amount
+
+-- a sort that is read as 0 (items) is not 1 (skills)
+is_skill : (z : ℤ) → as_u32 z ≡ 0 → is_from 1 1 z ≡ false
+is_skill (pos zero) h = refl
+is_skill (pos (suc n)) h = absurd (grind arith)
+is_skill (negsuc n) h = refl
+
+-- if `b || c` is true and b is false, c is true
+or_right : (b c : Bool) → b ≡ false → (b || c) ≡ true → c ≡ true
+or_right true c h e = absurd (false≢true (sym h))
+or_right false c h e = e
+
+-- numbers that pass the test of equality are equal
+pub is_same : (m n : ℕ) → (m == n) ≡ true → m ≡ n
+is_same m n h = grind (arith, nat_tests)
+
+-- a row of `has` for an item, if it is in range, has an amount from 1 to holding_limit
+pub item_amount : (r : StoredHas) → has_in_range r ≡ true → as_u32 r.sort ≡ 0 → (1 ≤ amount_of r) × (amount_of r ≤ holding_limit)
+item_amount r h sort =
+    let item = or_right (is_from 1 1 r.sort) (is_from 0 0 r.sort && is_from 1 holding_limit r.amount) (is_skill r.sort sort) h in
+    let range = from_range 1 holding_limit r.amount (omega arith) (and_parts (is_from 0 0 r.sort) (is_from 1 holding_limit r.amount) item).1 in
+    (range.1, range.2)
+
+-- a row of `has` that is of unit n's items and in range has an amount from 1 to holding_limit
+good_amount : (n : ℕ) (r : StoredHas) → has_in_range r ≡ true → is_of n 0 r ≡ true → (1 ≤ amount_of r) × (amount_of r ≤ holding_limit)
+good_amount n r h of = item_amount r h (is_same (as_u32 r.sort) 0 (and_parts (as_u32 r.unit == n) (as_u32 r.sort == 0) of).1)
+
+-- equal Some's have equal numbers
+some_same : (a b : ℕ) → Some a ≡ Some b → a ≡ b
+some_same a b e = cc
+
+-- if each amount of a map is from 1 to holding_limit (AreAmounts), so it is once one more such amount is put in
+AreAmounts-insert : (m : FinMap nat_cmp ℕ) (k v : ℕ) → (1 ≤ v) × (v ≤ holding_limit) → AreAmounts m → AreAmounts (insert m k v)
+AreAmounts-insert m k v h old item amount e =
+    elim (cases_eq item k) [
+      | inl same ↦
+          let is = some_same v amount (sym (ap (get (insert m k v)) same ∙ get_same m k v) ∙ e) in
+          (omega (arith, is, h.0), omega (arith, is, h.1))
+      | inr apart ↦ old item amount (sym (get_other m k item v apart) ∙ e)
+    ]
+
+-- amounts stay from 1 to holding_limit (AreAmounts) if a row in range is put in where it is of unit n's items
+chosen : (n : ℕ) (r : StoredHas) (m : FinMap nat_cmp ℕ) (b : Bool) → is_of n 0 r ≡ b → has_in_range r ≡ true → AreAmounts m → AreAmounts (cond b (insert m (thing_of r) (amount_of r)) m)
+chosen n r m true of h old = AreAmounts-insert m (thing_of r) (amount_of r) (good_amount n r h of) old
+chosen n r m false of h old = old
+
+-- amounts stay from 1 to holding_limit (AreAmounts) once all rows of unit n's items, each in range, are put in
+put_good : (n : ℕ) (rows : List StoredHas) (m : FinMap nat_cmp ℕ) → list_all has_in_range rows ≡ true → AreAmounts m → AreAmounts (put_rows thing_of amount_of (filter (is_of n 0) rows) m)
+put_good n [] m h old = old
+put_good n (r ∷ rows) m h old =
+    let parts = and_parts (has_in_range r) (list_all has_in_range rows) h in
+    subst AreAmounts (sym (taken_or_not thing_of amount_of (is_of n 0) r rows (is_of n 0 r) m refl)) (put_good n rows (cond (is_of n 0 r) (insert m (thing_of r) (amount_of r)) m) parts.1 (chosen n r m (is_of n 0 r) refl parts.0 old))
+
+-- None is not Some
+no_some : (x : ℕ) → None ≡ Some x → ⊥
+no_some x e = cc
+
+-- each amount that the empty map lists is from 1 to holding_limit, as it lists none
+pub none_held : (item amount : ℕ) → get (empty {X = ℕ} {R = nat_cmp}) item ≡ Some amount → (1 ≤ amount) × (amount ≤ holding_limit)
+none_held item amount e = absurd (no_some amount (sym (get-empty nat_cmp item) ∙ e))
+
+-- the items that rows in range give unit n have amounts from 1 to holding_limit (AreAmounts)
+pub AreAmounts-had : (n : ℕ) (rows : List StoredHas) → list_all has_in_range rows ≡ true → AreAmounts (things_had n 0 rows)
+AreAmounts-had n rows h = put_good n rows empty h none_held
+
+-- ---- texts
+
+-- if bytes are UTF-8, a text that is made of them has these bytes
+pub IfOk-text : {E : Type 0} (r : Result (List ℕ) E) (some bytes : List ℕ) → some ≡ bytes → IsUtf8 bytes → IfOk r (λ made. IsUtf8 some → made ≡ some) → IfOk r (λ made. made ≡ bytes)
+IfOk-text (Ok made) some bytes e h f = f (subst IsUtf8 (sym e) h) ∙ e
+IfOk-text (Err x) some bytes e h f = tt
+
+-- ---- a test that all rows pass
+
+-- the row at index i passes a test, if all rows do
+pub at_row : {R : Type 0} (p : R → Bool) (rows : List R) (i : ℕ) (r : R) → i < length rows → r ≡ get_or rows i r → list_all p rows ≡ true → p r ≡ true
+at_row p [] i r h is all = absurd (omega arith)
+at_row p (x ∷ rows) zero r h is all = ap p is ∙ (and_parts (p x) (list_all p rows) all).0
+at_row p (x ∷ rows) (suc i) r h is all = at_row p rows i r (omega arith) is (and_parts (p x) (list_all p rows) all).1

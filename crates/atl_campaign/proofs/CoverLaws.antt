@@ -1,0 +1,490 @@
+-- Laws of change marks: each change of a campaign marks all that it changes, and so do several changes in turn.
+use Rattle.std.proofs.Common.{◌≡◌, ◌≢◌, ◌==◌, ◌||◌, ℕ, Bool, true, false, if◌then◌else◌, Option, Some, None, refl, sym, ap, ◌∙◌, subst, inl, inr, arith, true≢false}
+use Rattle.std.specs.Prelude.{ℤ, List, cond, is_some, option_map, unwrap_or}
+use Rattle.std.proofs.lemmas.Bool.Decides.{nat_tests}
+use Rattle.std.specs.Cmp.{nat_cmp_total, unsigned_ties}
+use Rattle.std.specs.Ordering.{nat_cmp, eq_by_cmp}
+use Rattle.std.specs.FinMap.{FinMap, get, get-insert}
+use Rattle.std.specs.FinMap as map
+use Rattle.std.specs.FinSet.{FinSet, contains, insert, contains-insert}
+use Rattle.std.specs.Option.{option_map_or}
+use Rattle.atl_world.specs.Groups.{group_of}
+use Rattle.atl_world.specs.Sums.{changed, changed_at}
+use Rattle.atl_world.specs.Tracking.{marked_with}
+use Rattle.atl_world.proofs.GeneralLaws.{same_key}
+use Rattle.atl_records.specs.declared.books.Entry.{Entry}
+use Rattle.atl_records.specs.declared.books.Thing.{Thing}
+use Rattle.atl_records.specs.declared.records.Faction.{Faction}
+use Rattle.atl_records.specs.declared.records.Region.{Region}
+use Rattle.atl_records.specs.declared.records.Structure.{Structure}
+use Rattle.atl_records.specs.declared.records.Unit.{Unit}
+use Rattle.atl_records.specs.Books.{amount_in, amount_number}
+use Rattle.atl_records.specs.Holdings.{amount_of, with_amount_of}
+use Rattle.atl_campaign.specs.Covers.{Covers, ThingsStayMarked, StaysMarked, StayMarked, MarksChanges, bare, days_under, items_under, own_row, unstocked}
+use Rattle.atl_campaign.specs.Marking.{MarksStock, mark_amount, mark_faction, mark_region, mark_unit_added}
+use Rattle.atl_campaign.specs.Marks.{Marks, Things, is_thing_marked, thing_marked, with_thing}
+use Rattle.atl_campaign.specs.Stocks.{stock_of}
+use Rattle.atl_campaign.specs.Campaign.{CampaignValue, MarkedCampaign, faction_changed, region_changed, with_amount, with_stock}
+use Rattle.atl_records.proofs.EveryLaws.{get-insert_other}
+use Rattle.atl_records.proofs.HoldingLaws.{set_amount, set_other}
+use Rattle.atl_campaign.proofs.RegionLaws.{amount-other}
+
+-- if b is true wherever a is, and b is false, a is false
+without_marks : (a b : Bool) → (a ≡ true → b ≡ true) → b ≡ false → a ≡ false
+without_marks true b stays free = absurd (true≢false (sym (stays refl) ∙ free))
+without_marks false b stays free = refl
+
+-- if no mark is lost, a number that is not marked after a change was not marked before
+pub was_unmarked : (before after : FinSet nat_cmp) → StaysMarked before after → (n : ℕ) → contains after n ≡ false → contains before n ≡ false
+was_unmarked before after stays n free = without_marks (contains before n) (contains after n) (stays n) free
+
+-- StayMarked is transitive: if two changes each lose no mark, both together lose none
+pub stay-trans : {a b c : Marks} → StayMarked a b → StayMarked b c → StayMarked a c
+stay-trans one two = record {
+  factions = λ n h. two.factions n (one.factions n h);
+  regions = λ n h. two.regions n (one.regions n h);
+  markets = λ n h. two.markets n (one.markets n h);
+  stocks = λ n t h. two.stocks n t (one.stocks n t h);
+  structures = λ n h. two.structures n (one.structures n h);
+  mail = λ n h. two.mail n (one.mail n h);
+  reports = λ n h. two.reports n (one.reports n h);
+  units = λ n h. two.units n (one.units n h);
+  rows = λ n h. two.rows n (one.rows n h);
+  goods = λ n h. two.goods n (one.goods n h);
+  items = λ n t h. two.items n t (one.items n t h);
+  skills = λ n t h. two.skills n t (one.skills n t h);
+  books = λ n h. two.books n (one.books n h);
+  row = λ h. two.row (one.row h);
+}
+
+-- if m marks all that changes from a to b, and n, with m's marks too, all from b to c, n marks all from a to c (Covers)
+pub covers-trans : {m n : Marks} (a b c : CampaignValue) → StayMarked m n → Covers m a b → Covers n b c → Covers n a c
+covers-trans {m} {n} a b c stay one two = record {
+  factions = λ k free. two.factions k free ∙ one.factions k (was_unmarked m.factions n.factions stay.factions k free);
+  regions = λ k free. two.regions k free ∙ one.regions k (was_unmarked m.regions n.regions stay.regions k free);
+  stocks = λ k t free. two.stocks k t free ∙ one.stocks k t (without_marks (is_thing_marked m.stocks m.stock_items k t) (is_thing_marked n.stocks n.stock_items k t) (stay.stocks k t) free);
+  structures = λ k free. two.structures k free ∙ one.structures k (was_unmarked m.structures n.structures stay.structures k free);
+  mail = λ k free. two.mail k free ∙ one.mail k (was_unmarked m.mail n.mail stay.mail k free);
+  reports = λ k free. two.reports k free ∙ one.reports k (was_unmarked m.reports n.reports stay.reports k free);
+  units = λ k free. two.units k free ∙ one.units k (was_unmarked m.rows n.rows stay.rows k free);
+  items = λ k t free. two.items k t free ∙ one.items k t (without_marks (is_thing_marked m.goods m.items k t) (is_thing_marked n.goods n.items k t) (stay.items k t) free);
+  days = λ k t free. two.days k t free ∙ one.days k t (without_marks (is_thing_marked m.goods m.skills k t) (is_thing_marked n.goods n.skills k t) (stay.skills k t) free);
+  books = λ e t free. two.books e t free ∙ one.books e t (was_unmarked m.books n.books stay.books (amount_number e t) free);
+  row = λ free. two.row free ∙ one.row (without_marks m.row n.row stay.row free);
+}
+
+-- MarksChanges is transitive: if two changes each mark all that they change, both together do
+pub marks-trans : (a b c : MarkedCampaign) → MarksChanges a b → MarksChanges b c → MarksChanges a c
+marks-trans a b c one two = record { stay = stay-trans one.stay two.stay; covers = covers-trans a.value b.value c.value two.stay one.covers two.covers }
+
+-- ---- one change at a time
+
+-- an or with true is true
+or-true : (b : Bool) → (b || true) ≡ true
+or-true true = refl
+or-true false = refl
+
+-- marking a number leaves all numbers marked that were marked before
+pub put_stays : (marks : FinSet nat_cmp) (n : ℕ) → StaysMarked marks (insert marks n)
+put_stays marks n k h = contains-insert nat_cmp_total marks n k ∙ ap (λ b. eq_by_cmp nat_cmp k n || b) h ∙ or-true (eq_by_cmp nat_cmp k n)
+
+-- equal numbers compare equal by nat_cmp
+ties : (k n : ℕ) → k ≡ n → eq_by_cmp nat_cmp k n ≡ true
+ties k n e = sym (unsigned_ties k n) ∙ (let t : (k == n) ≡ true = grind (arith, nat_tests) in t)
+
+-- a number is marked once it was put into the dirty set
+put_there : (marks : FinSet nat_cmp) (n k : ℕ) → k ≡ n → contains (insert marks n) k ≡ true
+put_there marks n k e = contains-insert nat_cmp_total marks n k ∙ ap (λ b. b || contains marks k) (ties k n e)
+
+-- a number that is not marked once n is marked differs from n
+pub apart_by : (marks : FinSet nat_cmp) (n k : ℕ) → contains (insert marks n) k ≡ false → k ≢ n
+apart_by marks n k free same = absurd (true≢false (sym (put_there marks n k same) ∙ free))
+
+-- ---- things of units
+
+-- if a implies b, and c implies d, `a or c` implies `b or d`
+both_stay : (a b c d : Bool) → (a ≡ true → b ≡ true) → (c ≡ true → d ≡ true) → (a || c) ≡ true → (b || d) ≡ true
+both_stay true b c d one two h = ap (λ x. x || d) (one refl)
+both_stay false b c d one two h = ap (λ x. b || x) (two h) ∙ or-true b
+
+-- if an or is false, both its parts are false
+neither : (a b : Bool) → (a || b) ≡ false → (a ≡ false) × (b ≡ false)
+neither true b h = absurd (true≢false h)
+neither false b h = (refl, h)
+
+-- all things that were marked still are once all goods of unit n are marked
+pub whole_stays : (goods : FinSet nat_cmp) (things : Things) (n : ℕ) → ThingsStayMarked goods things (insert goods n) things
+whole_stays goods things n k t = both_stay (contains goods k) (contains (insert goods n) k) (is_some (get (group_of things k) t)) (is_some (get (group_of things k) t)) (put_stays goods n k) (λ h. h)
+
+-- if a thing of unit k is not marked once all goods of unit n are, k differs from n
+pub apart_by_whole : (goods : FinSet nat_cmp) (things : Things) (n k t : ℕ) → is_thing_marked (insert goods n) things k t ≡ false → k ≢ n
+apart_by_whole goods things n k t free = apart_by goods n k (neither (contains (insert goods n) k) (is_some (get (group_of things k) t)) free).0
+
+module _ (goods : FinSet nat_cmp) (things : Things) (n thing : ℕ) where
+  -- once a thing of unit n is marked, the single things marked are that one and those that were marked before
+  put_in : (k t : ℕ) → is_some (get (group_of (with_thing things n thing) k) t) ≡ cond (eq_by_cmp nat_cmp k n) (eq_by_cmp nat_cmp t thing || is_some (get (group_of things n) t)) (is_some (get (group_of things k) t))
+  put_in k t =
+      ap (λ (o : Option (FinMap nat_cmp (Prim.Unit {0}))). is_some (get (unwrap_or o map.empty) t)) (get-insert nat_cmp_total things n (map.insert (group_of things n) thing tt) k)
+      ∙ by_unit (eq_by_cmp nat_cmp k n)
+    where
+      -- a thing that is put in if b is true is there if b is true or it was there
+      by_thing : (b : Bool) (o : Option (Prim.Unit {0})) → is_some (cond b (Some tt) o) ≡ (b || is_some o)
+      by_thing true o = refl
+      by_thing false o = refl
+
+      -- if k is n, the things of k are those of n and the new one; else they are unchanged
+      by_unit : (b : Bool) → is_some (get (unwrap_or (cond b (Some (map.insert (group_of things n) thing tt)) (get things k)) map.empty) t)
+          ≡ cond b (eq_by_cmp nat_cmp t thing || is_some (get (group_of things n) t)) (is_some (get (group_of things k) t))
+      by_unit true = ap is_some (get-insert nat_cmp_total (group_of things n) thing tt t) ∙ by_thing (eq_by_cmp nat_cmp t thing) (get (group_of things n) t)
+      by_unit false = refl
+
+  -- all things that were marked still are once one more thing is marked
+  pub thing_stays : ThingsStayMarked goods things goods (with_thing things n thing)
+  thing_stays k t = both_stay (contains goods k) (contains goods k) (is_some (get (group_of things k) t)) (is_some (get (group_of (with_thing things n thing) k) t)) (λ h. h) (λ h. put_in k t ∙ by_unit h (eq_by_cmp nat_cmp k n) refl)
+    where
+      -- a thing t of unit k that was marked still is, whether k is n or not
+      by_unit : is_some (get (group_of things k) t) ≡ true → (b : Bool) → eq_by_cmp nat_cmp k n ≡ b → cond b (eq_by_cmp nat_cmp t thing || is_some (get (group_of things n) t)) (is_some (get (group_of things k) t)) ≡ true
+      by_unit h true e = ap (λ q. eq_by_cmp nat_cmp t thing || is_some (get (group_of things q) t)) (sym (same_key k n e)) ∙ ap (λ b. eq_by_cmp nat_cmp t thing || b) h ∙ or-true (eq_by_cmp nat_cmp t thing)
+      by_unit h false e = h
+
+  -- if a thing of unit n is not marked once another is, the two things differ
+  pub apart_by_thing : (k t : ℕ) → is_thing_marked goods (with_thing things n thing) k t ≡ false → k ≡ n → t ≢ thing
+  apart_by_thing k t free same_unit same =
+      let there = put_in k t ∙ ap (λ b. cond b (eq_by_cmp nat_cmp t thing || is_some (get (group_of things n) t)) (is_some (get (group_of things k) t))) (ties k n same_unit)
+      ∙ ap (λ b. b || is_some (get (group_of things n) t)) (ties t thing same) in
+      absurd (true≢false (sym there ∙ (neither (contains goods k) (is_some (get (group_of (with_thing things n thing) k) t)) free).1))
+
+-- ---- the parts of a campaign, which are marked each for itself
+
+-- the 14 parts of a campaign that have marks of their own: more than its ten tables, as units and goods have several
+pub data Part : Type 0 where
+  Factions : Part
+  Regions : Part
+  Markets : Part
+  Stocks : Part
+  Structures : Part
+  Mail : Part
+  Reports : Part
+  Units : Part
+  Rows : Part
+  Goods : Part
+  Items : Part
+  Skills : Part
+  Books : Part
+  Row : Part
+
+-- what a mark on a part names: a number; region and item of stocks, unit and thing of items and skills; of Row nothing
+abbrev pub Mark : Part → Type 0
+Mark Stocks = ℕ × ℕ
+Mark Items = ℕ × ℕ
+Mark Skills = ℕ × ℕ
+Mark Row = Prim.Unit {0}
+Mark _ = ℕ
+
+-- whether something of a part is marked, alone or, of stocks and goods, with all of its region or unit
+abbrev pub is_marked : (p : Part) → Marks → Mark p → Bool
+is_marked Factions m k = contains m.factions k
+is_marked Regions m k = contains m.regions k
+is_marked Markets m k = contains m.markets k
+is_marked Stocks m k = is_thing_marked m.stocks m.stock_items k.0 k.1
+is_marked Structures m k = contains m.structures k
+is_marked Mail m k = contains m.mail k
+is_marked Reports m k = contains m.reports k
+is_marked Units m k = contains m.units k
+is_marked Rows m k = contains m.rows k
+is_marked Goods m k = contains m.goods k
+is_marked Items m k = is_thing_marked m.goods m.items k.0 k.1
+is_marked Skills m k = is_thing_marked m.goods m.skills k.0 k.1
+is_marked Books m k = contains m.books k
+is_marked Row m k = m.row
+
+-- what a value of a part is looked up by: a number, two of stocks, items and skills, an account of Books, none of Row
+abbrev pub LookupKey : Part → Type 0
+LookupKey Stocks = ℕ × ℕ
+LookupKey Items = ℕ × ℕ
+LookupKey Skills = ℕ × ℕ
+LookupKey Books = Entry × Thing
+LookupKey Row = Prim.Unit {0}
+LookupKey _ = ℕ
+
+-- the mark for the value of a part under a key: the key itself, but for the books the number of the account's amount
+abbrev pub mark_at : (p : Part) → LookupKey p → Mark p
+mark_at Books k = amount_number k.0 k.1
+mark_at _ k = k
+
+-- the type of a part's values that its marks cover; nothing for Units, Goods and Markets, which other parts cover
+abbrev pub Shown : Part → Type 0
+Shown Factions = Option Faction
+Shown Regions = Option Region
+Shown Markets = Prim.Unit {0}
+Shown Stocks = ℕ
+Shown Structures = Option Structure
+Shown Mail = Option (List ℕ)
+Shown Reports = Option (List ℕ)
+Shown Units = Prim.Unit {0}
+Shown Rows = Option Unit
+Shown Goods = Prim.Unit {0}
+Shown Items = Option ℕ
+Shown Skills = Option ℕ
+Shown Books = ℤ
+Shown Row = ℕ × (List ℕ × (ℕ × (ℕ × ℕ)))
+
+-- the value of a part under a key; nothing for Units, Goods and Markets
+abbrev pub shown : (p : Part) → CampaignValue → LookupKey p → Shown p
+shown Factions c k = get c.factions k
+shown Regions c k = option_map unstocked (get c.regions k)
+shown Markets c k = tt
+shown Stocks c k = stock_of c k.0 k.1
+shown Structures c k = get c.structures k
+shown Mail c k = get c.mail k
+shown Reports c k = get c.reports k
+shown Units c k = tt
+shown Rows c k = option_map bare (get c.units k)
+shown Goods c k = tt
+shown Items c k = get (items_under (get c.units k.0)) k.1
+shown Skills c k = get (days_under (get c.units k.0)) k.1
+shown Books c k = amount_in c.books k.0 k.1
+shown Row c k = own_row c
+
+-- all that was marked of a part under m is marked under n
+abbrev pub Stays : Marks → Marks → Part → Type 0
+Stays m n p = (k : Mark p) → is_marked p m k ≡ true → is_marked p n k ≡ true
+
+-- each value of a part that is not marked in m is the same before and after
+abbrev pub KeepsUnmarked : Marks → CampaignValue → CampaignValue → Part → Type 0
+KeepsUnmarked m before after p = (k : LookupKey p) → is_marked p m (mark_at p k) ≡ false → shown p after k ≡ shown p before k
+
+-- MarksChanges holds if for each part no mark is lost, and all values that are not marked are unchanged
+pub part_by_part : (a b : MarkedCampaign) → ((p : Part) → Stays a.marks b.marks p) → ((p : Part) → KeepsUnmarked b.marks a.value b.value p) → MarksChanges a b
+part_by_part a b stays tells = record {
+  stay = record {
+    factions = stays Factions;
+    regions = stays Regions;
+    markets = stays Markets;
+    stocks = λ n t. stays Stocks (n, t);
+    structures = stays Structures;
+    mail = stays Mail;
+    reports = stays Reports;
+    units = stays Units;
+    rows = stays Rows;
+    goods = stays Goods;
+    items = λ n t. stays Items (n, t);
+    skills = λ n t. stays Skills (n, t);
+    books = stays Books;
+    row = stays Row tt;
+  };
+  covers = record {
+    factions = tells Factions;
+    regions = tells Regions;
+    stocks = λ n item. tells Stocks (n, item);
+    structures = tells Structures;
+    mail = tells Mail;
+    reports = tells Reports;
+    units = tells Rows;
+    items = λ n t. tells Items (n, t);
+    days = λ n t. tells Skills (n, t);
+    books = λ e t. tells Books (e, t);
+    row = tells Row tt;
+  };
+}
+
+-- where neither values nor marks change, all that changes is marked (MarksChanges)
+pub marks-refl : (a : MarkedCampaign) → MarksChanges a a
+marks-refl a = part_by_part a a (λ p k h. h) (λ p k free. refl)
+
+-- P holds of a map with f applied under n, and of the old value there, if it does where n has a value and where not
+pub changed_there : {V : Type 0} (P : FinMap nat_cmp V → Option V → Type 0) (f : V → V) (values : FinMap nat_cmp V) (n : ℕ)
+    → P values None → ((v : V) → get values n ≡ Some v → P (map.insert values n (f v)) (Some v)) → P (changed f values n) (get values n)
+changed_there {V} P f values n none some = by_value (get values n) refl
+  where
+    -- P holds for a map with f applied under n, for the old value there, whether None or not
+    by_value : (o : Option V) → get values n ≡ o → P (changed_at f values n o) o
+    by_value None is = none
+    by_value (Some v) is = some v is
+
+-- applying f to faction n, with the faction marked, marks all that changes (MarksChanges)
+pub marks-faction : (f : Faction → Faction) (c : MarkedCampaign) (n : ℕ) → MarksChanges c (record { value = faction_changed f c.value n; marks = mark_faction c n })
+marks-faction f c n =
+    let after : FinMap nat_cmp Faction → Option Faction → MarkedCampaign = λ m o. record { value = record c.value { factions = m }; marks = record c.marks { factions = marked_with c.marks.factions n o } } in
+    changed_there (λ m o. MarksChanges c (after m o)) f c.value.factions n (marks-refl c) (λ v is.
+    let next = after (map.insert c.value.factions n (f v)) (Some v) in
+    part_by_part c next
+    (λ p. elim p as (Stays c.marks next.marks) [ Factions ↦ put_stays c.marks.factions n | _ ↦ λ k h. h ])
+    (λ p. elim p as (KeepsUnmarked next.marks c.value next.value) [ Factions ↦ λ k free. get-insert_other c.value.factions n k (f v) (apart_by c.marks.factions n k free) | _ ↦ λ k free. refl ]))
+
+-- replacing a value by one that a view shows alike changes nothing that the view shows of the map
+pub shown_still : {V X : Type 0} (shows : Option V → X) (values : FinMap nat_cmp V) (n k : ℕ) (v w : V) → get values n ≡ Some v → (k ≡ n → shows (Some w) ≡ shows (Some v)) → shows (get (map.insert values n w) k) ≡ shows (get values k)
+shown_still shows values n k v w is same = ap shows (get-insert nat_cmp_total values n w k) ∙ by_number (eq_by_cmp nat_cmp k n) refl
+  where
+    -- the view shows the same under k, whether k is n or not
+    by_number : (b : Bool) → eq_by_cmp nat_cmp k n ≡ b → shows (cond b (Some w) (get values k)) ≡ shows (get values k)
+    by_number true e = let here = same_key k n e in same here ∙ sym (ap shows (ap (get values) here ∙ is))
+    by_number false e = refl
+
+-- how much of an item a region has in stock; 0 for None
+abbrev in_stock : ℕ → Option Region → ℕ
+in_stock item o = option_map_or (λ r. amount_of r.stocks item) o 0
+
+-- applying f, which leaves stocks alone, to region n, with its row marked, marks all that changes (MarksChanges)
+pub marks-region : (f : Region → Region) → ((r : Region) → (f r).stocks ≡ r.stocks) → (c : MarkedCampaign) (n : ℕ) → MarksChanges c (record { value = region_changed f c.value n; marks = mark_region c n })
+marks-region f same c n =
+    let after : FinMap nat_cmp Region → Option Region → MarkedCampaign = λ m o. record { value = record c.value { regions = m }; marks = record c.marks { regions = marked_with c.marks.regions n o } } in
+    changed_there (λ m o. MarksChanges c (after m o)) f c.value.regions n (marks-refl c) (λ v is.
+    let next = after (map.insert c.value.regions n (f v)) (Some v) in
+    part_by_part c next
+    (λ p. elim p as (Stays c.marks next.marks) [ Regions ↦ put_stays c.marks.regions n | _ ↦ λ k h. h ])
+    (λ p. elim p as (KeepsUnmarked next.marks c.value next.value) [
+      | Regions ↦ λ k free. ap (option_map unstocked) (get-insert_other c.value.regions n k (f v) (apart_by c.marks.regions n k free))
+      | Stocks ↦ λ k free. shown_still (in_stock k.1) c.value.regions n k.0 v (f v) is (λ _. ap (λ s. amount_of s k.1) (same v))
+      | _ ↦ λ k free. refl
+    ]))
+
+-- the stock of an item is set in a region; if it was another amount, it is marked, alone or with all of the region
+module _ (c : MarkedCampaign) (n item amount : ℕ) where
+  -- the region with the stock of the item set
+  abbrev stocked : Region → Region
+  stocked r = record r { stocks = with_amount_of r.stocks item amount }
+
+  -- the campaign with the given regions
+  abbrev with_regions : FinMap nat_cmp Region → CampaignValue
+  with_regions m = record c.value { regions = m }
+
+  -- the campaign with the stock of the item set in region n, given that region
+  abbrev there_after : Region → CampaignValue
+  there_after v = with_regions (map.insert c.value.regions n (stocked v))
+
+  -- setting a stock changes nothing of a region but its stocks
+  unstocked_stays : (v : Region) → get c.value.regions n ≡ Some v → (k : ℕ) → option_map unstocked (get (there_after v).regions k) ≡ option_map unstocked (get c.value.regions k)
+  unstocked_stays v is k = shown_still (option_map unstocked) c.value.regions n k v (stocked v) is (λ _. refl)
+
+  -- setting a stock leaves the stocks of other items and other regions unchanged
+  other_stays : (v : Region) → get c.value.regions n ≡ Some v → (k i : ℕ) → (k ≡ n → i ≢ item) → stock_of (there_after v) k i ≡ stock_of c.value k i
+  other_stays v is k i other = shown_still (in_stock i) c.value.regions n k v (stocked v) is (λ here. set_other v.stocks item amount i (other here))
+
+  -- setting a stock to the amount that it has changes no stock
+  set_again : (stocks : FinMap nat_cmp ℕ) (i : ℕ) → amount_of stocks item ≡ amount → amount_of (with_amount_of stocks item amount) i ≡ amount_of stocks i
+  set_again stocks i was = set_amount stocks item amount i ∙ by_item (eq_by_cmp nat_cmp i item) refl
+    where
+      -- if the stock of the item is the amount, replacing it by the amount changes the stock of no item i
+      by_item : (b : Bool) → eq_by_cmp nat_cmp i item ≡ b → cond b amount (amount_of stocks i) ≡ amount_of stocks i
+      by_item true e = sym was ∙ ap (amount_of stocks) (sym (same_key i item e))
+      by_item false e = refl
+
+  -- setting a stock to the amount that it has needs no mark (MarksChanges)
+  stock_stays : (v : Region) → get c.value.regions n ≡ Some v → amount_of v.stocks item ≡ amount → MarksChanges c (record c { value = there_after v })
+  stock_stays v is was =
+      let next : MarkedCampaign = record c { value = there_after v } in
+      part_by_part c next (λ p k h. h)
+      (λ p. elim p as (KeepsUnmarked next.marks c.value next.value) [
+        | Regions ↦ λ k free. unstocked_stays v is k
+        | Stocks ↦ λ k free. shown_still (in_stock k.1) c.value.regions n k.0 v (stocked v) is (λ _. set_again v.stocks k.1 was)
+        | _ ↦ λ k free. refl
+      ])
+
+  -- setting a stock, with that stock alone marked, marks all that changes (MarksChanges)
+  item_changes : (v : Region) → get c.value.regions n ≡ Some v
+      → MarksChanges c (record { value = there_after v; marks = record c.marks { markets = insert c.marks.markets n; stock_items = with_thing c.marks.stock_items n item } })
+  item_changes v is =
+      let next : MarkedCampaign = record { value = there_after v; marks = record c.marks { markets = insert c.marks.markets n; stock_items = with_thing c.marks.stock_items n item } } in
+      part_by_part c next
+      (λ p. elim p as (Stays c.marks next.marks) [
+        | Markets ↦ put_stays c.marks.markets n
+        | Stocks ↦ λ k h. thing_stays c.marks.stocks c.marks.stock_items n item k.0 k.1 h
+        | _ ↦ λ k h. h
+      ])
+      (λ p. elim p as (KeepsUnmarked next.marks c.value next.value) [
+        | Regions ↦ λ k free. unstocked_stays v is k
+        | Stocks ↦ λ k free. other_stays v is k.0 k.1 (apart_by_thing c.marks.stocks c.marks.stock_items n item k.0 k.1 free)
+        | _ ↦ λ k free. refl
+      ])
+
+  -- setting a stock, with all stocks of its region marked, marks all that changes (MarksChanges)
+  stocks_change : (v : Region) → get c.value.regions n ≡ Some v
+      → MarksChanges c (record { value = there_after v; marks = record c.marks { markets = insert c.marks.markets n; stocks = insert c.marks.stocks n } })
+  stocks_change v is =
+      let next : MarkedCampaign = record { value = there_after v; marks = record c.marks { markets = insert c.marks.markets n; stocks = insert c.marks.stocks n } } in
+      part_by_part c next
+      (λ p. elim p as (Stays c.marks next.marks) [
+        | Markets ↦ put_stays c.marks.markets n
+        | Stocks ↦ λ k h. whole_stays c.marks.stocks c.marks.stock_items n k.0 k.1 h
+        | _ ↦ λ k h. h
+      ])
+      (λ p. elim p as (KeepsUnmarked next.marks c.value next.value) [
+        | Regions ↦ λ k free. unstocked_stays v is k
+        | Stocks ↦ λ k free. other_stays v is k.0 k.1 (λ here. absurd (apart_by_whole c.marks.stocks c.marks.stock_items n k.0 k.1 free here))
+        | _ ↦ λ k free. refl
+      ])
+
+  -- the given marks mark all that changes from the campaign to one with the given regions (MarksChanges)
+  abbrev after_regions : FinMap nat_cmp Region → Marks → Type 0
+  after_regions regions marks = MarksChanges c (record { value = with_regions regions; marks = marks })
+
+  -- the marks with the stock of the item in region n added, unless None is given for the region
+  abbrev item_alone : Option Region → Marks
+  item_alone o = record c.marks { markets = marked_with c.marks.markets n o; stock_items = thing_marked c.marks.stock_items n item o }
+
+  -- the marks with all stocks of region n added, unless None is given for the region
+  abbrev all_of_region : Option Region → Marks
+  all_of_region o = record c.marks { markets = marked_with c.marks.markets n o; stocks = marked_with c.marks.stocks n o }
+
+  -- the region to mark: None if the stock keeps its amount, else region n, if there is one
+  abbrev to_restock : Bool → Option Region
+  to_restock b = if b then None else get c.value.regions n
+
+  -- setting a stock, with the marks that MarksStock allows, marks all that changes (MarksChanges)
+  pub marks-stock : (m : Marks) → MarksStock c n item amount m → MarksChanges c (record { value = with_stock c.value n item amount; marks = m })
+  marks-stock m how = by_amount (stock_of c.value n item == amount) refl
+    where
+      -- numbers that pass the test of equality are equal
+      equal : (a b : ℕ) → (a == b) ≡ true → a ≡ b
+      equal a b same = grind (arith, nat_tests)
+
+      -- if the test finds the stock equal to the amount, a region that is there has that amount
+      was : (v : Region) → get c.value.regions n ≡ Some v → (stock_of c.value n item == amount) ≡ true → amount_of v.stocks item ≡ amount
+      was v is same = sym (ap (in_stock item) is) ∙ equal (stock_of c.value n item) amount same
+
+      -- either mark of setting the stock marks all that changes, whether the amount changes or not
+      either : (b : Bool) → (stock_of c.value n item == amount) ≡ b → after_regions (changed stocked c.value.regions n) (item_alone (to_restock b)) × after_regions (changed stocked c.value.regions n) (all_of_region (to_restock b))
+      either true same =
+          let still = changed_there (λ regions o. after_regions regions c.marks) stocked c.value.regions n (marks-refl c) (λ v is. stock_stays v is (was v is same)) in
+          (still, still)
+      either false other = (
+        changed_there (λ regions o. after_regions regions (item_alone o)) stocked c.value.regions n (marks-refl c) item_changes,
+        changed_there (λ regions o. after_regions regions (all_of_region o)) stocked c.value.regions n (marks-refl c) stocks_change,
+      )
+
+      -- setting the stock marks all that changes, whether the amount changes or not
+      by_amount : (b : Bool) → (stock_of c.value n item == amount) ≡ b → after_regions (changed stocked c.value.regions n) m
+      by_amount b is = elim how [
+        | inl e ↦ subst (after_regions (changed stocked c.value.regions n)) (sym (e ∙ ap (λ k. item_alone (to_restock k)) is)) (either b is).0
+        | inr e ↦ subst (after_regions (changed stocked c.value.regions n)) (sym (e ∙ ap (λ k. all_of_region (to_restock k)) is)) (either b is).1
+      ]
+
+-- a change of unit n alone, with the unit, its row and all its goods marked, marks all that changes (MarksChanges)
+pub marks-unit : (c : MarkedCampaign) (units : FinMap nat_cmp Unit) (n : ℕ) → ((k : ℕ) → k ≢ n → get units k ≡ get c.value.units k)
+    → MarksChanges c (record { value = record c.value { units = units }; marks = mark_unit_added c n })
+marks-unit c units n others =
+    let next : MarkedCampaign = record { value = record c.value { units = units }; marks = mark_unit_added c n } in
+    part_by_part c next
+    (λ p. elim p as (Stays c.marks next.marks) [
+      | Units ↦ put_stays c.marks.units n
+      | Rows ↦ put_stays c.marks.rows n
+      | Goods ↦ put_stays c.marks.goods n
+      | Items ↦ λ k h. whole_stays c.marks.goods c.marks.items n k.0 k.1 h
+      | Skills ↦ λ k h. whole_stays c.marks.goods c.marks.skills n k.0 k.1 h
+      | _ ↦ λ k h. h
+    ])
+    (λ p. elim p as (KeepsUnmarked next.marks c.value next.value) [
+      | Rows ↦ λ k free. ap (option_map bare) (others k (apart_by c.marks.rows n k free))
+      | Items ↦ λ k free. ap (λ o. get (items_under o) k.1) (others k.0 (apart_by_whole c.marks.goods c.marks.items n k.0 k.1 free))
+      | Skills ↦ λ k free. ap (λ o. get (days_under o) k.1) (others k.0 (apart_by_whole c.marks.goods c.marks.skills n k.0 k.1 free))
+      | _ ↦ λ k free. refl
+    ])
+
+-- adding to an amount of the books, with that amount marked, marks all that changes (MarksChanges)
+pub marks-amount : (c : MarkedCampaign) (f : Entry) (u : Thing) (z : ℤ) → MarksChanges c (record { value = with_amount c.value f u z; marks = mark_amount c f u })
+marks-amount c f u z =
+    let next : MarkedCampaign = record { value = with_amount c.value f u z; marks = mark_amount c f u } in
+    part_by_part c next
+    (λ p. elim p as (Stays c.marks next.marks) [ Books ↦ put_stays c.marks.books (amount_number f u) | _ ↦ λ k h. h ])
+    (λ p. elim p as (KeepsUnmarked next.marks c.value next.value) [ Books ↦ λ k free. amount-other c.value.books k.0 f k.1 u z (apart_by c.marks.books (amount_number f u) (amount_number k.0 k.1) free) | _ ↦ λ k free. refl ])

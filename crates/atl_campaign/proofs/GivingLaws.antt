@@ -1,0 +1,158 @@
+-- Laws of assembling units and regions by adding each row of goods to its unit, and each row of stock to its region.
+use Rattle.std.proofs.Common.{◌≡◌, ◌≢◌, ◌==◌, ℕ, ◌&&◌, List, [], ◌∷◌, Bool, true, false, cond, filter, Option, Some, None, refl, sym, ap, subst, ◌∙◌, arith, inl, inr}
+use Rattle.std.specs.Prelude.{option_map}
+use Rattle.std.specs.Ordering.{nat_cmp}
+use Rattle.std.specs.Cmp.{nat_cmp_total}
+use Rattle.std.specs.FinMap.{FinMap, get, insert, empty, get-empty, same_map, nat_cmp-IsAntisymmetric}
+use Rattle.std.proofs.lemmas.Bool.{cases_eq}
+use Rattle.std.proofs.lemmas.Bool.Decides.{nat_tests}
+use Rattle.atl_world.specs.Sums.{changed, changed_at}
+use Rattle.atl_campaign.specs.declared.parts.StoredHas.{StoredHas}
+use Rattle.atl_campaign.specs.declared.parts.StoredMarket.{StoredMarket}
+use Rattle.atl_campaign.specs.declared.parts.StoredRegion.{StoredRegion}
+use Rattle.atl_campaign.specs.declared.parts.StoredUnit.{StoredUnit}
+use Rattle.atl_campaign.specs.Assembling.{bare_unit, bare_region, with_has_row, with_market_row, give}
+use Rattle.atl_campaign.specs.FromRows.{as_u32, is_of, put_rows, by_number, unit_with, unit_of, region_with, region_of}
+use Rattle.atl_campaign.proofs.AssemblyLaws.{get_same, get_other, taken_or_not, is_same}
+
+-- ---- what may be there
+
+-- mapping an option by the identity changes nothing
+map_none : {V : Type 0} (o : Option V) → o ≡ option_map (λ v. v) o
+map_none None = refl
+map_none (Some v) = refl
+
+-- mapping an option by g and then by f is mapping it once by both
+map_twice : {V : Type 0} (f g : V → V) (o : Option V) → option_map f (option_map g o) ≡ option_map (λ v. f (g v)) o
+map_twice f g None = refl
+map_twice f g (Some v) = refl
+
+-- `changed_at` by f leaves f of the old value under its number, or none where there was none
+at_same : {V : Type 0} (f : V → V) (m : FinMap nat_cmp V) (k : ℕ) (o : Option V) → get m k ≡ o → get (changed_at f m k o) k ≡ option_map f o
+at_same f m k None e = e
+at_same f m k (Some v) e = get_same m k (f v)
+
+-- `changed_at` changes no value under another number
+at_other : {V : Type 0} (f : V → V) (m : FinMap nat_cmp V) (k n : ℕ) (o : Option V) → n ≢ k → get (changed_at f m k o) n ≡ get m n
+at_other f m k n None apart = refl
+at_other f m k n (Some v) apart = get_other m k n (f v) apart
+
+module _ {R V : Type 0} (owner : R → ℕ) (more : R → V → V) where
+  -- the value v of number n with each row of number n added to it, in the order of the rows
+  abbrev pub given : ℕ → List R → V → V
+  given n [] v = v
+  given n (r ∷ rows) v = given n rows (cond (owner r == n) (more r v) v)
+
+  -- adding one row changes the value under the row's number alone
+  get-changed : (r : R) (m : FinMap nat_cmp V) (n : ℕ) → get (changed (more r) m (owner r)) n ≡ option_map (λ v. cond (owner r == n) (more r v) v) (get m n)
+  get-changed r m n =
+      let k = owner r in
+      elim (cases_eq k n) [
+        | inl same ↦
+            let it : (k == n) ≡ true = grind (arith, nat_tests) in
+            subst (λ q. get (changed (more r) m k) q ≡ option_map (more r) (get m q)) same (at_same (more r) m k (get m k) refl) ∙ ap (λ b. option_map (λ v. cond b (more r v) v) (get m n)) (sym it)
+        | inr apart ↦
+            let other : (k == n) ≡ false = grind (arith, nat_tests) in
+            at_other (more r) m k n (get m k) (λ e. apart (sym e)) ∙ map_none (get m n) ∙ ap (λ b. option_map (λ v. cond b (more r v) v) (get m n)) (sym other)
+      ]
+
+  -- adding rows changes each value by the rows of its number
+  get-give : (rows : List R) (m : FinMap nat_cmp V) (n : ℕ) → get (give owner more rows m) n ≡ option_map (given n rows) (get m n)
+  get-give [] m n = map_none (get m n)
+  get-give (r ∷ rows) m n = get-give rows (changed (more r) m (owner r)) n ∙ ap (option_map (given n rows)) (get-changed r m n) ∙ map_twice (given n rows) (λ v. cond (owner r == n) (more r v) v) (get m n)
+
+  module _ {T : Type 0} (number : T → ℕ) (before after : T → V) (rows : List R) (each : (t : T) → given (number t) rows (before t) ≡ after t) where
+    -- both maps have the same numbers, and the second has each value of the first with the rows of its number added
+    abbrev Becomes : FinMap nat_cmp V → FinMap nat_cmp V → Type 0
+    Becomes m l = (n : ℕ) → option_map (given n rows) (get m n) ≡ get l n
+
+    -- two maps still agree (Becomes) once a value is put in, into one without its rows, into the other with them
+    put_one : (t : T) (m l : FinMap nat_cmp V) → Becomes m l → Becomes (insert m (number t) (before t)) (insert l (number t) (after t))
+    put_one t m l all n =
+        let k = number t in
+        elim (cases_eq k n) [
+          | inl same ↦
+              subst (λ q. option_map (given q rows) (get (insert m k (before t)) q) ≡ get (insert l k (after t)) q) same
+              (ap (option_map (given k rows)) (get_same m k (before t)) ∙ ap Some (each t) ∙ sym (get_same l k (after t)))
+          | inr apart ↦ ap (option_map (given n rows)) (get_other m k n (before t) (λ e. apart (sym e))) ∙ all n ∙ sym (get_other l k n (after t) (λ e. apart (sym e)))
+        ]
+
+    -- two maps still agree (Becomes) once all values are put in, into one without their rows, into the other with them
+    put_each : (ts : List T) (m l : FinMap nat_cmp V) → Becomes m l → Becomes (put_rows number before ts m) (put_rows number after ts l)
+    put_each [] m l all = all
+    put_each (t ∷ ts) m l all = put_each ts (insert m (number t) (before t)) (insert l (number t) (after t)) (put_one t m l all)
+
+    -- adding all rows to the map of values without their rows gives the map of values with their rows
+    pub give_all : (ts : List T) → give owner more rows (by_number number before ts) ≡ by_number number after ts
+    give_all ts =
+        let none : Becomes empty empty = λ n. ap (option_map (given n rows)) (get-empty nat_cmp n) ∙ sym (get-empty nat_cmp n) in
+        same_map nat_cmp_total nat_cmp-IsAntisymmetric _ _ (λ n. get-give rows (by_number number before ts) n ∙ put_each ts empty empty none n)
+
+-- ---- units
+
+-- the number of the item or skill in a row of `has`, as it is read
+abbrev thing_of : StoredHas → ℕ
+thing_of r = as_u32 r.thing
+
+-- the amount in a row of `has`, as it is read
+abbrev amount_of : StoredHas → ℕ
+amount_of r = as_u32 r.amount
+
+-- a unit with a row put among its items, its days or neither is the unit with the items and the days chosen apart
+picked : (r : StoredUnit) (items items' days days' : FinMap nat_cmp ℕ) (mine item skill : Bool) → (item ≡ true → skill ≡ false)
+    → cond mine (cond item (unit_with r items' days) (cond skill (unit_with r items days') (unit_with r items days))) (unit_with r items days) ≡ unit_with r (cond (mine && item) items' items) (cond (mine && skill) days' days)
+picked r items items' days days' false item skill h = refl
+picked r items items' days days' true true skill h = ap (λ b. unit_with r items' (cond b days' days)) (sym (h refl))
+picked r items items' days days' true false true h = refl
+picked r items items' days days' true false false h = refl
+
+-- a sort that is 0 (items) is not 1 (days)
+no_skill : (s : ℕ) → (s == 0) ≡ true → (s == 1) ≡ false
+no_skill s h = ap (λ k. k == 1) (is_same s 0 h)
+
+-- a unit, once the rows of `has` of number n are added to it, has also the items and days that these name
+unit_given : (r : StoredUnit) (n : ℕ) (has : List StoredHas) (items days : FinMap nat_cmp ℕ)
+    → given (λ h. as_u32 h.unit) with_has_row n has (unit_with r items days) ≡ unit_with r (put_rows thing_of amount_of (filter (is_of n 0) has) items) (put_rows thing_of amount_of (filter (is_of n 1) has) days)
+unit_given r n [] items days = refl
+unit_given r n (h ∷ has) items days =
+    let items' = insert items (thing_of h) (amount_of h) in
+    let days' = insert days (thing_of h) (amount_of h) in
+    ap (given (λ h. as_u32 h.unit) with_has_row n has) (picked r items items' days days' (as_u32 h.unit == n) (as_u32 h.sort == 0) (as_u32 h.sort == 1) (no_skill (as_u32 h.sort)))
+    ∙ unit_given r n has (cond (is_of n 0 h) items' items) (cond (is_of n 1 h) days' days)
+    ∙ ap (λ m. unit_with r m (put_rows thing_of amount_of (filter (is_of n 1) has) (cond (is_of n 1 h) days' days))) (sym (taken_or_not thing_of amount_of (is_of n 0) h has (is_of n 0 h) items refl))
+    ∙ ap (λ m. unit_with r (put_rows thing_of amount_of (filter (is_of n 0) (h ∷ has)) items) m) (sym (taken_or_not thing_of amount_of (is_of n 1) h has (is_of n 1 h) days refl))
+
+-- units without goods (bare_unit), once all rows of `has` are added, are the units assembled with these rows (unit_of)
+pub units_given : (has : List StoredHas) (rows : List StoredUnit) → give (λ h. as_u32 h.unit) with_has_row has (by_number (λ r. as_u32 r.number) bare_unit rows) ≡ by_number (λ r. as_u32 r.number) (unit_of has) rows
+units_given has rows = give_all (λ (h : StoredHas). as_u32 h.unit) with_has_row (λ (r : StoredUnit). as_u32 r.number) bare_unit (unit_of has) has (λ r. unit_given r (as_u32 r.number) has empty empty) rows
+
+-- ---- regions
+
+-- the item's number in a row of `market`, as it is read
+abbrev item_of : StoredMarket → ℕ
+item_of r = as_u32 r.item
+
+-- the stock in a row of `market`, as it is read
+abbrev stock_of : StoredMarket → ℕ
+stock_of r = as_u32 r.stock
+
+-- choosing between a region with the one stocks or the other is the region with the chosen stocks
+stocked : (r : StoredRegion) (stocks stocks' : FinMap nat_cmp ℕ) (mine : Bool) → cond mine (region_with r stocks') (region_with r stocks) ≡ region_with r (cond mine stocks' stocks)
+stocked r stocks stocks' true = refl
+stocked r stocks stocks' false = refl
+
+-- a region, once the rows of `market` of number n are added to it, has also the stocks that these name
+region_given : (r : StoredRegion) (n : ℕ) (markets : List StoredMarket) (stocks : FinMap nat_cmp ℕ)
+    → given (λ m. as_u32 m.region) with_market_row n markets (region_with r stocks) ≡ region_with r (put_rows item_of stock_of (filter (λ m. as_u32 m.region == n) markets) stocks)
+region_given r n [] stocks = refl
+region_given r n (m ∷ markets) stocks =
+    let mine = as_u32 m.region == n in
+    let stocks' = insert stocks (item_of m) (stock_of m) in
+    ap (given (λ m. as_u32 m.region) with_market_row n markets) (stocked r stocks stocks' mine)
+    ∙ region_given r n markets (cond mine stocks' stocks)
+    ∙ ap (region_with r) (sym (taken_or_not item_of stock_of (λ m. as_u32 m.region == n) m markets mine stocks refl))
+
+-- regions without stocks (bare_region), once all rows of `market` are added, are those assembled with them (region_of)
+pub regions_given : (markets : List StoredMarket) (rows : List StoredRegion)
+    → give (λ m. as_u32 m.region) with_market_row markets (by_number (λ r. as_u32 r.number) bare_region rows) ≡ by_number (λ r. as_u32 r.number) (region_of markets) rows
+regions_given markets rows = give_all (λ (m : StoredMarket). as_u32 m.region) with_market_row (λ (r : StoredRegion). as_u32 r.number) bare_region (region_of markets) markets (λ r. region_given r (as_u32 r.number) markets empty) rows

@@ -1,0 +1,151 @@
+-- Laws of a faction that is set gone: the campaign stays steady, totals stay, and the change is marked.
+use Rattle.std.proofs.Common.{◌≡◌, ◌≢◌, ℕ, ◌+◌, true, [], Some, None, refl, sym, ap, subst, ◌∙◌, arith}
+use Rattle.std.specs.Prelude.{IsTrue}
+use Rattle.std.specs.Ordering.{nat_cmp}
+use Rattle.std.specs.FinMap.{FinMap, get, insert, len}
+use Rattle.atl_world.specs.Names.{name_ok, pass_ok}
+use Rattle.atl_world.specs.Worlds.{WorldValue}
+use Rattle.atl_world.specs.Sums.{changed_at}
+use Rattle.atl_campaign.specs.Covers.{MarksChanges}
+use Rattle.atl_records.specs.declared.books.Thing.{Thing}
+use Rattle.atl_records.specs.declared.records.Faction.{Faction}
+use Rattle.atl_records.specs.Every.{Every, IsThere}
+use Rattle.atl_campaign.proofs.GoodLaws.{posted-there}
+use Rattle.atl_campaign.specs.Good.{AreInRange, AreKnown, AreNamed, AreNumbered, IsSteady}
+use Rattle.atl_campaign.specs.Marking.{mark_faction}
+use Rattle.atl_campaign.specs.Campaign.{MarkedCampaign, CampaignValue, numbers_of, with_gone}
+use Rattle.atl_campaign.specs.Totals.{total}
+use Rattle.atl_campaign.proofs.CoverLaws.{marks-faction}
+use Rattle.atl_records.proofs.EveryLaws.{every-insert, get-insert_other, none_some, there-insert}
+use Rattle.atl_campaign.proofs.RegionLaws.{changed-known, get-insert_same, same_len}
+
+-- the faction with the flag that it is gone
+abbrev pub as_gone : Faction → Faction
+as_gone f = record f { gone = true }
+
+module _ (c : CampaignValue) (n : ℕ) (x : Faction) (is : get c.factions n ≡ Some x) where
+  -- the campaign's factions with faction n set gone
+  abbrev factions : FinMap nat_cmp Faction
+  factions = insert c.factions n (as_gone x)
+
+  -- the campaign with faction n set gone
+  abbrev left : CampaignValue
+  left = record c { factions = factions }
+
+  -- a number without a faction is not n, which has one
+  free_apart : (k : ℕ) → get c.factions k ≡ None → k ≢ n
+  free_apart k free same = none_some x (sym free ∙ ap (get c.factions) same ∙ is)
+
+  -- a number without a faction still has none when faction n is set gone
+  none_kept : (k : ℕ) → get c.factions k ≡ None → get factions k ≡ None
+  none_kept k none = get-insert_other c.factions n k (as_gone x) (free_apart k none) ∙ none
+
+  -- a faction that was there still is when faction n is set gone
+  there : (k : ℕ) → IsThere c.factions k → IsThere factions k
+  there k h = there-insert c.factions n k (as_gone x) h
+
+  -- the campaign's numbers stay in range when faction n is set gone
+  numbers_kept : (w : WorldValue) → AreInRange w c → AreInRange w left
+  numbers_kept w old = record {
+    month = old.month;
+    few_factions = omega (arith, same_len c.factions n x (as_gone x) is, old.few_factions);
+    few_regions = old.few_regions;
+    few_units = old.few_units;
+    few_structures = old.few_structures;
+    next_unit_least = old.next_unit_least;
+    next_unit_most = old.next_unit_most;
+    factions = every-insert (λ k f. f.number ≡ k) c.factions n (as_gone x) (old.factions n x is) old.factions;
+    regions = old.regions;
+    units = old.units;
+    structures = old.structures;
+    books = old.books;
+  }
+
+  -- two factions with the same joined name have the same number
+  abbrev JoinedOnce : ℕ → Faction → ℕ → Faction → Type 0
+  JoinedOnce k f m g = f.joined_as ≡ g.joined_as → k ≡ m
+
+  -- names and pass texts keep their rules, and joined names differ, when faction n is set gone
+  names_kept : AreNamed c → AreNamed left
+  names_kept old = record {
+    pass = old.pass;
+    factions = every-insert (λ k f. IsTrue (name_ok f.joined_as) × IsTrue (name_ok f.name) × IsTrue (pass_ok f.pass)) c.factions n (as_gone x) (old.factions n x is) old.factions;
+    joined = every-insert (λ k f. Every (λ m g. JoinedOnce k f m g) factions) c.factions n (as_gone x)
+        (every-insert (λ m g. JoinedOnce n (as_gone x) m g) c.factions n (as_gone x) (λ same. refl) (old.joined n x is))
+        (λ k f here. every-insert (λ m g. JoinedOnce k f m g) c.factions n (as_gone x) (old.joined k f here n x is) (old.joined k f here));
+    units = old.units;
+    structures = old.structures;
+  }
+
+  -- everything that the campaign names by number still exists when faction n is set gone
+  known_kept : (w : WorldValue) → AreKnown w c → AreKnown w left
+  known_kept w old = record {
+    regions = old.regions;
+    markets = old.markets;
+    units = λ k u here. let p = old.units k u here in record { faction = there u.faction p.faction; region = p.region; structure = p.structure; items = p.items; skills = p.skills };
+    structures = old.structures;
+    posts = posted-there there old.posts;
+  }
+
+  -- factions and structures stay numbered without a gap, and units below their next number, when faction n is set gone
+  next_kept : AreNumbered c → AreNumbered left
+  next_kept old = record {
+    factions = record { first = none_kept 0 old.factions.first; count = old.factions.count ∙ ap (λ l. l + 1) (sym (same_len c.factions n x (as_gone x) is)); free = λ k l. none_kept k (old.factions.free k l) };
+    structures = old.structures;
+    units = old.units;
+  }
+
+  -- the campaign stays steady with faction n set gone (`left`), if it has no units
+  steady_gone : (w : WorldValue) → numbers_of n c.units ≡ [] → IsSteady w c → IsSteady w left
+  steady_gone w none old = record {
+    numbers = numbers_kept w old.numbers;
+    names = names_kept old.names;
+    known = known_kept w old.known;
+    next = next_kept old.next;
+    days = old.days;
+    gone = every-insert (λ k f. f.gone ≡ true → numbers_of k c.units ≡ []) c.factions n (as_gone x) (λ gone. none) old.gone;
+    owners = old.owners;
+    water = record { units = old.water.units; structures = old.water.structures };
+    guarded = old.guarded;
+  }
+
+  -- with_gone gives the campaign with faction n set gone
+  gone-known : with_gone c n ≡ left
+  gone-known = ap (λ m. record c { factions = m }) (changed-known as_gone c.factions n x is)
+
+  -- the campaign stays steady when a faction without units is set gone
+  pub steady-gone : (w : WorldValue) → numbers_of n c.units ≡ [] → IsSteady w c → IsSteady w (with_gone c n)
+  steady-gone w none old = subst (IsSteady w) (sym gone-known) (steady_gone w none old)
+
+  -- setting a faction gone leaves the number of factions
+  pub count-gone : len (with_gone c n).factions ≡ len c.factions
+  count-gone = ap (λ (d : CampaignValue). len d.factions) gone-known ∙ same_len c.factions n x (as_gone x) is
+
+  -- a faction that is there once n is set gone was there before
+  was_there : (k : ℕ) → IsThere factions k → IsThere c.factions k
+  was_there k (f, here) = every-insert (λ k f. IsThere c.factions k) c.factions n (as_gone x) (x, is) (λ k f here. (f, here)) k f here
+
+  -- each faction that with_gone leaves was there before
+  pub known-gone : (k : ℕ) → IsThere (with_gone c n).factions k → IsThere c.factions k
+  known-gone k h = was_there k (subst (λ (d : CampaignValue). IsThere d.factions k) gone-known h)
+
+  -- once faction n is set gone, it is found with the flag gone
+  pub get-gone : get (with_gone c n).factions n ≡ Some (as_gone x)
+  get-gone = ap (λ (d : CampaignValue). get d.factions n) gone-known ∙ get-insert_same c.factions n (as_gone x)
+
+  -- setting faction n gone changes no other faction
+  pub get-gone_other : (k : ℕ) → k ≢ n → get (with_gone c n).factions k ≡ get c.factions k
+  get-gone_other k apart = ap (λ (d : CampaignValue). get d.factions k) gone-known ∙ get-insert_other c.factions n k (as_gone x) apart
+
+-- with_gone changes nothing where there is no faction n
+pub none-gone : (c : CampaignValue) (n : ℕ) → get c.factions n ≡ None → with_gone c n ≡ c
+none-gone c n is = ap (λ o. record c { factions = changed_at as_gone c.factions n o }) is
+
+-- no total changes when a faction is set gone
+pub total-gone : (c : CampaignValue) (n : ℕ) (t : Thing) → total (with_gone c n) t ≡ total c t
+unfolding total
+total-gone c n t = refl
+
+-- setting a faction gone, with its mark, marks all that changes (MarksChanges)
+pub marks-gone_faction : (c : MarkedCampaign) (n : ℕ) → MarksChanges c (record { value = with_gone c.value n; marks = mark_faction c n })
+marks-gone_faction = marks-faction as_gone

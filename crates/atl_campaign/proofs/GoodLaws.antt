@@ -1,0 +1,150 @@
+-- Laws of good campaigns: reports and mail keep them good, and good ones are early.
+use Rattle.std.proofs.Common.{◌≡◌, ◌≤◌, ◌&&◌, ℕ, Bool, true, false, cond, nat_lt, List, Result, Ok, Err, subst, arith}
+use Rattle.std.proofs.lemmas.Bool.Decides.{nat_tests}
+use Rattle.std.specs.Cmp.Derive.{both_true}
+use Rattle.std.specs.Ordering.{nat_cmp}
+use Rattle.std.specs.FinMap.{FinMap, empty, insert}
+use Rattle.atl_world.specs.Worlds.{WorldValue}
+use Rattle.atl_orders.specs.Mailing.{IsMailingOf}
+use Rattle.atl_records.specs.declared.records.JoinFault.{JoinFault}
+use Rattle.atl_records.specs.declared.records.JoinFault.TheVariants.{NameTaken, Full}
+use Rattle.atl_records.specs.declared.records.Faction.{Faction}
+use Rattle.atl_records.specs.Limits.{last_month}
+use Rattle.atl_campaign.specs.Campaign.{CampaignValue, with_mail, with_report}
+use Rattle.atl_campaign.specs.Totals.{total}
+use Rattle.atl_records.specs.Every.{Every, IsThere}
+use Rattle.atl_campaign.specs.Early.{GoodAreEarly, SoundAreEarly}
+use Rattle.atl_campaign.specs.Good.{IsActive, AreInRange, AreNamed, AreOfFactions, AreKnown, IsSteady, IsSound, IsGood}
+use Rattle.atl_campaign.specs.Joining.{joined, join_of, name_taken, is_full, new_faction}
+use Rattle.atl_records.proofs.EveryLaws.{every-empty, every-insert, there-new, there-insert}
+
+-- ---- mail and reports
+
+-- mail and reports are still of factions that are there, if no faction is removed
+pub posted-there : {factions later : FinMap nat_cmp Faction} {mail reports : FinMap nat_cmp (List ℕ)} → ((n : ℕ) → IsThere factions n → IsThere later n) → AreOfFactions factions mail reports → AreOfFactions later mail reports
+posted-there stays posts = record { mail = λ n text is. stays n (posts.mail n text is); reports = λ n text is. stays n (posts.reports n text is) }
+
+-- reports are still of factions that are there once mail is removed
+pub posted-unsent : {factions : FinMap nat_cmp Faction} {mail reports : FinMap nat_cmp (List ℕ)} → AreOfFactions factions mail reports → AreOfFactions factions empty reports
+posted-unsent posts = record { mail = every-empty _; reports = posts.reports }
+
+-- empty mail and reports are of factions that are there (AreOfFactions)
+pub posted-nobody : {factions : FinMap nat_cmp Faction} → AreOfFactions factions empty empty
+posted-nobody = record { mail = every-empty _; reports = every-empty _ }
+
+module _ (w : WorldValue) (c : CampaignValue) (month : ℕ) (mail reports : FinMap nat_cmp (List ℕ)) where
+  -- the campaign in another month, with other mail and other reports
+  abbrev posted : CampaignValue
+  posted = record c { month = month; mail = mail; reports = reports }
+
+  -- the campaign stays in range in another month, up to the last, with other mail and reports
+  posted-numbers : month ≤ last_month → AreInRange w c → AreInRange w posted
+  posted-numbers early old = record {
+    month = early;
+    few_factions = old.few_factions;
+    few_regions = old.few_regions;
+    few_units = old.few_units;
+    few_structures = old.few_structures;
+    next_unit_least = old.next_unit_least;
+    next_unit_most = old.next_unit_most;
+    factions = old.factions;
+    regions = old.regions;
+    units = old.units;
+    structures = old.structures;
+    books = old.books;
+  }
+
+  -- names and pass texts keep their rules with another month, other mail and other reports
+  posted-names : AreNamed c → AreNamed posted
+  posted-names old = record { pass = old.pass; factions = old.factions; joined = old.joined; units = old.units; structures = old.structures }
+
+  module _ (early : month ≤ last_month) (posts : AreOfFactions c.factions mail reports) where
+    -- all that the campaign names by number still exists with other mail and reports, if they are of its factions
+    posted-known : AreKnown w c → AreKnown w posted
+    posted-known old = record { regions = old.regions; markets = old.markets; units = old.units; structures = old.structures; posts = posts }
+
+    -- the campaign stays steady in another month, up to the last, with other mail and reports of its factions
+    pub posted-steady : IsSteady w c → IsSteady w posted
+    posted-steady old = record {
+      numbers = posted-numbers early old.numbers;
+      names = posted-names old.names;
+      known = posted-known old.known;
+      next = record { factions = old.next.factions; structures = old.next.structures; units = old.next.units };
+      days = old.days;
+      gone = old.gone;
+      owners = old.owners;
+      water = record { units = old.water.units; structures = old.water.structures };
+      guarded = old.guarded;
+    }
+
+-- a sound campaign is sound with other mail and reports of its factions, if each mail is a mailing of one not gone
+posted-sound : (w : WorldValue) (c : CampaignValue) (mail reports : FinMap nat_cmp (List ℕ)) → AreOfFactions c.factions mail reports
+    → Every (λ n text. IsMailingOf n text × IsActive c n) mail → IsSound w c → IsSound w (record c { mail = mail; reports = reports })
+unfolding total
+posted-sound w c mail reports posts sent old = record {
+  steady = posted-steady w c c.month mail reports old.steady.numbers.month posts old.steady;
+  men = old.men;
+  amounts = old.amounts;
+  gone = old.gone;
+  balances = old.balances;
+  mail = sent;
+}
+
+-- storing a report of a faction that is there keeps a campaign sound
+pub IsSound-with_report : (w : WorldValue) (c : CampaignValue) (faction : ℕ) (text : List ℕ) → IsThere c.factions faction → IsSound w c → IsSound w (with_report c faction text)
+IsSound-with_report w c faction text there old =
+    let posts = old.steady.known.posts in
+    posted-sound w c c.mail (insert c.reports faction text) (record { mail = posts.mail; reports = every-insert (λ n text. IsThere c.factions n) c.reports faction text there posts.reports }) old.mail old
+
+-- storing a report of a faction that is there keeps a campaign good
+pub IsGood-with_report : (w : WorldValue) (c : CampaignValue) (faction : ℕ) (text : List ℕ) → IsThere c.factions faction → IsGood w c → IsGood w (with_report c faction text)
+IsGood-with_report w c faction text there good = record {
+  sound = IsSound-with_report w c faction text there good.sound;
+  reported = λ n f is. there-insert c.reports faction n text (good.reported n f is);
+}
+
+-- storing a mailing of a faction that is not gone (IsMailingOf, IsActive) keeps a campaign good
+pub IsGood-with_mail : (w : WorldValue) (c : CampaignValue) (faction : ℕ) (text : List ℕ) → IsMailingOf faction text → IsActive c faction → IsGood w c → IsGood w (with_mail c faction text)
+IsGood-with_mail w c faction text sent active good =
+    let posts = good.sound.steady.known.posts in
+    let (f, there, stays) = active in
+    record {
+      sound = posted-sound w c (insert c.mail faction text) c.reports (record { mail = every-insert (λ n text. IsThere c.factions n) c.mail faction text (f, there) posts.mail; reports = posts.reports })
+          (every-insert (λ n text. IsMailingOf n text × IsActive c n) c.mail faction text (sent, active) good.sound.mail) good.sound;
+      reported = good.reported;
+    }
+
+-- if a join answers Ok y, it was not refused, so y is the joined campaign with the new numbers, x
+joined_answer : (taken full : Bool) (x y : CampaignValue × (ℕ × ℕ)) → ◌≡◌ {A = Result (CampaignValue × (ℕ × ℕ)) JoinFault} (cond taken (Err NameTaken) (cond full (Err Full) (Ok x))) (Ok y) → x ≡ y
+joined_answer true full x y e = cc
+joined_answer false true x y e = cc
+joined_answer false false x y e = cc
+
+-- a good campaign that a faction joined, if it is sound then, is good once a report of the faction is stored
+pub IsGood-joined : (w : WorldValue) (name pass : List ℕ) (word : ℕ) (c d : CampaignValue) (faction unit : ℕ) (text : List ℕ) → join_of w name pass word c ≡ Ok (d, (faction, unit)) → IsGood w c → IsSound w d → IsGood w (with_report d faction text)
+unfolding join_of joined
+IsGood-joined w name pass word c d faction unit text is good sound =
+    let same = joined_answer (name_taken c name) (is_full c) (joined w name pass word c, (c.next_faction, c.next_unit)) (d, (faction, unit)) is in
+    let member = new_faction c.next_faction name pass in
+    let whole : IsSound w d → IsGood w (with_report d faction text) = subst (λ (p : CampaignValue × (ℕ × ℕ)). IsSound w p.0 → IsGood w (with_report p.0 p.1.0 text)) same (λ new. record {
+      sound = IsSound-with_report w (joined w name pass word c) c.next_faction text (there-new c.factions c.next_faction member) new;
+      reported = every-insert (λ n f. IsThere (insert c.reports c.next_faction text) n) c.factions c.next_faction member (there-new c.reports c.next_faction text) (λ n f is. there-insert c.reports c.next_faction n text (good.reported n f is));
+    }) in
+    whole sound
+
+-- ---- a sound campaign is early, and so a good one
+
+-- a unit with men whose guard flag is set guards
+set_guards : (flag : Bool) (men : ℕ) → 1 ≤ men → flag ≡ true → (flag && nat_lt 0 men) ≡ true
+set_guards flag men h set = let some : nat_lt 0 men ≡ true = grind (arith, nat_tests) in both_true set some
+
+-- a sound campaign is early
+pub sound_early : SoundAreEarly
+sound_early w c sound = record {
+  steady = sound.steady;
+  flags = λ n u is m v there e f. sound.steady.guarded n u is m v there (set_guards u.holding.guard u.holding.men (sound.men n u is) e) (set_guards v.holding.guard v.holding.men (sound.men m v there) f);
+}
+
+-- a good campaign is early
+pub IsEarly-good : GoodAreEarly
+IsEarly-good w c good = sound_early w c good.sound

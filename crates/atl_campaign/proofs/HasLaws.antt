@@ -1,0 +1,139 @@
+-- Laws of the rows of `has` (units' goods): the units assembled from rows are written as the same rows, in some order.
+use Rattle.std.proofs.Common.{◌≡◌, ◌==◌, ℕ, ◌++◌, List, [], ◌∷◌, Bool, true, false, not, map, filter, sym, ap, subst, ◌∙◌, arith, inl, inr, ◌⊎◌}
+use Rattle.std.specs.Prelude.{pos, ℤ}
+use Rattle.std.specs.List.{flat_map, AllByRecursion, IsDistinct}
+use Rattle.std.specs.Ordering.{eq_by_cmp}
+use Rattle.std.specs.FinMap.{entries}
+use Rattle.std.proofs.lemmas.Cmp.{eq_by_cmp_equiv, int_cmp_total, on_total, then_total}
+use Rattle.std.specs.List.Sorted.{IsPermutation}
+use Rattle.std.proofs.lemmas.Bool.{and_parts}
+use Rattle.std.proofs.lemmas.List.{append-nil}
+use Rattle.std.proofs.lemmas.List.Sorted.{IsPermutation-refl, IsPermutation-sym, IsPermutation-trans, IsPermutation-append}
+use Rattle.atl_campaign.specs.declared.parts.StoredHas.{StoredHas}
+use Rattle.atl_campaign.specs.declared.parts.StoredUnit.{StoredUnit}
+use Rattle.atl_records.specs.declared.records.Unit.{Unit}
+use Rattle.atl_campaign.specs.FromRows.{as_u32, is_of, things_had, unit_of, by_number}
+use Rattle.atl_campaign.specs.RowRules.{Key, key_cmp, has_key}
+use Rattle.atl_campaign.specs.Rows.{is_zero, has_row, rows_of_sort, held_rows, has_rows}
+use Rattle.atl_campaign.proofs.AssemblyLaws.{is_same}
+use Rattle.atl_campaign.proofs.GroupLaws as group
+use Rattle.atl_campaign.proofs.GroupLaws.{filter_both, filter_each, gathered, lines_order, of_group}
+use Rattle.atl_campaign.proofs.OrderLaws.{Apart, HasNumber, each_so, flat_order}
+
+-- a row of `has` is of one of the given units, and of sort 0 (items) or 1 (days)
+abbrev pub IsOfUnits : List StoredUnit → StoredHas → Type 0
+IsOfUnits units h = HasNumber (λ r. as_u32 r.number) units (as_u32 h.unit) × ((as_u32 h.sort ≡ 0) ⊎ (as_u32 h.sort ≡ 1))
+
+-- those of the given rows of `has` that are of unit n
+abbrev rows_of_unit : ℕ → List StoredHas → List StoredHas
+rows_of_unit n has = of_group (λ h. as_u32 h.unit) (λ (r : StoredUnit). as_u32 r.number) n has
+
+-- a unit's rows of items followed by its rows of days are all its rows, in some order
+by_sort : (n : ℕ) (has : List StoredHas) → AllByRecursion (λ h. (as_u32 h.sort ≡ 0) ⊎ (as_u32 h.sort ≡ 1)) has → IsPermutation (filter (is_of n 0) has ++ filter (is_of n 1) has) (rows_of_unit n has)
+by_sort n has sorts =
+    let mine = rows_of_unit n has in
+    let of_sort = λ (s : ℕ). filter (λ (h : StoredHas). as_u32 h.sort == s) mine in
+    let all = filter_each (λ h. as_u32 h.unit == n) (λ h. HasNumber (λ s. s) (0 ∷ 1 ∷ []) (as_u32 h.sort)) has (each_so (λ h. (as_u32 h.sort ≡ 0) ⊎ (as_u32 h.sort ≡ 1)) (λ h. HasNumber (λ s. s) (0 ∷ 1 ∷ []) (as_u32 h.sort)) among has sorts) in
+    subst (λ hs. IsPermutation hs mine) (ap (λ hs. of_sort 0 ++ hs) (append-nil (of_sort 1)) ∙ ap (λ hs. hs ++ of_sort 1) (both 0) ∙ ap (λ hs. filter (is_of n 0) has ++ hs) (both 1))
+    (gathered (λ h. as_u32 h.sort) (λ s. s) of_sort (0 ∷ 1 ∷ []) mine (λ s. IsPermutation-refl (of_sort s)) (((λ e. absurd (omega arith)), tt), (tt, tt)) all)
+  where
+    -- the sort of a row of items or days is one of 0 and 1
+    among : (h : StoredHas) → (as_u32 h.sort ≡ 0) ⊎ (as_u32 h.sort ≡ 1) → HasNumber (λ s. s) (0 ∷ 1 ∷ []) (as_u32 h.sort)
+    among h (inl item) = inl (sym item)
+    among h (inr skill) = inr (inl (sym skill))
+
+    -- filtering unit n's rows by a sort is filtering all rows by unit n and that sort
+    both : (s : ℕ) → filter (λ h. as_u32 h.sort == s) (rows_of_unit n has) ≡ filter (is_of n s) has
+    both s = filter_both (λ h. as_u32 h.unit == n) (λ h. as_u32 h.sort == s) has
+
+-- ---- the things of a unit
+
+-- a number of a row that is read as it is: it fits 32 bits
+abbrev pub IsWhole : ℤ → Type 0
+IsWhole z = z ≡ pos (as_u32 z)
+
+-- a row of `has` whose unit, sort and thing are read as they are: they fit 32 bits
+pub record IsKeyed (h : StoredHas) : Type 0 where
+  pub unit : IsWhole h.unit
+  pub sort : IsWhole h.sort
+  pub thing : IsWhole h.thing
+
+-- a row of `has` whose key and amount are read as they are, with an amount other than 0
+pub record IsExact (h : StoredHas) : Type 0 where
+  pub keys : IsKeyed h
+  pub amount : IsWhole h.amount
+  pub some : is_zero h.amount ≡ false
+
+-- the number of the item or skill in a row of `has`, as it is read
+abbrev thing_of : StoredHas → ℕ
+thing_of h = as_u32 h.thing
+
+-- the amount in a row of `has`, as it is read
+abbrev amount_of : StoredHas → ℕ
+amount_of h = as_u32 h.amount
+
+-- a row of unit n and of one sort (0 items, 1 days), whose key is read as it is
+abbrev IsHadBy : ℕ → ℕ → StoredHas → Type 0
+IsHadBy n sort h = IsKeyed h × (is_of n sort h ≡ true)
+
+-- a row that is read as one of unit n, and as it is, has the unit number n
+its_unit : (n sort : ℕ) (h : StoredHas) → IsHadBy n sort h → h.unit ≡ pos n
+its_unit n sort h (exact, of) = exact.unit ∙ ap pos (is_same (as_u32 h.unit) n (and_parts (as_u32 h.unit == n) (as_u32 h.sort == sort) of).0)
+
+-- a row that is read as one of a sort, and as it is, has the number of that sort
+its_sort : (n sort : ℕ) (h : StoredHas) → IsHadBy n sort h → h.sort ≡ pos sort
+its_sort n sort h (exact, of) = exact.sort ∙ ap pos (is_same (as_u32 h.sort) sort (and_parts (as_u32 h.unit == n) (as_u32 h.sort == sort) of).1)
+
+-- a row of `has` is the row made of its unit, sort, thing and amount, if all are read as they are
+same_row : (n sort : ℕ) (h : StoredHas) → IsHadBy n sort h → IsWhole h.amount → has_row n sort (thing_of h) (amount_of h) ≡ h
+same_row n sort h had amount = λ i. record { unit = sym (its_unit n sort h had) i; sort = sym (its_sort n sort h had) i; thing = sym had.0.thing i; amount = sym amount i }
+
+-- rows of `has` of one unit, sort and thing have the same key, if their keys are read as they are
+same_key : (n sort : ℕ) (g h : StoredHas) → IsHadBy n sort g → IsHadBy n sort h → thing_of g ≡ thing_of h → ◌≡◌ {A = Key} (has_key h) (has_key g)
+same_key n sort g h a b e =
+    let unit = its_unit n sort h b ∙ sym (its_unit n sort g a) in
+    let kind = its_sort n sort h b ∙ sym (its_sort n sort g a) in
+    let thing = b.0.thing ∙ sym (ap pos e) ∙ sym a.0.thing in
+    λ i. (unit i, kind i, thing i)
+
+-- whether two keys compare equal
+abbrev pub same : Key → Key → Bool
+same a b = eq_by_cmp key_cmp a b
+
+-- a key compares equal to itself
+pub ties_itself : (k : Key) → same k k ≡ true
+ties_itself k = (eq_by_cmp_equiv (then_total (then_total (on_total (λ (t : Key). t.0) int_cmp_total) (on_total (λ (t : Key). t.1) int_cmp_total)) (on_total (λ (t : Key). t.2) int_cmp_total))).refl k
+
+-- no two rows of `has` of one unit and sort are of one thing, if keys differ
+pub things_apart : (n sort : ℕ) (has : List StoredHas) → AllByRecursion IsKeyed has → IsDistinct same (map has_key has) → Apart thing_of (filter (is_of n sort) has)
+things_apart n sort = group.things_apart has_key same ties_itself thing_of (is_of n sort) IsKeyed (same_key n sort)
+
+-- the goods of one sort read for unit n are written as the rows of unit n and that sort, in some order, if keys differ
+sort_order : (n sort : ℕ) (has : List StoredHas) → AllByRecursion IsExact has → IsDistinct same (map has_key has) → IsPermutation (rows_of_sort n sort (entries (things_had n sort has))) (filter (is_of n sort) has)
+sort_order n sort has all d =
+    lines_order thing_of amount_of (has_row n sort) (λ h. not (is_zero h.amount)) (filter (is_of n sort) has) (things_apart n sort has (each_so IsExact IsKeyed (λ h one. one.keys) has all) d)
+    (each_so (λ h. IsExact h × (is_of n sort h ≡ true)) (λ h. (has_row n sort (thing_of h) (amount_of h) ≡ h) × (not (is_zero h.amount) ≡ true)) (λ h had. (same_row n sort h (had.0.keys, had.1) had.0.amount, ap not had.0.some)) (filter (is_of n sort) has) (group.all_mine has_key same ties_itself thing_of (is_of n sort) IsExact has all))
+
+-- the items and days read for unit n are written as the rows of unit n, in some order, if keys differ
+unit_order : (n : ℕ) (has : List StoredHas) → AllByRecursion (λ h. (as_u32 h.sort ≡ 0) ⊎ (as_u32 h.sort ≡ 1)) has → AllByRecursion IsExact has → IsDistinct same (map has_key has)
+    → IsPermutation (rows_of_sort n 0 (entries (things_had n 0 has)) ++ rows_of_sort n 1 (entries (things_had n 1 has))) (rows_of_unit n has)
+unit_order n has sorts all d =
+    let items = rows_of_sort n 0 (entries (things_had n 0 has)) in
+    let days = rows_of_sort n 1 (entries (things_had n 1 has)) in
+    let rows = filter (is_of n 0) has ++ filter (is_of n 1) has in
+    IsPermutation-trans (items ++ days) rows (rows_of_unit n has) (IsPermutation-append items (filter (is_of n 0) has) days (filter (is_of n 1) has) (sort_order n 0 has all d) (sort_order n 1 has all d)) (by_sort n has sorts)
+
+-- the rows of `has` that a unit's items and days are written as
+abbrev unit_lines : ℕ × Unit → List StoredHas
+unit_lines e = held_rows e.0 e.1.holding
+
+-- units assembled from rows are written as the same rows of goods, in some order, if keys differ and units exist
+pub has_order : (has : List StoredHas) (units : List StoredUnit) → Apart (λ r. as_u32 r.number) units → AllByRecursion (IsOfUnits units) has → AllByRecursion IsExact has → IsDistinct same (map has_key has)
+    → IsPermutation (has_rows (entries (by_number (λ r. as_u32 r.number) (unit_of has) units))) has
+has_order has units apart of all d =
+    let lines = λ (r : StoredUnit). unit_lines (as_u32 r.number, unit_of has r) in
+    let said = flat_map lines units in
+    let listed = has_rows (entries (by_number (λ r. as_u32 r.number) (unit_of has) units)) in
+    let sorts = each_so (IsOfUnits units) (λ h. (as_u32 h.sort ≡ 0) ⊎ (as_u32 h.sort ≡ 1)) (λ h one. one.1) has of in
+    IsPermutation-trans listed said has (IsPermutation-sym said listed (flat_order (λ r. as_u32 r.number) (unit_of has) unit_lines units apart))
+    (gathered (λ h. as_u32 h.unit) (λ r. as_u32 r.number) lines units has (λ r. unit_order (as_u32 r.number) has sorts all d) apart (each_so (IsOfUnits units) (λ h. HasNumber (λ r. as_u32 r.number) units (as_u32 h.unit)) (λ h one. one.0) has of))

@@ -1,0 +1,253 @@
+-- Laws of the index: a list of entries (a number and its slot), sorted by number, is a map from numbers to slots.
+use Rattle.std.proofs.Common.{◌≡◌, ℕ, zero, suc, ◌+◌, ◌-◌, ◌<◌, ◌⊎◌, inl, inr, Bool, true, false, cond, not, ◌&&◌, List, [], ◌∷◌, length, map, get_or, Option, Some, None, refl, sym, ap, ◌∙◌, arith}
+use Rattle.std.specs.Prelude.{Result, Ok, Err, IfOk, IfErr, is_some}
+use Rattle.std.specs.List.{list_any, insert, remove, slice_get}
+use Rattle.std.specs.List.Sorted.{IsStrictlySortedBy, IsBinarySearchResult, IsSearchInRange, IsNonDecreasingBy}
+use Rattle.std.specs.declared.cmp.Ordering.TheVariants.{Less, Greater}
+use Rattle.std.specs.Ordering.{nat_cmp, eq_by_cmp, is_lt, ordering_index, ordering_reverse}
+use Rattle.std.specs.Cmp.{nat_cmp_total, ranked}
+use Rattle.std.specs.Map.{keys_of}
+use Rattle.std.specs.FinMap as finmap
+use Rattle.std.specs.FinMap.{from_entries, find, nat_cmp-IsAntisymmetric}
+use Rattle.std.specs.FinMap.Entries.{is_some-find}
+use Rattle.std.specs.FinSet as set
+use Rattle.std.proofs.lemmas.Bool.{false≢true, cases_order}
+use Rattle.std.proofs.lemmas.List.{length-map, get_or-map, get_or_default}
+use Rattle.std.proofs.lemmas.List.Sorted.{searchable_from_sorted}
+use Rattle.std.proofs.lemmas.Map.Keys.{Less-from_sorted}
+use Rattle.std.proofs.lemmas.Option.{get_or_from_slice_get, slice_get_within}
+use Rattle.atl_world.specs.SortedNumbers.{IsAt, BelongsAt}
+use Rattle.atl_world.proofs.GeneralLaws.{key_itself, same_key}
+use Rattle.atl_world.proofs.MarkLaws.{rising-empty, rising-insert, rising-remove, contains-belongs, from_list-remove}
+use Rattle.atl_world.proofs.Maps.{entries_of, len_of}
+use Rattle.atl_world.proofs.SumLaws.{taken_back}
+use Rattle.atl_world.proofs.TrackLaws.{there_itself, remove_none}
+use Rattle.atl_campaign.specs.declared.index.IndexEntry.{IndexEntry}
+use Rattle.atl_campaign.specs.Index.{index_numbers, slots_of}
+
+-- Some is not None
+pub some_none : {X : Type 0} (x : X) {P : Type 0} → Some x ≡ None → P
+some_none x e = cc
+
+-- the numbers of the index entries are strictly ascending
+abbrev IsSorted : List IndexEntry → Type 0
+IsSorted ps = IsStrictlySortedBy nat_cmp (index_numbers ps)
+
+-- the map from numbers to slots that the index entries stand for
+abbrev pub as_map : List IndexEntry → finmap.FinMap nat_cmp ℕ
+as_map ps = from_entries (slots_of ps)
+
+-- ---- lists with one more, and one less
+module _ {X : Type 0} where
+  -- removing an element of a list and inserting it again at its index gives the list
+  put_back : (xs : List X) (i : ℕ) (d : X) → i < length xs → insert (remove xs i) i (get_or xs i d) ≡ xs
+  put_back [] i d l = absurd (omega (arith, l))
+  put_back (x ∷ xs) zero d l = refl
+  put_back (x ∷ xs) (suc i) d l = ap (λ ys. x ∷ ys) (put_back xs i d (omega (arith, l)))
+
+module _ {X Y : Type 0} (f : X → Y) where
+  -- mapping a list into which x is inserted is inserting f x into the mapped list
+  map-insert : (xs : List X) (i : ℕ) (x : X) → map f (insert xs i x) ≡ insert (map f xs) i (f x)
+  map-insert xs zero x = refl
+  map-insert [] (suc i) x = refl
+  map-insert (y ∷ xs) (suc i) x = ap (λ ys. f y ∷ ys) (map-insert xs i x)
+
+  -- mapping a list from which an element is removed is removing that element from the mapped list
+  map-remove : (xs : List X) (i : ℕ) → map f (remove xs i) ≡ remove (map f xs) i
+  map-remove [] zero = refl
+  map-remove [] (suc i) = refl
+  map-remove (y ∷ xs) zero = refl
+  map-remove (y ∷ xs) (suc i) = ap (λ ys. f y ∷ ys) (map-remove xs i)
+
+-- the first parts of the index entries as pairs of number and slot are the entries' numbers
+keys_are : (ps : List IndexEntry) → keys_of (slots_of ps) ≡ index_numbers ps
+keys_are [] = refl
+keys_are (p ∷ ps) = ap (λ ns. p.number ∷ ns) (keys_are ps)
+
+-- ---- an entry whose number is new, at any index of a list
+module _ {X : Type 0} where
+  -- if `cond b (Some x) o` is None, b is false
+  first_apart : (b : Bool) (x : X) (o : Option X) → cond b (Some x) o ≡ None → b ≡ false
+  first_apart true x o h = some_none x h
+  first_apart false x o h = refl
+
+  -- if `cond b (Some x) o` is None, o is None
+  rest_none : (b : Bool) (x : X) (o : Option X) → cond b (Some x) o ≡ None → o ≡ None
+  rest_none true x o h = some_none x h
+  rest_none false x o h = h
+
+  -- looking up q gives the same, whichever of two entries with different numbers comes first
+  turned : (q n m : ℕ) (v w o : Option X) → eq_by_cmp nat_cmp n m ≡ false → cond (eq_by_cmp nat_cmp q m) w (cond (eq_by_cmp nat_cmp q n) v o) ≡ cond (eq_by_cmp nat_cmp q n) v (cond (eq_by_cmp nat_cmp q m) w o)
+  turned q n m v w o apart =
+      elim (eq_by_cmp nat_cmp q n) as (λ b. eq_by_cmp nat_cmp q n ≡ b → cond (eq_by_cmp nat_cmp q m) w (cond b v o) ≡ cond b v (cond (eq_by_cmp nat_cmp q m) w o)) [
+        | true ↦ λ e. ap (λ k. cond (eq_by_cmp nat_cmp k m) w v) (same_key q n e) ∙ ap (λ b. cond b w v) apart
+        | false ↦ λ _. refl
+      ] refl
+
+  -- an entry with a new number, inserted at any index of a list, is found under its number, and the others as before
+  find-insert : (es : List (ℕ × X)) (i n : ℕ) (v : X) (q : ℕ) → find nat_cmp n es ≡ None → find nat_cmp q (insert es i (n, v)) ≡ cond (eq_by_cmp nat_cmp q n) (Some v) (find nat_cmp q es)
+  find-insert es zero n v q h = refl
+  find-insert [] (suc i) n v q h = refl
+  find-insert (e ∷ es) (suc i) n v q h =
+      ap (cond (eq_by_cmp nat_cmp q e.0) (Some e.1)) (find-insert es i n v q (rest_none _ _ _ h)) ∙ turned q n e.0 (Some v) (Some e.1) (find nat_cmp q es) (first_apart _ _ _ h)
+
+  -- inserting an entry with a new number at any index of a list puts it into the map of the list
+  from_entries-insert : (es : List (ℕ × X)) (i n : ℕ) (v : X) → finmap.get (from_entries {R = nat_cmp} es) n ≡ None → from_entries {R = nat_cmp} (insert es i (n, v)) ≡ finmap.insert (from_entries es) n v
+  from_entries-insert es i n v h = finmap.same_map nat_cmp_total nat_cmp-IsAntisymmetric _ _ (λ q.
+      finmap.get-from_entries nat_cmp_total (insert es i (n, v)) q ∙ find-insert es i n v q (sym (finmap.get-from_entries nat_cmp_total es n) ∙ h)
+      ∙ sym (finmap.get-insert nat_cmp_total (from_entries es) n v q ∙ ap (cond (eq_by_cmp nat_cmp q n) (Some v)) (finmap.get-from_entries nat_cmp_total es q)))
+
+-- ---- what the index has under a number
+-- an option that is not Some is None
+pub nothing : {X : Type 0} (o : Option X) → is_some o ≡ false → o ≡ None
+nothing None h = refl
+nothing (Some x) h = absurd (false≢true (sym h))
+
+-- a number that no index entry has is not in the map that the index entries stand for
+unlisted : (ps : List IndexEntry) (n : ℕ) → set.contains {R = nat_cmp} (set.from_list (index_numbers ps)) n ≡ false → finmap.get (as_map ps) n ≡ None
+unlisted ps n h =
+    finmap.get-from_entries nat_cmp_total (slots_of ps) n
+    ∙ nothing _ (is_some-find nat_cmp n (slots_of ps) ∙ ap (list_any (eq_by_cmp nat_cmp n)) (keys_are ps) ∙ sym (set.contains-from_list nat_cmp_total (index_numbers ps) n) ∙ h)
+
+-- a number that no index entry has, and that would be inserted at index i (BelongsAt), is not in the entries' map
+pub get-belongs : (ps : List IndexEntry) (n i : ℕ) → IsSorted ps → BelongsAt (index_numbers ps) n i → finmap.get (as_map ps) n ≡ None
+get-belongs ps n i s b = unlisted ps n (contains-belongs (index_numbers ps) n i s b)
+
+-- a number removed from a set is not in it
+taken : (t : set.FinSet nat_cmp) (n : ℕ) → set.contains (set.remove t n) n ≡ false
+taken t n = set.contains-remove nat_cmp_total t n n ∙ ap (λ b. not b && set.contains t n) (key_itself n)
+
+-- once the entry of a number is removed from sorted index entries, their map doesn't have the number
+gone : (ps : List IndexEntry) (n i : ℕ) → IsSorted ps → IsAt (index_numbers ps) n i → finmap.get (as_map (remove ps i)) n ≡ None
+gone ps n i s h =
+    unlisted (remove ps i) n (ap (λ ns. set.contains {R = nat_cmp} (set.from_list ns) n) (map-remove (λ (p : IndexEntry). p.number) ps i) ∙ ap (λ t. set.contains t n) (from_list-remove (index_numbers ps) n i s h) ∙ taken (set.from_list (index_numbers ps)) n)
+
+-- the index at which the index entries have a number (IsAt) is below how many entries there are
+inside : (ps : List IndexEntry) (n i : ℕ) → IsAt (index_numbers ps) n i → i < length ps
+inside ps n i h = let size = length-map ps (λ (p : IndexEntry). p.number) in let l = h.within in omega (arith, size, l)
+
+-- the index entry at the index of a number (IsAt) has that number
+number-stands : (ps : List IndexEntry) (n i : ℕ) (d : IndexEntry) → IsAt (index_numbers ps) n i → (get_or ps i d).number ≡ n
+number-stands ps n i d h =
+    sym (get_or-map (λ (p : IndexEntry). p.number) ps i d d.number (inside ps n i h)) ∙ get_or_default (index_numbers ps) i d.number 0 h.within ∙ h.is
+
+-- the map of the index entries is their map without a number's entry, with the slot of that entry put in again
+put_again : (ps : List IndexEntry) (n i : ℕ) (d : IndexEntry) → IsSorted ps → IsAt (index_numbers ps) n i → as_map ps ≡ finmap.insert (as_map (remove ps i)) n (get_or ps i d).slot
+put_again ps n i d s h =
+    let p = get_or ps i d in
+    sym (ap as_map (put_back ps i d (inside ps n i h))) ∙ ap from_entries (map-insert (λ (p : IndexEntry). (p.number, p.slot)) (remove ps i) i p)
+    ∙ ap (λ k. from_entries (insert (slots_of (remove ps i)) i (k, p.slot))) (number-stands ps n i d h) ∙ from_entries-insert (slots_of (remove ps i)) i n p.slot (gone ps n i s h)
+
+-- the map of sorted index entries has under a number the slot of the entry with this number
+pub get-stands : (ps : List IndexEntry) (n i : ℕ) (d : IndexEntry) → IsSorted ps → IsAt (index_numbers ps) n i → finmap.get (as_map ps) n ≡ Some (get_or ps i d).slot
+get-stands ps n i d s h = ap (λ m. finmap.get m n) (put_again ps n i d s h) ∙ there_itself (as_map (remove ps i)) n (get_or ps i d).slot
+
+-- ---- an entry that is inserted
+-- inserting an index entry where its number belongs puts it into the map of the entries
+pub map-added : (ps : List IndexEntry) (n i k : ℕ) → IsSorted ps → BelongsAt (index_numbers ps) n i → as_map (insert ps i (record { number = n; slot = k })) ≡ finmap.insert (as_map ps) n k
+map-added ps n i k s b =
+    ap from_entries (map-insert (λ (p : IndexEntry). (p.number, p.slot)) ps i (record { number = n; slot = k })) ∙ from_entries-insert (slots_of ps) i n k (get-belongs ps n i s b)
+
+-- sorted index entries stay sorted when one is inserted where its number belongs
+pub rising-added : (ps : List IndexEntry) (n i k : ℕ) → IsSorted ps → BelongsAt (index_numbers ps) n i → IsSorted (insert ps i (record { number = n; slot = k }))
+rising-added ps n i k s b = rw (map-insert (λ (p : IndexEntry). p.number) ps i (record { number = n; slot = k })) (rising-insert (index_numbers ps) n i s b)
+
+-- ---- an entry that is removed
+-- removing the index entry with a number removes the number from the map of the entries
+pub map-without : (ps : List IndexEntry) (n i : ℕ) → IsSorted ps → IsAt (index_numbers ps) n i → as_map (remove ps i) ≡ finmap.remove (as_map ps) n
+map-without ps n i s h =
+    let d : IndexEntry = record { number = 0; slot = 0 } in
+    sym (ap (λ m. finmap.remove m n) (put_again ps n i d s h) ∙ taken_back (as_map (remove ps i)) n (get_or ps i d).slot (gone ps n i s h))
+
+-- sorted index entries stay sorted when one is removed
+pub rising-without : (ps : List IndexEntry) (n i : ℕ) → IsSorted ps → IsAt (index_numbers ps) n i → IsSorted (remove ps i)
+rising-without ps n i s h = rw (map-remove (λ (p : IndexEntry). p.number) ps i) (rising-remove (index_numbers ps) i s h.within)
+
+-- removing a number that no index entry has from the map of the entries changes nothing
+pub map-missing : (ps : List IndexEntry) (n i : ℕ) → IsSorted ps → BelongsAt (index_numbers ps) n i → as_map ps ≡ finmap.remove (as_map ps) n
+map-missing ps n i s b = sym (remove_none (as_map ps) n (get-belongs ps n i s b))
+
+-- ---- the whole index
+-- the empty list of index entries is sorted
+pub rising-none : IsSorted []
+rising-none = rising-empty
+
+-- the list of the map that sorted index entries stand for has these entries as pairs of number and slot
+pub entries-places : (ps : List IndexEntry) → IsSorted ps → finmap.entries (as_map ps) ≡ slots_of ps
+entries-places ps s = entries_of (slots_of ps) (rw (keys_are ps) s)
+
+-- the map that sorted index entries stand for has as many numbers as there are entries
+pub len-places : (ps : List IndexEntry) → IsSorted ps → finmap.len (as_map ps) ≡ length ps
+len-places ps s = len_of (slots_of ps) (rw (keys_are ps) s) ∙ length-map ps (λ (p : IndexEntry). (p.number, p.slot))
+
+-- ---- the index that a search gives: of a number, or where it belongs
+-- if the binary search for a number finds an index, the index entry there has the number (IsAt)
+pub found-by_search : (ps : List IndexEntry) (n : ℕ) (r : Result ℕ ℕ) → IsSearchInRange r (length ps) → IsBinarySearchResult (λ p. nat_cmp p.number n) ps r → IfOk r (λ i. IsAt (index_numbers ps) n i)
+found-by_search ps n (Ok i) l h =
+    let d : IndexEntry = record { number = 0; slot = 0 } in
+    let size = length-map ps (λ (p : IndexEntry). p.number) in
+    record {
+      within = omega (arith, size, l);
+      is = get_or-map (λ (p : IndexEntry). p.number) ps i d 0 l ∙ nat_cmp-IsAntisymmetric (get_or ps i d).number n (h d);
+    }
+found-by_search ps n (Err i) l h = tt
+
+-- sorted index entries have first the numbers below n, then n, then those above it, as the binary search requires
+searchable : (ps : List IndexEntry) (n : ℕ) → IsSorted ps → IsNonDecreasingBy (λ (p : IndexEntry). ordering_index (nat_cmp p.number n)) ps
+searchable ps n s = searchable_from_sorted nat_cmp_total (λ (p : IndexEntry). p.number) ps n (λ k d low h.
+    let ns = index_numbers ps in
+    let size : length ns ≡ length ps = length-map ps (λ (p : IndexEntry). p.number) in
+    let at : (i : ℕ) → i < length ps → get_or ns i d.number ≡ (get_or ps i d).number = λ i l. get_or-map (λ (p : IndexEntry). p.number) ps i d d.number l in
+    let up = Less-from_sorted nat_cmp ns k (k + 1) d.number s (omega arith) (omega arith) in
+    ap is_lt (λ i. nat_cmp (sym (at (k + 1) h) i) (sym (at k (omega arith)) i)) ∙ ap is_lt (nat_cmp_total.antisymm (get_or ns (k + 1) d.number) (get_or ns k d.number)) ∙ ap (λ r. is_lt (ordering_reverse r)) up)
+
+-- if the binary search doesn't find a number, the number belongs at the index that it gives (BelongsAt)
+pub missing-by_search : (ps : List IndexEntry) (n : ℕ) (r : Result ℕ ℕ) → IsSorted ps → IsSearchInRange r (length ps) → IsBinarySearchResult (λ p. nat_cmp p.number n) ps r → IfErr r (λ i. BelongsAt (index_numbers ps) n i)
+missing-by_search ps n (Ok i) s l h = tt
+missing-by_search ps n (Err i) s l h =
+    let d : IndexEntry = record { number = 0; slot = 0 } in
+    let size = length-map ps (λ (p : IndexEntry). p.number) in
+    let parts = h (searchable ps n s) in
+    let at : (k : ℕ) → k < length ps → get_or (index_numbers ps) k 0 ≡ (get_or ps k d).number = λ k m. get_or-map (λ (p : IndexEntry). p.number) ps k d 0 m in
+    record {
+      within = omega (arith, size, l);
+      before = λ k m. let less = ranked (get_or ps k d).number n Less (sym (parts.0 k d (omega arith) m)) in let same = at k (omega (arith, m, l)) in omega (arith, less, same);
+      behind = λ k m w. let more = ranked (get_or ps k d).number n Greater (sym (parts.1 k d m (omega (arith, w, size)))) in let same = at k (omega (arith, w, size)) in omega (arith, more, same);
+    }
+
+-- a number above that of the last of sorted index entries belongs at their end (BelongsAt)
+pub BelongsAt-above : (ps : List IndexEntry) (p : IndexEntry) (n : ℕ) → IsSorted ps → slice_get ps (length ps - 1) ≡ Some p → p.number < n → BelongsAt (index_numbers ps) n (length ps)
+BelongsAt-above ps p n s is above =
+    record {
+      within = omega (arith, size);
+      before = λ k m. by_order k (cases_order k last) m;
+      behind = λ k m w. absurd (omega (arith, size, m, w));
+    }
+  where
+    -- the numbers of the index entries
+    ns : List ℕ
+    ns = index_numbers ps
+
+    -- there are as many numbers as index entries
+    size : length ns ≡ length ps
+    size = length-map ps (λ (p : IndexEntry). p.number)
+
+    -- the place of the last index entry in the list
+    last : ℕ
+    last = length ps - 1
+
+    -- the place of the last index entry is below the list's length
+    some : last < length ps
+    some = slice_get_within ps last p is
+
+    -- the last number is that of entry p
+    end : get_or ns last 0 ≡ p.number
+    end = get_or-map (λ (p : IndexEntry). p.number) ps last p 0 some ∙ ap (λ (q : IndexEntry). q.number) (get_or_from_slice_get ps last p p is)
+
+    -- each number of the list is below n, whether it is the last or not
+    by_order : (k : ℕ) → (k ≡ last) ⊎ ((k < last) ⊎ (last < k)) → k < length ps → get_or ns k 0 < n
+    by_order k (inl e) m = let same : get_or ns k 0 ≡ p.number = ap (λ i. get_or ns i 0) e ∙ end in omega (arith, same, above)
+    by_order k (inr (inl before)) m =
+        let less = ranked (get_or ns k 0) (get_or ns last 0) Less (sym (Less-from_sorted nat_cmp ns k last 0 s before (omega (arith, size, some)))) in
+        omega (arith, less, end, above)
+    by_order k (inr (inr behind)) m = absurd (omega (arith, behind, m))

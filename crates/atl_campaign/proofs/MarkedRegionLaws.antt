@@ -1,0 +1,96 @@
+-- Laws of AreRegions, the regions' invariant: there is room for all marks, and a marked stock's region is marked.
+use Rattle.std.proofs.Common.{◌≡◌, ℕ, Some, true, refl, sym, ap, subst, ◌∙◌}
+use Rattle.std.specs.Prelude.{is_some}
+use Rattle.std.specs.Ordering.{nat_cmp}
+use Rattle.std.specs.FinMap.{FinMap, get, get-empty, insert, len, empty}
+use Rattle.std.specs.FinSet as set
+use Rattle.std.proofs.lemmas.Bool.{false≢true}
+use Rattle.atl_world.specs.RoomySets.{RoomySet}
+use Rattle.atl_world.specs.Tracking.{marked_with}
+use Rattle.atl_world.proofs.TrackLaws.{Room-empty, Room-of, Room-over, Room-put, Room-unmarked}
+use Rattle.atl_records.specs.declared.records.Region.{Region}
+use Rattle.atl_campaign.specs.Marks.{AreStocksWithin, Things}
+use Rattle.atl_campaign.specs.Regions.{AreRegions}
+use Rattle.atl_campaign.proofs.UnitLaws.{within_both, within_more, within_things}
+
+-- an empty dirty set with the given room
+abbrev nothing_marked : ℕ → RoomySet
+nothing_marked room = record { numbers = set.empty; room = room }
+
+-- the dirty set emptied, with the same room
+abbrev cleared : RoomySet → RoomySet
+cleared marks = record marks { numbers = set.empty }
+
+-- the dirty set with region n added, if that region is there
+abbrev marking : FinMap nat_cmp Region → RoomySet → ℕ → RoomySet
+marking regions marks n = record marks { numbers = marked_with marks.numbers n (get regions n) }
+
+-- empty dirty sets mark no stock, so each marked stock is of a marked region (AreStocksWithin)
+within-none : AreStocksWithin set.empty set.empty empty
+within-none = record { stocks_within = λ q e. e; items_within = nothing }
+  where
+    -- nothing is marked in an empty map of marks
+    nothing : (q : ℕ) → is_some (get {X = FinMap nat_cmp (Prim.Unit {0})} {R = nat_cmp} empty q) ≡ true → set.contains {R = nat_cmp} set.empty q ≡ true
+    nothing q e = absurd (false≢true (sym (ap is_some (get-empty nat_cmp q)) ∙ e))
+
+-- without regions, empty dirty sets without room have room for all marks, and mark no stock (AreRegions)
+pub AreRegions-none : AreRegions empty (nothing_marked 0) (nothing_marked 0) (nothing_marked 0) empty
+AreRegions-none = record { within = within-none; rows_fit = Room-empty Region; markets_fit = Room-empty Region; stocks_fit = Room-empty Region }
+
+-- empty dirty sets with room for as many numbers as there are regions have room for all marks, and mark no stock
+-- (AreRegions)
+pub AreRegions-of : (regions : FinMap nat_cmp Region) → AreRegions regions (nothing_marked (len regions)) (nothing_marked (len regions)) (nothing_marked (len regions)) empty
+AreRegions-of regions = record { within = within-none; rows_fit = Room-of regions; markets_fit = Room-of regions; stocks_fit = Room-of regions }
+
+module _ (regions : FinMap nat_cmp Region) (rows markets stocks : RoomySet) (items : Things) (h : AreRegions regions rows markets stocks items) where
+  -- once all dirty sets are emptied, all marks still have room, and each region with a marked stock is marked
+  -- (AreRegions)
+  pub AreRegions-without_marks : AreRegions regions (cleared rows) (cleared markets) (cleared stocks) empty
+  AreRegions-without_marks = record {
+    within = within-none;
+    rows_fit = Room-unmarked regions rows.numbers rows.room h.rows_fit;
+    markets_fit = Room-unmarked regions markets.numbers markets.room h.markets_fit;
+    stocks_fit = Room-unmarked regions stocks.numbers stocks.room h.stocks_fit;
+  }
+
+  -- once a region's row is marked, all marks still have room, and each region with a marked stock is marked
+  -- (AreRegions)
+  pub AreRegions-row : (n : ℕ) → AreRegions regions (marking regions rows n) markets stocks items
+  AreRegions-row n = record { within = h.within; rows_fit = Room-put regions rows.numbers rows.room n (get regions n) refl h.rows_fit; markets_fit = h.markets_fit; stocks_fit = h.stocks_fit }
+
+  module _ (n : ℕ) (r : Region) (is : get regions n ≡ Some r) where
+    -- once one stock of a region, and so the region, is marked, all marks still have room, and each region with a
+    -- marked stock is marked (AreRegions)
+    pub AreRegions-item : (group : FinMap nat_cmp (Prim.Unit {0})) → AreRegions regions rows (marking regions markets n) stocks (insert items n group)
+    AreRegions-item group = record {
+      within = subst (λ o. AreStocksWithin (marked_with markets.numbers n o) stocks.numbers (insert items n group)) (sym is) (record {
+        stocks_within = within_more _ markets.numbers n h.within.stocks_within;
+        items_within = within_things items markets.numbers n group h.within.items_within;
+      });
+      rows_fit = h.rows_fit;
+      markets_fit = Room-put regions markets.numbers markets.room n (get regions n) refl h.markets_fit;
+      stocks_fit = h.stocks_fit;
+    }
+
+    -- once all stocks of a region, and so the region, are marked, all marks still have room, and each region with a
+    -- marked stock is marked (AreRegions)
+    pub AreRegions-stocks : AreRegions regions rows (marking regions markets n) (marking regions stocks n) items
+    AreRegions-stocks = record {
+      within = subst (λ o. AreStocksWithin (marked_with markets.numbers n o) (marked_with stocks.numbers n o) items) (sym is) (record {
+        stocks_within = within_both stocks.numbers markets.numbers n h.within.stocks_within;
+        items_within = within_more _ markets.numbers n h.within.items_within;
+      });
+      rows_fit = h.rows_fit;
+      markets_fit = Room-put regions markets.numbers markets.room n (get regions n) refl h.markets_fit;
+      stocks_fit = Room-put regions stocks.numbers stocks.room n (get regions n) refl h.stocks_fit;
+    }
+
+  -- once the region under a number is replaced by another, all marks still have room, and each region with a marked
+  -- stock is marked (AreRegions)
+  pub AreRegions-over : (n : ℕ) (r s : Region) → get regions n ≡ Some r → AreRegions (insert regions n s) rows markets stocks items
+  AreRegions-over n r s is = record {
+    within = h.within;
+    rows_fit = Room-over regions rows.numbers rows.room n s (ap is_some is) h.rows_fit;
+    markets_fit = Room-over regions markets.numbers markets.room n s (ap is_some is) h.markets_fit;
+    stocks_fit = Room-over regions stocks.numbers stocks.room n s (ap is_some is) h.stocks_fit;
+  }

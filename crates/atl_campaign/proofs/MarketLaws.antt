@@ -1,0 +1,29 @@
+-- A law of markets: an item that has a market in a region is one of the world's items.
+use Rattle.std.proofs.Common.{◌≡◌, ℕ, ◌<◌, Option, Some, None, is_some, IsSome, length, true, refl, sym, ap, ◌∙◌, arith}
+use Rattle.std.specs.Prelude.{option_and_then, option_map}
+use Rattle.std.proofs.lemmas.Bool.{false≢true}
+use Rattle.std.specs.Ordering.{nat_cmp}
+use Rattle.std.specs.Cmp.{nat_cmp_total}
+use Rattle.std.specs.FinMap.{FinMap, empty, get, get-empty, nat_cmp-IsAntisymmetric, same_map}
+use Rattle.atl_world.specs.ByNumber.{market_of}
+use Rattle.atl_world.specs.Worlds.{IsWorld, WorldValue, without_market, without_markets}
+use Rattle.atl_world.specs.declared.world.Market.{Market}
+use Rattle.atl_world.specs.declared.world.RegionPlan.{RegionPlan}
+use Rattle.atl_world.proofs.MadeLaws.{get-mapped}
+use Rattle.atl_campaign.specs.Campaign.{CampaignValue}
+use Rattle.atl_campaign.specs.Good.{AreKnown, HasNoStocks}
+use Rattle.atl_campaign.proofs.RuleLaws.{free_from}
+
+-- an item that has a market in a region is one of the world's items
+pub market_known : (w : WorldValue) → IsWorld w → (n i : ℕ) → IsSome (market_of w n i) → i < length w.items
+market_known w world n i some = by_plan (get w.regions n) refl some
+  where
+    -- an item that has a market in a region of the world is one of the world's items
+    by_market : (p : RegionPlan) (o : Option Market) → get w.regions n ≡ Some p → get p.markets i ≡ o → is_some o ≡ true → i < length w.items
+    by_market p None there is e = absurd (false≢true e)
+    by_market p (Some m) there is e = let market = (world.regions n p there).markets i m is in omega (arith, market.number_is, market.item)
+
+    -- an item that has a market in region n is one of the world's items, whether region n is there or not
+    by_plan : (o : Option RegionPlan) → get w.regions n ≡ o → is_some (option_and_then (λ p. get p.markets i) o) ≡ true → i < length w.items
+    by_plan None there e = absurd (false≢true e)
+    by_plan (Some p) there e = by_market p (get p.markets i) there refl e

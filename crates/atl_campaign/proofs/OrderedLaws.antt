@@ -1,0 +1,139 @@
+-- Laws of the list of the numbers of a map whose values pass a test: how it changes as a value is added or replaced.
+use Rattle.std.proofs.Common.{◌≡◌, ℕ, suc, ◌+◌, not, ◌<◌, Bool, true, false, cond, nat_le, List, [], ◌∷◌, ◌++◌, map, filter, take, drop, Some, None, refl, sym, ap, ◌∙◌, arith}
+use Rattle.std.specs.declared.cmp.Ordering.TheVariants.{Less, Equal, Greater}
+use Rattle.std.specs.Ordering.{nat_cmp, is_lt, is_eq}
+use Rattle.std.specs.Cmp.{nat_cmp_total, ranked}
+use Rattle.std.specs.FinMap.{FinMap, get, insert, find, put, entries, entries_sorted, entries-insert, get-entries, get-remove, is_sorted}
+use Rattle.std.specs.FinMap as keyed
+use Rattle.std.specs.FinMap.Entries.{by_order, below_all}
+use Rattle.std.proofs.lemmas.Bool.{and_parts, false≢true}
+use Rattle.std.proofs.lemmas.Bool.Decides.{nat_tests}
+use Rattle.atl_world.specs.Sums.{numbers_where}
+use Rattle.atl_world.proofs.SumLaws.{chosen-cons, numbers_where-insert_other, put_back, put_over}
+use Rattle.std.specs.List.{remove}
+use Rattle.atl_campaign.specs.Ordered.{first_above, put_number, take_number}
+use Rattle.atl_records.proofs.EveryLaws.{is_true, none_some}
+
+-- ---- put_number and take_number as recursions
+-- n is put in front of a first element x if n is at most x (t), and else into the rest of the list
+put_step : (t : Bool) (n x : ℕ) (xs : List ℕ) → take (cond (not t) (1 + first_above n xs) 0) (x ∷ xs) ++ n ∷ drop (cond (not t) (1 + first_above n xs) 0) (x ∷ xs) ≡ cond t (n ∷ x ∷ xs) (x ∷ put_number n xs)
+unfolding put_number
+put_step true n x xs = refl
+put_step false n x xs = let e : 1 + first_above n xs ≡ suc (first_above n xs) = omega arith in ap (λ i. take i (x ∷ xs) ++ n ∷ drop i (x ∷ xs)) e
+
+-- a number is put before a first element that it is at most, else into the rest
+pub put_number-cons : (n x : ℕ) (xs : List ℕ) → put_number n (x ∷ xs) ≡ cond (nat_le n x) (n ∷ x ∷ xs) (x ∷ put_number n xs)
+unfolding put_number
+put_number-cons n x xs = put_step (nat_le n x) n x xs
+
+-- a number put into the empty list is alone
+pub put_number-nil : (n : ℕ) → put_number n [] ≡ n ∷ []
+unfolding put_number
+put_number-nil n = refl
+
+-- taking n out removes a first element x if n is at most x (t), and else takes n out of the rest of the list
+take_step : (t : Bool) (n x : ℕ) (xs : List ℕ) → remove (x ∷ xs) (cond (not t) (1 + first_above n xs) 0) ≡ cond t xs (x ∷ take_number n xs)
+unfolding take_number
+take_step true n x xs = refl
+take_step false n x xs = let e : 1 + first_above n xs ≡ suc (first_above n xs) = omega arith in ap (remove (x ∷ xs)) e
+
+-- take_number removes a first element that n is at most, and else takes n out of the rest
+pub take_number-cons : (n x : ℕ) (xs : List ℕ) → take_number n (x ∷ xs) ≡ cond (nat_le n x) xs (x ∷ take_number n xs)
+unfolding take_number
+take_number-cons n x xs = take_step (nat_le n x) n x xs
+
+-- taking a number out of the empty list leaves it empty
+pub take_number-nil : (n : ℕ) → take_number n [] ≡ []
+unfolding take_number
+take_number-nil n = refl
+
+-- a number is at most itself
+itself : (n : ℕ) → nat_le n n ≡ true
+itself n = grind (arith, nat_tests)
+
+-- taking n out of a list that begins with n leaves the rest
+taken_first : (n : ℕ) (xs : List ℕ) → take_number n (n ∷ xs) ≡ xs
+taken_first n xs = take_number-cons n n xs ∙ ap (λ b. cond b xs (n ∷ take_number n xs)) (itself n)
+
+-- putting a number in and taking it out again gives the list back
+pub taken_put : (n : ℕ) (xs : List ℕ) → take_number n (put_number n xs) ≡ xs
+taken_put n [] = ap (take_number n) (put_number-nil n) ∙ taken_first n []
+taken_put n (x ∷ xs) =
+    ap (take_number n) (put_number-cons n x xs) ∙ elim (nat_le n x) as (λ b. nat_le n x ≡ b → take_number n (cond b (n ∷ x ∷ xs) (x ∷ put_number n xs)) ≡ x ∷ xs) [
+      | true ↦ λ _. taken_first n (x ∷ xs)
+      | false ↦ λ e. take_number-cons n x (put_number n xs) ∙ ap (λ b. cond b (put_number n xs) (x ∷ take_number n (put_number n xs))) e ∙ ap (λ ys. x ∷ ys) (taken_put n xs)
+    ] refl
+
+-- ---- the numbers whose values pass a test
+-- if comparing k with q gives less, k is less than q
+pub below : (k q : ℕ) → is_lt (nat_cmp k q) ≡ true → k < q
+below k q h =
+    elim (nat_cmp k q) as (λ r. nat_cmp k q ≡ r → is_lt r ≡ true → k < q) [
+      | Less ↦ λ e _. ranked k q Less (sym e)
+      | Equal ↦ λ e g. absurd (false≢true g)
+      | Greater ↦ λ e g. absurd (false≢true g)
+    ] refl h
+
+-- if n comes first once it is put into ys, it also does if x, which is greater, is in front of ys (where t is true)
+first_holds : (n x : ℕ) (t : Bool) (xs ys : List ℕ) → n < x → put_number n ys ≡ n ∷ ys → put_number n (cond t (x ∷ ys) ys) ≡ n ∷ cond t (x ∷ ys) ys
+first_holds n x true xs ys l h = let e : nat_le n x ≡ true = grind (arith, nat_tests) in put_number-cons n x ys ∙ ap (λ b. cond b (n ∷ x ∷ ys) (x ∷ put_number n ys)) e
+first_holds n x false xs ys l h = h
+
+-- putting n into a list leaves a lower number x in front, whether x is listed (t) or not
+later_step : (n x : ℕ) (t : Bool) (ys zs : List ℕ) → x < n → zs ≡ put_number n ys → cond t (x ∷ zs) zs ≡ put_number n (cond t (x ∷ ys) ys)
+later_step n x true ys zs l h = let e : nat_le n x ≡ false = grind (arith, nat_tests) in ap (λ q. x ∷ q) h ∙ sym (put_number-cons n x ys ∙ ap (λ b. cond b (n ∷ x ∷ ys) (x ∷ put_number n ys)) e)
+later_step n x false ys zs l h = h
+
+-- a number compares equal to itself
+ties : (k : ℕ) → is_eq (nat_cmp k k) ≡ true
+ties k = elim (nat_cmp k k) as (λ o. nat_cmp k k ≡ o → is_eq o ≡ true) [
+  | Less ↦ λ e. let l = ranked k k Less (sym e) in absurd (omega arith)
+  | Equal ↦ λ _. refl
+  | Greater ↦ λ e. let l = ranked k k Greater (sym e) in absurd (omega arith)
+] refl
+
+module _ {X : Type 0} (p : X → Bool) where
+  -- the numbers of the entries that pass the test
+  abbrev chosen : List (ℕ × X) → List ℕ
+  chosen es = map (λ e. e.0) (filter (λ e. p e.1) es)
+
+  -- a number below those of all entries comes first once it is put among the chosen numbers
+  put_first : (k : ℕ) (es : List (ℕ × X)) → is_sorted nat_cmp es ≡ true → (e : ℕ × X) → k < e.0 → below_all nat_cmp e.0 es ≡ true → put_number k (chosen (e ∷ es)) ≡ k ∷ chosen (e ∷ es)
+  put_first k [] s e l b = ap (put_number k) (chosen-cons p e []) ∙ first_holds k e.0 (p e.1) [] [] l (put_number-nil k) ∙ ap (λ ns. k ∷ ns) (sym (chosen-cons p e []))
+  put_first k (f ∷ es) s e l b =
+      let rest : put_number k (chosen (f ∷ es)) ≡ k ∷ chosen (f ∷ es) = put_first k es (and_parts _ _ s).1 f (omega (arith, below e.0 f.0 (and_parts _ _ b).0)) (and_parts _ _ s).0 in
+      ap (put_number k) (chosen-cons p e (f ∷ es)) ∙ first_holds k e.0 (p e.1) [] (chosen (f ∷ es)) l rest ∙ ap (λ ns. k ∷ ns) (sym (chosen-cons p e (f ∷ es)))
+
+  -- putting a new entry that passes the test into sorted entries puts its number among the chosen numbers
+  chosen-put_new : (k : ℕ) (v : X) → p v ≡ true → (es : List (ℕ × X)) → is_sorted nat_cmp es ≡ true → find nat_cmp k es ≡ None → chosen (put nat_cmp k v es) ≡ put_number k (chosen es)
+  chosen-put_new k v h [] s g = chosen-cons p (k, v) [] ∙ ap (λ b. cond b (k ∷ []) []) h ∙ sym (put_number-nil k)
+  chosen-put_new k v h (e ∷ es) s g =
+      elim (nat_cmp k e.0) as (λ r. nat_cmp k e.0 ≡ r → cond (is_eq r) (Some e.1) (find nat_cmp k es) ≡ None → chosen (by_order r ((k, v) ∷ e ∷ es) ((e.0, v) ∷ es) (e ∷ put nat_cmp k v es)) ≡ put_number k (chosen (e ∷ es))) [
+        | Less ↦ λ l _. chosen-cons p (k, v) (e ∷ es) ∙ ap (λ b. cond b (k ∷ chosen (e ∷ es)) (chosen (e ∷ es))) h ∙ sym (put_first k es (and_parts _ _ s).1 e (ranked k e.0 Less (sym l)) (and_parts _ _ s).0)
+        | Equal ↦ λ _ g. none_some e.1 (sym g)
+        | Greater ↦ λ l g. chosen-cons p e (put nat_cmp k v es) ∙ later_step k e.0 (p e.1) (chosen es) (chosen (put nat_cmp k v es)) (ranked k e.0 Greater (sym l)) (chosen-put_new k v h es (and_parts _ _ s).1 g) ∙ ap (put_number k) (sym (chosen-cons p e es))
+      ] refl g
+
+  -- inserting a new value that passes the test puts its number into the list of passing numbers
+  pub numbers_where-insert_new : (m : FinMap nat_cmp X) (k : ℕ) (v : X) → get m k ≡ None → p v ≡ true → numbers_where p (insert m k v) ≡ put_number k (numbers_where p m)
+  numbers_where-insert_new m k v fresh h =
+      ap chosen (entries-insert nat_cmp_total m k v) ∙ chosen-put_new k v h (entries m) (is_true _ (entries_sorted m)) (sym (get-entries m k) ∙ fresh)
+
+  -- a number that is removed from a map has no value there
+  removed : (m : FinMap nat_cmp X) (k : ℕ) → get (keyed.remove m k) k ≡ None
+  removed m k = get-remove nat_cmp_total m k k ∙ ap (λ b. cond b None (get m k)) (ties k)
+
+  -- replacing a value that passed by one that does not takes its number out of the list of passing numbers
+  pub numbers_where-lost : (m : FinMap nat_cmp X) (k : ℕ) (u v : X) → get m k ≡ Some u → p u ≡ true → p v ≡ false → numbers_where p (insert m k v) ≡ take_number k (numbers_where p m)
+  numbers_where-lost m k u v is passed fails =
+      let base = keyed.remove m k in
+      let before : numbers_where p m ≡ put_number k (numbers_where p base) = ap (numbers_where p) (put_back m k u is) ∙ numbers_where-insert_new base k u (removed m k) passed in
+      let after : numbers_where p (insert m k v) ≡ numbers_where p base = ap (numbers_where p) (put_over m k v) ∙ numbers_where-insert_other p base k v (removed m k) fails in
+      after ∙ sym (taken_put k (numbers_where p base)) ∙ ap (take_number k) (sym before)
+
+  -- replacing a value that did not pass by one that does puts its number into the list of passing numbers
+  pub numbers_where-gained : (m : FinMap nat_cmp X) (k : ℕ) (u v : X) → get m k ≡ Some u → p u ≡ false → p v ≡ true → numbers_where p (insert m k v) ≡ put_number k (numbers_where p m)
+  numbers_where-gained m k u v is failed passes =
+      let base = keyed.remove m k in
+      let before : numbers_where p m ≡ numbers_where p base = ap (numbers_where p) (put_back m k u is) ∙ numbers_where-insert_other p base k u (removed m k) failed in
+      ap (numbers_where p) (put_over m k v) ∙ numbers_where-insert_new base k v (removed m k) passes ∙ ap (put_number k) (sym before)

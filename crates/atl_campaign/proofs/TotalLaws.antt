@@ -1,0 +1,22 @@
+-- A law of totals: a new unit adds what it holds.
+use Rattle.std.proofs.Common.{◌≡◌, ℕ, ◌+◌, None, ap, ◌∙◌, arith}
+use Rattle.std.specs.FinMap.{get}
+use Rattle.atl_world.specs.Sums.{sum_over}
+use Rattle.atl_world.proofs.SumLaws.{sum_over-insert_new}
+use Rattle.atl_records.specs.declared.books.Thing.{Thing}
+use Rattle.atl_records.specs.declared.records.Region.{Region}
+use Rattle.atl_records.specs.declared.records.Unit.{Unit}
+use Rattle.atl_campaign.specs.Campaign.{CampaignValue, with_unit}
+use Rattle.atl_records.specs.Amounts.{region_amount, unit_amount}
+use Rattle.atl_campaign.specs.Totals.{total}
+
+-- a term added to the first part of a sum can be added to the whole sum
+later : (a b n : ℕ) → (a + n) + b ≡ (a + b) + n
+later a b n = omega arith
+
+-- a new unit raises the total of each thing by what it holds of the thing
+pub total-with_unit : (c : CampaignValue) (n : ℕ) (u : Unit) (t : Thing) → get c.units n ≡ None → total (with_unit c n u) t ≡ total c t + unit_amount t u.holding
+unfolding total
+total-with_unit c n u t fresh =
+    ap (λ k. k + sum_over (λ (r : Region). region_amount t r) c.regions) (sum_over-insert_new (λ (v : Unit). unit_amount t v.holding) c.units n u fresh)
+    ∙ later (sum_over (λ (v : Unit). unit_amount t v.holding) c.units) (sum_over (λ (r : Region). region_amount t r) c.regions) (unit_amount t u.holding)

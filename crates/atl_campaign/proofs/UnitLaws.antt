@@ -1,0 +1,216 @@
+-- Laws of AreUnits, the units' invariant: there is room for all marks, and a unit with a marked part is marked.
+use Rattle.std.proofs.Common.{◌≡◌, ℕ, ◌+◌, ◌≤◌, Bool, true, false, ◌||◌, cond, Option, Some, None, refl, sym, ap, ◌∙◌, arith}
+use Rattle.std.specs.Prelude.{is_some}
+use Rattle.std.specs.Ordering.{nat_cmp, eq_by_cmp}
+use Rattle.std.specs.Cmp.{nat_cmp_total}
+use Rattle.std.specs.FinMap.{FinMap, get, get-empty, get-insert, insert, remove, len, empty}
+use Rattle.std.specs.FinSet as set
+use Rattle.std.proofs.lemmas.Bool.{false≢true}
+use Rattle.atl_world.specs.RoomySets.{RoomySet, HasRoomForMarks}
+use Rattle.atl_world.proofs.GeneralLaws.{one_more}
+use Rattle.atl_world.proofs.TrackLaws.{Room-empty, Room-of, Room-unmarked, Room-lent, Room-over, Room-inserted, Room-without, fits-inserted}
+use Rattle.atl_records.specs.declared.records.Unit.{Unit}
+use Rattle.atl_campaign.specs.Marks.{Things, AreWithin}
+use Rattle.atl_campaign.specs.UnitRoom.{AreUnits}
+use Rattle.atl_campaign.specs.Roster.{Roster}
+
+-- ---- what is marked
+-- if c implies d, b or c implies b or d
+either : (b c d : Bool) → (c ≡ true → d ≡ true) → (b || c) ≡ true → (b || d) ≡ true
+either true c d h e = refl
+either false c d h e = h e
+
+-- if o being Some implies d, `cond b (Some v) o` being Some implies b or d
+either_there : {V : Type 0} (b : Bool) (v : V) (o : Option V) (d : Bool) → (is_some o ≡ true → d ≡ true) → is_some (cond b (Some v) o) ≡ true → (b || d) ≡ true
+either_there true v o d h e = refl
+either_there false v o d h e = h e
+
+-- `b or d` is true if d is
+more : (b d : Bool) → d ≡ true → (b || d) ≡ true
+more true d e = refl
+more false d e = e
+
+-- if a set is within another, it still is once n is added to both
+pub within_both : (g r : set.FinSet nat_cmp) (n : ℕ) → ((q : ℕ) → set.contains g q ≡ true → set.contains r q ≡ true) → (q : ℕ) → set.contains (set.insert g n) q ≡ true → set.contains (set.insert r n) q ≡ true
+within_both g r n h q e =
+    set.contains-insert nat_cmp_total r n q ∙ either (eq_by_cmp nat_cmp q n) (set.contains g q) (set.contains r q) (h q) (sym (set.contains-insert nat_cmp_total g n q) ∙ e)
+
+-- if all that `marked` is true of is in a set, it is in the set with n added
+pub within_more : (marked : ℕ → Bool) (r : set.FinSet nat_cmp) (n : ℕ) → ((q : ℕ) → marked q ≡ true → set.contains r q ≡ true) → (q : ℕ) → marked q ≡ true → set.contains (set.insert r n) q ≡ true
+within_more marked r n h q e = set.contains-insert nat_cmp_total r n q ∙ more (eq_by_cmp nat_cmp q n) (set.contains r q) (h q e)
+
+-- if all units that a map has things of are in a set, they still are once one more unit is added to both
+pub within_things : {V : Type 0} (g : FinMap nat_cmp V) (r : set.FinSet nat_cmp) (n : ℕ) (v : V) → ((q : ℕ) → is_some (get g q) ≡ true → set.contains r q ≡ true) → (q : ℕ) → is_some (get (insert g n v) q) ≡ true → set.contains (set.insert r n) q ≡ true
+within_things g r n v h q e =
+    set.contains-insert nat_cmp_total r n q ∙ either_there (eq_by_cmp nat_cmp q n) v (get g q) (set.contains r q) (h q) (sym (ap is_some (get-insert nat_cmp_total g n v q)) ∙ e)
+
+-- empty dirty sets mark no part of a unit, so each unit with a marked part is marked (AreWithin)
+within-none : AreWithin set.empty set.empty set.empty empty empty
+within-none = record { rows_within = λ q e. e; goods_within = λ q e. e; items_within = nothing; skills_within = nothing }
+  where
+    -- nothing is marked in an empty map of marks
+    nothing : (q : ℕ) → is_some (get {X = FinMap nat_cmp (Prim.Unit {0})} {R = nat_cmp} empty q) ≡ true → set.contains {R = nat_cmp} set.empty q ≡ true
+    nothing q e = absurd (false≢true (sym (ap is_some (get-empty nat_cmp q)) ∙ e))
+
+module _ (marks rows goods : set.FinSet nat_cmp) (items skills : Things) (n : ℕ) (h : AreWithin marks rows goods items skills) where
+  -- each unit with a marked part is still marked (AreWithin) once a unit is marked with its row and its goods
+  within-whole : AreWithin (set.insert marks n) (set.insert rows n) (set.insert goods n) items skills
+  within-whole = record {
+    rows_within = within_both rows marks n h.rows_within;
+    goods_within = within_both goods marks n h.goods_within;
+    items_within = within_more _ marks n h.items_within;
+    skills_within = within_more _ marks n h.skills_within;
+  }
+
+  -- each unit with a marked part is still marked (AreWithin) once a unit and its row are marked
+  within-row : AreWithin (set.insert marks n) (set.insert rows n) goods items skills
+  within-row = record {
+    rows_within = within_both rows marks n h.rows_within;
+    goods_within = within_more _ marks n h.goods_within;
+    items_within = within_more _ marks n h.items_within;
+    skills_within = within_more _ marks n h.skills_within;
+  }
+
+  -- each unit with a marked part is still marked (AreWithin) once a unit and some items of it are marked
+  within-item : (group : FinMap nat_cmp (Prim.Unit {0})) → AreWithin (set.insert marks n) rows goods (insert items n group) skills
+  within-item group = record {
+    rows_within = within_more _ marks n h.rows_within;
+    goods_within = within_more _ marks n h.goods_within;
+    items_within = within_things items marks n group h.items_within;
+    skills_within = within_more _ marks n h.skills_within;
+  }
+
+  -- each unit with a marked part is still marked (AreWithin) once a unit and some skills of it are marked
+  within-skill : (group : FinMap nat_cmp (Prim.Unit {0})) → AreWithin (set.insert marks n) rows goods items (insert skills n group)
+  within-skill group = record {
+    rows_within = within_more _ marks n h.rows_within;
+    goods_within = within_more _ marks n h.goods_within;
+    items_within = within_more _ marks n h.items_within;
+    skills_within = within_things skills marks n group h.skills_within;
+  }
+
+-- ---- units
+
+-- the dirty set with number n added
+abbrev marking : RoomySet → ℕ → RoomySet
+marking marks n = record marks { numbers = set.insert marks.numbers n }
+
+-- the dirty set emptied, with the same room
+abbrev cleared : RoomySet → RoomySet
+cleared marks = record marks { numbers = set.empty }
+
+-- an empty dirty set with the given room
+abbrev nothing_marked : ℕ → RoomySet
+nothing_marked room = record { numbers = set.empty; room = room }
+
+-- without units, empty dirty sets without room have room for all marks, and mark no part of a unit (AreUnits)
+pub AreUnits-none : AreUnits empty (nothing_marked 0) (nothing_marked 0) (nothing_marked 0) empty empty
+AreUnits-none = record { within = within-none; marks_fit = Room-empty Unit; rows_fit = Room-empty Unit; goods_fit = Room-empty Unit }
+
+-- empty dirty sets with room for as many numbers as there are units have room for all marks, and mark no part of a unit
+-- (AreUnits)
+pub AreUnits-of : (units : FinMap nat_cmp Unit) → AreUnits units (nothing_marked (len units)) (nothing_marked (len units)) (nothing_marked (len units)) empty empty
+AreUnits-of units = record { within = within-none; marks_fit = Room-of units; rows_fit = Room-of units; goods_fit = Room-of units }
+
+module _ (units : FinMap nat_cmp Unit) (marks rows goods : RoomySet) (items skills : Things) where
+  -- before a change, there is room for all marks of units, and each unit with a marked part is marked (AreUnits)
+  abbrev Before : Type 0
+  Before = AreUnits units marks rows goods items skills
+
+  -- once all dirty sets are emptied, all marks still have room, and each unit with a marked part is marked (AreUnits)
+  pub AreUnits-without_marks : Before → AreUnits units (cleared marks) (cleared rows) (cleared goods) empty empty
+  AreUnits-without_marks h = record {
+    within = within-none;
+    marks_fit = Room-unmarked units marks.numbers marks.room h.marks_fit;
+    rows_fit = Room-unmarked units rows.numbers rows.room h.rows_fit;
+    goods_fit = Room-unmarked units goods.numbers goods.room h.goods_fit;
+  }
+
+  -- once a lent unit is replaced, and marked with its row and its goods, all marks still have room, and each unit with
+  -- a marked part is marked (AreUnits)
+  pub AreUnits-lent : (n : ℕ) (u w : Unit) → get units n ≡ Some u → Before → AreUnits (insert units n w) (marking marks n) (marking rows n) (marking goods n) items skills
+  AreUnits-lent n u w is h = record {
+    within = within-whole marks.numbers rows.numbers goods.numbers items skills n h.within;
+    marks_fit = Room-lent units marks.numbers marks.room n (Some u) w is refl h.marks_fit;
+    rows_fit = Room-lent units rows.numbers rows.room n (Some u) w is refl h.rows_fit;
+    goods_fit = Room-lent units goods.numbers goods.room n (Some u) w is refl h.goods_fit;
+  }
+
+  -- once a unit's row is changed and marked, all marks still have room, and each unit with a marked part is marked
+  -- (AreUnits)
+  pub AreUnits-row : (n : ℕ) (u w : Unit) → get units n ≡ Some u → Before → AreUnits (insert units n w) (marking marks n) (marking rows n) goods items skills
+  AreUnits-row n u w is h = record {
+    within = within-row marks.numbers rows.numbers goods.numbers items skills n h.within;
+    marks_fit = Room-lent units marks.numbers marks.room n (Some u) w is refl h.marks_fit;
+    rows_fit = Room-lent units rows.numbers rows.room n (Some u) w is refl h.rows_fit;
+    goods_fit = Room-over units goods.numbers goods.room n w (ap is_some is) h.goods_fit;
+  }
+
+  -- once an item of a unit is changed and marked, all marks still have room, and each unit with a marked part is marked
+  -- (AreUnits)
+  pub AreUnits-item : (n : ℕ) (u w : Unit) (group : FinMap nat_cmp (Prim.Unit {0})) → get units n ≡ Some u → Before → AreUnits (insert units n w) (marking marks n) rows goods (insert items n group) skills
+  AreUnits-item n u w group is h = record {
+    within = within-item marks.numbers rows.numbers goods.numbers items skills n h.within group;
+    marks_fit = Room-lent units marks.numbers marks.room n (Some u) w is refl h.marks_fit;
+    rows_fit = Room-over units rows.numbers rows.room n w (ap is_some is) h.rows_fit;
+    goods_fit = Room-over units goods.numbers goods.room n w (ap is_some is) h.goods_fit;
+  }
+
+  -- once a skill of a unit is changed and marked, all marks still have room, and each unit with a marked part is marked
+  -- (AreUnits)
+  pub AreUnits-skill : (n : ℕ) (u w : Unit) (group : FinMap nat_cmp (Prim.Unit {0})) → get units n ≡ Some u → Before → AreUnits (insert units n w) (marking marks n) rows goods items (insert skills n group)
+  AreUnits-skill n u w group is h = record {
+    within = within-skill marks.numbers rows.numbers goods.numbers items skills n h.within group;
+    marks_fit = Room-lent units marks.numbers marks.room n (Some u) w is refl h.marks_fit;
+    rows_fit = Room-over units rows.numbers rows.room n w (ap is_some is) h.rows_fit;
+    goods_fit = Room-over units goods.numbers goods.room n w (ap is_some is) h.goods_fit;
+  }
+
+  -- once unit n, found as `o`, is removed and marked, all marks still have room, and each unit with a marked part is
+  -- marked (AreUnits)
+  gone_at : (n : ℕ) (o : Option Unit) → get units n ≡ o → is_some o ≡ true → Before → AreUnits (remove units n) (marking marks n) (marking rows n) (marking goods n) items skills
+  gone_at n None is there h = absurd (false≢true there)
+  gone_at n (Some u) is there h = record {
+    within = within-whole marks.numbers rows.numbers goods.numbers items skills n h.within;
+    marks_fit = Room-without units marks.numbers marks.room n (Some u) is h.marks_fit;
+    rows_fit = Room-without units rows.numbers rows.room n (Some u) is h.rows_fit;
+    goods_fit = Room-without units goods.numbers goods.room n (Some u) is h.goods_fit;
+  }
+
+  -- once a unit is removed and marked, all marks still have room, and each unit with a marked part is marked (AreUnits)
+  pub AreUnits-gone : (n : ℕ) → is_some (get units n) ≡ true → Before → AreUnits (remove units n) (marking marks n) (marking rows n) (marking goods n) items skills
+  AreUnits-gone n there h = gone_at n (get units n) refl there h
+
+-- ---- a unit that is new
+
+-- a dirty set with the same numbers as another, and room for one unit more
+pub record IsWider (units : FinMap nat_cmp Unit) (marks more : RoomySet) : Type 0 where
+  pub same : more.numbers ≡ marks.numbers
+  pub room : set.len marks.numbers + (len units + 1) ≤ more.room
+
+-- a dirty set with room for one unit more (IsWider) has room for the units with a new one
+room_inserted : (units : FinMap nat_cmp Unit) (marks more : RoomySet) (n : ℕ) (w : Unit) → IsWider units marks more → set.len more.numbers + len (insert units n w) ≤ more.room
+room_inserted units marks more n w h = let l = one_more units n w in let as_many = ap set.len h.same in omega (arith, h.room, l, as_many)
+
+-- a dirty set with room for one unit more (IsWider) has room for a new number
+pub fits-new : (units : FinMap nat_cmp Unit) (marks more : RoomySet) (n : ℕ) (w : Unit) → IsWider units marks more → set.len (set.insert more.numbers n) ≤ more.room
+fits-new units marks more n w h = fits-inserted units more.numbers more.room n w (room_inserted units marks more n w h)
+
+-- a dirty set with room for one unit more (IsWider) has room for all units once a new one is marked
+HasRoom-added : (units : FinMap nat_cmp Unit) (marks more : RoomySet) (n : ℕ) (w : Unit) → IsWider units marks more → HasRoomForMarks (insert units n w) (marking more n)
+HasRoom-added units marks more n w h = Room-inserted units more.numbers more.room n w (room_inserted units marks more n w h)
+
+-- once a new unit is added, and marked in dirty sets with room for one more, all marks still have room, and each unit
+-- with a marked part is marked (AreUnits)
+pub AreUnits-added : (units : FinMap nat_cmp Unit) (marks rows goods marks2 rows2 goods2 : RoomySet) (items skills : Things) (n : ℕ) (w : Unit) → IsWider units marks marks2 → IsWider units rows rows2 → IsWider units goods goods2
+    → AreUnits units marks rows goods items skills → AreUnits (insert units n w) (marking marks2 n) (marking rows2 n) (marking goods2 n) items skills
+AreUnits-added units marks rows goods marks2 rows2 goods2 items skills n w wider wider2 wider3 h = record {
+  within = rw (wider.same, wider2.same, wider3.same) (within-whole marks.numbers rows.numbers goods.numbers items skills n h.within);
+  marks_fit = HasRoom-added units marks marks2 n w wider;
+  rows_fit = HasRoom-added units rows rows2 n w wider2;
+  goods_fit = HasRoom-added units goods goods2 n w wider3;
+}
+
+-- replacing a roster's units by the same units changes nothing
+pub same_values : (r : Roster) (values : FinMap nat_cmp Unit) → values ≡ r.values → record r { values = values } ≡ r
+same_values r values e = ap (λ (v : FinMap nat_cmp Unit). record r { values = v }) e

@@ -1,0 +1,7 @@
+use Rattle.std.proofs.Common.{◌≡◌, drop}
+use Rattle.atl_records.specs.Books.{no_amounts}
+use Rattle.atl_campaign.specs.FromRows.{put_amounts}
+use Rattle.atl_campaign.proofs.assembly.books.books_of.Given as goal
+
+abbrev pub invariant-loop-row : goal.invariant-loop-row
+invariant-loop-row l = put_amounts (drop l.row-index l.rows) l.books ≡ put_amounts l.rows (no_amounts l.things)

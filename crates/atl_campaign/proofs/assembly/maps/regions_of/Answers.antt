@@ -1,0 +1,8 @@
+use Rattle.std.proofs.Common.{ap, ◌∙◌}
+use Rattle.atl_campaign.specs.Assembling.{give, with_market_row}
+use Rattle.atl_campaign.specs.FromRows.{as_u32}
+use Rattle.atl_campaign.proofs.GivingLaws.{regions_given}
+use Rattle.atl_campaign.proofs.assembly.maps.regions_of.Goals as goal
+
+pub returns : goal.returns
+returns c = c.in_ok-put_stocks.ensures ∙ ap (give (λ r. as_u32 r.region) with_market_row c.args.markets.now) c.in_ok-regions.ensures ∙ regions_given c.args.markets.now c.args.rows.now

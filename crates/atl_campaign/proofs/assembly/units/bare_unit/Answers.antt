@@ -1,0 +1,7 @@
+use Rattle.std.proofs.Common.{sym, subst}
+use Rattle.atl_records.specs.Holdings.{AreAmounts}
+use Rattle.atl_campaign.proofs.AssemblyLaws.{none_held}
+use Rattle.atl_campaign.proofs.assembly.units.bare_unit.Goals as goal
+
+pub new-holding-requires-clause-items : goal.new-holding-requires-clause-items
+new-holding-requires-clause-items c = subst AreAmounts (sym c.new-items.ensures) none_held

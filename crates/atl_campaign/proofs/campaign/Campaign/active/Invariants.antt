@@ -1,0 +1,7 @@
+use Rattle.std.proofs.Common.{◌≡◌, ◌++◌, not}
+use Rattle.atl_world.specs.Sums.{numbers_among}
+use Rattle.atl_campaign.specs.Campaign.{active}
+use Rattle.atl_campaign.proofs.campaign.Campaign.active.Given as goal
+
+abbrev pub invariant-loop-number : goal.invariant-loop-number
+invariant-loop-number l = l.numbers.items ++ numbers_among (λ f. not f.gone) l.number-iterator ≡ active l.self.value

@@ -1,0 +1,11 @@
+use Rattle.std.proofs.Common.{refl}
+use Rattle.atl_records.specs.declared.records.Unit.{Unit}
+use Rattle.atl_campaign.proofs.ListLaws.{AreUnitLists-changed}
+use Rattle.atl_campaign.proofs.campaign.Campaign.set_guard.Goals as goal
+
+pub invariant_of-self : goal.invariant_of-self
+invariant_of-self c =
+    rw c.set_guard.ensures record {
+      unit_lists = AreUnitLists-changed (λ (u : Unit). record u { holding = record u.holding { guard = c.args.guard } }) (λ u. refl) c.self.inside.units.values c.self.inside.lists c.args.unit c.self.invariant.unit_lists;
+      amounts = c.self.invariant.amounts;
+    }

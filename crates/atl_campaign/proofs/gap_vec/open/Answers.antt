@@ -1,0 +1,5 @@
+use Rattle.atl_campaign.proofs.FreeLaws.{inserted}
+use Rattle.atl_campaign.proofs.gap_vec.open.Goals as goal
+
+pub returns-then-len-free-clause-part : goal.returns-then-len-free-clause-part
+returns-then-len-free-clause-part g c = rw c.in_ok-insert.ensures.items (inserted c.args.items.now.items c.args.free c.args.place c.args.thing c.requires.within)

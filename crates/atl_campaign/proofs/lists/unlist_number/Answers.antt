@@ -1,0 +1,10 @@
+use Rattle.std.proofs.Common.{◌≡◌, None, sym, ap, ◌∙◌}
+use Rattle.std.specs.FinMap.{get}
+use Rattle.std.specs.Option.{option_copied_mut}
+use Rattle.atl_campaign.proofs.ListLaws.{none_taken}
+use Rattle.atl_campaign.proofs.lists.unlist_number.Goals as goal
+
+pub returns-in_default : goal.returns-in_default
+returns-in_default c =
+    let none : get c.args.lists.now c.args.key ≡ None = sym c.get_mut.ensures.value ∙ ap option_copied_mut c.in_default.is in
+    none_taken c.args.lists.now c.args.key c.args.number none

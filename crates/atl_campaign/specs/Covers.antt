@@ -1,0 +1,90 @@
+-- What change marks say of a campaign before and after some changes: all that is not marked is unchanged.
+use Rattle.std.specs.Prelude.{◌≡◌, ℕ, List, true, false, Option, Some, None, option_map}
+use Rattle.std.specs.Ordering.{nat_cmp}
+use Rattle.std.specs.FinMap.{FinMap, get, empty}
+use Rattle.std.specs.FinSet.{FinSet, contains}
+use Rattle.atl_records.specs.declared.books.Entry.{Entry}
+use Rattle.atl_records.specs.declared.books.Thing.{Thing}
+use Rattle.atl_records.specs.declared.records.Region.{Region}
+use Rattle.atl_records.specs.declared.records.Unit.{Unit}
+use Rattle.atl_records.specs.Books.{amount_in, amount_number}
+use Rattle.atl_campaign.specs.Marks.{Marks, Things, is_thing_marked}
+use Rattle.atl_campaign.specs.Campaign.{CampaignValue, MarkedCampaign}
+use Rattle.atl_campaign.specs.Stocks.{stock_of}
+
+-- both maps have the same value, or both none, under each number that is not marked
+abbrev pub SameBut : {V : Type 0} → FinSet nat_cmp → FinMap nat_cmp V → FinMap nat_cmp V → Type 0
+SameBut marks before after = (n : ℕ) → contains marks n ≡ false → get after n ≡ get before n
+
+-- a region without its stocks
+abbrev pub unstocked : Region → Region
+unstocked r = record r { stocks = empty }
+
+-- a unit without its goods: without items and days of study
+abbrev pub bare : Unit → Unit
+bare u = record u { holding = record u.holding { items = empty; days = empty } }
+
+-- the items of a unit; none for None
+abbrev pub items_under : Option Unit → FinMap nat_cmp ℕ
+items_under None = empty
+items_under (Some u) = u.holding.items
+
+-- the days of study of a unit, by skill; none for None
+abbrev pub days_under : Option Unit → FinMap nat_cmp ℕ
+days_under None = empty
+days_under (Some u) = u.holding.days
+
+-- both maps of units have the same amount of each item or skill (`under` picks which) that is not marked
+abbrev pub SameThings : FinSet nat_cmp → Things → (Option Unit → FinMap nat_cmp ℕ) → FinMap nat_cmp Unit → FinMap nat_cmp Unit → Type 0
+SameThings goods things under before after = (n thing : ℕ) → is_thing_marked goods things n thing ≡ false → get (under (get after n)) thing ≡ get (under (get before n)) thing
+
+-- what the campaign row says of a campaign: its month, its pass text and its next numbers
+abbrev pub own_row : CampaignValue → ℕ × (List ℕ × (ℕ × (ℕ × ℕ)))
+own_row c = (c.month, (c.pass, (c.next_faction, (c.next_unit, c.next_structure))))
+
+-- all that is not marked in m is the same in the campaigns before and after
+pub record Covers (m : Marks) (before after : CampaignValue) : Type 0 where
+  pub factions : SameBut m.factions before.factions after.factions
+  -- A region whose row is not marked is the same but for its stocks, or is missing in both.
+  pub regions : (n : ℕ) → contains m.regions n ≡ false → option_map unstocked (get after.regions n) ≡ option_map unstocked (get before.regions n)
+  -- A stock that is not marked is the same.
+  pub stocks : (n item : ℕ) → is_thing_marked m.stocks m.stock_items n item ≡ false → stock_of after n item ≡ stock_of before n item
+  pub structures : SameBut m.structures before.structures after.structures
+  pub mail : SameBut m.mail before.mail after.mail
+  pub reports : SameBut m.reports before.reports after.reports
+  -- A unit whose row is not marked is the same but for its goods, or is missing in both.
+  pub units : (n : ℕ) → contains m.rows n ≡ false → option_map bare (get after.units n) ≡ option_map bare (get before.units n)
+  pub items : SameThings m.goods m.items items_under before.units after.units
+  pub days : SameThings m.goods m.skills days_under before.units after.units
+  pub books : (e : Entry) (t : Thing) → contains m.books (amount_number e t) ≡ false → amount_in after.books e t ≡ amount_in before.books e t
+  pub row : m.row ≡ false → own_row after ≡ own_row before
+
+-- each number that was marked before is marked after
+abbrev pub StaysMarked : FinSet nat_cmp → FinSet nat_cmp → Type 0
+StaysMarked before after = (n : ℕ) → contains before n ≡ true → contains after n ≡ true
+
+-- each item, skill or stock that was marked, alone or with all of its unit or region, still is
+abbrev pub ThingsStayMarked : (goods : FinSet nat_cmp) (things : Things) (goods_after : FinSet nat_cmp) (things_after : Things) → Type 0
+ThingsStayMarked goods things goods_after things_after = (n thing : ℕ) → is_thing_marked goods things n thing ≡ true → is_thing_marked goods_after things_after n thing ≡ true
+
+-- all that was marked before is marked after
+pub record StayMarked (before after : Marks) : Type 0 where
+  pub factions : StaysMarked before.factions after.factions
+  pub regions : StaysMarked before.regions after.regions
+  pub markets : StaysMarked before.markets after.markets
+  pub stocks : ThingsStayMarked before.stocks before.stock_items after.stocks after.stock_items
+  pub structures : StaysMarked before.structures after.structures
+  pub mail : StaysMarked before.mail after.mail
+  pub reports : StaysMarked before.reports after.reports
+  pub units : StaysMarked before.units after.units
+  pub rows : StaysMarked before.rows after.rows
+  pub goods : StaysMarked before.goods after.goods
+  pub items : ThingsStayMarked before.goods before.items after.goods after.items
+  pub skills : ThingsStayMarked before.goods before.skills after.goods after.skills
+  pub books : StaysMarked before.books after.books
+  pub row : before.row ≡ true → after.row ≡ true
+
+-- from one marked campaign to another no mark is lost, and all that changed is marked
+pub record MarksChanges (before after : MarkedCampaign) : Type 0 where
+  pub stay : StayMarked before.marks after.marks
+  pub covers : Covers after.marks before.value after.value

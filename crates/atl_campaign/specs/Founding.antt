@@ -1,0 +1,27 @@
+-- The campaign right after founding. See docs/RULES.md, "Founding".
+use Rattle.std.specs.Prelude.{◌+◌, List, length, ℕ, pos}
+use Rattle.std.specs.FinMap.{empty}
+use Rattle.atl_world.specs.Worlds.{WorldValue}
+use Rattle.atl_world.specs.Sums.{sum_over, mapped}
+use Rattle.atl_world.specs.declared.world.RegionPlan.{RegionPlan}
+use Rattle.atl_records.specs.declared.books.Entry.TheVariants.{Founding}
+use Rattle.atl_records.specs.declared.books.Thing.TheVariants.{Money, People}
+use Rattle.atl_records.specs.declared.records.Region.{Region}
+use Rattle.atl_records.specs.Books.{after_booking, no_amounts}
+use Rattle.atl_campaign.specs.Campaign.{CampaignValue, empty_campaign}
+
+-- a region as it is founded: with the peasants and the money of the world text, and nothing in stock
+abbrev pub founded_region : RegionPlan → Region
+founded_region plan = record { peasants = plan.peasants; money = plan.money; stocks = empty }
+
+-- how many things the books of a world count: money, people, and each item
+abbrev pub things_of : WorldValue → ℕ
+things_of w = 2 + length w.items
+
+-- the campaign right after founding: month 0, the world's regions, what they hold booked, and no faction or unit
+unfoldable pub founded_of : WorldValue → List ℕ → CampaignValue
+founded_of w pass = let regions = mapped founded_region w.regions in record empty_campaign {
+  pass = pass;
+  regions = regions;
+  books = after_booking (after_booking (no_amounts (things_of w)) Founding Money (pos (sum_over (λ r. r.money) regions))) Founding People (pos (sum_over (λ r. r.peasants) regions));
+}

@@ -1,0 +1,135 @@
+-- How a campaign is read from the rows of its tables, also from rows that break rules. See docs/FORMATS.md, "Tables".
+use Rattle.std.specs.Prelude.{ℕ, ℤ, pos, negsuc, Bool, not, ◌==◌, ◌&&◌, nat_lt, min, List, [], ◌∷◌, filter, slice_index_or, if◌then◌else◌}
+use Rattle.std.specs.Option.{option_map_or}
+use Rattle.std.specs.Ordering.{nat_cmp}
+use Rattle.std.specs.FinMap.{FinMap, empty, insert}
+use Rattle.atl_world.specs.Worlds.{WorldValue}
+use Rattle.atl_records.specs.Limits.{most_u16, most_u32}
+use Rattle.atl_campaign.specs.declared.parts.Parts.{Parts}
+use Rattle.atl_campaign.specs.declared.parts.StoredCampaignRow.{StoredCampaignRow}
+use Rattle.atl_campaign.specs.declared.parts.StoredFaction.{StoredFaction}
+use Rattle.atl_campaign.specs.declared.parts.StoredRegion.{StoredRegion}
+use Rattle.atl_campaign.specs.declared.parts.StoredUnit.{StoredUnit}
+use Rattle.atl_campaign.specs.declared.parts.StoredHas.{StoredHas}
+use Rattle.atl_campaign.specs.declared.parts.StoredStructure.{StoredStructure}
+use Rattle.atl_campaign.specs.declared.parts.StoredBooks.{StoredBooks}
+use Rattle.atl_campaign.specs.declared.parts.StoredMarket.{StoredMarket}
+use Rattle.atl_records.specs.declared.records.Faction.{Faction}
+use Rattle.atl_records.specs.declared.records.Region.{Region}
+use Rattle.atl_records.specs.declared.records.Structure.{Structure}
+use Rattle.atl_records.specs.declared.records.Unit.{Unit}
+use Rattle.atl_records.specs.Books.{BooksValue, entry_numbered, no_amounts, thing_at, with_amount}
+use Rattle.atl_campaign.specs.Founding.{things_of}
+use Rattle.atl_campaign.specs.Rows.{is_zero}
+use Rattle.atl_campaign.specs.Campaign.{CampaignValue}
+
+-- ---- one value
+
+-- a number from 0 to `most` as it is, and `most` for any other
+abbrev pub clamp : ℕ → ℤ → ℕ
+clamp most (pos n) = min n most
+clamp most (negsuc n) = most
+
+-- a number of a row as one of 32 bits; a negative or larger one is read as the largest, which is above all limits
+abbrev pub as_u32 : ℤ → ℕ
+as_u32 z = clamp most_u32 z
+
+-- a number of a row as one of 16 bits; a negative or larger one is read as the largest
+abbrev pub as_u16 : ℤ → ℕ
+as_u16 z = clamp most_u16 z
+
+-- whether a flag of a row is set: any number but 0
+abbrev pub is_set : ℤ → Bool
+is_set z = not (is_zero z)
+
+-- ---- one row
+
+-- the faction that a row of `faction` says; it is gone if the row's flag is any number but 0
+abbrev pub faction_of : StoredFaction → Faction
+faction_of r = record { number = as_u32 r.number; joined_as = r.joined_as; name = r.name; pass = r.pass; gone = is_set r.gone }
+
+-- the structure that a row of `structure` says, without its number, which is its key
+abbrev pub structure_of : StoredStructure → Structure
+structure_of r = record { kind = as_u16 r.kind; name = r.name; region = as_u32 r.region; done = as_u32 r.done; owner = as_u32 r.owner }
+
+-- ---- the rows of a table
+
+-- the map with each row's value put under its number, in the order of the rows; a later row replaces an earlier one
+abbrev pub put_rows : {R V : Type 0} → (R → ℕ) → (R → V) → List R → FinMap nat_cmp V → FinMap nat_cmp V
+put_rows number value [] m = m
+put_rows number value (r ∷ rs) m = put_rows number value rs (insert m (number r) (value r))
+
+-- the values of rows by their numbers; of several rows with one number the last counts
+abbrev pub by_number : {R V : Type 0} → (R → ℕ) → (R → V) → List R → FinMap nat_cmp V
+by_number number value rows = put_rows number value rows empty
+
+-- whether a row of `has` is of unit n and of a sort: 0 items, 1 skills
+abbrev pub is_of : ℕ → ℕ → StoredHas → Bool
+is_of n sort r = (as_u32 r.unit == n) && (as_u32 r.sort == sort)
+
+-- the amounts that the rows of `has` give unit n: of items (sort 0) or of days of skills (sort 1), by their numbers
+abbrev pub things_had : ℕ → ℕ → List StoredHas → FinMap nat_cmp ℕ
+things_had n sort has = by_number (λ r. as_u32 r.thing) (λ r. as_u32 r.amount) (filter (is_of n sort) has)
+
+-- the unit that a row of `unit` says, with the given items and days of study
+abbrev pub unit_with : StoredUnit → FinMap nat_cmp ℕ → FinMap nat_cmp ℕ → Unit
+unit_with r items days = record {
+  faction = as_u32 r.faction;
+  region = as_u32 r.region;
+  structure = as_u32 r.structure;
+  holding = record { name = r.name; men = as_u32 r.men; money = as_u32 r.money; guard = is_set r.guard; items = items; days = days };
+}
+
+-- the unit that a row of `unit` says, with the items and days of study that the rows of `has` give to it
+abbrev pub unit_of : List StoredHas → StoredUnit → Unit
+unit_of has r = unit_with r (things_had (as_u32 r.number) 0 has) (things_had (as_u32 r.number) 1 has)
+
+-- the stocks of region n in the rows of `market`: amounts by the numbers of the items
+abbrev pub stocks_of : ℕ → List StoredMarket → FinMap nat_cmp ℕ
+stocks_of n markets = by_number (λ r. as_u32 r.item) (λ r. as_u32 r.stock) (filter (λ r. as_u32 r.region == n) markets)
+
+-- the region that a row of `region` says, with the given stocks
+abbrev pub region_with : StoredRegion → FinMap nat_cmp ℕ → Region
+region_with r stocks = record { peasants = as_u32 r.peasants; money = as_u32 r.money; stocks = stocks }
+
+-- the region that a row of `region` says, with the stocks that the rows of `market` give to it
+abbrev pub region_of : List StoredMarket → StoredRegion → Region
+region_of markets r = region_with r (stocks_of (as_u32 r.number) markets)
+
+-- the books with the amount of a row put in, if the row's entry exists and its thing is one of the books'
+abbrev pub with_books_row : BooksValue → StoredBooks → BooksValue
+with_books_row books r =
+    option_map_or (λ e. if nat_lt (as_u32 r.thing) books.things then with_amount books e (thing_at (as_u32 r.thing)) r.amount else books)
+    (entry_numbered (as_u32 r.entry)) books
+
+-- the books with the amount of each row put in, in the order of the rows
+abbrev pub put_amounts : List StoredBooks → BooksValue → BooksValue
+put_amounts [] books = books
+put_amounts (r ∷ rs) books = put_amounts rs (with_books_row books r)
+
+-- ---- the whole campaign
+
+-- what is read where there is no campaign row: all numbers 0, and no pass text
+abbrev pub no_campaign_row : StoredCampaignRow
+no_campaign_row = record { id = pos 0; format = pos 0; month = pos 0; next_faction = pos 0; next_unit = pos 0; next_structure = pos 0; pass = [] }
+
+-- the campaign row: the first row of the table `campaign`
+abbrev pub campaign_row_of : Parts → StoredCampaignRow
+campaign_row_of p = slice_index_or p.campaign 0 no_campaign_row
+
+-- the campaign that is read from rows, whether they keep the rules or not
+unfoldable pub campaign_of : WorldValue → Parts → CampaignValue
+campaign_of w p = record {
+  month = as_u32 (campaign_row_of p).month;
+  pass = (campaign_row_of p).pass;
+  next_faction = as_u32 (campaign_row_of p).next_faction;
+  next_unit = as_u32 (campaign_row_of p).next_unit;
+  next_structure = as_u32 (campaign_row_of p).next_structure;
+  factions = by_number (λ r. as_u32 r.number) faction_of p.factions;
+  regions = by_number (λ r. as_u32 r.number) (region_of p.markets) p.regions;
+  units = by_number (λ r. as_u32 r.number) (unit_of p.has) p.units;
+  structures = by_number (λ r. as_u32 r.number) structure_of p.structures;
+  mail = by_number (λ r. as_u32 r.faction) (λ r. r.text) p.mail;
+  reports = by_number (λ r. as_u32 r.faction) (λ r. r.text) p.reports;
+  books = put_amounts p.books (no_amounts (things_of w));
+}

@@ -1,0 +1,81 @@
+-- For proofs alone: the lists of units by region, faction and structure that a campaign keeps, and room for marks.
+use Rattle.std.specs.Prelude.{◌≡◌, ◌==◌, ◌≤◌, ◌*◌, ℕ, List, [], unwrap_or, Some, None, if◌then◌else◌}
+use Rattle.std.specs.Ordering.{nat_cmp}
+use Rattle.std.specs.FinMap.{FinMap, get, insert, remove}
+use Rattle.atl_world.specs.RoomySets.{RoomySet}
+use Rattle.atl_world.specs.Sums.{numbers_where}
+use Rattle.atl_records.specs.Limits.{entry_count}
+use Rattle.atl_campaign.specs.Marks.{AreOfThings}
+use Rattle.atl_records.specs.declared.records.Unit.{Unit}
+use Rattle.atl_campaign.specs.Ordered.{put_number, take_number}
+use Rattle.atl_campaign.specs.Campaign.{numbers_inside}
+use Rattle.atl_campaign.specs.declared.lists.ListKeys.{ListKeys}
+use Rattle.atl_campaign.specs.declared.lists.UnitLists.{UnitLists}
+
+-- the list under a key, which is empty where there is none
+abbrev pub list_of : FinMap nat_cmp (List ℕ) → ℕ → List ℕ
+list_of lists k = unwrap_or (get lists k) []
+
+-- the list under each key has the numbers of the units that belong to the key, in rising order
+abbrev pub AreLists : (Unit → ℕ) → FinMap nat_cmp Unit → FinMap nat_cmp (List ℕ) → Type 0
+AreLists belongs_to units lists = (k : ℕ) → list_of lists k ≡ numbers_where (λ u. belongs_to u == k) units
+
+-- both maps have the same list under each key
+abbrev pub SameLists : FinMap nat_cmp (List ℕ) → FinMap nat_cmp (List ℕ) → Type 0
+SameLists new old = (k : ℕ) → list_of new k ≡ list_of old k
+
+-- the lists with n put into the list of `key`, unless `key` is `other`
+abbrev pub listed_apart : FinMap nat_cmp (List ℕ) → ℕ → ℕ → ℕ → FinMap nat_cmp (List ℕ)
+listed_apart lists n key other = if key == other then lists else insert lists key (put_number n (list_of lists key))
+
+-- the lists with n taken out of the list of `key`, unless `key` is `other`
+abbrev pub unlisted_apart : FinMap nat_cmp (List ℕ) → ℕ → ℕ → ℕ → FinMap nat_cmp (List ℕ)
+unlisted_apart lists n key other = if key == other then lists else insert lists key (take_number n (list_of lists key))
+
+-- under each structure are the numbers of the units inside it, in rising order, and under 0 none
+abbrev pub AreInsideLists : FinMap nat_cmp Unit → FinMap nat_cmp (List ℕ) → Type 0
+AreInsideLists units lists = (s : ℕ) → list_of lists s ≡ numbers_inside s units
+
+-- the lists with n moved from the list of structure `from` to that of `to`; structure 0 has no list
+abbrev pub relisted_inside : FinMap nat_cmp (List ℕ) → ℕ → ℕ → ℕ → FinMap nat_cmp (List ℕ)
+relisted_inside lists n from to = if from == to then lists else unlisted_apart (listed_apart lists n to 0) n from 0
+
+-- each unit is in the list of its region, of its faction, and of its structure unless that is 0, and in no other
+pub record AreUnitLists (units : FinMap nat_cmp Unit) (lists : UnitLists) : Type 0 where
+  pub regions : AreLists (λ u. u.region) units lists.by_region
+  pub factions : AreLists (λ u. u.faction) units lists.by_faction
+  pub structures : AreInsideLists units lists.by_structure
+
+-- the keys of the lists that a unit is in: its faction, region and structure
+abbrev pub list_keys_of : Unit → ListKeys
+list_keys_of u = record { faction = u.faction; region = u.region; structure = u.structure }
+
+-- if `old` has the lists of some units without a unit n, `new` has the lists with a unit n added, whose keys are l
+abbrev pub ListsUnit : ℕ → ListKeys → UnitLists → UnitLists → Type 0
+ListsUnit n l old new = (units : FinMap nat_cmp Unit) (u : Unit) → list_keys_of u ≡ l → get units n ≡ None → AreUnitLists units old → AreUnitLists (insert units n u) new
+
+-- if `old` has the lists of some units without a unit n, `new` has the lists of the same units
+abbrev pub KeepsLists : ℕ → UnitLists → UnitLists → Type 0
+KeepsLists n old new = (units : FinMap nat_cmp Unit) → get units n ≡ None → AreUnitLists units old → AreUnitLists units new
+
+-- if `old` has the lists of some units, `new` has the lists without unit n, whose keys are l
+abbrev pub UnlistsUnit : ℕ → ListKeys → UnitLists → UnitLists → Type 0
+UnlistsUnit n l old new = (units : FinMap nat_cmp Unit) (u : Unit) → list_keys_of u ≡ l → get units n ≡ Some u → AreUnitLists units old → AreUnitLists (remove units n) new
+
+-- if `old` has the lists of some units, `new` has the lists of the same units
+abbrev pub KeepsAll : UnitLists → UnitLists → Type 0
+KeepsAll old new = (units : FinMap nat_cmp Unit) → AreUnitLists units old → AreUnitLists units new
+
+-- if `old` has the lists of some units, `new` has the lists with the keys of unit n changed from `from` to `to`
+abbrev pub RelistsUnit : ℕ → ListKeys → ListKeys → UnitLists → UnitLists → Type 0
+RelistsUnit n from to old new = (units : FinMap nat_cmp Unit) (u v : Unit) → list_keys_of u ≡ from → list_keys_of v ≡ to → get units n ≡ Some u → AreUnitLists units old → AreUnitLists (insert units n v) new
+
+-- only amounts of the first `things` things are marked, and the dirty set has room for all amounts of these things
+pub record MarksAmounts (things : ℕ) (marks : RoomySet) : Type 0 where
+  pub room : entry_count * things ≤ marks.room
+  pub numbers : AreOfThings things marks.numbers
+
+-- the lists are those of the units, and only amounts of the first `things` things are marked, with room for each
+pub record AreKept (units : FinMap nat_cmp Unit) (lists : UnitLists) (things : ℕ) (marks : RoomySet) : Type 0 where
+  pub unit_lists : AreUnitLists units lists
+  pub amounts : MarksAmounts things marks

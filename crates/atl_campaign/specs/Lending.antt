@@ -1,0 +1,28 @@
+-- What becomes of a campaign after a write through the holding that `unit_mut` lends.
+use Rattle.std.specs.Prelude.{ℕ, Option, Some, None}
+use Rattle.std.specs.FinMap.{get, insert}
+use Rattle.std.specs.Borrow.{LendsIf, MutBor, Fml}
+use Rattle.atl_records.specs.Holdings.{HoldingValue}
+use Rattle.atl_campaign.specs.Campaign.{CampaignValue, MarkedCampaign}
+use Rattle.atl_campaign.specs.Marking.{mark_unit}
+use Rattle.atl_records.specs.declared.records.Unit.{Unit}
+use Rattle.atl_campaign.specs.contracts.campaign.Campaign.{the_row}
+use Rattle.atl_records.specs.contracts.holding.Holding as holding
+
+-- the campaign with h as the holding of the given unit n; unchanged for None
+abbrev pub with_held : CampaignValue → ℕ → HoldingValue → Option Unit → CampaignValue
+with_held c n h None = c
+with_held c n h (Some u) = record c { units = insert c.units n (record u { holding = h }) }
+
+-- the campaign with h as the holding of unit n, if there is one
+abbrev pub with_holding : CampaignValue → ℕ → HoldingValue → CampaignValue
+with_holding c n h = with_held c n h (get c.units n)
+
+-- the campaign with h as the holding of unit n after a loan; the unit, its row and all its goods are marked
+abbrev pub lent : MarkedCampaign → ℕ → HoldingValue → MarkedCampaign
+lent c n h = record { value = with_holding c.value n h; marks = mark_unit c n }
+
+-- after a loan r of unit n's holding, campaign c has r's last value there, and the unit, row and goods are marked.
+-- Without a loan c is unchanged.
+abbrev pub LendsHolding : MutBor MarkedCampaign → ℕ → Option (MutBor HoldingValue) → Fml
+LendsHolding c n r = LendsIf the_row holding.the_row c r (lent c.now n) c.now

@@ -1,0 +1,169 @@
+-- What is marked, as rows to be written, after each change of a campaign.
+use Rattle.std.specs.Prelude.{◌≡◌, ◌⊎◌, ◌==◌, ℕ, Bool, true, Option, Some, None, if◌then◌else◌}
+use Rattle.std.specs.FinMap.{get, remove, keys}
+use Rattle.std.specs.FinSet.{FinSet, insert, union, from_list}
+use Rattle.std.specs.Ordering.{nat_cmp}
+use Rattle.atl_world.specs.Tracking.{marked_with}
+use Rattle.atl_records.specs.declared.books.Entry.TheVariants.{Joining}
+use Rattle.atl_records.specs.declared.books.Thing.TheVariants.{Money, People}
+use Rattle.atl_records.specs.declared.books.Entry.{Entry}
+use Rattle.atl_records.specs.declared.books.Thing.{Thing}
+use Rattle.atl_records.specs.declared.records.Unit.{Unit}
+use Rattle.atl_campaign.specs.Marks.{Marks, amount_marked, thing_marked}
+use Rattle.atl_campaign.specs.Owners.{heir, is_owned_by, placed}
+use Rattle.atl_campaign.specs.Campaign.{MarkedCampaign, with_owner}
+use Rattle.atl_campaign.specs.Regions.{MarkedRegions, region_to_restock}
+use Rattle.atl_campaign.specs.Roster.{Roster}
+
+-- the marks of a campaign, put together from those of its parts
+abbrev pub marks_of_parts : (factions : FinSet nat_cmp) → MarkedRegions → Roster → (structures mail reports books : FinSet nat_cmp) → Bool → Marks
+marks_of_parts factions regions units structures mail reports books row = record {
+  factions = factions;
+  regions = regions.rows;
+  markets = regions.markets;
+  stocks = regions.stocks;
+  stock_items = regions.items;
+  units = units.marks;
+  rows = units.rows;
+  goods = units.goods;
+  items = units.items;
+  skills = units.skills;
+  structures = structures;
+  mail = mail;
+  reports = reports;
+  books = books;
+  row = row;
+}
+
+-- the marks m with unit n, its row and all its goods marked too; unchanged if u is None
+abbrev pub whole_marked : Marks → ℕ → Option Unit → Marks
+whole_marked m n u = record m { units = marked_with m.units n u; rows = marked_with m.rows n u; goods = marked_with m.goods n u }
+
+-- the marks after unit n was lent or removed: it, its row and all its goods are marked too, if it was there
+abbrev pub mark_unit : MarkedCampaign → ℕ → Marks
+mark_unit c n = whole_marked c.marks n (get c.value.units n)
+
+-- the marks after unit n was added: it, its row and all its goods
+abbrev pub mark_unit_added : MarkedCampaign → ℕ → Marks
+mark_unit_added c n = record c.marks { units = insert c.marks.units n; rows = insert c.marks.rows n; goods = insert c.marks.goods n }
+
+-- the marks after a unit was added under the next unit number: it, its row, all its goods and the campaign row
+abbrev pub mark_unit_begun : MarkedCampaign → Marks
+mark_unit_begun c = record (mark_unit_added c c.value.next_unit) { row = true }
+
+-- the marks after the row of unit n changed: the unit and its row, and none of its goods
+abbrev pub mark_unit_row : MarkedCampaign → ℕ → Marks
+mark_unit_row c n = record c.marks { units = marked_with c.marks.units n (get c.value.units n); rows = marked_with c.marks.rows n (get c.value.units n) }
+
+-- the marks after an item of unit n changed: the unit and that item, neither its row nor another of its goods
+abbrev pub mark_item : MarkedCampaign → ℕ → ℕ → Marks
+mark_item c n item = record c.marks { units = marked_with c.marks.units n (get c.value.units n); items = thing_marked c.marks.items n item (get c.value.units n) }
+
+-- the marks after a skill of unit n changed: the unit and that skill, neither its row nor another of its goods
+abbrev pub mark_skill : MarkedCampaign → ℕ → ℕ → Marks
+mark_skill c n skill = record c.marks { units = marked_with c.marks.units n (get c.value.units n); skills = thing_marked c.marks.skills n skill (get c.value.units n) }
+
+-- the campaign with an item of unit n marked, if there is such a unit, and nothing else changed
+abbrev pub item_marked : MarkedCampaign → ℕ → ℕ → MarkedCampaign
+item_marked c n item = record c { marks = mark_item c n item }
+
+-- the campaign with a skill of unit n marked, if there is such a unit, and nothing else changed
+abbrev pub skill_marked : MarkedCampaign → ℕ → ℕ → MarkedCampaign
+skill_marked c n skill = record c { marks = mark_skill c n skill }
+
+-- the marks after faction n changed, where it is there
+abbrev pub mark_faction : MarkedCampaign → ℕ → Marks
+mark_faction c n = record c.marks { factions = marked_with c.marks.factions n (get c.value.factions n) }
+
+-- the marks after the row of region n changed: its row, and none of its stocks
+abbrev pub mark_region : MarkedCampaign → ℕ → Marks
+mark_region c n = record c.marks { regions = marked_with c.marks.regions n (get c.value.regions n) }
+
+-- the marks after one stock was set: that stock alone of its region, if the amount is another than before
+abbrev pub mark_stock : MarkedCampaign → (region item : ℕ) → ℕ → Marks
+mark_stock c n item amount =
+    let region = region_to_restock c.value.regions n item amount in
+    record c.marks { markets = marked_with c.marks.markets n region; stock_items = thing_marked c.marks.stock_items n item region }
+
+-- the marks after one stock was set without memory for its own mark: all stocks of its region, if the amount is another
+abbrev pub mark_all_stocks : MarkedCampaign → (region item : ℕ) → ℕ → Marks
+mark_all_stocks c n item amount =
+    let region = region_to_restock c.value.regions n item amount in
+    record c.marks { markets = marked_with c.marks.markets n region; stocks = marked_with c.marks.stocks n region }
+
+-- what setting a stock marks: it alone or, where there is no memory for that mark, all stocks of its region
+abbrev pub MarksStock : MarkedCampaign → (region item : ℕ) → ℕ → Marks → Type 0
+MarksStock c n item amount m = (m ≡ mark_stock c n item amount) ⊎ (m ≡ mark_all_stocks c n item amount)
+
+-- the marks after structure n changed, where it is there
+abbrev pub mark_structure : MarkedCampaign → ℕ → Marks
+mark_structure c n = record c.marks { structures = marked_with c.marks.structures n (get c.value.structures n) }
+
+-- the marks with the campaign row marked too
+abbrev pub mark_campaign_row : MarkedCampaign → Marks
+mark_campaign_row c = record c.marks { row = true }
+
+-- the marks after a structure was added under the next structure number: it, and the campaign row
+abbrev pub mark_structure_begun : MarkedCampaign → Marks
+mark_structure_begun c = record c.marks { structures = insert c.marks.structures c.value.next_structure; row = true }
+
+-- the marks after something was booked: the amount of that entry and thing
+abbrev pub mark_amount : MarkedCampaign → Entry → Thing → Marks
+mark_amount c e t = record c.marks { books = amount_marked c.marks.books e t }
+
+-- the marks after all mail was removed: the mail of each faction that had some
+abbrev pub mark_all_mail : MarkedCampaign → Marks
+mark_all_mail c = record c.marks { mail = union c.marks.mail (from_list (keys c.value.mail)) }
+
+-- ---- where units are: the campaign after each step, with its marks
+
+-- the campaign with structure s handed from owner `from` to `to` and marked; unchanged unless `from` owns it
+abbrev pub handed_marked : MarkedCampaign → ℕ → ℕ → ℕ → MarkedCampaign
+handed_marked c s from to = if is_owned_by (get c.value.structures s) from then record { value = with_owner c.value s to; marks = mark_structure c s } else c
+
+-- the campaign with unit n put in region r and structure s, and its row marked; no owner changes
+abbrev pub put_marked : MarkedCampaign → ℕ → ℕ → ℕ → MarkedCampaign
+put_marked c n r s = record { value = placed c.value n r s; marks = mark_unit_row c n }
+
+-- the campaign with the given unit n put in region r and structure s, with the marks of that; unchanged for None
+abbrev pub place_marked_at : MarkedCampaign → ℕ → ℕ → ℕ → Option Unit → MarkedCampaign
+place_marked_at c n r s None = c
+place_marked_at c n r s (Some u) = if u.structure == s then put_marked c n r s else handed_marked (handed_marked (put_marked c n r s) u.structure n (heir c.value u.structure n)) s 0 n
+
+-- the campaign with unit n put in region r and structure s; its row and structures that get another owner are marked
+unfoldable pub place_marked : MarkedCampaign → ℕ → ℕ → ℕ → MarkedCampaign
+place_marked c n r s = place_marked_at c n r s (get c.value.units n)
+
+-- the campaign without unit n, which, if it was there, is marked with its row and goods; no owner changes
+abbrev pub taken_marked : MarkedCampaign → ℕ → MarkedCampaign
+taken_marked c n = record { value = record c.value { units = remove c.value.units n }; marks = mark_unit c n }
+
+-- the campaign without the given unit n, with its structure handed over, and the marks of that; unchanged for None
+abbrev pub gone_marked_at : MarkedCampaign → ℕ → Option Unit → MarkedCampaign
+gone_marked_at c n None = c
+gone_marked_at c n (Some u) = handed_marked (taken_marked c n) u.structure n (heir c.value u.structure n)
+
+-- the campaign without unit n: it, its row and goods are marked, and its structure where that gets another owner
+unfoldable pub gone_marked : MarkedCampaign → ℕ → MarkedCampaign
+gone_marked c n = gone_marked_at c n (get c.value.units n)
+
+-- ---- mail, reports and joining
+
+-- the marks after a report of faction n was stored
+abbrev pub mark_report : MarkedCampaign → ℕ → Marks
+mark_report c n = record c.marks { reports = insert c.marks.reports n }
+
+-- the marks after a mailing of faction n was stored
+abbrev pub mark_mail : MarkedCampaign → ℕ → Marks
+mark_mail c n = record c.marks { mail = insert c.marks.mail n }
+
+-- the marks after a join: the faction, its unit with row and goods, the two amounts booked, and the campaign row
+abbrev pub mark_join : MarkedCampaign → Marks
+mark_join c = record c.marks {
+  factions = insert c.marks.factions c.value.next_faction;
+  units = insert c.marks.units c.value.next_unit;
+  rows = insert c.marks.rows c.value.next_unit;
+  goods = insert c.marks.goods c.value.next_unit;
+  books = amount_marked (amount_marked c.marks.books Joining Money) Joining People;
+  row = true;
+}

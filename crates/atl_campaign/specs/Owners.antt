@@ -1,0 +1,60 @@
+-- Where units are, and who owns the structures that they leave and enter. See docs/RULES.md, "Owners".
+use Rattle.std.specs.Prelude.{◌==◌, ℕ, List, [], ◌∷◌, filter, not, Bool, false, Option, Some, None, if◌then◌else◌}
+use Rattle.std.specs.FinMap.{get, remove}
+use Rattle.atl_records.specs.declared.records.Structure.{Structure}
+use Rattle.atl_records.specs.declared.records.Unit.{Unit}
+use Rattle.atl_campaign.specs.Campaign.{CampaignValue, numbers_inside, unit_changed, with_owner}
+
+-- the first of some numbers, or 0 where there is none
+abbrev pub first_or_zero : List ℕ → ℕ
+first_or_zero [] = 0
+first_or_zero (n ∷ ns) = n
+
+-- the first of some numbers that isn't `leaving`, or 0 where there is none
+abbrev pub first_other : List ℕ → ℕ → ℕ
+first_other ns leaving = first_or_zero (filter (λ n. not (n == leaving)) ns)
+
+-- the next owner of structure s when its owner leaves: the lowest-numbered other unit inside, or 0
+abbrev pub heir : CampaignValue → ℕ → ℕ → ℕ
+heir c s leaving = first_other (numbers_inside s c.units) leaving
+
+-- the owner of the given structure s once unit `leaving` has left it; 0 for None
+abbrev pub owner_after_at : CampaignValue → ℕ → ℕ → Option Structure → ℕ
+owner_after_at c s leaving None = 0
+owner_after_at c s leaving (Some x) = if x.owner == leaving then heir c s leaving else x.owner
+
+-- the owner of structure s once unit `leaving` has left it; 0 where there is no such structure
+abbrev pub owner_after : CampaignValue → ℕ → ℕ → ℕ
+owner_after c s leaving = owner_after_at c s leaving (get c.structures s)
+
+-- whether a structure is there, and its owner is n: a unit, or 0 for nobody
+abbrev pub is_owned_by : Option Structure → ℕ → Bool
+is_owned_by None n = false
+is_owned_by (Some x) n = x.owner == n
+
+-- the campaign with structure s handed from owner `from` to `to`; unchanged unless `from` owns it
+abbrev pub after_handover : CampaignValue → ℕ → ℕ → ℕ → CampaignValue
+after_handover c s from to = if is_owned_by (get c.structures s) from then with_owner c s to else c
+
+-- the campaign with unit n put in region r and structure s, if there is such a unit; no owner changes
+abbrev pub placed : CampaignValue → ℕ → ℕ → ℕ → CampaignValue
+placed c n r s = unit_changed (λ u. record u { region = r; structure = s }) c n
+
+-- the campaign with the given unit n put in region r and structure s, and owners set (`with_place`); unchanged for None
+abbrev pub with_place_at : CampaignValue → ℕ → ℕ → ℕ → Option Unit → CampaignValue
+with_place_at c n r s None = c
+with_place_at c n r s (Some u) = if u.structure == s then placed c n r s else after_handover (after_handover (placed c n r s) u.structure n (heir c u.structure n)) s 0 n
+
+-- the campaign with unit n put in region r and structure s, or in no structure where s is 0.
+-- A structure that it owned and leaves gets its next owner. Where it enters one without an owner, it owns that.
+unfoldable pub with_place : CampaignValue → ℕ → ℕ → ℕ → CampaignValue
+with_place c n r s = with_place_at c n r s (get c.units n)
+
+-- the campaign without the given unit n; a structure that it owned gets its next owner; unchanged for None
+abbrev pub without_unit_at : CampaignValue → ℕ → Option Unit → CampaignValue
+without_unit_at c n None = c
+without_unit_at c n (Some u) = after_handover (record c { units = remove c.units n }) u.structure n (heir c u.structure n)
+
+-- the campaign without unit n; a structure that unit n owned gets its next owner
+unfoldable pub without_unit : CampaignValue → ℕ → CampaignValue
+without_unit c n = without_unit_at c n (get c.units n)

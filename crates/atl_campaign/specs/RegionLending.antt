@@ -1,0 +1,13 @@
+-- For proofs alone: what the regions are after a write through a region that they lend.
+use Rattle.std.specs.Prelude.{ℕ, Option}
+use Rattle.std.specs.FinMap as map
+use Rattle.std.specs.Borrow.{LendsIf, MutBor, Fml}
+use Rattle.atl_records.specs.declared.records.Region.{Region}
+use Rattle.atl_records.specs.contracts.records.Region as region
+use Rattle.atl_campaign.specs.contracts.regions.Regions.{the_row}
+use Rattle.atl_campaign.specs.Regions.{MarkedRegions}
+
+-- after a loan q of region n, the regions have q's last value under n, and no mark changes.
+-- Without a loan the regions are unchanged.
+abbrev pub LendsRegion : MutBor MarkedRegions → ℕ → Option (MutBor Region) → Fml
+LendsRegion r n q = LendsIf the_row region.the_row r q (λ w. record r.now { values = map.insert r.now.values n w }) r.now

@@ -1,0 +1,78 @@
+-- The regions of a campaign as clauses see them: by their numbers, with the marks on their rows and stocks.
+use Rattle.std.specs.Prelude.{◌≡◌, ◌⊎◌, ◌==◌, ℕ, Option, None, refl, if◌then◌else◌}
+use Rattle.std.specs.Ordering.{nat_cmp}
+use Rattle.std.specs.Coded.{Coded, code_by, coded×, coded_ℕ}
+use Rattle.std.specs.FinMap as map
+use Rattle.std.specs.FinSet as set
+use Rattle.atl_world.specs.RoomySets.{RoomySet, HasRoomForMarks}
+use Rattle.atl_world.specs.Sums.{changed}
+use Rattle.atl_world.specs.Tracking.{marked_with}
+use Rattle.atl_records.specs.Holdings.{with_amount_of}
+use Rattle.atl_records.specs.declared.records.Region.{Region}
+use Rattle.atl_records.specs.contracts.records.Region as region
+use Rattle.atl_campaign.specs.Marks.{AreStocksWithin, Things, thing_marked, things_code}
+use Rattle.atl_campaign.specs.Stocks.{stock_in}
+
+-- The regions by number, with their marks: `rows` has the regions whose rows are marked, and `markets` those of which
+-- a stock is. Of these, `stocks` has the regions all of whose stocks are marked, and `items` single stocks by region.
+pub record MarkedRegions : Type 0 where
+  pub values : map.FinMap nat_cmp Region
+  pub rows : set.FinSet nat_cmp
+  pub markets : set.FinSet nat_cmp
+  pub stocks : set.FinSet nat_cmp
+  pub items : Things
+
+-- for proofs alone: regions with marks encoded as nested pairs of their fields
+abbrev pub regions_code : Coded MarkedRegions
+regions_code =
+    let numbers = set.code coded_ℕ in
+    code_by (map.FinMap nat_cmp Region × (set.FinSet nat_cmp × (set.FinSet nat_cmp × (set.FinSet nat_cmp × Things))))
+    (coded× (map.code coded_ℕ region.the_row.coded) (coded× numbers (coded× numbers (coded× numbers things_code))))
+    (λ r. (r.values, (r.rows, (r.markets, (r.stocks, r.items)))))
+    (λ p. record { values = p.0; rows = p.1.0; markets = p.1.1.0; stocks = p.1.1.1.0; items = p.1.1.1.1 })
+    (λ _. refl)
+
+-- regions of which nothing is marked
+abbrev pub unmarked_regions : map.FinMap nat_cmp Region → MarkedRegions
+unmarked_regions values = record { values = values; rows = set.empty; markets = set.empty; stocks = set.empty; items = map.empty }
+
+-- the regions with f applied to region n and its row marked, if there is such a region; no stock is marked
+abbrev pub with_region_row : (Region → Region) → MarkedRegions → ℕ → MarkedRegions
+with_region_row f r n = record r { values = changed f r.values n; rows = marked_with r.rows n (map.get r.values n) }
+
+-- the regions with another stock of an item in region n, if there is such a region
+abbrev pub with_stock_at : map.FinMap nat_cmp Region → (region item : ℕ) → ℕ → map.FinMap nat_cmp Region
+with_stock_at values n item amount = changed (λ r. record r { stocks = with_amount_of r.stocks item amount }) values n
+
+-- the regions with the stock of an item in region n marked; unchanged if None is given for that region
+abbrev pub with_item_marked_in : MarkedRegions → (region item : ℕ) → Option Region → MarkedRegions
+with_item_marked_in r n item region = record r { markets = marked_with r.markets n region; items = thing_marked r.items n item region }
+
+-- the regions with all stocks of region n marked; unchanged if None is given for that region
+abbrev pub with_items_marked_in : MarkedRegions → (region : ℕ) → Option Region → MarkedRegions
+with_items_marked_in r n region = record r { markets = marked_with r.markets n region; stocks = marked_with r.stocks n region }
+
+-- the regions with the stock of an item in region n marked, if there is such a region
+abbrev pub with_item_marked : MarkedRegions → (region item : ℕ) → MarkedRegions
+with_item_marked r n item = with_item_marked_in r n item (map.get r.values n)
+
+-- the regions with all stocks of region n marked, if there is such a region
+abbrev pub with_stocks_marked : MarkedRegions → (region : ℕ) → MarkedRegions
+with_stocks_marked r n = with_items_marked_in r n (map.get r.values n)
+
+-- region n, if there is one and its stock of an item is another than `amount`; else None
+abbrev pub region_to_restock : map.FinMap nat_cmp Region → (region item : ℕ) → ℕ → Option Region
+region_to_restock values n item amount = if stock_in values n item == amount then None else map.get values n
+
+-- What setting a stock marks, if its amount changes: that stock alone, or all stocks of its region, and nothing else.
+abbrev pub MarksStockAt : (before after : MarkedRegions) → (region item : ℕ) → ℕ → Type 0
+MarksStockAt before after n item amount =
+    let region = region_to_restock before.values n item amount in
+    (after ≡ record (with_item_marked_in before n item region) { values = after.values }) ⊎ (after ≡ record (with_items_marked_in before n region) { values = after.values })
+
+-- For proofs alone: there is room to mark each region's row and its stocks, and a marked stock has its region marked.
+pub record AreRegions (regions : map.FinMap nat_cmp Region) (rows markets stocks : RoomySet) (items : Things) : Type 0 where
+  pub within : AreStocksWithin markets.numbers stocks.numbers items
+  pub rows_fit : HasRoomForMarks regions rows
+  pub markets_fit : HasRoomForMarks regions markets
+  pub stocks_fit : HasRoomForMarks regions stocks

@@ -1,0 +1,76 @@
+-- The units of a campaign with marks: on units, their rows, all goods of a unit, and single items and skills.
+use Rattle.std.specs.Prelude.{ℕ, refl, Option, Some, None}
+use Rattle.std.specs.Ordering.{nat_cmp}
+use Rattle.std.specs.Coded.{Coded, code_by, coded×, coded_ℕ}
+use Rattle.std.specs.FinMap as map
+use Rattle.std.specs.FinSet as set
+use Rattle.atl_world.specs.Sums.{changed}
+use Rattle.atl_world.specs.Tracking.{marked_with}
+use Rattle.atl_records.specs.declared.records.Unit.{Unit}
+use Rattle.atl_records.specs.contracts.records.Unit as unit
+use Rattle.atl_campaign.specs.Marks.{Things, things_code, thing_marked}
+
+-- The units by number, with marks on units (`marks`), their rows, all goods of a unit, and single items and skills.
+-- A unit is in `marks` if any part of it is marked; `items` and `skills` are by unit.
+pub record Roster : Type 0 where
+  pub values : map.FinMap nat_cmp Unit
+  pub marks : set.FinSet nat_cmp
+  pub rows : set.FinSet nat_cmp
+  pub goods : set.FinSet nat_cmp
+  pub items : Things
+  pub skills : Things
+
+-- for proofs alone: units with marks (Roster) encoded as nested pairs of their fields
+abbrev pub roster_code : Coded Roster
+roster_code =
+    let numbers = set.code coded_ℕ in
+    code_by (map.FinMap nat_cmp Unit × (set.FinSet nat_cmp × (set.FinSet nat_cmp × (set.FinSet nat_cmp × (Things × Things)))))
+    (coded× (map.code coded_ℕ unit.the_row.coded) (coded× numbers (coded× numbers (coded× numbers (coded× things_code things_code)))))
+    (λ r. (r.values, (r.marks, (r.rows, (r.goods, (r.items, r.skills))))))
+    (λ p. record { values = p.0; marks = p.1.0; rows = p.1.1.0; goods = p.1.1.1.0; items = p.1.1.1.1.0; skills = p.1.1.1.1.1 })
+    (λ _. refl)
+
+-- units of which nothing is marked
+abbrev pub unmarked_units : map.FinMap nat_cmp Unit → Roster
+unmarked_units values = record { values = values; marks = set.empty; rows = set.empty; goods = set.empty; items = map.empty; skills = map.empty }
+
+-- no units, and nothing marked
+abbrev pub no_units : Roster
+no_units = unmarked_units map.empty
+
+-- the roster with unit n, its row and all its goods marked
+abbrev pub all_marked : Roster → ℕ → Roster
+all_marked r n = record r { marks = set.insert r.marks n; rows = set.insert r.rows n; goods = set.insert r.goods n }
+
+-- the roster with unit u put under n, and it, its row and all its goods marked
+abbrev pub with_unit_at : Roster → ℕ → Unit → Roster
+with_unit_at r n u = record (all_marked r n) { values = map.insert r.values n u }
+
+-- the roster with f applied to unit n, where it is there, and the unit and its row marked, none of its goods
+abbrev pub with_unit_row : (Unit → Unit) → Roster → ℕ → Roster
+with_unit_row f r n = record r { values = changed f r.values n; marks = marked_with r.marks n (map.get r.values n); rows = marked_with r.rows n (map.get r.values n) }
+
+-- the roster with f applied to unit n, where it is there, and the unit and that item marked, not its row
+abbrev pub with_item_at : (Unit → Unit) → Roster → ℕ → ℕ → Roster
+with_item_at f r n item = record r { values = changed f r.values n; marks = marked_with r.marks n (map.get r.values n); items = thing_marked r.items n item (map.get r.values n) }
+
+-- the roster with f applied to unit n, where it is there, and the unit and that skill marked, not its row
+abbrev pub with_skill_at : (Unit → Unit) → Roster → ℕ → ℕ → Roster
+with_skill_at f r n skill = record r { values = changed f r.values n; marks = marked_with r.marks n (map.get r.values n); skills = thing_marked r.skills n skill (map.get r.values n) }
+
+-- the roster with the same units, and unit n and that item marked, where the unit is there
+abbrev pub item_marked_at : Roster → ℕ → ℕ → Roster
+item_marked_at r n item = record r { marks = marked_with r.marks n (map.get r.values n); items = thing_marked r.items n item (map.get r.values n) }
+
+-- the roster with the same units, and unit n and that skill marked, where the unit is there
+abbrev pub skill_marked_at : Roster → ℕ → ℕ → Roster
+skill_marked_at r n skill = record r { marks = marked_with r.marks n (map.get r.values n); skills = thing_marked r.skills n skill (map.get r.values n) }
+
+-- the roster without the given unit n, which is marked with its row and all its goods; unchanged for None
+abbrev pub gone_at : Roster → ℕ → Option Unit → Roster
+gone_at r n None = r
+gone_at r n (Some u) = record (all_marked r n) { values = map.remove r.values n }
+
+-- the roster without unit n; where it was there, it, its row and all its goods are marked
+abbrev pub without_unit_at : Roster → ℕ → Roster
+without_unit_at r n = gone_at r n (map.get r.values n)

@@ -1,0 +1,13 @@
+-- For proofs alone: the invariant of `Units`, which holds the units with their marks.
+use Rattle.std.specs.Ordering.{nat_cmp}
+use Rattle.std.specs.FinMap.{FinMap}
+use Rattle.atl_world.specs.RoomySets.{RoomySet, HasRoomForMarks}
+use Rattle.atl_records.specs.declared.records.Unit.{Unit}
+use Rattle.atl_campaign.specs.Marks.{Things, AreWithin}
+
+-- A unit of which a part is marked is marked itself, and there is room to mark each unit, its row and its goods.
+pub record AreUnits (units : FinMap nat_cmp Unit) (marks rows goods : RoomySet) (items skills : Things) : Type 0 where
+  pub within : AreWithin marks.numbers rows.numbers goods.numbers items skills
+  pub marks_fit : HasRoomForMarks units marks
+  pub rows_fit : HasRoomForMarks units rows
+  pub goods_fit : HasRoomForMarks units goods

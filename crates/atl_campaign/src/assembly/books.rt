@@ -1,0 +1,40 @@
+//! Builds the books from their rows.
+ghost use Rattle.std.specs.Prelude.{◌≡◌, ◌≤◌, IfOk};
+ghost use Rattle.atl_records.specs.Limits.{possible_things};
+ghost use Rattle.atl_campaign.specs.FromRows.{with_books_row, put_amounts};
+ghost use Rattle.atl_records.specs.Books.{no_amounts};
+
+use crate::parts::StoredBooks;
+use crate::row_values::as_u32;
+use atl_records::{Books, Entry, Thing};
+use std::alloc::{AllocError, Global};
+
+/// Puts the amount of a row of `books` into the books, if they have the row's entry and thing.
+fn put_row(books: &mut Books, row: &StoredBooks)
+    ensures { books.new ≡ with_books_row books.old row.now }
+{
+    let Some(entry) = Entry::of_number(as_u32(row.entry)) else {
+        return;
+    };
+    let thing = as_u32(row.thing) as usize;
+    if thing < books.len() {
+        books.put(entry, Thing::of_number(thing), row.amount);
+    }
+}
+
+/// The books of this many things that are read from rows; rows of other entries or things are left
+/// out. AllocError without memory.
+pub(crate) fn books_of(
+    alloc: Global,
+    things: usize,
+    rows: &[StoredBooks],
+) -> Result<Books, AllocError>
+    requires { things ≤ possible_things }
+    ensures { IfOk result (λ books. books ≡ put_amounts rows.now (no_amounts things)) }
+{
+    let mut books = Books::new(alloc, things)?;
+    for row in rows {
+        put_row(&mut books, row);
+    }
+    Ok(books)
+}

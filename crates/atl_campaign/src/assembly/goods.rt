@@ -1,0 +1,68 @@
+//! Puts the rows of items, days and stocks into units and regions.
+ghost use Rattle.std.specs.Prelude.{◌≡◌, OnOk, true};
+ghost use Rattle.std.specs.List.{list_all};
+ghost use Rattle.atl_world.specs.Sums.{changed};
+ghost use Rattle.atl_campaign.specs.Assembling.{with_has_row, with_market_row, give};
+ghost use Rattle.atl_campaign.specs.FromRows.{as_u32};
+ghost use Rattle.atl_campaign.specs.RowRules.{has_in_range};
+
+use crate::arena::Arena;
+use crate::parts::{StoredHas, StoredMarket};
+use crate::row_values::as_u32;
+use crate::rows::{ITEM_SORT, SKILL_SORT};
+use atl_records::{Region, Unit};
+use atl_world::Numbered;
+use std::alloc::AllocError;
+
+/// Puts the amount of a row of `has`, of an item or a skill, into its unit, if there is that unit.
+fn put_thing(units: &mut Arena<Unit>, row: &StoredHas) -> Result<(), AllocError>
+    requires { has_in_range row.now ≡ true }
+    ensures { OnOk result (units.new
+        ≡ changed (with_has_row row.now) units.old (as_u32 row.now.unit)) }
+{
+    let Some(unit) = units.get_mut(as_u32(row.unit)) else {
+        return Ok(());
+    };
+    let (thing, amount) = (as_u32(row.thing), as_u32(row.amount));
+    match as_u32(row.sort) {
+        ITEM_SORT => unit.holding.put_item(thing, amount),
+        SKILL_SORT => unit.holding.put_days(thing, amount),
+        _ => Ok(()),
+    }
+}
+
+/// Puts the amounts of rows of `has` into their units, row by row; the rows are in their ranges.
+pub(super) fn put_things(units: &mut Arena<Unit>, rows: &[StoredHas]) -> Result<(), AllocError>
+    requires { list_all has_in_range rows.now ≡ true }
+    ensures { OnOk result (units.new ≡ give (λ r. as_u32 r.unit) with_has_row rows.now units.old) }
+{
+    for row in rows {
+        put_thing(units, row)?;
+    }
+    Ok(())
+}
+
+/// Puts the stock of a row of `market` into its region, if there is such a region.
+fn put_stock(regions: &mut Numbered<Region>, row: &StoredMarket) -> Result<(), AllocError>
+    ensures { OnOk result (regions.new
+        ≡ changed (with_market_row row.now) regions.old (as_u32 row.now.region)) }
+{
+    match regions.get_mut(as_u32(row.region)) {
+        Some(region) => region.stocks.insert(as_u32(row.item), as_u32(row.stock)),
+        None => Ok(()),
+    }
+}
+
+/// Puts the stocks of rows of `market` into their regions, row by row.
+pub(super) fn put_stocks(
+    regions: &mut Numbered<Region>,
+    rows: &[StoredMarket],
+) -> Result<(), AllocError>
+    ensures { OnOk result (regions.new
+        ≡ give (λ r. as_u32 r.region) with_market_row rows.now regions.old) }
+{
+    for row in rows {
+        put_stock(regions, row)?;
+    }
+    Ok(())
+}

@@ -1,0 +1,201 @@
+//! Builds the maps of factions, regions, structures, mail and reports from their rows.
+ghost use Rattle.std.specs.Prelude.{◌≡◌, IfOk, true};
+ghost use Rattle.std.specs.List.{list_all};
+ghost use Rattle.atl_world.specs.Names.{name_ok};
+ghost use Rattle.atl_campaign.specs.Assembling.{without_marks, bare_region, campaign_maps_of};
+ghost use Rattle.atl_campaign.specs.FromRows.{as_u32, faction_of, region_of, structure_of, by_number};
+ghost use Rattle.atl_campaign.specs.Regions.{unmarked_regions};
+ghost use Rattle.atl_campaign.specs.RowRules.{faction_named};
+
+use super::goods::put_stocks;
+use super::records::{bare_region, faction_of, structure_of};
+use crate::parts::{
+    Parts, StoredFaction, StoredMail, StoredMarket, StoredRegion, StoredReport, StoredStructure,
+};
+use crate::regions::Regions;
+use crate::row_values::as_u32;
+use atl_records::{Faction, Region, Structure};
+use atl_world::{MarkedMap, Numbered, Sequence, Text};
+use std::alloc::{AllocError, Global};
+
+/// The factions of rows whose names and pass texts keep their rules, by number.
+pub(crate) fn factions_of(
+    alloc: Global,
+    rows: &[StoredFaction],
+) -> Result<Numbered<Faction>, AllocError>
+    requires { list_all faction_named rows.now ≡ true }
+    ensures { IfOk result (λ factions. factions
+        ≡ by_number (λ r. as_u32 r.number) faction_of rows.now) }
+{
+    let mut factions = Numbered::new(alloc);
+    for row in rows {
+        let faction = faction_of(alloc, row)?;
+        factions.insert(as_u32(row.number), faction)?;
+    }
+    Ok(factions)
+}
+
+/// The regions of rows by number, with nothing in stock.
+fn bare_regions(alloc: Global, rows: &[StoredRegion]) -> Result<Numbered<Region>, AllocError>
+    ensures { IfOk result (λ regions. regions
+        ≡ by_number (λ r. as_u32 r.number) bare_region rows.now) }
+{
+    let mut regions = Numbered::new(alloc);
+    for row in rows {
+        regions.insert(as_u32(row.number), bare_region(alloc, row))?;
+    }
+    Ok(regions)
+}
+
+/// The regions of rows by number, with the stocks that the rows of `market` give to them.
+pub(crate) fn regions_of(
+    alloc: Global,
+    rows: &[StoredRegion],
+    markets: &[StoredMarket],
+) -> Result<Numbered<Region>, AllocError>
+    ensures { IfOk result (λ regions. regions
+        ≡ by_number (λ r. as_u32 r.number) (region_of markets.now) rows.now) }
+{
+    let mut regions = bare_regions(alloc, rows)?;
+    put_stocks(&mut regions, markets)?;
+    Ok(regions)
+}
+
+/// The structures of rows whose names keep the name rule, by number.
+pub(crate) fn structures_of(
+    alloc: Global,
+    rows: &[StoredStructure],
+) -> Result<Numbered<Structure>, AllocError>
+    requires { list_all (λ r. name_ok r.name) rows.now ≡ true }
+    ensures { IfOk result (λ structures. structures
+        ≡ by_number (λ r. as_u32 r.number) structure_of rows.now) }
+{
+    let mut structures = Numbered::new(alloc);
+    for row in rows {
+        let structure = structure_of(alloc, row)?;
+        structures.insert(as_u32(row.number), structure)?;
+    }
+    Ok(structures)
+}
+
+/// The mail of rows, by the factions' numbers.
+pub(crate) fn mail_of(
+    alloc: Global,
+    rows: &[StoredMail],
+) -> Result<Numbered<Sequence<u8>>, AllocError>
+    ensures { IfOk result (λ mail. mail
+        ≡ by_number (λ r. as_u32 r.faction) (λ r. r.text) rows.now) }
+{
+    let mut mail = Numbered::new(alloc);
+    for row in rows {
+        let text = Sequence::from_slice(alloc, row.text.as_slice())?;
+        mail.insert(as_u32(row.faction), text)?;
+    }
+    Ok(mail)
+}
+
+/// The reports of rows, by the factions' numbers.
+pub(crate) fn reports_of(alloc: Global, rows: &[StoredReport]) -> Result<Numbered<Text>, AllocError>
+    ensures { IfOk result (λ reports. reports
+        ≡ by_number (λ r. as_u32 r.faction) (λ r. r.text) rows.now) }
+{
+    let mut reports = Numbered::new(alloc);
+    for row in rows {
+        let text = row.text.copy(alloc)?;
+        reports.insert(as_u32(row.faction), text)?;
+    }
+    Ok(reports)
+}
+
+/// The factions, regions, structures, mail and reports of a campaign, by number and with marks.
+pub(crate) struct CampaignMaps {
+    pub(crate) factions: MarkedMap<Faction>,
+    pub(crate) regions: Regions,
+    pub(crate) structures: MarkedMap<Structure>,
+    pub(crate) mail: MarkedMap<Sequence<u8>>,
+    pub(crate) reports: MarkedMap<Text>,
+}
+
+/// The factions of rows, with nothing marked; names and pass texts keep their rules.
+fn marked_map_of_factions(
+    alloc: Global,
+    rows: &[StoredFaction],
+) -> Result<MarkedMap<Faction>, AllocError>
+    requires { list_all faction_named rows.now ≡ true }
+    ensures { IfOk result (λ t. t
+        ≡ without_marks (by_number (λ r. as_u32 r.number) faction_of rows.now)) }
+{
+    let factions = factions_of(alloc, rows)?;
+    MarkedMap::of(alloc, factions)
+}
+
+/// The regions of rows with their stocks, and nothing marked.
+fn unmarked_regions(
+    alloc: Global,
+    rows: &[StoredRegion],
+    markets: &[StoredMarket],
+) -> Result<Regions, AllocError>
+    ensures { IfOk result (λ t. t
+        ≡ unmarked_regions (by_number (λ r. as_u32 r.number) (region_of markets.now) rows.now)) }
+{
+    let regions = regions_of(alloc, rows, markets)?;
+    Regions::of(alloc, regions)
+}
+
+/// The structures of rows, with nothing marked; their names keep the name rule.
+fn marked_map_of_structures(
+    alloc: Global,
+    rows: &[StoredStructure],
+) -> Result<MarkedMap<Structure>, AllocError>
+    requires { list_all (λ r. name_ok r.name) rows.now ≡ true }
+    ensures { IfOk result (λ t. t
+        ≡ without_marks (by_number (λ r. as_u32 r.number) structure_of rows.now)) }
+{
+    let structures = structures_of(alloc, rows)?;
+    MarkedMap::of(alloc, structures)
+}
+
+/// The mail of rows, with nothing marked.
+fn marked_map_of_mail(
+    alloc: Global,
+    rows: &[StoredMail],
+) -> Result<MarkedMap<Sequence<u8>>, AllocError>
+    ensures { IfOk result (λ t. t
+        ≡ without_marks (by_number (λ r. as_u32 r.faction) (λ r. r.text) rows.now)) }
+{
+    let mail = mail_of(alloc, rows)?;
+    MarkedMap::of(alloc, mail)
+}
+
+/// The reports of rows, with nothing marked.
+fn marked_map_of_reports(
+    alloc: Global,
+    rows: &[StoredReport],
+) -> Result<MarkedMap<Text>, AllocError>
+    ensures { IfOk result (λ t. t
+        ≡ without_marks (by_number (λ r. as_u32 r.faction) (λ r. r.text) rows.now)) }
+{
+    let reports = reports_of(alloc, rows)?;
+    MarkedMap::of(alloc, reports)
+}
+
+/// The factions, regions, structures, mail and reports that are read from rows, with nothing
+/// marked. Names and pass texts keep their rules. AllocError without memory.
+pub(crate) fn campaign_maps_of(alloc: Global, parts: &Parts) -> Result<CampaignMaps, AllocError>
+    requires factions { list_all faction_named parts.now.factions ≡ true }
+    requires structures { list_all (λ r. name_ok r.name) parts.now.structures ≡ true }
+    ensures { IfOk result (λ tables. tables ≡ campaign_maps_of parts.now) }
+{
+    let factions = marked_map_of_factions(alloc, parts.factions.as_slice())?;
+    let regions = unmarked_regions(alloc, parts.regions.as_slice(), parts.markets.as_slice())?;
+    let structures = marked_map_of_structures(alloc, parts.structures.as_slice())?;
+    let mail = marked_map_of_mail(alloc, parts.mail.as_slice())?;
+    let reports = marked_map_of_reports(alloc, parts.reports.as_slice())?;
+    Ok(CampaignMaps {
+        factions,
+        regions,
+        structures,
+        mail,
+        reports,
+    })
+}

@@ -1,0 +1,71 @@
+//! Builds one faction, region or structure, and one name or pass text, from a row.
+ghost use Rattle.std.specs.Prelude.{◌≡◌, IfOk, true};
+ghost use Rattle.atl_world.specs.Names.{name_ok, pass_ok};
+ghost use Rattle.atl_campaign.specs.Assembling.{bare_region};
+ghost use Rattle.atl_campaign.specs.FromRows.{as_u32, faction_of, structure_of};
+ghost use Rattle.atl_campaign.specs.RowRules.{faction_named};
+
+use crate::parts::{StoredFaction, StoredRegion, StoredStructure};
+use crate::row_values::{as_u16, as_u32, is_set};
+use atl_records::{Faction, Region, Structure};
+use atl_world::{Numbered, Sequence, Text};
+use std::alloc::{AllocError, Global};
+
+/// The text of a name's bytes, which keep the name rule.
+pub(super) fn name_of(alloc: Global, bytes: &Sequence<u8>) -> Result<Text, AllocError>
+    requires { name_ok bytes.now ≡ true }
+    ensures { IfOk result (λ name. name ≡ bytes.now) }
+{
+    Text::from_utf8(alloc, bytes.as_slice())
+}
+
+/// The text of a pass text's bytes, which keep the rule of pass texts.
+pub(crate) fn pass_of(alloc: Global, bytes: &Sequence<u8>) -> Result<Text, AllocError>
+    requires { pass_ok bytes.now ≡ true }
+    ensures { IfOk result (λ pass. pass ≡ bytes.now) }
+{
+    Text::from_utf8(alloc, bytes.as_slice())
+}
+
+/// The faction that a row of `faction` says; its names and pass text keep their rules.
+pub(super) fn faction_of(alloc: Global, row: &StoredFaction) -> Result<Faction, AllocError>
+    requires { faction_named row.now ≡ true }
+    ensures { IfOk result (λ faction. faction ≡ faction_of row.now) }
+{
+    let joined_as = name_of(alloc, &row.joined_as)?;
+    let name = name_of(alloc, &row.name)?;
+    let pass = pass_of(alloc, &row.pass)?;
+    Ok(Faction {
+        number: as_u32(row.number),
+        joined_as,
+        name,
+        pass,
+        gone: is_set(row.gone),
+    })
+}
+
+/// The region that a row of `region` says, with nothing in stock.
+pub(super) fn bare_region(alloc: Global, row: &StoredRegion) -> Region
+    ensures { result ≡ bare_region row.now }
+{
+    Region {
+        peasants: as_u32(row.peasants),
+        money: as_u32(row.money),
+        stocks: Numbered::new(alloc),
+    }
+}
+
+/// The structure that a row of `structure` says; its name keeps the name rule.
+pub(super) fn structure_of(alloc: Global, row: &StoredStructure) -> Result<Structure, AllocError>
+    requires { name_ok row.now.name ≡ true }
+    ensures { IfOk result (λ structure. structure ≡ structure_of row.now) }
+{
+    let name = name_of(alloc, &row.name)?;
+    Ok(Structure {
+        kind: as_u16(row.kind),
+        name,
+        region: as_u32(row.region),
+        done: as_u32(row.done),
+        owner: as_u32(row.owner),
+    })
+}

@@ -1,0 +1,97 @@
+//! Builds the units from their rows, and the lists of units.
+ghost use Rattle.std.specs.Prelude.{◌≡◌, IfOk, true};
+ghost use Rattle.std.specs.List.{list_all};
+ghost use Rattle.atl_world.specs.Names.{name_ok};
+ghost use Rattle.atl_campaign.specs.KeptLists.{AreUnitLists};
+ghost use Rattle.atl_campaign.specs.Assembling.{bare_unit};
+ghost use Rattle.atl_campaign.specs.FromRows.{as_u32, by_number, unit_of};
+ghost use Rattle.atl_campaign.specs.Roster.{unmarked_units};
+ghost use Rattle.atl_campaign.specs.RowRules.{unit_in_range, has_in_range};
+
+use super::goods::put_things;
+use super::records::name_of;
+use crate::arena::Arena;
+use crate::lists::{UnitLists, list_keys_of};
+use crate::parts::{Parts, StoredHas, StoredUnit};
+use crate::row_values::{as_u32, is_set};
+use crate::units::Units;
+use atl_records::{Holding, Unit};
+use atl_world::Numbered;
+use std::alloc::{AllocError, Global};
+
+/// The unit that a row of `unit` says, without items and days of study. Its name keeps the name
+/// rule, and its numbers are in their ranges.
+fn bare_unit(alloc: Global, row: &StoredUnit) -> Result<Unit, AllocError>
+    requires named { name_ok row.now.name ≡ true }
+    requires range { unit_in_range row.now ≡ true }
+    ensures { IfOk result (λ unit. unit ≡ bare_unit row.now) }
+{
+    let name = name_of(alloc, &row.name)?;
+    let items = Numbered::new(alloc);
+    let days = Numbered::new(alloc);
+    let mut holding = Holding::new(name, as_u32(row.men), as_u32(row.money), items, days);
+    holding.set_guard(is_set(row.guard));
+    Ok(Unit {
+        faction: as_u32(row.faction),
+        region: as_u32(row.region),
+        structure: as_u32(row.structure),
+        holding,
+    })
+}
+
+/// The units of rows by number, without items and days of study.
+fn bare_units(alloc: Global, rows: &[StoredUnit]) -> Result<Arena<Unit>, AllocError>
+    requires named { list_all (λ r. name_ok r.name) rows.now ≡ true }
+    requires range { list_all unit_in_range rows.now ≡ true }
+    ensures { IfOk result (λ units. units ≡ by_number (λ r. as_u32 r.number) bare_unit rows.now) }
+{
+    let mut units = Arena::with_room(alloc, rows.len())?;
+    for row in rows {
+        let unit = bare_unit(alloc, row)?;
+        units.put(as_u32(row.number), unit)?;
+    }
+    Ok(units)
+}
+
+/// The units of rows by number, with what the rows of `has` give to them. Names keep the name rule,
+/// and numbers are in their ranges.
+pub(crate) fn units_of(
+    alloc: Global,
+    rows: &[StoredUnit],
+    has: &[StoredHas],
+) -> Result<Arena<Unit>, AllocError>
+    requires named { list_all (λ r. name_ok r.name) rows.now ≡ true }
+    requires range { list_all unit_in_range rows.now ≡ true }
+    requires amounts { list_all has_in_range has.now ≡ true }
+    ensures { IfOk result (λ units. units
+        ≡ by_number (λ r. as_u32 r.number) (unit_of has.now) rows.now) }
+{
+    let mut units = bare_units(alloc, rows)?;
+    put_things(&mut units, has)?;
+    Ok(units)
+}
+
+/// The units of rows with their items and days of study, and nothing marked. Names keep the name
+/// rule, and numbers are in their ranges.
+pub(crate) fn roster_of(alloc: Global, parts: &Parts) -> Result<Units, AllocError>
+    requires named { list_all (λ r. name_ok r.name) parts.now.units ≡ true }
+    requires range { list_all unit_in_range parts.now.units ≡ true }
+    requires amounts { list_all has_in_range parts.now.has ≡ true }
+    ensures { IfOk result (λ units. units
+        ≡ unmarked_units (by_number (λ r. as_u32 r.number) (unit_of parts.now.has)
+        parts.now.units)) }
+{
+    let units = units_of(alloc, parts.units.as_slice(), parts.has.as_slice())?;
+    Units::of(alloc, units)
+}
+
+/// The lists of the given units by region, faction and structure.
+pub(crate) fn lists_of(alloc: Global, units: &Units) -> Result<UnitLists, AllocError>
+    ensures { IfOk result (λ lists. AreUnitLists units.now.values lists) }
+{
+    let mut lists = UnitLists::new(alloc);
+    for (number, unit) in units.iter() {
+        lists.add(alloc, number, list_keys_of(unit))?;
+    }
+    Ok(lists)
+}

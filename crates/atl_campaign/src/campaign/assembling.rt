@@ -1,0 +1,58 @@
+//! Builds a campaign from rows that keep the rules on the campaign row, ranges and names.
+ghost use Rattle.std.specs.Prelude.{◌≡◌, IfOk, length, true};
+ghost use Rattle.atl_world.specs.Worlds.{IsWorld};
+ghost use Rattle.atl_campaign.specs.FromRows.{campaign_of};
+ghost use Rattle.atl_campaign.specs.Marks.{no_marks};
+ghost use Rattle.atl_campaign.specs.RowRules.{are_named, people_in_range};
+
+use super::Campaign;
+use crate::assembly::{CampaignMaps, books_of, campaign_maps_of, lists_of, pass_of, roster_of};
+use crate::parts::Parts;
+use crate::row_values::{as_u32, campaign_row_of};
+use atl_records::{ENTRY_COUNT, FIRST_ITEM};
+use atl_world::{Marks, World};
+use std::alloc::{AllocError, Global};
+
+/// The campaign that is read from rows, with nothing marked. AllocError without memory.
+#[tactic(auto, unfolding(crate::specs::FromRows::campaign_of))]
+pub fn assemble(alloc: Global, world: &World, parts: &Parts) -> Result<Campaign, AllocError>
+    requires one { length parts.now.campaign ≡ 1 }
+    requires named { are_named parts.now ≡ true }
+    requires people { people_in_range parts.now ≡ true }
+    ensures what { IfOk result (λ c. c.value ≡ campaign_of world.now parts.now) }
+    ensures marks { IfOk result (λ c. c.marks ≡ no_marks) }
+    ensures world { IsWorld world.now }
+{
+    let head = campaign_row_of(parts);
+    let things = FIRST_ITEM + world.items().len();
+    let pass = pass_of(alloc, &head.pass)?;
+    let units = roster_of(alloc, parts)?;
+    let lists = lists_of(alloc, &units)?;
+    let books = books_of(alloc, things, parts.books.as_slice())?;
+    let amounts_marked = Marks::with_room(alloc, ENTRY_COUNT * things)?;
+    let CampaignMaps {
+        factions,
+        regions,
+        structures,
+        mail,
+        reports,
+    } = campaign_maps_of(alloc, parts)?;
+    Ok(Campaign {
+        alloc,
+        month: as_u32(head.month),
+        pass,
+        row_marked: false,
+        factions,
+        next_faction: as_u32(head.next_faction),
+        regions,
+        units,
+        next_unit: as_u32(head.next_unit),
+        structures,
+        next_structure: as_u32(head.next_structure),
+        mail,
+        reports,
+        books,
+        amounts_marked,
+        lists,
+    })
+}

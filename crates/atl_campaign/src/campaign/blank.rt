@@ -1,0 +1,38 @@
+//! An empty campaign, without factions, regions and units.
+ghost use Rattle.std.specs.Prelude.{◌≡◌};
+ghost use Rattle.atl_campaign.specs.Campaign.{blank};
+
+use super::Campaign;
+use crate::lists::UnitLists;
+use crate::regions::Regions;
+use crate::units::Units;
+use atl_records::Books;
+use atl_world::{MarkedMap, Marks, Text};
+use std::alloc::Global;
+
+impl Campaign {
+    /// An empty campaign, with nothing marked. Callers leave it where they move a campaign out;
+    /// founding never returns it. It takes no memory.
+    pub fn blank(alloc: Global) -> Campaign
+        ensures { result ≡ blank }
+    {
+        Campaign {
+            alloc,
+            month: 0,
+            pass: Text::from_string(String::new(alloc)),
+            next_faction: 1,
+            next_unit: 1,
+            next_structure: 1,
+            factions: MarkedMap::new(alloc),
+            regions: Regions::new(alloc),
+            units: Units::new(alloc),
+            structures: MarkedMap::new(alloc),
+            mail: MarkedMap::new(alloc),
+            reports: MarkedMap::new(alloc),
+            books: Books::blank(alloc),
+            amounts_marked: Marks::new(alloc),
+            row_marked: false,
+            lists: UnitLists::new(alloc),
+        }
+    }
+}

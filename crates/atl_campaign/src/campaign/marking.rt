@@ -1,0 +1,150 @@
+//! Reads and clears the marks of a campaign: what is to be written.
+ghost use Rattle.std.specs.Prelude.{◌≡◌, ◌<◌};
+ghost use Rattle.std.specs.FinMap as map;
+ghost use Rattle.std.specs.FinSet as set;
+ghost use Rattle.atl_world.specs.Tracking.{Lists};
+ghost use Rattle.atl_records.specs.Books.{thing_index, amount_number};
+ghost use Rattle.atl_campaign.specs.Marks.{AreStocksWithin, AreWithin, no_marks, marks_in};
+
+use super::Campaign;
+use atl_records::{Entry, Thing, amount_number};
+use atl_world::{Entries, MarkedNumbers, Numbered};
+
+impl Campaign {
+    /// How much is marked as to be written: factions, rows of regions, structures, mail, reports,
+    /// amounts of the books and the campaign row count one each. A unit counts once, whatever of it
+    /// is marked, and so do the stocks of a region. It takes no memory.
+    pub fn marks(&self) -> usize
+        ensures value { result ≡ marks_in self.now.marks }
+        ensures units { AreWithin self.now.marks.units self.now.marks.rows self.now.marks.goods
+            self.now.marks.items self.now.marks.skills }
+        ensures stocks { AreStocksWithin self.now.marks.markets self.now.marks.stocks
+            self.now.marks.stock_items }
+    {
+        let row = if self.row_marked { 1 } else { 0 };
+        let named = self.factions.marked() + self.mail.marked() + self.reports.marked();
+        let placed = self.regions.marked() + self.units.marked() + self.structures.marked();
+        named + placed + self.amounts_marked.len() + row
+    }
+
+    /// The numbers of the marked factions, in rising order. It takes no memory.
+    pub fn marked_factions(&self) -> MarkedNumbers<'_>
+        ensures { Lists self.now.marks.factions result }
+    {
+        self.factions.marked_numbers()
+    }
+
+    /// The numbers of the regions whose rows are marked, in rising order. It takes no memory.
+    pub fn marked_regions(&self) -> MarkedNumbers<'_>
+        ensures { Lists self.now.marks.regions result }
+    {
+        self.regions.marked_rows()
+    }
+
+    /// The numbers of the regions all of whose stocks are marked, in rising order. It takes no
+    /// memory.
+    pub fn marked_stocks(&self) -> MarkedNumbers<'_>
+        ensures { Lists self.now.marks.stocks result }
+    {
+        self.regions.marked_stocks()
+    }
+
+    /// The single stocks that are marked, by the numbers of their regions and of their items, in
+    /// rising order. It takes no memory.
+    pub fn marked_stock_items(&self) -> Entries<'_, Numbered<()>>
+        ensures { result ≡ map.entries self.now.marks.stock_items }
+    {
+        self.regions.marked_stock_items()
+    }
+
+    /// The numbers of the units of which something is marked, in rising order. Units that are gone
+    /// are among them. It takes no memory.
+    pub fn marked_units(&self) -> MarkedNumbers<'_>
+        ensures { Lists self.now.marks.units result }
+    {
+        self.units.marked_numbers()
+    }
+
+    /// The numbers of the units whose rows are marked, in rising order. Units that are gone are
+    /// among them. It takes no memory.
+    pub fn marked_rows(&self) -> MarkedNumbers<'_>
+        ensures { Lists self.now.marks.rows result }
+    {
+        self.units.marked_rows()
+    }
+
+    /// The numbers of the units all of whose goods are marked, in rising order. Units that are gone
+    /// are among them. It takes no memory.
+    pub fn marked_goods(&self) -> MarkedNumbers<'_>
+        ensures { Lists self.now.marks.goods result }
+    {
+        self.units.marked_goods()
+    }
+
+    /// The single items that are marked, by the numbers of their units, in rising order. Items of
+    /// units that are gone are among them. It takes no memory.
+    pub fn marked_items(&self) -> Entries<'_, Numbered<()>>
+        ensures { result ≡ map.entries self.now.marks.items }
+    {
+        self.units.marked_items()
+    }
+
+    /// The single skills that are marked, by the numbers of their units, in rising order. Skills of
+    /// units that are gone are among them. It takes no memory.
+    pub fn marked_skills(&self) -> Entries<'_, Numbered<()>>
+        ensures { result ≡ map.entries self.now.marks.skills }
+    {
+        self.units.marked_skills()
+    }
+
+    /// The numbers of the marked structures, in rising order. It takes no memory.
+    pub fn marked_structures(&self) -> MarkedNumbers<'_>
+        ensures { Lists self.now.marks.structures result }
+    {
+        self.structures.marked_numbers()
+    }
+
+    /// The numbers of the factions whose mail is marked, in rising order. Factions whose mail was
+    /// removed are among them. It takes no memory.
+    pub fn marked_mail(&self) -> MarkedNumbers<'_>
+        ensures { Lists self.now.marks.mail result }
+    {
+        self.mail.marked_numbers()
+    }
+
+    /// The numbers of the factions whose report is marked, in rising order. It takes no memory.
+    pub fn marked_reports(&self) -> MarkedNumbers<'_>
+        ensures { Lists self.now.marks.reports result }
+    {
+        self.reports.marked_numbers()
+    }
+
+    /// Whether an amount of the books is marked.
+    pub fn is_amount_marked(&self, entry: Entry, thing: Thing) -> bool
+        requires { thing_index thing < self.now.value.books.things }
+        ensures { result ≡ set.contains self.now.marks.books (amount_number entry thing) }
+    {
+        self.amounts_marked.contains(amount_number(entry, thing))
+    }
+
+    /// Whether the campaign row is marked: the month or a next number changed.
+    pub fn is_row_marked(&self) -> bool
+        ensures { result ≡ self.now.marks.row }
+    {
+        self.row_marked
+    }
+
+    /// Clears all marks, and changes nothing else. It takes no memory.
+    pub fn unmark(&mut self)
+        ensures { self.new ≡ record self.old { marks = no_marks } }
+    {
+        self.factions.unmark();
+        self.regions.unmark();
+        self.units.unmark();
+        self.structures.unmark();
+        self.mail.unmark();
+        self.reports.unmark();
+        self.amounts_marked.clear();
+        self.row_marked = false;
+    }
+}

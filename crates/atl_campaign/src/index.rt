@@ -1,0 +1,160 @@
+//! The index of an `Arena`: leads from each number to the slot of its value, in a sorted vector.
+ghost use Rattle.std.specs.Prelude.{◌≡◌, ◌<◌, ◌^◌, true, length, IfOk, IfErr, IfSome, OnOk, OnErr, None};
+ghost use Rattle.std.specs.Ordering.{nat_cmp};
+ghost use Rattle.std.specs.List.Sorted.{IsStrictlySortedBy};
+ghost use Rattle.std.specs.Slice.Iter.{iter_rest};
+ghost use Rattle.std.specs.FinMap as map;
+ghost use Rattle.atl_world.specs.SortedNumbers.{IsAt, BelongsAt};
+ghost use Rattle.atl_campaign.specs.Index.{index_numbers, slots_of};
+
+use crate::gap_vec::GapVec;
+use std::alloc::{AllocError, Global};
+use std::marker::Model;
+use std::slice::Iter;
+
+/// An entry of an index: a number, and the slot of the arena where its value is.
+#[derive(Drop, Clone, Copy)]
+pub(crate) struct IndexEntry {
+    pub(crate) number: u32,
+    pub(crate) slot: usize,
+}
+
+/// A map from numbers to slots, as a vector of entries in the order of their numbers.
+#[derive(Drop)]
+pub(crate) struct Index {
+    // Sorted by number, and no number twice.
+    places: GapVec<IndexEntry>,
+}
+
+/// Clauses see an index as a map from numbers to slots. The entries' numbers rise strictly.
+impl Model for Index {
+    ghost use Rattle.std.specs.Prelude.{ℕ};
+    ghost use Rattle.std.specs.Ordering.{nat_cmp};
+    ghost use Rattle.std.specs.List.Sorted.{IsStrictlySortedBy};
+    ghost use Rattle.std.specs.Coded.{coded_ℕ};
+    ghost use Rattle.std.specs.FinMap as map;
+    ghost use Rattle.atl_campaign.specs.Index.{index_numbers, slots_of};
+
+    ghost Value = { map.FinMap nat_cmp ℕ };
+
+    ghost coded = { map.code coded_ℕ coded_ℕ };
+
+    ghost view = { λ a. map.from_entries (slots_of a.places) };
+
+    ghost invariant = { λ a. IsStrictlySortedBy nat_cmp (index_numbers a.places) };
+}
+
+impl Index {
+    /// An empty index. It takes no memory.
+    pub(crate) fn new(alloc: Global) -> Index
+        ensures { result ≡ map.empty }
+    {
+        Index {
+            places: GapVec::new(alloc),
+        }
+    }
+
+    /// An empty index with room for this many numbers. AllocError without memory.
+    pub(crate) fn with_room(alloc: Global, room: usize) -> Result<Index, AllocError>
+        ensures { IfOk result (λ index. index ≡ map.empty) }
+    {
+        Ok(Index {
+            places: GapVec::with_room(alloc, room)?,
+        })
+    }
+
+    /// The slot that a number leads to; None where it leads to none.
+    pub(crate) fn get(&self, number: u32) -> Option<usize>
+        ensures { result ≡ map.get self.now number }
+    {
+        let places = self.places.as_slice();
+        match position_of(places, number) {
+            Ok(place) => Some(places[place].slot),
+            Err(_) => None,
+        }
+    }
+
+    /// Adds a number that isn't there yet, with its slot. Without memory for it nothing changes.
+    pub(crate) fn insert(&mut self, number: u32, slot: usize) -> Result<(), AllocError>
+        requires { map.get self.old number ≡ None }
+        ensures ok { OnOk result (self.new ≡ map.insert self.old number slot) }
+        ensures err { OnErr result (self.new ≡ self.old) }
+    {
+        match position_of(self.places.as_slice(), number) {
+            Ok(_) => unreachable!(),
+            Err(place) => self.places.insert(place, IndexEntry { number, slot })?,
+        }
+        Ok(())
+    }
+
+    /// Removes a number, and returns the slot that it led to, or None. It takes no memory.
+    pub(crate) fn remove(&mut self, number: u32) -> Option<usize>
+        ensures slot { result ≡ map.get self.old number }
+        ensures taken { self.new ≡ map.remove self.old number }
+    {
+        let places = self.places.as_slice();
+        match position_of(places, number) {
+            Ok(place) => {
+                let slot = places[place].slot;
+                self.places.remove(place);
+                Some(slot)
+            }
+            Err(_) => None,
+        }
+    }
+
+    /// How many numbers there are.
+    pub(crate) fn len(&self) -> usize
+        ensures value { result ≡ map.len self.now }
+        ensures small { result < 2 ^ 63 }
+    {
+        self.places.len()
+    }
+
+    /// The numbers with their slots, in rising order.
+    pub(crate) fn iter(&self) -> Iter<'_, IndexEntry>
+        ensures { slots_of (iter_rest result) ≡ map.entries self.now }
+    {
+        self.places.as_slice().iter()
+    }
+}
+
+/// The index of a number's entry, if no number between the first entry's and this one is missing;
+/// else, or if the number has no entry, None. The index is the number less the first entry's.
+fn guess_position(places: &[IndexEntry], number: u32) -> Option<usize>
+    ensures { IfSome result (λ place. IsAt (index_numbers places.now) number place) }
+{
+    let first = places.first()?;
+    let place = number.checked_sub(first.number)? as usize;
+    match places.get(place) {
+        Some(found) if found.number == number => Some(place),
+        _ => None,
+    }
+}
+
+/// Whether a number is above the numbers of all entries, which are sorted; true if there are none.
+fn is_above(places: &[IndexEntry], number: u32) -> bool
+    requires { IsStrictlySortedBy nat_cmp (index_numbers places.now) }
+    ensures { result ≡ true → BelongsAt (index_numbers places.now) number (length places.now) }
+{
+    match places.last() {
+        Some(last) => last.number < number,
+        None => true,
+    }
+}
+
+/// The index of a number's entry in sorted entries, or as Err the index where it belongs. A binary
+/// search is made only where the number is not above all, and the guess of its index failed.
+fn position_of(places: &[IndexEntry], number: u32) -> Result<usize, usize>
+    requires { IsStrictlySortedBy nat_cmp (index_numbers places.now) }
+    ensures found { IfOk result (λ place. IsAt (index_numbers places.now) number place) }
+    ensures missing { IfErr result (λ place. BelongsAt (index_numbers places.now) number place) }
+{
+    if let Some(place) = guess_position(places, number) {
+        return Ok(place);
+    }
+    if is_above(places, number) {
+        return Err(places.len());
+    }
+    places.binary_search_by_key(&number, |place| place.number)
+}

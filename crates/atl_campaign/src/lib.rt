@@ -1,0 +1,28 @@
+//! A campaign: factions, units, regions, structures, mail, reports and books; and its rows.
+#![tactic(auto)]
+
+mod arena;
+mod assembly;
+pub mod campaign;
+mod early;
+mod gap_vec;
+mod index;
+mod lists;
+mod numbers;
+pub mod parts;
+mod regions;
+mod row_values;
+mod rows;
+mod totals;
+mod units;
+
+pub use arena::SlotEntries;
+pub use atl_records::{
+    Books, ENTRY_COUNT, Entry, Event, EventFault, EventVerb, FIRST_ITEM, Faction, HOLDING_LIMIT,
+    Holding, JoinFault, LAST_MONTH, LAST_UNIT, MEN_LIMIT, MOST_DAYS, MOST_STRUCTURES, MOST_UNITS,
+    Outcome, Region, Structure, Thing, Unit, carry, goods, level, level_in, level_in_any, load,
+};
+pub use campaign::{Campaign, assemble, founded};
+pub use early::good_campaigns_are_early;
+pub use parts::Parts;
+pub use row_values::{as_u16, as_u32, campaign_row_of, is_set};

@@ -1,0 +1,213 @@
+//! Sorted lists of units, one for each region, faction and structure.
+ghost use Rattle.std.specs.Prelude.{◌≡◌, OnOk, OnErr};
+ghost use Rattle.std.specs.FinMap as map;
+ghost use Rattle.atl_campaign.specs.KeptLists.{list_of, list_keys_of, listed_apart, unlisted_apart, relisted_inside, AreUnitLists, SameLists, ListsUnit, KeepsLists, KeepsAll, UnlistsUnit, RelistsUnit};
+ghost use Rattle.atl_campaign.specs.Ordered.{put_number, take_number};
+
+use crate::numbers::Numbers;
+use atl_records::Unit;
+use atl_world::{Numbered, let_go};
+use std::alloc::{AllocError, Global};
+
+/// The numbers of the units of each region, each faction and each structure, in rising order.
+/// Structure 0 has no list: units with it are inside none.
+pub(crate) struct UnitLists {
+    pub(crate) by_region: Numbered<Numbers>,
+    pub(crate) by_faction: Numbered<Numbers>,
+    pub(crate) by_structure: Numbered<Numbers>,
+}
+
+impl Drop for UnitLists {
+    fn drop(self) {
+        let_go!(self: UnitLists { by_region, by_faction, by_structure });
+    }
+}
+
+/// The keys of the lists that a unit is in: its faction, region and structure.
+#[derive(Drop, Clone, Copy)]
+pub(crate) struct ListKeys {
+    pub(crate) faction: u32,
+    pub(crate) region: u32,
+    pub(crate) structure: u32,
+}
+
+/// The keys of the lists that a unit is in: its faction, region and structure.
+pub(crate) fn list_keys_of(unit: &Unit) -> ListKeys
+    ensures { result ≡ list_keys_of unit.now }
+{
+    ListKeys {
+        faction: unit.faction,
+        region: unit.region,
+        structure: unit.structure,
+    }
+}
+
+impl UnitLists {
+    /// The lists of no units: all are empty.
+    pub(crate) fn new(alloc: Global) -> UnitLists
+        ensures { AreUnitLists map.empty result }
+    {
+        UnitLists {
+            by_region: Numbered::new(alloc),
+            by_faction: Numbered::new(alloc),
+            by_structure: Numbered::new(alloc),
+        }
+    }
+
+    /// Adds a unit to the lists of its region, faction and structure. Without memory for it nothing
+    /// changes.
+    pub(crate) fn add(
+        &mut self,
+        alloc: Global,
+        number: u32,
+        listing: ListKeys,
+    ) -> Result<(), AllocError>
+        ensures ok { OnOk result (ListsUnit number listing self.old self.new) }
+        ensures err { OnErr result (KeepsLists number self.old self.new) }
+    {
+        list_number(alloc, &mut self.by_region, listing.region, number)?;
+        match list_number(alloc, &mut self.by_faction, listing.faction, number) {
+            Ok(()) => {}
+            Err(e) => {
+                unlist_number(&mut self.by_region, listing.region, number);
+                return Err(e);
+            }
+        }
+        match list_apart(alloc, &mut self.by_structure, number, listing.structure, 0) {
+            Ok(()) => Ok(()),
+            Err(e) => {
+                unlist_number(&mut self.by_region, listing.region, number);
+                unlist_number(&mut self.by_faction, listing.faction, number);
+                Err(e)
+            }
+        }
+    }
+
+    /// Removes a unit from its lists. It takes no memory.
+    pub(crate) fn remove(&mut self, number: u32, listing: ListKeys)
+        ensures { UnlistsUnit number listing self.old self.new }
+    {
+        unlist_number(&mut self.by_region, listing.region, number);
+        unlist_number(&mut self.by_faction, listing.faction, number);
+        unlist_apart(&mut self.by_structure, number, listing.structure, 0);
+    }
+
+    /// Moves a unit into the lists of another region and structure. Without memory for it nothing
+    /// changes.
+    pub(crate) fn relist(
+        &mut self,
+        alloc: Global,
+        number: u32,
+        from: ListKeys,
+        to: ListKeys,
+    ) -> Result<(), AllocError>
+        requires { to.faction ≡ from.faction }
+        ensures ok { OnOk result (RelistsUnit number from to self.old self.new) }
+        ensures err { OnErr result (KeepsAll self.old self.new) }
+    {
+        list_apart(alloc, &mut self.by_region, number, to.region, from.region)?;
+        match relist_inside(
+            alloc,
+            &mut self.by_structure,
+            number,
+            from.structure,
+            to.structure,
+        ) {
+            Ok(()) => {}
+            Err(e) => {
+                unlist_apart(&mut self.by_region, number, to.region, from.region);
+                return Err(e);
+            }
+        }
+        unlist_apart(&mut self.by_region, number, from.region, to.region);
+        Ok(())
+    }
+}
+
+/// Moves a number from the list of one structure into that of another; 0 has no list. Without
+/// memory for it nothing changes.
+fn relist_inside(
+    alloc: Global,
+    lists: &mut Numbered<Numbers>,
+    number: u32,
+    from: u32,
+    to: u32,
+) -> Result<(), AllocError>
+    ensures ok { OnOk result (SameLists lists.new (relisted_inside lists.old number from to)) }
+    ensures err { OnErr result (lists.new ≡ lists.old) }
+{
+    if from == to {
+        return Ok(());
+    }
+    list_apart(alloc, lists, number, to, 0)?;
+    unlist_apart(lists, number, from, 0);
+    Ok(())
+}
+
+/// Puts a number into the list under `key`, unless `key` is `other`. Without memory for it nothing
+/// changes.
+fn list_apart(
+    alloc: Global,
+    lists: &mut Numbered<Numbers>,
+    number: u32,
+    key: u32,
+    other: u32,
+) -> Result<(), AllocError>
+    ensures ok { OnOk result (lists.new ≡ listed_apart lists.old number key other) }
+    ensures err { OnErr result (lists.new ≡ lists.old) }
+{
+    if key == other {
+        return Ok(());
+    }
+    list_number(alloc, lists, key, number)
+}
+
+/// Takes a number out of the list under `key`, unless `key` is `other`. It takes no memory.
+fn unlist_apart(lists: &mut Numbered<Numbers>, number: u32, key: u32, other: u32)
+    ensures { SameLists lists.new (unlisted_apart lists.old number key other) }
+{
+    if key != other {
+        unlist_number(lists, key, number);
+    }
+}
+
+/// Puts a number into the list under a key. Without memory for it nothing changes.
+pub(crate) fn list_number(
+    alloc: Global,
+    lists: &mut Numbered<Numbers>,
+    key: u32,
+    number: u32,
+) -> Result<(), AllocError>
+    ensures ok { OnOk result
+        (lists.new ≡ map.insert lists.old key (put_number number (list_of lists.old key))) }
+    ensures err { OnErr result (lists.new ≡ lists.old) }
+{
+    match lists.get_mut(key) {
+        Some(list) => list.put(number),
+        None => {
+            let mut list = Numbers::new(alloc);
+            list.put(number)?;
+            lists.insert(key, list)
+        }
+    }
+}
+
+/// Takes a number out of the list under a key. It takes no memory.
+pub(crate) fn unlist_number(lists: &mut Numbered<Numbers>, key: u32, number: u32)
+    ensures { SameLists lists.new
+        (map.insert lists.old key (take_number number (list_of lists.old key))) }
+{
+    if let Some(list) = lists.get_mut(key) {
+        list.take(number);
+    }
+}
+
+/// The numbers in the list under a key; none where there is no list.
+pub(crate) fn numbers_under(lists: &Numbered<Numbers>, key: u32) -> &[u32]
+    ensures { result.now ≡ list_of lists.now key }
+{
+    match lists.get(key) {
+        Some(list) => list.as_slice(),
+        None => &[],
+    }
+}

@@ -1,0 +1,75 @@
+//! A sorted list of numbers, as that of the units in a region.
+ghost use Rattle.std.specs.Prelude.{◌≡◌, ◌≤◌, OnOk, OnErr, [], length};
+ghost use Rattle.atl_campaign.specs.Ordered.{IsSorted, put_number, take_number, first_above};
+
+use crate::gap_vec::GapVec;
+use std::alloc::{AllocError, Global};
+use std::marker::Model;
+
+/// A sorted list of numbers, in a vector with free room at both ends.
+#[derive(Drop, Debug)]
+pub(crate) struct Numbers {
+    items: GapVec<u32>,
+}
+
+/// Clauses see the numbers as a list, which is sorted.
+impl Model for Numbers {
+    ghost use Rattle.std.specs.Prelude.{List, ℕ};
+    ghost use Rattle.atl_campaign.specs.Ordered.{IsSorted};
+
+    ghost Value = { List ℕ };
+
+    ghost view = { λ a. a.items };
+
+    ghost invariant = { λ a. IsSorted a.items };
+}
+
+/// The index of the first number of a sorted list that is not below `number`; the length if none.
+fn first_above(items: &[u32], number: u32) -> usize
+    requires { IsSorted items.now }
+    ensures place { result ≡ first_above number items.now }
+    ensures small { result ≤ length items.now }
+{
+    items.partition_point(|item| *item < number)
+}
+
+impl Numbers {
+    /// An empty list. It takes no memory.
+    pub(crate) fn new(alloc: Global) -> Numbers
+        ensures { result ≡ [] }
+    {
+        Numbers {
+            items: GapVec::new(alloc),
+        }
+    }
+
+    /// Inserts a number before the first one that is not below it. Without memory nothing changes.
+    #[tactic(auto, unfolding(crate::specs::Ordered::put_number))]
+    pub(crate) fn put(&mut self, number: u32) -> Result<(), AllocError>
+        ensures ok { OnOk result (self.new ≡ put_number number self.old) }
+        ensures err { OnErr result (self.new ≡ self.old) }
+    {
+        let place = first_above(self.as_slice(), number);
+        self.items.insert(place, number)?;
+        Ok(())
+    }
+
+    /// Removes the first number that is not below `number`: `number` itself, if the list has it. It
+    /// takes no memory.
+    #[tactic(auto, unfolding(crate::specs::Ordered::take_number))]
+    pub(crate) fn take(&mut self, number: u32)
+        ensures { self.new ≡ take_number number self.old }
+    {
+        let place = first_above(self.as_slice(), number);
+        if place < self.items.len() {
+            self.items.remove(place);
+        }
+    }
+
+    /// The numbers, in rising order.
+    pub(crate) fn as_slice(&self) -> &[u32]
+        ensures { result.now ≡ self.now }
+    {
+        self.items.as_slice()
+    }
+}

@@ -1,0 +1,237 @@
+//! The regions of a campaign by number, with dirty marks on their rows and their stocks.
+ghost use Rattle.std.specs.Prelude.{◌≡◌, ◌≤◌, ◌+◌, ◌*◌, ◌⊎◌, IfOk, IsOk, OnOk, OnErr, option_copied};
+ghost use Rattle.std.specs.FinMap as map;
+ghost use Rattle.std.specs.FinSet as set;
+ghost use Rattle.atl_world.specs.Limits.{number_count};
+ghost use Rattle.atl_world.specs.Tracking.{Lists, marked_with};
+ghost use Rattle.atl_campaign.specs.Marks.{AreStocksWithin};
+ghost use Rattle.atl_campaign.specs.Regions.{MarksStockAt, unmarked_regions, with_item_marked, with_stocks_marked, with_region_row, with_stock_at};
+ghost use Rattle.atl_campaign.specs.Stocks.{stock_in};
+
+use atl_records::{Region, put_amount};
+use atl_world::{Entries, MarkedNumbers, Marks, Numbered, let_go};
+use std::alloc::{AllocError, Global};
+use std::marker::Model;
+
+/// The regions by their numbers. The row of each, all of its stocks, and single stocks can be
+/// marked, each for itself.
+pub(crate) struct Regions {
+    values: Numbered<Region>,
+    // The regions whose rows are marked, those of which a stock is, and those all of whose stocks
+    // are, each with room for every region.
+    rows: Marks,
+    markets: Marks,
+    stocks: Marks,
+    // The single stocks that are marked, by region and item.
+    items: Numbered<Numbered<()>>,
+}
+
+impl Drop for Regions {
+    fn drop(self) {
+        let_go!(self: Regions { values, rows, markets, stocks, items });
+    }
+}
+
+/// Clauses see the regions by number with their marks. There is room to mark the row and the stocks
+/// of each, and a region with a marked stock is in `markets`.
+impl Model for Regions {
+    ghost use Rattle.atl_campaign.specs.Regions.{AreRegions, MarkedRegions, regions_code};
+
+    ghost Value = { MarkedRegions };
+
+    ghost coded = { regions_code };
+
+    ghost view = { λ a. record { values = a.values; rows = a.rows.numbers; markets = a.markets.numbers; stocks = a.stocks.numbers; items = a.items } };
+
+    ghost invariant = { λ a. AreRegions a.values a.rows a.markets a.stocks a.items };
+}
+
+impl Regions {
+    ghost use Rattle.std.specs.Option.{option_copied_mut};
+    ghost use Rattle.std.specs.Borrow.{sem};
+    ghost use Rattle.atl_campaign.specs.RegionLending.{LendsRegion};
+
+    /// No regions, and nothing marked. It takes no memory.
+    pub(crate) fn new(alloc: Global) -> Regions
+        ensures { result ≡ unmarked_regions map.empty }
+    {
+        Regions {
+            values: Numbered::new(alloc),
+            rows: Marks::new(alloc),
+            markets: Marks::new(alloc),
+            stocks: Marks::new(alloc),
+            items: Numbered::new(alloc),
+        }
+    }
+
+    /// The given regions, with nothing marked. AllocError if there is no memory for their marks.
+    pub(crate) fn of(alloc: Global, values: Numbered<Region>) -> Result<Regions, AllocError>
+        ensures { IfOk result (λ regions. regions ≡ unmarked_regions values) }
+    {
+        let rows = Marks::with_room(alloc, values.len())?;
+        let markets = Marks::with_room(alloc, values.len())?;
+        let stocks = Marks::with_room(alloc, values.len())?;
+        Ok(Regions {
+            values,
+            rows,
+            markets,
+            stocks,
+            items: Numbered::new(alloc),
+        })
+    }
+
+    /// The region under a number, where there is one.
+    pub(crate) fn get(&self, number: u32) -> Option<&Region>
+        ensures { option_copied result ≡ map.get self.now.values number }
+    {
+        self.values.get(number)
+    }
+
+    /// The regions with their numbers, in rising order.
+    pub(crate) fn iter(&self) -> Entries<'_, Region>
+        ensures { result ≡ map.entries self.now.values }
+    {
+        self.values.iter()
+    }
+
+    /// How many regions there are.
+    pub(crate) fn len(&self) -> usize
+        ensures { result ≡ map.len self.now.values }
+    {
+        self.values.len()
+    }
+
+    /// How many pieces of an item a region has in stock; 0 where the region isn't there.
+    pub(crate) fn stock(&self, number: u32, item: u32) -> u32
+        ensures { result ≡ stock_in self.now.values number item }
+    {
+        match self.values.get(number) {
+            Some(region) => region.stock(item),
+            None => 0,
+        }
+    }
+
+    /// The number of regions whose rows are marked, plus the number of regions with a marked stock.
+    pub(crate) fn marked(&self) -> usize
+        ensures value { result ≡ set.len self.now.rows + set.len self.now.markets }
+        ensures small { result ≤ 2 * number_count }
+        ensures within { AreStocksWithin self.now.markets self.now.stocks self.now.items }
+    {
+        self.rows.len() + self.markets.len()
+    }
+
+    /// The numbers of the regions whose rows are marked, in rising order.
+    pub(crate) fn marked_rows(&self) -> MarkedNumbers<'_>
+        ensures { Lists self.now.rows result }
+    {
+        self.rows.iter()
+    }
+
+    /// The numbers of the regions all of whose stocks are marked, in rising order.
+    pub(crate) fn marked_stocks(&self) -> MarkedNumbers<'_>
+        ensures { Lists self.now.stocks result }
+    {
+        self.stocks.iter()
+    }
+
+    /// The single stocks that are marked, by region and item, in rising order.
+    pub(crate) fn marked_stock_items(&self) -> Entries<'_, Numbered<()>>
+        ensures { result ≡ map.entries self.now.items }
+    {
+        self.items.iter()
+    }
+
+    /// Lends a region, if there is one, and marks nothing.
+    fn lend(&mut self, number: u32) -> Option<&mut Region>
+        ensures* writes_back { sem 𝓛 (LendsRegion self.entry number result) }
+        ensures value { option_copied_mut result ≡ map.get self.old.values number }
+    {
+        match self.values.get_mut(number) {
+            Some(region) => Some(region),
+            None => None,
+        }
+    }
+
+    /// Marks a region's row, if there is such a region. It takes no memory.
+    fn mark_row(&mut self, number: u32)
+        ensures { self.new ≡ record self.old
+            { rows = marked_with self.old.rows number (map.get self.old.values number) } }
+    {
+        self.rows.mark_present(&self.values, number);
+    }
+
+    /// Marks one stock of a region, if there is such a region, or all its stocks where there is no
+    /// memory for that mark.
+    fn mark_item(&mut self, alloc: Global, number: u32, item: u32)
+        ensures { (self.new ≡ with_item_marked self.old number item) ⊎ (self.new
+            ≡ with_stocks_marked self.old number) }
+    {
+        match self.values.get(number) {
+            Some(_) => {}
+            None => return,
+        }
+        self.markets.mark_present(&self.values, number);
+        match self.items.insert_under(alloc, number, item, ()) {
+            Ok(()) => return,
+            Err(_) => {}
+        }
+        self.stocks.mark_present(&self.values, number);
+    }
+
+    /// Marks one stock of a region, if it is another than `amount`. Where there is no memory for
+    /// that mark, all stocks of the region are marked.
+    pub(crate) fn mark_stock(&mut self, alloc: Global, number: u32, item: u32, amount: u32)
+        ensures marks { MarksStockAt self.old self.new number item amount }
+        ensures values { self.new.values ≡ self.old.values }
+    {
+        if self.stock(number, item) != amount {
+            self.mark_item(alloc, number, item);
+        }
+    }
+
+    /// Sets how many peasants a region has, if it is there, and marks its row. It takes no memory.
+    pub(crate) fn set_peasants(&mut self, number: u32, peasants: u32)
+        ensures { self.new ≡ with_region_row (λ r. record r { peasants = peasants }) self.old
+            number }
+    {
+        self.mark_row(number);
+        if let Some(region) = self.lend(number) {
+            region.peasants = peasants;
+        }
+    }
+
+    /// Sets how much money a region has, if it is there, and marks its row. It takes no memory.
+    pub(crate) fn set_money(&mut self, number: u32, money: u32)
+        ensures { self.new ≡ with_region_row (λ r. record r { money = money }) self.old number }
+    {
+        self.mark_row(number);
+        if let Some(region) = self.lend(number) {
+            region.money = money;
+        }
+    }
+
+    /// Sets how many pieces of an item a region has in stock, and marks nothing. An amount of 0
+    /// takes no memory. Without memory nothing changes.
+    pub(crate) fn put_stock(&mut self, region: u32, item: u32, stock: u32) -> Result<(), AllocError>
+        ensures ok { OnOk result
+            (self.new.values ≡ with_stock_at self.old.values region item stock) }
+        ensures err { OnErr result (self.new.values ≡ self.old.values) }
+        ensures none { stock ≡ 0 → IsOk result }
+        ensures marks { self.new ≡ record self.old { values = self.new.values } }
+    {
+        let Some(lent) = self.lend(region) else {
+            return Ok(());
+        };
+        put_amount(&mut lent.stocks, item, stock)
+    }
+
+    /// Clears all marks, and leaves the regions as they are. It takes no memory.
+    pub(crate) fn unmark(&mut self)
+        ensures { self.new ≡ unmarked_regions self.old.values }
+    {
+        self.rows.clear();
+        self.markets.clear();
+        self.stocks.clear();
+        self.items.clear();
+    }
+}

@@ -1,0 +1,404 @@
+//! Makes the rows of a campaign in each table of a format. See docs/FORMATS.md, "Tables".
+ghost use Rattle.std.specs.Prelude.{◌≡◌, ◌≤◌, ◌<◌, ◌++◌, ◌∷◌, [], IfOk, OnOk};
+ghost use Rattle.std.specs.FinMap as map;
+ghost use Rattle.std.specs.List.{flat_map};
+ghost use Rattle.atl_world.specs.declared.format.Format.TheVariants.{First, Second};
+ghost use Rattle.atl_records.specs.Limits.{possible_things};
+ghost use Rattle.atl_records.specs.Grids.{accounts_under};
+ghost use Rattle.atl_campaign.specs.Rows.{flag, rows_by, campaign_row, faction_row, region_row, unit_row, structure_row, mail_row, report_row, has_row, books_row, market_row, rows_of_sort, held_rows, has_rows, stock_rows, market_rows, rows_under, books_rows, rows_of};
+
+use crate::campaign::Campaign;
+use crate::parts::{
+    Parts, StoredBooks, StoredCampaignRow, StoredFaction, StoredHas, StoredMail, StoredMarket,
+    StoredRegion, StoredReport, StoredStructure, StoredUnit,
+};
+use atl_records::{Books, Entry, Faction, Holding, Structure, Thing, Unit};
+use atl_world::{Entries, Format, Sequence, Text};
+use std::alloc::{AllocError, Global};
+
+/// The `sort` of a row of `has` for an item.
+pub(crate) const ITEM_SORT: u32 = 0;
+
+/// The `sort` of a row of `has` for a skill.
+pub(crate) const SKILL_SORT: u32 = 1;
+
+/// The id of the campaign row.
+const CAMPAIGN_ID: i64 = 1;
+
+/// A copy of the bytes of a text.
+fn bytes_of(alloc: Global, text: &Text) -> Result<Sequence<u8>, AllocError>
+    ensures { IfOk result (λ bytes. bytes ≡ text.now) }
+{
+    Sequence::from_slice(alloc, text.as_bytes())
+}
+
+/// A flag as the number of a row: 1 where it is set, else 0.
+fn flag(set: bool) -> i64
+    ensures { result ≡ flag set }
+{
+    if set { 1 } else { 0 }
+}
+
+/// The row of the table `campaign` in a format, without its world text, which no campaign knows.
+fn campaign_row(
+    alloc: Global,
+    format: Format,
+    campaign: &Campaign,
+) -> Result<StoredCampaignRow, AllocError>
+    ensures { IfOk result (λ row. row ≡ campaign_row format campaign.now.value) }
+{
+    let pass = bytes_of(alloc, campaign.pass())?;
+    Ok(StoredCampaignRow {
+        id: CAMPAIGN_ID,
+        format: i64::from(format.number()),
+        month: i64::from(campaign.month()),
+        next_faction: i64::from(campaign.next_faction()),
+        next_unit: i64::from(campaign.next_unit()),
+        next_structure: i64::from(campaign.next_structure()),
+        pass,
+    })
+}
+
+/// The row of a faction: its number, both names, its pass text, and whether it is gone.
+fn faction_row(alloc: Global, number: u32, faction: &Faction) -> Result<StoredFaction, AllocError>
+    ensures { IfOk result (λ row. row ≡ faction_row number faction.now) }
+{
+    let joined_as = bytes_of(alloc, &faction.joined_as)?;
+    let name = bytes_of(alloc, &faction.name)?;
+    let pass = bytes_of(alloc, &faction.pass)?;
+    Ok(StoredFaction {
+        number: i64::from(number),
+        joined_as,
+        name,
+        pass,
+        gone: flag(faction.gone),
+    })
+}
+
+/// The row of a unit, without its items and days of study.
+fn unit_row(alloc: Global, number: u32, unit: &Unit) -> Result<StoredUnit, AllocError>
+    ensures { IfOk result (λ row. row ≡ unit_row number unit.now) }
+{
+    let name = bytes_of(alloc, unit.holding.name())?;
+    Ok(StoredUnit {
+        number: i64::from(number),
+        faction: i64::from(unit.faction),
+        name,
+        region: i64::from(unit.region),
+        structure: i64::from(unit.structure),
+        men: i64::from(unit.holding.men()),
+        money: i64::from(unit.holding.money()),
+        guard: flag(unit.holding.guard()),
+    })
+}
+
+/// The row of a structure: its number, kind, name, region, how much is done, and its owner.
+fn structure_row(
+    alloc: Global,
+    number: u32,
+    structure: &Structure,
+) -> Result<StoredStructure, AllocError>
+    ensures { IfOk result (λ row. row ≡ structure_row number structure.now) }
+{
+    let name = bytes_of(alloc, &structure.name)?;
+    Ok(StoredStructure {
+        number: i64::from(number),
+        kind: i64::from(structure.kind),
+        name,
+        region: i64::from(structure.region),
+        done: i64::from(structure.done),
+        owner: i64::from(structure.owner),
+    })
+}
+
+/// The rows of the table `campaign`: the campaign row alone.
+fn campaign_rows(
+    alloc: Global,
+    format: Format,
+    campaign: &Campaign,
+) -> Result<Sequence<StoredCampaignRow>, AllocError>
+    ensures { IfOk result (λ rows. rows ≡ campaign_row format campaign.now.value ∷ []) }
+{
+    let mut rows = Sequence::new(alloc);
+    rows.push(campaign_row(alloc, format, campaign)?)?;
+    Ok(rows)
+}
+
+/// A row for each faction, in the order of their numbers.
+fn faction_rows(alloc: Global, campaign: &Campaign) -> Result<Sequence<StoredFaction>, AllocError>
+    ensures { IfOk result (λ rows. rows
+        ≡ rows_by faction_row (map.entries campaign.now.value.factions)) }
+{
+    let mut rows = Sequence::new(alloc);
+    for (number, faction) in campaign.factions() {
+        rows.push(faction_row(alloc, number, faction)?)?;
+    }
+    Ok(rows)
+}
+
+/// A row for each region, without its stocks, in the order of their numbers.
+fn region_rows(alloc: Global, campaign: &Campaign) -> Result<Sequence<StoredRegion>, AllocError>
+    ensures { IfOk result (λ rows. rows
+        ≡ rows_by region_row (map.entries campaign.now.value.regions)) }
+{
+    let mut rows = Sequence::new(alloc);
+    for (number, region) in campaign.regions() {
+        rows.push(StoredRegion {
+            number: i64::from(number),
+            peasants: i64::from(region.peasants),
+            money: i64::from(region.money),
+        })?;
+    }
+    Ok(rows)
+}
+
+/// A row for each unit, without its items and days of study, in the order of their numbers.
+fn unit_rows(alloc: Global, campaign: &Campaign) -> Result<Sequence<StoredUnit>, AllocError>
+    ensures { IfOk result (λ rows. rows ≡ rows_by unit_row (map.entries campaign.now.value.units)) }
+{
+    let mut rows = Sequence::new(alloc);
+    for (number, unit) in campaign.units() {
+        rows.push(unit_row(alloc, number, unit)?)?;
+    }
+    Ok(rows)
+}
+
+/// A row for each structure, in the order of their numbers.
+fn structure_rows(
+    alloc: Global,
+    campaign: &Campaign,
+) -> Result<Sequence<StoredStructure>, AllocError>
+    ensures { IfOk result (λ rows. rows
+        ≡ rows_by structure_row (map.entries campaign.now.value.structures)) }
+{
+    let mut rows = Sequence::new(alloc);
+    for (number, structure) in campaign.structures() {
+        rows.push(structure_row(alloc, number, structure)?)?;
+    }
+    Ok(rows)
+}
+
+/// A row for each mailing, in the order of their factions' numbers.
+fn mail_rows(alloc: Global, campaign: &Campaign) -> Result<Sequence<StoredMail>, AllocError>
+    ensures { IfOk result (λ rows. rows ≡ rows_by mail_row (map.entries campaign.now.value.mail)) }
+{
+    let mut rows = Sequence::new(alloc);
+    for (number, mail) in campaign.mail() {
+        let text = Sequence::from_slice(alloc, mail.as_slice())?;
+        let faction = i64::from(number);
+        rows.push(StoredMail { faction, text })?;
+    }
+    Ok(rows)
+}
+
+/// A row for each report, in the order of their factions' numbers.
+fn report_rows(alloc: Global, campaign: &Campaign) -> Result<Sequence<StoredReport>, AllocError>
+    ensures { IfOk result (λ rows. rows
+        ≡ rows_by report_row (map.entries campaign.now.value.reports)) }
+{
+    let mut rows = Sequence::new(alloc);
+    for (number, report) in campaign.reports() {
+        let text = report.copy(alloc)?;
+        let faction = i64::from(number);
+        rows.push(StoredReport { faction, text })?;
+    }
+    Ok(rows)
+}
+
+/// The row of one item, or of the days of one skill, of a unit.
+fn has_row(number: u32, sort: u32, thing: u32, amount: u32) -> StoredHas
+    ensures { result ≡ has_row number sort thing amount }
+{
+    StoredHas {
+        unit: i64::from(number),
+        sort: i64::from(sort),
+        thing: i64::from(thing),
+        amount: i64::from(amount),
+    }
+}
+
+/// Adds a row for each thing of one sort, items or skills, of which a unit has more than 0.
+fn add_kind(
+    rows: &mut Sequence<StoredHas>,
+    number: u32,
+    sort: u32,
+    things: Entries<'_, u32>,
+) -> Result<(), AllocError>
+    ensures { OnOk result (rows.new ≡ rows.old ++ rows_of_sort number sort things.entry) }
+{
+    for (thing, amount) in things {
+        if *amount != 0 {
+            rows.push(has_row(number, sort, thing, *amount))?;
+        }
+    }
+    Ok(())
+}
+
+/// Adds the rows of a unit's items, and then of its days of study.
+fn add_held(
+    rows: &mut Sequence<StoredHas>,
+    number: u32,
+    holding: &Holding,
+) -> Result<(), AllocError>
+    ensures { OnOk result (rows.new ≡ rows.old ++ held_rows number holding.now) }
+{
+    add_kind(rows, number, ITEM_SORT, holding.items())?;
+    add_kind(rows, number, SKILL_SORT, holding.days())
+}
+
+/// The rows of `has` for the items and days of study of all units, unit by unit.
+fn has_rows(alloc: Global, campaign: &Campaign) -> Result<Sequence<StoredHas>, AllocError>
+    ensures { IfOk result (λ rows. rows ≡ has_rows (map.entries campaign.now.value.units)) }
+{
+    let mut rows = Sequence::new(alloc);
+    for (number, unit) in campaign.units() {
+        add_held(&mut rows, number, &unit.holding)?;
+    }
+    Ok(rows)
+}
+
+/// The row of the stock of an item in a region.
+fn market_row(region: u32, item: u32, stock: u32) -> StoredMarket
+    ensures { result ≡ market_row region item stock }
+{
+    StoredMarket {
+        region: i64::from(region),
+        item: i64::from(item),
+        stock: i64::from(stock),
+    }
+}
+
+/// Adds a row for each stock of a region that is not 0.
+fn add_stocks(
+    rows: &mut Sequence<StoredMarket>,
+    region: u32,
+    stocks: Entries<'_, u32>,
+) -> Result<(), AllocError>
+    ensures { OnOk result (rows.new ≡ rows.old ++ stock_rows region stocks.entry) }
+{
+    for (item, stock) in stocks {
+        if *stock != 0 {
+            rows.push(market_row(region, item, *stock))?;
+        }
+    }
+    Ok(())
+}
+
+/// A row of `market` for each stock of each region that is not 0, region by region.
+fn stocks_rows(alloc: Global, campaign: &Campaign) -> Result<Sequence<StoredMarket>, AllocError>
+    ensures { IfOk result (λ rows. rows
+        ≡ market_rows Second (map.entries campaign.now.value.regions)) }
+{
+    let mut rows = Sequence::new(alloc);
+    for (number, region) in campaign.regions() {
+        add_stocks(&mut rows, number, region.stocks.iter())?;
+    }
+    Ok(rows)
+}
+
+/// The rows of the table `market`: the stocks of all regions, and none in the first format.
+fn market_rows(
+    alloc: Global,
+    format: Format,
+    campaign: &Campaign,
+) -> Result<Sequence<StoredMarket>, AllocError>
+    ensures { IfOk result (λ rows. rows
+        ≡ market_rows format (map.entries campaign.now.value.regions)) }
+{
+    match format {
+        Format::First => Ok(Sequence::new(alloc)),
+        Format::Second => stocks_rows(alloc, campaign),
+    }
+}
+
+/// The row of what is booked of a thing under an entry.
+fn books_row(entry: Entry, thing: Thing, amount: i64) -> StoredBooks
+    ensures { result ≡ books_row entry thing amount }
+{
+    StoredBooks {
+        entry: i64::from(entry.number()),
+        thing: i64::from(thing.number()),
+        amount,
+    }
+}
+
+/// Adds a row for each amount of an entry that is not 0. `things` is how many things are booked.
+fn add_entry(
+    rows: &mut Sequence<StoredBooks>,
+    books: &Books,
+    things: usize,
+    entry: Entry,
+) -> Result<(), AllocError>
+    requires things { things ≡ books.now.things }
+    requires few { things ≤ possible_things }
+    ensures { OnOk result
+        (rows.new ≡ rows.old ++ rows_under books.now (accounts_under things entry)) }
+{
+    for number in 0..things {
+        let thing = Thing::of_number(number);
+        let amount = books.amount(entry, thing);
+        if amount != 0 {
+            rows.push(books_row(entry, thing, amount))?;
+        }
+    }
+    Ok(())
+}
+
+/// Adds a row for each amount of the given entries that is not 0, one entry after another.
+fn add_entries(
+    rows: &mut Sequence<StoredBooks>,
+    books: &Books,
+    things: usize,
+    entries: &[Entry],
+) -> Result<(), AllocError>
+    requires things { things ≡ books.now.things }
+    requires few { things ≤ possible_things }
+    ensures { OnOk result (rows.new
+        ≡ rows.old ++ rows_under books.now (flat_map (accounts_under things) entries.now)) }
+{
+    for entry in entries {
+        add_entry(rows, books, things, *entry)?;
+    }
+    Ok(())
+}
+
+/// A row for each amount of the books that is not 0.
+fn books_rows(alloc: Global, books: &Books) -> Result<Sequence<StoredBooks>, AllocError>
+    ensures { IfOk result (λ rows. rows ≡ books_rows books.now) }
+{
+    let things = books.len();
+    let mut rows = Sequence::new(alloc);
+    add_entries(&mut rows, books, things, &Entry::ALL)?;
+    Ok(rows)
+}
+
+impl Campaign {
+    /// The rows of the campaign in the second format, in the order of their keys. See
+    /// docs/FORMATS.md, "Tables".
+    pub fn parts(&self) -> Result<Parts, AllocError>
+        ensures { IfOk result (λ parts. parts ≡ rows_of Second self.now.value) }
+    {
+        self.parts_as(Format::Second)
+    }
+
+    /// The rows of the campaign in a format, in the order of their keys. See docs/FORMATS.md,
+    /// "Tables".
+    #[tactic(auto, unfolding(crate::specs::Rows::rows_of))]
+    pub fn parts_as(&self, format: Format) -> Result<Parts, AllocError>
+        ensures { IfOk result (λ parts. parts ≡ rows_of format self.now.value) }
+    {
+        let alloc = self.alloc();
+        Ok(Parts {
+            campaign: campaign_rows(alloc, format, self)?,
+            factions: faction_rows(alloc, self)?,
+            regions: region_rows(alloc, self)?,
+            units: unit_rows(alloc, self)?,
+            has: has_rows(alloc, self)?,
+            structures: structure_rows(alloc, self)?,
+            mail: mail_rows(alloc, self)?,
+            reports: report_rows(alloc, self)?,
+            books: books_rows(alloc, self.books())?,
+            markets: market_rows(alloc, format, self)?,
+        })
+    }
+}

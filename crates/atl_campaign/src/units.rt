@@ -1,0 +1,334 @@
+//! The units of a campaign by number, with dirty marks on their rows, goods, items and skills.
+ghost use Rattle.std.specs.Prelude.{◌≡◌, ◌≤◌, ◌⊎◌, IfOk, OnOk, OnErr, option_copied, None};
+ghost use Rattle.std.specs.FinMap as map;
+ghost use Rattle.std.specs.FinSet as set;
+ghost use Rattle.atl_world.specs.Tracking.{Lists};
+ghost use Rattle.atl_records.specs.Limits.{holding_limit, men_limit, most_map_entries};
+ghost use Rattle.atl_records.specs.Holdings.{with_amount_of};
+ghost use Rattle.atl_campaign.specs.Marks.{AreWithin};
+ghost use Rattle.atl_campaign.specs.Roster.{no_units, unmarked_units, with_unit_at, with_unit_row, with_item_at, with_skill_at, without_unit_at, item_marked_at, skill_marked_at};
+
+use crate::arena::{Arena, SlotEntries};
+use atl_records::Unit;
+use atl_world::{Entries, MarkedNumbers, Marks, Numbered, Text, let_go};
+use std::alloc::{AllocError, Global};
+use std::marker::Model;
+
+/// The units by number, with marks on units, rows, goods, and single items and skills. A unit of
+/// which a part is marked is marked itself.
+pub(crate) struct Units {
+    units: Arena<Unit>,
+    // The units of which something is marked, those whose rows are, and those all of whose goods
+    // are, each with room for every unit.
+    marks: Marks,
+    rows: Marks,
+    goods: Marks,
+    // The single items and skills that are marked, by unit.
+    items: Numbered<Numbered<()>>,
+    skills: Numbered<Numbered<()>>,
+}
+
+impl Drop for Units {
+    fn drop(self) {
+        let_go!(self: Units { units, marks, rows, goods, items, skills });
+    }
+}
+
+/// Clauses see the units by number with their marks. A unit of which a part is marked is marked
+/// itself, and there is room to mark each unit, its row and its goods.
+impl Model for Units {
+    ghost use Rattle.atl_campaign.specs.Roster.{Roster, roster_code};
+    ghost use Rattle.atl_campaign.specs.UnitRoom.{AreUnits};
+
+    ghost Value = { Roster };
+
+    ghost coded = { roster_code };
+
+    ghost view = { λ a. record { values = a.units; marks = a.marks.numbers; rows = a.rows.numbers; goods = a.goods.numbers; items = a.items; skills = a.skills } };
+
+    ghost invariant = { λ a. AreUnits a.units a.marks a.rows a.goods a.items a.skills };
+}
+
+impl Units {
+    ghost use Rattle.std.specs.Option.{option_copied_mut};
+    ghost use Rattle.std.specs.Borrow.{sem};
+    ghost use Rattle.atl_campaign.specs.UnitMarks.{LendsUnit, LendsRow};
+
+    /// No units, and nothing marked. It takes no memory.
+    pub(crate) fn new(alloc: Global) -> Units
+        ensures { result ≡ no_units }
+    {
+        Units {
+            units: Arena::new(alloc),
+            marks: Marks::new(alloc),
+            rows: Marks::new(alloc),
+            goods: Marks::new(alloc),
+            items: Numbered::new(alloc),
+            skills: Numbered::new(alloc),
+        }
+    }
+
+    /// The given units, with nothing marked. AllocError if there is no memory for their marks.
+    pub(crate) fn of(alloc: Global, values: Arena<Unit>) -> Result<Units, AllocError>
+        ensures { IfOk result (λ units. units ≡ unmarked_units values) }
+    {
+        let marks = Marks::with_room(alloc, values.len())?;
+        let rows = Marks::with_room(alloc, values.len())?;
+        let goods = Marks::with_room(alloc, values.len())?;
+        Ok(Units {
+            units: values,
+            marks,
+            rows,
+            goods,
+            items: Numbered::new(alloc),
+            skills: Numbered::new(alloc),
+        })
+    }
+
+    /// The unit of a number, where there is one.
+    pub(crate) fn get(&self, number: u32) -> Option<&Unit>
+        ensures { option_copied result ≡ map.get self.now.values number }
+    {
+        self.units.get(number)
+    }
+
+    /// The units with their numbers, in rising order.
+    pub(crate) fn iter(&self) -> SlotEntries<'_, Unit>
+        ensures { result ≡ map.entries self.now.values }
+    {
+        self.units.iter()
+    }
+
+    /// How many units there are.
+    pub(crate) fn len(&self) -> usize
+        ensures { result ≡ map.len self.now.values }
+    {
+        self.units.len()
+    }
+
+    /// How many units there are of which something is marked, with those that are gone.
+    pub(crate) fn marked(&self) -> usize
+        ensures value { result ≡ set.len self.now.marks }
+        ensures small { result ≤ most_map_entries }
+        ensures within { AreWithin self.now.marks self.now.rows self.now.goods self.now.items
+            self.now.skills }
+    {
+        self.marks.len()
+    }
+
+    /// The numbers of the units of which something is marked, in rising order.
+    pub(crate) fn marked_numbers(&self) -> MarkedNumbers<'_>
+        ensures { Lists self.now.marks result }
+    {
+        self.marks.iter()
+    }
+
+    /// The numbers of the units whose rows are marked, in rising order.
+    pub(crate) fn marked_rows(&self) -> MarkedNumbers<'_>
+        ensures { Lists self.now.rows result }
+    {
+        self.rows.iter()
+    }
+
+    /// The numbers of the units all of whose goods are marked, in rising order.
+    pub(crate) fn marked_goods(&self) -> MarkedNumbers<'_>
+        ensures { Lists self.now.goods result }
+    {
+        self.goods.iter()
+    }
+
+    /// The single items that are marked, by unit, in rising order.
+    pub(crate) fn marked_items(&self) -> Entries<'_, Numbered<()>>
+        ensures { result ≡ map.entries self.now.items }
+    {
+        self.items.iter()
+    }
+
+    /// The single skills that are marked, by unit, in rising order.
+    pub(crate) fn marked_skills(&self) -> Entries<'_, Numbered<()>>
+        ensures { result ≡ map.entries self.now.skills }
+    {
+        self.skills.iter()
+    }
+
+    /// Lends a unit, if there is one, and marks it, its row and all its goods. It takes no memory.
+    pub(crate) fn get_mut(&mut self, number: u32) -> Option<&mut Unit>
+        ensures* writes_back { sem 𝓛 (LendsUnit self.entry number result) }
+        ensures value { option_copied_mut result ≡ map.get self.old.values number }
+    {
+        match self.units.get(number) {
+            Some(_) => {}
+            None => return None,
+        }
+        self.marks.add(number);
+        self.rows.add(number);
+        self.goods.add(number);
+        match self.units.get_mut(number) {
+            Some(unit) => Some(unit),
+            None => None,
+        }
+    }
+
+    /// Lends a unit, if there is one, and marks it and its row. It takes no memory.
+    fn row_mut(&mut self, number: u32) -> Option<&mut Unit>
+        ensures* writes_back { sem 𝓛 (LendsRow self.entry number result) }
+        ensures value { option_copied_mut result ≡ map.get self.old.values number }
+    {
+        match self.units.get(number) {
+            Some(_) => {}
+            None => return None,
+        }
+        self.marks.add(number);
+        self.rows.add(number);
+        match self.units.get_mut(number) {
+            Some(unit) => Some(unit),
+            None => None,
+        }
+    }
+
+    /// Sets a unit's name, and marks its row. It takes no memory.
+    pub(crate) fn set_name(&mut self, number: u32, name: Text)
+        ensures { self.new ≡ with_unit_row
+            (λ u. record u { holding = record u.holding { name = name } }) self.old number }
+    {
+        if let Some(unit) = self.row_mut(number) {
+            unit.holding.set_name(name);
+        }
+    }
+
+    /// Sets how many men a unit has, at most 999,999, and marks its row. It takes no memory.
+    pub(crate) fn set_men(&mut self, number: u32, men: u32)
+        requires { men ≤ men_limit }
+        ensures { self.new ≡ with_unit_row
+            (λ u. record u { holding = record u.holding { men = men } }) self.old number }
+    {
+        if let Some(unit) = self.row_mut(number) {
+            unit.holding.set_men(men);
+        }
+    }
+
+    /// Sets a unit's money, at most 999,999,999, and marks its row. It takes no memory.
+    pub(crate) fn set_money(&mut self, number: u32, money: u32)
+        requires { money ≤ holding_limit }
+        ensures { self.new ≡ with_unit_row
+            (λ u. record u { holding = record u.holding { money = money } }) self.old number }
+    {
+        if let Some(unit) = self.row_mut(number) {
+            unit.holding.set_money(money);
+        }
+    }
+
+    /// Sets or clears a unit's guard flag, and marks its row. It takes no memory.
+    pub(crate) fn set_guard(&mut self, number: u32, guard: bool)
+        ensures { self.new ≡ with_unit_row
+            (λ u. record u { holding = record u.holding { guard = guard } }) self.old number }
+    {
+        if let Some(unit) = self.row_mut(number) {
+            unit.holding.set_guard(guard);
+        }
+    }
+
+    /// Sets a unit's region and structure, and marks its row; no owner changes. It takes no memory.
+    pub(crate) fn set_place(&mut self, number: u32, region: u32, structure: u32)
+        ensures { self.new ≡ with_unit_row
+            (λ u. record u { region = region; structure = structure }) self.old number }
+    {
+        if let Some(unit) = self.row_mut(number) {
+            unit.region = region;
+            unit.structure = structure;
+        }
+    }
+
+    /// Sets how many pieces of an item a unit has, at most 999,999,999, and marks that item, not
+    /// the unit's row. Without memory the units are as they were, but that mark may be set.
+    pub(crate) fn set_item(
+        &mut self,
+        alloc: Global,
+        number: u32,
+        item: u32,
+        amount: u32,
+    ) -> Result<(), AllocError>
+        requires { amount ≤ holding_limit }
+        ensures ok { OnOk result
+            (self.new ≡ with_item_at
+            (λ u. record u {
+              holding = record u.holding
+                  { items = with_amount_of u.holding.items item amount };
+            }) self.old number item) }
+        ensures err { OnErr result
+            ((self.new ≡ self.old) ⊎ (self.new ≡ item_marked_at self.old number item)) }
+    {
+        let Some(unit) = self.units.get_mut(number) else {
+            return Ok(());
+        };
+        self.items.insert_under(alloc, number, item, ())?;
+        self.marks.add(number);
+        unit.holding.set_amount(item, amount)
+    }
+
+    /// Sets a unit's days of a skill over all men, and marks that skill, not the unit's row.
+    /// Without memory the units are as they were, but that mark may be set.
+    pub(crate) fn set_days(
+        &mut self,
+        alloc: Global,
+        number: u32,
+        skill: u32,
+        days: u32,
+    ) -> Result<(), AllocError>
+        ensures ok { OnOk result
+            (self.new ≡ with_skill_at
+            (λ u. record u {
+              holding = record u.holding
+                  { days = with_amount_of u.holding.days skill days };
+            }) self.old number skill) }
+        ensures err { OnErr result
+            ((self.new ≡ self.old) ⊎ (self.new ≡ skill_marked_at self.old number skill)) }
+    {
+        let Some(unit) = self.units.get_mut(number) else {
+            return Ok(());
+        };
+        self.skills.insert_under(alloc, number, skill, ())?;
+        self.marks.add(number);
+        unit.holding.set_days(skill, days)
+    }
+
+    /// Puts a unit under a number that has none, and marks its row and all its goods. Without
+    /// memory for it nothing changes.
+    pub(crate) fn insert(&mut self, number: u32, unit: Unit) -> Result<(), AllocError>
+        requires { map.get self.old.values number ≡ None }
+        ensures ok { OnOk result (self.new ≡ with_unit_at self.old number unit) }
+        ensures err { OnErr result (self.new ≡ self.old) }
+    {
+        let room = self.units.len() + 1;
+        self.marks.make_room(room)?;
+        self.rows.make_room(room)?;
+        self.goods.make_room(room)?;
+        self.units.insert(number, unit)?;
+        self.marks.add(number);
+        self.rows.add(number);
+        self.goods.add(number);
+        Ok(())
+    }
+
+    /// Removes a unit, where there is one, and marks its row and all its goods. It takes no memory.
+    pub(crate) fn remove(&mut self, number: u32)
+        ensures { self.new ≡ without_unit_at self.old number }
+    {
+        if self.units.remove(number) {
+            self.marks.add(number);
+            self.rows.add(number);
+            self.goods.add(number);
+        }
+    }
+
+    /// Clears all marks, and leaves the units as they are. It takes no memory.
+    pub(crate) fn unmark(&mut self)
+        ensures { self.new ≡ unmarked_units self.old.values }
+    {
+        self.marks.clear();
+        self.rows.clear();
+        self.goods.clear();
+        self.items.clear();
+        self.skills.clear();
+    }
+}

@@ -1,7 +1,0 @@
-use Rattle.std.proofs.Common.{◌≡◌, drop}
-use Rattle.atl_records.specs.Books.{no_amounts}
-use Rattle.atl_state.specs.FromRows.{put_amounts}
-use Rattle.atl_state.proofs.assembly.books.books_of.Given as goal
-
-abbrev pub invariant-loop-row : goal.invariant-loop-row
-invariant-loop-row l = put_amounts (drop l.row-index l.rows) l.books ≡ put_amounts l.rows (no_amounts l.things)

@@ -1,7 +1,0 @@
-use Rattle.std.proofs.Common.{◌≡◌, drop}
-use Rattle.atl_state.specs.Assembling.{give, with_market_row}
-use Rattle.atl_state.specs.FromRows.{as_u32}
-use Rattle.atl_state.proofs.assembly.goods.put_stocks.Given as goal
-
-abbrev pub invariant-loop-row : goal.invariant-loop-row
-invariant-loop-row l = give (λ r. as_u32 r.region) with_market_row (drop l.row-index l.rows) l.regions ≡ give (λ r. as_u32 r.region) with_market_row l.rows l.fn.regions

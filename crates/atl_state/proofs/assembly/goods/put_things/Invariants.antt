@@ -1,7 +1,0 @@
-use Rattle.std.proofs.Common.{◌≡◌, drop}
-use Rattle.atl_state.specs.Assembling.{give, with_has_row}
-use Rattle.atl_state.specs.FromRows.{as_u32}
-use Rattle.atl_state.proofs.assembly.goods.put_things.Given as goal
-
-abbrev pub invariant-loop-row : goal.invariant-loop-row
-invariant-loop-row l = give (λ r. as_u32 r.unit) with_has_row (drop l.row-index l.rows) l.units ≡ give (λ r. as_u32 r.unit) with_has_row l.rows l.fn.units

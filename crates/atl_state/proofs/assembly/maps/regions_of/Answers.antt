@@ -1,8 +1,0 @@
-use Rattle.std.proofs.Common.{ap, ◌∙◌}
-use Rattle.atl_state.specs.Assembling.{give, with_market_row}
-use Rattle.atl_state.specs.FromRows.{as_u32}
-use Rattle.atl_state.proofs.GivingLaws.{regions_given}
-use Rattle.atl_state.proofs.assembly.maps.regions_of.Goals as goal
-
-pub returns : goal.returns
-returns c = c.in_ok-put_stocks.ensures ∙ ap (give (λ r. as_u32 r.region) with_market_row c.args.markets.now) c.in_ok-regions.ensures ∙ regions_given c.args.markets.now c.args.rows.now

@@ -1,6 +1,0 @@
-use Rattle.atl_tables.proofs.NameLaws.{name_ok-IsUtf8}
-use Rattle.atl_state.proofs.AssemblyLaws.{IfOk-text}
-use Rattle.atl_state.proofs.assembly.records.name_of.Goals as goal
-
-pub returns : goal.returns
-returns c = IfOk-text c.from_utf8.result c.as_slice.result.now c.args.bytes.now c.as_slice.ensures (name_ok-IsUtf8 c.args.bytes.now c.requires) c.from_utf8.ensures

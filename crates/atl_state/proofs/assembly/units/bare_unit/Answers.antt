@@ -1,7 +1,0 @@
-use Rattle.std.proofs.Common.{sym, subst}
-use Rattle.atl_records.specs.Holdings.{AreAmounts}
-use Rattle.atl_state.proofs.AssemblyLaws.{none_held}
-use Rattle.atl_state.proofs.assembly.units.bare_unit.Goals as goal
-
-pub new-holding-requires-clause-items : goal.new-holding-requires-clause-items
-new-holding-requires-clause-items c = subst AreAmounts (sym c.new-items.ensures) none_held

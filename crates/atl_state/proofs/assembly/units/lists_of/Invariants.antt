@@ -1,9 +1,0 @@
-use Rattle.std.proofs.Common.{◌≡◌, ◌++◌}
-use Rattle.std.specs.Ordering.{nat_cmp}
-use Rattle.std.specs.FinMap.{FinMap, entries}
-use Rattle.atl_state.specs.KeptLists.{AreUnitLists}
-use Rattle.atl_records.specs.declared.records.Unit.{Unit}
-use Rattle.atl_state.proofs.assembly.units.lists_of.Given as goal
-
-abbrev pub invariant-loop-number : goal.invariant-loop-number
-invariant-loop-number l = (done : FinMap nat_cmp Unit) × (entries done ++ l.number-iterator ≡ entries l.units.values) × AreUnitLists done l.lists

@@ -1,8 +1,0 @@
-use Rattle.std.proofs.Common.{ap, ◌∙◌}
-use Rattle.atl_state.specs.Assembling.{give, with_has_row}
-use Rattle.atl_state.specs.FromRows.{as_u32}
-use Rattle.atl_state.proofs.GivingLaws.{units_given}
-use Rattle.atl_state.proofs.assembly.units.units_of.Goals as goal
-
-pub returns : goal.returns
-returns c = c.in_ok-put_things.ensures ∙ ap (give (λ r. as_u32 r.unit) with_has_row c.args.has.now) c.in_ok-units.ensures ∙ units_given c.args.has.now c.args.rows.now

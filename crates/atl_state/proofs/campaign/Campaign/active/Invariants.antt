@@ -1,7 +1,0 @@
-use Rattle.std.proofs.Common.{◌≡◌, ◌++◌, not}
-use Rattle.atl_tables.specs.Sums.{numbers_among}
-use Rattle.atl_state.specs.Campaign.{active}
-use Rattle.atl_state.proofs.campaign.Campaign.active.Given as goal
-
-abbrev pub invariant-loop-number : goal.invariant-loop-number
-invariant-loop-number l = l.numbers.items ++ numbers_among (λ f. not f.gone) l.number-iterator ≡ active l.self.value

@@ -1,8 +1,0 @@
-use Rattle.std.proofs.Common.{sym, ap, ◌∙◌}
-use Rattle.std.specs.FinMap.{get}
-use Rattle.atl_state.specs.Campaign.{MarkedCampaign}
-use Rattle.atl_state.proofs.OwnerLaws.{taken_none}
-use Rattle.atl_state.proofs.campaign.Campaign.take_unit.Goals as goal
-
-pub returns-in-None : goal.returns-in-None
-returns-in-None c = taken_none c.args.self.now c.args.number (sym (c.in-None.ensures ∙ ap (λ (m : MarkedCampaign). get m.value.units c.args.number) c.self.view_is))

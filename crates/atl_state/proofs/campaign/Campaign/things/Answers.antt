@@ -1,8 +1,0 @@
-use Rattle.atl_state.proofs.campaign.Campaign.things.Goals as goal
-
-pub returns-clause-marks : goal.returns-clause-marks
-returns-clause-marks c =
-    rw (c.len.ensures.value, ← c.self.view_is) c.self.invariant.amounts.numbers
-
-pub returns-clause-books : goal.returns-clause-books
-returns-clause-books c = rw (← c.self.view_is) c.len.ensures.books

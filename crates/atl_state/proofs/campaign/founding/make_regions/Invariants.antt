@@ -1,8 +1,0 @@
-use Rattle.std.proofs.Common.{◌≡◌, ◌++◌, map}
-use Rattle.std.specs.FinMap.{entries}
-use Rattle.atl_tables.specs.Sums.{mapped}
-use Rattle.atl_state.specs.Founding.{founded_region}
-use Rattle.atl_state.proofs.campaign.founding.make_regions.Given as goal
-
-abbrev pub invariant-loop-number : goal.invariant-loop-number
-invariant-loop-number l = entries l.regions ++ map (λ e. (e.0, founded_region e.1)) l.number-iterator ≡ entries (mapped founded_region l.plans)

@@ -1,8 +1,0 @@
-use Rattle.std.proofs.Common.{sym, ◌∙◌}
-use Rattle.std.specs.Ordering.{nat_cmp}
-use Rattle.std.specs.FinMap.{get-empty}
-use Rattle.atl_records.proofs.EveryLaws.{none_some}
-use Rattle.atl_state.proofs.campaign.joining.make_unit.Goals as goal
-
-pub new-requires-3-clause-items : goal.new-requires-3-clause-items
-new-requires-3-clause-items c = rw c.new.ensures (λ item amount e. none_some amount (sym (get-empty nat_cmp item) ∙ e))

@@ -1,9 +1,0 @@
-use Rattle.std.proofs.Common.{arith}
-use Rattle.atl_state.proofs.FreeLaws.{closed, removed}
-use Rattle.atl_state.proofs.gap_vec.close.Goals as goal
-
-pub returns-then-place-len-clause-part : goal.returns-then-place-len-clause-part
-returns-then-place-len-clause-part g c = rw c.copy_within.ensures.items (closed c.args.items.now.items c.args.free c.args.place c.requires)
-
-pub returns-clause-part : goal.returns-clause-part
-returns-clause-part g c = rw c.remove.ensures.items (removed c.args.items.now.items c.args.free c.args.place (omega arith))

@@ -1,5 +1,0 @@
-use Rattle.atl_state.proofs.IndexLaws.{rising-none}
-use Rattle.atl_state.proofs.index.Index.new.Goals as goal
-
-pub invariant_of-result : goal.invariant_of-result
-invariant_of-result c = rw c.new.ensures rising-none

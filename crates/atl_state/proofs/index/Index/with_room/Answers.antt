@@ -1,5 +1,0 @@
-use Rattle.atl_state.proofs.IndexLaws.{rising-none}
-use Rattle.atl_state.proofs.index.Index.with_room.Goals as goal
-
-pub invariant_of-result : goal.invariant_of-result
-invariant_of-result c = rw c.in_ok-with_room.ensures rising-none

@@ -1,8 +1,0 @@
-use Rattle.std.proofs.Common.{sym}
-use Rattle.atl_state.specs.Ordered.{take_number}
-use Rattle.atl_state.proofs.SortedLaws.{IsSorted-take}
-use Rattle.atl_state.proofs.numbers.Numbers.take.Goals as goal
-
-pub invariant_of-self : goal.invariant_of-self
-unfolding take_number
-invariant_of-self c = rw (c.remove.ensures, c.first_above-place.ensures.place, c.as_slice.ensures, sym c.self.view_is) (IsSorted-take c.args.number c.self.inside.items c.self.invariant)

@@ -1,6 +1,0 @@
-use Rattle.std.proofs.Common.{◌≡◌, ◌++◌}
-use Rattle.atl_state.specs.Rows.{stock_rows}
-use Rattle.atl_state.proofs.rows.add_stocks.Given as goal
-
-abbrev pub invariant-loop-item : goal.invariant-loop-item
-invariant-loop-item l = l.rows ++ stock_rows l.region l.item-iterator ≡ l.initial.rows ++ stock_rows l.region l.fn.stocks

@@ -1,7 +1,0 @@
-use Rattle.std.proofs.Common.{◌≡◌, ◌++◌}
-use Rattle.std.specs.FinMap.{entries}
-use Rattle.atl_state.specs.Rows.{rows_by, region_row}
-use Rattle.atl_state.proofs.rows.region_rows.Given as goal
-
-abbrev pub invariant-loop-number : goal.invariant-loop-number
-invariant-loop-number l = l.rows ++ rows_by region_row l.number-iterator ≡ rows_by region_row (entries l.campaign.value.regions)

@@ -1,5 +1,0 @@
-use Rattle.atl_tables.proofs.TrackLaws.{Room-empty}
-use Rattle.atl_tables.proofs.marked_map.MarkedMap.new.Goals as goal
-
-pub invariant_of-result : goal.invariant_of-result
-invariant_of-result g c = rw (c.new.ensures, c.new-2.ensures) (Room-empty g.row.V.Denot)

@@ -1,7 +1,0 @@
-use Rattle.std.proofs.Common.{sym, ap, ◌∙◌}
-use Rattle.std.specs.FinMap.{get}
-use Rattle.atl_tables.proofs.Maps.{get_at}
-use Rattle.atl_tables.proofs.numbered.Numbered.get.Goals as goal
-
-pub returns : goal.returns
-returns g c = c.get.ensures.value ∙ sym (get_at c.self.inside.entries.entries c.args.number) ∙ ap (λ m. get m c.args.number) c.self.view_is

@@ -1,8 +1,0 @@
-use Rattle.std.proofs.Common.{sym, ap, subst}
-use Rattle.atl_tables.specs.RoomySets.{RoomySet}
-use Rattle.atl_tables.specs.Tracking.{Lists}
-use Rattle.atl_tables.proofs.sorted_numbers.SortedNumbers.as_slice.Goals as goal
-
-pub returns : goal.returns
-returns c =
-    subst (λ xs. Lists c.args.self.now.numbers xs) (sym c.deref.ensures.value) (record { rising = c.self.invariant; all = ap (λ (m : RoomySet). m.numbers) c.self.view_is })

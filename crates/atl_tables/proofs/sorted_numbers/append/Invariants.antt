@@ -1,8 +1,0 @@
-use Rattle.std.proofs.Common.{◌≡◌, ◌++◌, take, vec_capacity}
-use Rattle.atl_tables.proofs.sorted_numbers.append.Given as goal
-
-abbrev pub invariant-loop-number : goal.invariant-loop-number
-invariant-loop-number l = record {
-  items : l.numbers.items ≡ l.fn.numbers.items ++ take l.number-index l.others;
-  room : vec_capacity l.numbers ≡ vec_capacity l.fn.numbers;
-}

@@ -1,0 +1,14 @@
+pub mod GeneralLaws
+pub mod Maps
+pub mod Lent
+pub mod SetLaws
+pub mod MarkLaws
+pub mod MergeLaws
+pub mod ApartLaws
+pub mod CountLaws
+pub mod LookupLaws
+pub mod SumLaws
+pub mod NameLaws
+pub mod MadeLaws
+pub mod TrackLaws
+pub mod SameLaws

@@ -1,0 +1,36 @@
+-- Laws of the test whether a word means a name, byte by byte and ignoring ASCII case.
+use Rattle.std.proofs.Common.{◌≡◌, ◌≢◌, ℕ, suc, ◌+◌, ◌<◌, ◌≤◌, Bool, true, false, ◌&&◌, eqb, List, [], ◌∷◌, length, get_or, drop, map, refl, sym, ap, ◌∙◌}
+use Rattle.std.specs.Str.{str_eq_ignore_ascii_case}
+use Rattle.std.specs.Char.{to_ascii_lowercase, eq_ignore_ascii_case}
+use Rattle.std.proofs.lemmas.List.{drop_more, drop_all}
+use Rattle.std.proofs.lemmas.Bool.{and_right}
+use Rattle.atl_world.specs.Lookup.{letter_of}
+
+-- whether a name and the name that a word means are equal from the i-th byte on, ignoring ASCII case
+abbrev pub same_from : List ℕ → Bool → List ℕ → ℕ → Bool
+same_from name quoted word i = str_eq_ignore_ascii_case (drop i name) (map (letter_of quoted) (drop i word))
+
+-- a word of another length than a name doesn't mean that name
+pub other_length : (name : List ℕ) (quoted : Bool) (word : List ℕ) → length name ≢ length word → str_eq_ignore_ascii_case name (map (letter_of quoted) word) ≡ false
+other_length [] quoted [] h = absurd (h refl)
+other_length [] quoted (b ∷ ys) h = refl
+other_length (a ∷ xs) quoted [] h = refl
+other_length (a ∷ xs) quoted (b ∷ ys) h =
+    ap (λ t. eqb (to_ascii_lowercase a) (to_ascii_lowercase (letter_of quoted b)) && t) (other_length xs quoted ys (λ e. h (ap suc e)))
+    ∙ and_right (eqb (to_ascii_lowercase a) (to_ascii_lowercase (letter_of quoted b))) false refl
+
+-- a name and a word are equal from the i-th byte on exactly if the i-th bytes are, and the rests from i + 1 on
+step : (name : List ℕ) (quoted : Bool) (word : List ℕ) (i : ℕ) → i < length name → i < length word → same_from name quoted word i ≡ (eq_ignore_ascii_case (get_or name i 0) (letter_of quoted (get_or word i 0)) && same_from name quoted word (i + 1))
+step name quoted word i h k = rw (drop_more name i 0 h, drop_more word i 0 k) refl
+
+-- if the i-th bytes of a name and a word are equal, both are equal from i on exactly if they are from i + 1 on
+pub same_letter : (name : List ℕ) (quoted : Bool) (word : List ℕ) (i : ℕ) → i < length name → i < length word → eq_ignore_ascii_case (get_or name i 0) (letter_of quoted (get_or word i 0)) ≡ true → same_from name quoted word (i + 1) ≡ same_from name quoted word i
+same_letter name quoted word i h k e = sym (step name quoted word i h k ∙ ap (λ t. t && same_from name quoted word (i + 1)) e)
+
+-- if the i-th bytes of a name and a word differ, the two differ from the i-th byte on
+pub other_letter : (name : List ℕ) (quoted : Bool) (word : List ℕ) (i : ℕ) → i < length name → i < length word → eq_ignore_ascii_case (get_or name i 0) (letter_of quoted (get_or word i 0)) ≡ false → same_from name quoted word i ≡ false
+other_letter name quoted word i h k e = step name quoted word i h k ∙ ap (λ t. t && same_from name quoted word (i + 1)) e
+
+-- a name and a word are equal from an index on that is past the end of both
+pub end_of_both : (name : List ℕ) (quoted : Bool) (word : List ℕ) (i : ℕ) → length name ≤ i → length word ≤ i → same_from name quoted word i ≡ true
+end_of_both name quoted word i h k = rw (drop_all i name h, drop_all i word k) refl

@@ -1,0 +1,30 @@
+-- Two maps of regions are equal but for markets exactly if their entries are equal but for markets.
+use Rattle.std.proofs.Common.{◌≡◌, ℕ, List, ◌∷◌, map, sym, ap, ◌∙◌}
+use Rattle.std.specs.FinMap.{FinMap, entries, same_entries_map}
+use Rattle.std.specs.Ordering.{nat_cmp}
+use Rattle.atl_world.specs.Worlds.{without_market}
+use Rattle.atl_world.specs.Sums.{mapped}
+use Rattle.atl_world.specs.declared.world.RegionPlan.{RegionPlan}
+use Rattle.atl_world.proofs.MadeLaws.{entries-mapped}
+
+-- the entries of a map of regions, with the markets left out
+abbrev pub bare : List (ℕ × RegionPlan) → List (ℕ × RegionPlan)
+bare es = map (λ e. (e.0, without_market e.1)) es
+
+module _ (m n : FinMap nat_cmp RegionPlan) where
+  -- two maps of regions are equal but for markets, if their entries are
+  pub same_maps : bare (entries m) ≡ bare (entries n) → mapped without_market m ≡ mapped without_market n
+  same_maps same = same_entries_map _ _ (entries-mapped without_market m ∙ same ∙ sym (entries-mapped without_market n))
+
+  -- the entries of two maps of regions are equal but for markets, if the maps are
+  pub same_entries : mapped without_market m ≡ mapped without_market n → bare (entries m) ≡ bare (entries n)
+  same_entries same = sym (entries-mapped without_market m) ∙ ap entries same ∙ entries-mapped without_market n
+
+module _ (k n : ℕ) (p q : RegionPlan) (es fs : List (ℕ × RegionPlan)) where
+  -- if two lists of entries are equal but for markets, their rests are equal but for markets
+  pub same_rest : bare ((k, p) ∷ es) ≡ bare ((n, q) ∷ fs) → bare es ≡ bare fs
+  same_rest same = cc
+
+  -- two lists of entries are equal but for markets, if their first entries and their rests are
+  pub one_more : k ≡ n → without_market p ≡ without_market q → bare es ≡ bare fs → bare ((k, p) ∷ es) ≡ bare ((n, q) ∷ fs)
+  one_more number plan rest = cc

@@ -1,0 +1,177 @@
+-- Laws of sets of numbers: when two are equal, numbers put in and taken out, unions, and how many numbers there are.
+use Rattle.std.proofs.Common.{◌≡◌, ℕ, zero, suc, ◌+◌, ◌-◌, ◌<◌, ◌≤◌, Bool, true, false, cond, not, ◌&&◌, ◌||◌, List, [], ◌∷◌, length, refl, sym, ap, ◌∙◌, arith}
+use Rattle.std.specs.List.{list_any}
+use Rattle.std.proofs.lemmas.Bool.{false≢true, and_parts, false_from_ne_true}
+use Rattle.std.specs.Ordering.{nat_cmp, eq_by_cmp, is_eq}
+use Rattle.std.specs.declared.cmp.Ordering.TheVariants.{Less, Equal, Greater}
+use Rattle.std.specs.Cmp.{nat_cmp_total, ranked}
+use Rattle.std.specs.FinMap.{nat_cmp-IsAntisymmetric}
+use Rattle.std.specs.FinSet as set
+use Rattle.atl_world.proofs.GeneralLaws.{key_itself}
+
+-- two sets are equal if each number is in both or in neither
+pub same : (s t : set.FinSet nat_cmp) → ((q : ℕ) → set.contains s q ≡ set.contains t q) → s ≡ t
+same s t h = set.same_set nat_cmp_total nat_cmp-IsAntisymmetric s t h
+
+-- putting in a number that is in the set already leaves the set as it was
+pub insert_twice : (s : set.FinSet nat_cmp) (n : ℕ) → set.contains s n ≡ true → set.insert s n ≡ s
+insert_twice s n h = same _ _ (λ q. set.contains-insert nat_cmp_total s n q ∙ elim (nat_cmp q n) as (λ r. nat_cmp q n ≡ r → (is_eq r || set.contains s q) ≡ set.contains s q) [
+  | Less ↦ λ _. refl
+  | Equal ↦ λ e. sym (ap (set.contains s) (nat_cmp-IsAntisymmetric q n e) ∙ h)
+  | Greater ↦ λ _. refl
+] refl)
+
+-- a new number, put in and taken out again, leaves the set as it was
+pub insert_undone : (s : set.FinSet nat_cmp) (n : ℕ) → set.contains s n ≡ false → set.remove (set.insert s n) n ≡ s
+insert_undone s n h = same _ _ (λ q.
+    set.contains-remove nat_cmp_total (set.insert s n) n q ∙ ap (λ b. not (eq_by_cmp nat_cmp q n) && b) (set.contains-insert nat_cmp_total s n q)
+    ∙ elim (nat_cmp q n) as (λ r. nat_cmp q n ≡ r → (not (is_eq r) && (is_eq r || set.contains s q)) ≡ set.contains s q) [
+      | Less ↦ λ _. refl
+      | Equal ↦ λ e. sym (ap (set.contains s) (nat_cmp-IsAntisymmetric q n e) ∙ h)
+      | Greater ↦ λ _. refl
+    ] refl)
+
+-- to take out a number that isn't in a set leaves the set as it was
+pub remove_absent : (s : set.FinSet nat_cmp) (n : ℕ) → set.contains s n ≡ false → set.remove s n ≡ s
+remove_absent s n h = same _ _ (λ q. set.contains-remove nat_cmp_total s n q ∙ elim (nat_cmp q n) as (λ r. nat_cmp q n ≡ r → (not (is_eq r) && set.contains s q) ≡ set.contains s q) [
+  | Less ↦ λ _. refl
+  | Equal ↦ λ e. sym (ap (set.contains s) (nat_cmp-IsAntisymmetric q n e) ∙ h)
+  | Greater ↦ λ _. refl
+] refl)
+
+-- a number that was put in is in the set
+pub contains_inserted : (s : set.FinSet nat_cmp) (n : ℕ) → set.contains (set.insert s n) n ≡ true
+contains_inserted s n = set.contains-insert nat_cmp_total s n n ∙ ap (λ b. b || set.contains s n) (key_itself n)
+
+-- ---- how many
+
+-- a set with a number in it, which has n numbers, has at least one: 1 ≤ n
+some : (n : ℕ) (t : set.FinSet nat_cmp) (k : ℕ) → set.len t ≡ n → set.contains t k ≡ true → 1 ≤ n
+some zero t k e h = absurd (false≢true (sym (set.contains-empty nat_cmp k) ∙ ap (λ u. set.contains u k) (sym (set.empty_of_len t e)) ∙ h))
+some (suc n) t k e h = omega arith
+
+-- a law of truth values: if "not a, and b" holds, a is false
+pub without_first : (a b : Bool) → (not a && b) ≡ true → a ≡ false
+without_first true b h = absurd (false≢true h)
+without_first false b h = refl
+
+-- a law of truth values: if "a or b" holds, and a is false, b is true
+pub rest_holds : (a b : Bool) → a ≡ false → (a || b) ≡ true → b ≡ true
+rest_holds true b e h = absurd (false≢true (sym e))
+rest_holds false b e h = h
+
+-- a law of truth values: "not a, and b" holds, if a is false and b true
+both_hold : (a b : Bool) → a ≡ false → b ≡ true → (not a && b) ≡ true
+both_hold true b e h = absurd (false≢true (sym e))
+both_hold false b e h = h
+
+-- m ≤ n holds, if it holds with one less of m where a is true and of n where b is; a implies b, and b implies 1 ≤ n
+less_step : (a b : Bool) (m n : ℕ) → (a ≡ true → b ≡ true) → (b ≡ true → 1 ≤ n) → cond a (m - 1) m ≤ cond b (n - 1) n → m ≤ n
+less_step true true m n f g h = let l : 1 ≤ n = g refl in omega arith
+less_step true false m n f g h = absurd (false≢true (f refl))
+less_step false true m n f g h = omega arith
+less_step false false m n f g h = h
+
+-- if a set t has all numbers of a set s, then s has no more numbers than t, where a list has all numbers of s
+fewer : (ks : List ℕ) (s t : set.FinSet nat_cmp) → ((q : ℕ) → set.contains s q ≡ true → list_any (eq_by_cmp nat_cmp q) ks ≡ true) → ((q : ℕ) → set.contains s q ≡ true → set.contains t q ≡ true) → set.len s ≤ set.len t
+fewer [] s t all h =
+    let none : s ≡ set.empty = same s set.empty (λ q. false_from_ne_true _ (λ e. false≢true (all q e)) ∙ sym (set.contains-empty nat_cmp q)) in
+    let nothing : set.len s ≡ 0 = ap set.len none ∙ set.len-empty nat_cmp in
+    omega (arith, nothing)
+fewer (k ∷ ks) s t all h =
+    let parts : (q : ℕ) → set.contains (set.remove s k) q ≡ true → (not (eq_by_cmp nat_cmp q k) && set.contains s q) ≡ true = λ q e. sym (set.contains-remove nat_cmp_total s k q) ∙ e in
+    let other : (q : ℕ) → set.contains (set.remove s k) q ≡ true → eq_by_cmp nat_cmp q k ≡ false = λ q e. without_first _ _ (parts q e) in
+    let was : (q : ℕ) → set.contains (set.remove s k) q ≡ true → set.contains s q ≡ true = λ q e. (and_parts _ _ (parts q e)).1 in
+    let rest : set.len (set.remove s k) ≤ set.len (set.remove t k) = fewer ks (set.remove s k) (set.remove t k)
+    (λ q e. rest_holds _ _ (other q e) (all q (was q e)))
+    (λ q e. set.contains-remove nat_cmp_total t k q ∙ both_hold _ _ (other q e) (h q (was q e))) in
+    less_step (set.contains s k) (set.contains t k) (set.len s) (set.len t) (h k) (some (set.len t) t k refl) (rw (set.len-remove nat_cmp_total s k, set.len-remove nat_cmp_total t k) at rest)
+
+-- if a set t has all numbers of a set s, then s has no more numbers than t
+pub len-within : (s t : set.FinSet nat_cmp) → ((q : ℕ) → set.contains s q ≡ true → set.contains t q ≡ true) → set.len s ≤ set.len t
+len-within s t h = fewer (set.items s) s t (λ q e. sym (set.contains-items s q) ∙ e) h
+
+-- a law of truth values: "b or false" is b
+pub nothing_more : (b : Bool) → (b || false) ≡ b
+nothing_more true = refl
+nothing_more false = refl
+
+-- a law of truth values: the first two of three may be swapped in "or"
+pub swapped : (a b c : Bool) → (a || (b || c)) ≡ (b || (a || c))
+swapped true true c = refl
+swapped true false c = refl
+swapped false b c = refl
+
+-- the union of a set with the empty set is the set
+pub union-empty : (s : set.FinSet nat_cmp) → set.union s set.empty ≡ s
+union-empty s = same _ _ (λ q. set.contains-union nat_cmp_total s set.empty q ∙ ap (λ b. set.contains s q || b) (set.contains-empty nat_cmp q) ∙ nothing_more _)
+
+-- the union of a set with another that has k put in is the union of both with k put in
+pub union-insert : (s t : set.FinSet nat_cmp) (k : ℕ) → set.union s (set.insert t k) ≡ set.insert (set.union s t) k
+union-insert s t k = same _ _ (λ q.
+    set.contains-union nat_cmp_total s (set.insert t k) q ∙ ap (λ b. set.contains s q || b) (set.contains-insert nat_cmp_total t k q) ∙ swapped (set.contains s q) (eq_by_cmp nat_cmp q k) (set.contains t q)
+    ∙ sym (set.contains-insert nat_cmp_total (set.union s t) k q ∙ ap (λ b. eq_by_cmp nat_cmp q k || b) (set.contains-union nat_cmp_total s t q)))
+
+-- a law of truth values: "or" is associative
+pub joined : (a b c : Bool) → ((a || b) || c) ≡ (a || (b || c))
+joined true b c = refl
+joined false b c = refl
+
+-- the union of a set that has k put in with another set is the union of both with k put in
+pub insert-union : (s t : set.FinSet nat_cmp) (k : ℕ) → set.union (set.insert s k) t ≡ set.insert (set.union s t) k
+insert-union s t k = same _ _ (λ q.
+    set.contains-union nat_cmp_total (set.insert s k) t q ∙ ap (λ b. b || set.contains t q) (set.contains-insert nat_cmp_total s k q) ∙ joined (eq_by_cmp nat_cmp q k) (set.contains s q) (set.contains t q)
+    ∙ sym (set.contains-insert nat_cmp_total (set.union s t) k q ∙ ap (λ b. eq_by_cmp nat_cmp q k || b) (set.contains-union nat_cmp_total s t q)))
+
+-- the choice of n or n + 1 is at most n + 1
+at_most : (b : Bool) (n : ℕ) → cond b n (n + 1) ≤ n + 1
+at_most true n = omega arith
+at_most false n = omega arith
+
+-- the union of a set with the numbers of a list has at most as many numbers as the set and the list have together
+pub len-union : (s : set.FinSet nat_cmp) (ks : List ℕ) → set.len (set.union s (set.from_list ks)) ≤ set.len s + length ks
+len-union s [] = let e : set.len (set.union s set.empty) ≡ set.len s = ap set.len (union-empty s) in omega (arith, e)
+len-union s (k ∷ ks) =
+    let rest = len-union s ks in
+    let e : set.len (set.union s (set.from_list (k ∷ ks))) ≡ cond (set.contains (set.union s (set.from_list ks)) k) (set.len (set.union s (set.from_list ks))) (set.len (set.union s (set.from_list ks)) + 1)
+    = ap set.len (union-insert s (set.from_list ks) k) ∙ set.len-insert nat_cmp_total (set.union s (set.from_list ks)) k in
+    let l = at_most (set.contains (set.union s (set.from_list ks)) k) (set.len (set.union s (set.from_list ks))) in
+    omega (arith, rest, e, l)
+
+-- a law of truth values: if a is true, so is "a or b"
+pub first : (a b : Bool) → a ≡ true → (a || b) ≡ true
+first true b h = refl
+first false b h = absurd (false≢true h)
+
+-- ---- the numbers of a list, which come one after another
+-- the union of a set with the numbers of k ∷ ks is that of the set with k put in, with the numbers of ks
+pub union-next : (s : set.FinSet nat_cmp) (k : ℕ) (ks : List ℕ) → set.union (set.insert s k) (set.from_list ks) ≡ set.union s (set.from_list (k ∷ ks))
+union-next s k ks = insert-union s (set.from_list ks) k ∙ sym (union-insert s (set.from_list ks) k)
+
+-- a set with the first number of a list put in has no more numbers than with all numbers of the list put in
+pub len-next : (s t : set.FinSet nat_cmp) (k : ℕ) (ks : List ℕ) → set.union s (set.from_list (k ∷ ks)) ≡ t → set.len (set.insert s k) ≤ set.len t
+len-next s t k ks h =
+    len-within (set.insert s k) t (λ q e. ap (λ u. set.contains u q) (sym (union-next s k ks ∙ h)) ∙ set.contains-union nat_cmp_total (set.insert s k) (set.from_list ks) q ∙ first _ _ e)
+
+-- a count l is at most one more than r, which is l, or l less one
+one_less : (b : Bool) (l r : ℕ) → r ≡ cond b (l - 1) l → l ≤ r + 1
+one_less true l r e = omega (arith, e)
+one_less false l r e = omega (arith, e)
+
+-- a number below m + 1 that isn't m is below m
+rest_below : (m k : ℕ) (there : Bool) → (not (eq_by_cmp nat_cmp k m) && there) ≡ true → (there ≡ true → k < m + 1) → k < m
+rest_below m k there h below = elim (nat_cmp k m) as (λ r. nat_cmp k m ≡ r → (not (is_eq r) && there) ≡ true → k < m) [
+  | Less ↦ λ e yes. let l = ranked k m Less (sym e) in omega (arith, l)
+  | Equal ↦ λ e no. absurd (false≢true no)
+  | Greater ↦ λ e yes. let l = ranked k m Greater (sym e) in absurd (omega (arith, l, below yes))
+] refl h
+
+-- a set of numbers below `most` has at most `most` numbers
+pub len-below : (most : ℕ) (s : set.FinSet nat_cmp) → ((k : ℕ) → set.contains s k ≡ true → k < most) → set.len s ≤ most
+len-below zero s below =
+    let none = len-within s set.empty (λ k there. absurd (omega (arith, below k there))) in
+    omega (arith, none, set.len-empty nat_cmp)
+len-below (suc m) s below =
+    let rest = len-below m (set.remove s m) (λ k there. rest_below m k (set.contains s k) (sym (set.contains-remove nat_cmp_total s m k) ∙ there) (λ yes. omega (arith, below k yes))) in
+    let more = one_less (set.contains s m) (set.len s) (set.len (set.remove s m)) (set.len-remove nat_cmp_total s m) in
+    omega (arith, rest, more)

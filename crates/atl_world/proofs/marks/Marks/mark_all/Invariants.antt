@@ -1,0 +1,10 @@
+use Rattle.std.proofs.Common.{◌≡◌, map}
+use Rattle.std.specs.FinSet as set
+use Rattle.atl_world.specs.RoomySets.{held}
+use Rattle.atl_world.proofs.marks.Marks.mark_all.Given as goal
+
+abbrev pub invariant-loop-number : goal.invariant-loop-number
+invariant-loop-number g l = record {
+  all : set.union l.self.numbers (set.from_list (map (λ e. e.0) l.number-iterator)) ≡ held l.values l.fn.self.numbers;
+  room : l.self.room ≡ l.fn.self.room;
+}

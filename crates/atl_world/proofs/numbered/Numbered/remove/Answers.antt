@@ -1,0 +1,8 @@
+use Rattle.std.proofs.Common.{ap, ◌∙◌}
+use Rattle.std.specs.FinMap.{remove}
+use Rattle.atl_world.proofs.Maps.{one_removed}
+use Rattle.atl_world.proofs.numbered.Numbered.remove.Goals as goal
+
+pub returns : goal.returns
+returns g c = one_removed c.self.inside.entries.entries c.remove.new.self.entries c.args.number c.remove.ensures.updates.0
+    ∙ ap (λ m. remove m c.args.number) c.self.view_is

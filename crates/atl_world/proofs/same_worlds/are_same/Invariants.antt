@@ -1,0 +1,8 @@
+use Rattle.std.proofs.Common.{◌≡◌, take, length}
+use Rattle.atl_world.proofs.same_worlds.are_same.Given as goal
+
+abbrev pub invariant-loop-i : goal.invariant-loop-i
+invariant-loop-i g l = record {
+  count : length l.things ≡ length l.others;
+  same : take l.i l.things ≡ take l.i l.others;
+}

@@ -1,0 +1,5 @@
+use Rattle.atl_world.proofs.MarkLaws.{rising-empty}
+use Rattle.atl_world.proofs.sorted_numbers.SortedNumbers.new.Goals as goal
+
+pub invariant_of-result : goal.invariant_of-result
+invariant_of-result c = rw c.new.ensures.items rising-empty

@@ -1,0 +1,16 @@
+pub mod Limits
+pub mod Letters
+pub mod Texts
+pub mod Steps
+pub mod Names
+pub mod Worlds
+pub mod Formats
+pub mod Lookup
+pub mod ByNumber
+pub mod Sums
+pub mod Lending
+pub mod Groups
+pub mod MarkedMaps
+pub mod Tracking
+pub mod RoomySets
+pub mod SortedNumbers

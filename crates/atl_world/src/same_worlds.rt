@@ -1,0 +1,116 @@
+//! Checks whether two worlds are equal but for their markets. See docs/RULES.md, "Upgrading".
+ghost use Rattle.std.specs.Prelude.{◌≡◌, ◌↔◌, IsTrue};
+ghost use Rattle.atl_world.specs.Worlds.{without_market, without_markets};
+ghost use Rattle.atl_world.specs.Sums.{mapped};
+
+use crate::numbered::Numbered;
+use crate::world::{Item, Kind, RegionPlan, Rules, Skill, Terrain, World};
+
+/// Whether two values are equal in each field of a list: `agree!(one other: land wage)`.
+macro_rules! agree {
+    ($one:ident $other:ident: $first:ident $($field:ident)*) => {
+        $one.$first == $other.$first $(&& $one.$field == $other.$field)*
+    };
+}
+
+/// A thing of a world that can be compared with another: a terrain, an item, a skill or a kind.
+trait Comparable: Drop {
+    /// Whether two things are equal in all their fields.
+    fn is_same(&self, other: &Self) -> bool
+        ensures { IsTrue result ↔ (self.now ≡ other.now) };
+}
+
+/// Whether two lists have the same length, and equal things at each index.
+fn are_same<T: Comparable>(things: &[T], others: &[T]) -> bool
+    ensures { IsTrue result ↔ (things.now ≡ others.now) }
+{
+    if things.len() != others.len() {
+        return false;
+    }
+    for i in 0..things.len() {
+        if !things[i].is_same(&others[i]) {
+            return false;
+        }
+    }
+    true
+}
+
+/// Compares all fields of two terrains, the names byte by byte.
+impl Comparable for Terrain {
+    fn is_same(&self, other: &Terrain) -> bool {
+        self.name.is_same(&other.name)
+            && agree!(self other: land wage places money_limit peasant_limit)
+            && self.output.as_slice() == other.output.as_slice()
+    }
+}
+
+/// Compares all fields of two items, the names byte by byte.
+impl Comparable for Item {
+    fn is_same(&self, other: &Item) -> bool {
+        self.name.is_same(&other.name) && agree!(self other: weight carry skill level raw raw_count)
+    }
+}
+
+/// Compares the names of two skills, byte by byte, and their fees.
+impl Comparable for Skill {
+    fn is_same(&self, other: &Skill) -> bool {
+        self.name.is_same(&other.name) && self.fee == other.fee
+    }
+}
+
+/// Compares all fields of two kinds of structures, the names byte by byte.
+impl Comparable for Kind {
+    fn is_same(&self, other: &Kind) -> bool {
+        self.name.is_same(&other.name)
+            && agree!(self other: ship material size skill level capacity crew helps)
+    }
+}
+
+/// Whether the rules of two worlds are equal in all their fields.
+fn are_same_rules(rules: &Rules, others: &Rules) -> bool
+    ensures { IsTrue result ↔ (rules.now ≡ others.now) }
+{
+    agree!(rules others: maintenance tax_per_man recruit_price recruit_fraction growth income)
+        && agree!(rules others: start_money man_weight man_carry observation stealth sailing)
+}
+
+/// Whether two regions are equal but for their markets.
+fn is_same_region(plan: &RegionPlan, other: &RegionPlan) -> bool
+    ensures { IsTrue result ↔ (without_market plan.now ≡ without_market other.now) }
+{
+    plan.number == other.number
+        && plan.name.is_same(&other.name)
+        && agree!(plan other: terrain peasants money north south east west)
+}
+
+/// Whether two maps of regions are equal but for the markets of the regions.
+fn are_same_regions(plans: &Numbered<RegionPlan>, others: &Numbered<RegionPlan>) -> bool
+    ensures { IsTrue result ↔ (mapped without_market plans.now ≡ mapped without_market others.now) }
+{
+    let mut rest = others.iter();
+    for (number, plan) in plans.iter() {
+        match rest.next() {
+            None => return false,
+            Some((other_number, other)) => {
+                if number != other_number || !is_same_region(plan, other) {
+                    return false;
+                }
+            }
+        }
+    }
+    rest.next().is_none()
+}
+
+impl World {
+    /// Whether two worlds are equal once the markets of their regions are left out.
+    pub fn differs_in_markets_alone(&self, other: &World) -> bool
+        ensures { IsTrue result ↔ (without_markets self.now ≡ without_markets other.now) }
+    {
+        are_same_rules(self.rules(), other.rules())
+            && are_same(self.terrains(), other.terrains())
+            && are_same(self.items(), other.items())
+            && are_same(self.skills(), other.skills())
+            && are_same(self.kinds(), other.kinds())
+            && are_same_regions(self.regions(), other.regions())
+    }
+}

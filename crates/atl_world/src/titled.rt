@@ -1,0 +1,16 @@
+//! Things with a title, the name by which a text refers to them.
+//! See docs/FORMATS.md, "The world file".
+ghost use Rattle.std.specs.Prelude.{◌≡◌, ℕ, List};
+
+use crate::text::Text;
+
+/// A thing with a title: the name by which it is looked up, or that no other thing of its array
+/// has.
+pub trait Titled {
+    // The title of the thing, as bytes.
+    ghost title_of: { Self → List ℕ };
+
+    /// The title of the thing.
+    fn title(&self) -> &Text
+        ensures { result.now ≡ title_of self.now };
+}
