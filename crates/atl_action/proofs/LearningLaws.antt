@@ -30,10 +30,12 @@ module _ (w : WorldValue) (c : CampaignValue) where
   only_one : (P : ℕ → ℕ → Type 0) (t : Task) (learning : Learning) → IfLearns P t → Every P learning → Every P (with_learner w c learning t)
   only_one P t learning so old = by_skill (skill_of t.order_value.operands) refl
     where
+      -- P holds of all units that are learning after the order, whether its unit learns skill s or not
       by_test : (s : ℕ) → skill_of t.order_value.operands ≡ Some s → (b : Bool) → learns w s t.faction (get c.units t.unit) ≡ b → Every P (if b then insert learning t.unit s else learning)
       by_test s says true can = every-insert P learning t.unit s (so s says can) old
       by_test s says false can = old
 
+      -- P holds of all units that are learning after the order, whether it names a skill or not
       by_skill : (o : Option ℕ) → skill_of t.order_value.operands ≡ o → Every P (with_skill learning t o)
       by_skill None says = old
       by_skill (Some s) says = by_test s says (learns w s t.faction (get c.units t.unit)) refl
@@ -48,6 +50,7 @@ module _ (w : WorldValue) (c : CampaignValue) where
   there-insert : (learning : Learning) (k s n : ℕ) → IsThere learning n → IsThere (insert learning k s) n
   there-insert learning k s n (x, there) = by_test (eq_by_cmp nat_cmp n k) refl
     where
+      -- unit n is in the map once k is put in, whether n is k or not
       by_test : (b : Bool) → eq_by_cmp nat_cmp n k ≡ b → IsThere (insert learning k s) n
       by_test true is = (s, get-insert nat_cmp_total learning k s n ∙ ap (λ b. cond b (Some s) (get learning n)) is)
       by_test false is = (x, get-insert nat_cmp_total learning k s n ∙ ap (λ b. cond b (Some s) (get learning n)) is ∙ there)
@@ -56,10 +59,12 @@ module _ (w : WorldValue) (c : CampaignValue) where
   kept_one : (t : Task) (learning : Learning) (n : ℕ) → IsThere learning n → IsThere (with_learner w c learning t) n
   kept_one t learning n there = by_skill (skill_of t.order_value.operands)
     where
+      -- unit n is in the map after the order, whether the order's unit learns skill s or not
       by_test : (s : ℕ) (b : Bool) → IsThere (if b then insert learning t.unit s else learning) n
       by_test s true = there-insert learning t.unit s n there
       by_test s false = there
 
+      -- unit n is in the map after the order, whether it names a skill or not
       by_skill : (o : Option ℕ) → IsThere (with_skill learning t o) n
       by_skill None = there
       by_skill (Some s) = by_test s (learns w s t.faction (get c.units t.unit))

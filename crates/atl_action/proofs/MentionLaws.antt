@@ -16,6 +16,7 @@ both_filters : (p q r : ℕ → Bool) → ((k : ℕ) → (q k && p k) ≡ r k) �
 both_filters p q r same [] = refl
 both_filters p q r same (n ∷ ns) = by_test (q n) (same n) (both_filters p q r same ns)
   where
+    -- the two filters in turn keep of n ∷ ns what the one filter keeps, whether n passes q or not
     by_test : (b : Bool) → (b && p n) ≡ r n → filter p (filter q ns) ≡ filter r ns → filter p (cond b (n ∷ filter q ns) (filter q ns)) ≡ cond (r n) (n ∷ filter r ns) (filter r ns)
     by_test true is rest = ap (λ l. cond (p n) (n ∷ l) l) rest ∙ ap (λ b. cond b (n ∷ filter r ns) (filter r ns)) is
     by_test false is rest = rest ∙ ap (λ b. cond b (n ∷ filter r ns) (filter r ns)) is
@@ -24,6 +25,7 @@ both_filters p q r same (n ∷ ns) = by_test (q n) (same n) (both_filters p q r 
 new_behind : (seen : FinMap nat_cmp ℕ) (n k : ℕ) → (not (k == n) && is_new seen k) ≡ is_new (insert seen n n) k
 new_behind seen n k = by_test (k == n) ∙ sym (ap (λ o. not (is_some o)) (get-insert nat_cmp_total seen n n k ∙ ap (λ b. cond b (Some n) (get seen k)) (sym (unsigned_ties k n))))
   where
+    -- k passes the test before n is seen, and isn't n, exactly if it passes once n is seen, whether k is n (b) or not
     by_test : (b : Bool) → (not b && is_new seen k) ≡ not (is_some (cond b (Some n) (get seen k)))
     by_test true = refl
     by_test false = refl
@@ -32,6 +34,7 @@ new_behind seen n k = by_test (k == n) ∙ sym (ap (λ o. not (is_some o)) (get-
 new_before : (seen : FinMap nat_cmp ℕ) (n : ℕ) → is_some (get seen n) ≡ true → (k : ℕ) → (not (k == n) && is_new seen k) ≡ is_new seen k
 new_before seen n there k = by_test (k == n) refl
   where
+    -- k is new exactly if it is new and isn't n, which was seen before, whether k is n or not
     by_test : (b : Bool) → (k == n) ≡ b → (not b && is_new seen k) ≡ is_new seen k
     by_test true is = sym (ap (λ j. is_new seen j) (is_equal k n is) ∙ ap not there)
     by_test false is = refl
@@ -43,6 +46,7 @@ pub mention : (seen : FinMap nat_cmp ℕ) (n : ℕ) (ns : List ℕ) → is_some 
 mention seen n ns new =
     ap (λ b. cond (not b) (n ∷ rest) rest) new ∙ ap (λ l. n ∷ l) (both_filters (is_new seen) (λ k. not (k == n)) (is_new (insert seen n n)) (new_behind seen n) (first_mentions ns))
   where
+    -- the new numbers of ns without repetitions and without n
     rest : List ℕ
     rest = filter (is_new seen) (filter (λ k. not (k == n)) (first_mentions ns))
 
@@ -51,6 +55,7 @@ pub mentioned : (seen : FinMap nat_cmp ℕ) (n : ℕ) (ns : List ℕ) → is_som
 mentioned seen n ns there =
     ap (λ b. cond (not b) (n ∷ rest) rest) there ∙ both_filters (is_new seen) (λ k. not (k == n)) (is_new seen) (new_before seen n there) (first_mentions ns)
   where
+    -- the new numbers of ns without repetitions and without n
     rest : List ℕ
     rest = filter (is_new seen) (filter (λ k. not (k == n)) (first_mentions ns))
 

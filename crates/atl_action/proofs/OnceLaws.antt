@@ -23,6 +23,7 @@ module _ (c : CampaignValue) where
   once_lesson taught places ns old n =
       few (list_any (λ k. n == k) ns) (men_at c n) (taught n) places (sum_by (untaught_men c taught) (before_first (λ k. n == k) ns)) (old n)
     where
+      -- the men of a unit who were taught before the lesson (`had`) and in it are together at most its men
       few : (b : Bool) (men had places before : ℕ) → had ≤ men → had + (if b then amount_in_turn places before (men - had) else 0) ≤ men
       few true men had places before l = omega (arith, l)
       few false men had places before l = omega (arith, l)
@@ -35,6 +36,7 @@ module _ (c : CampaignValue) where
       let below = filter (is_below c learning t.unit) pupils in
       by_fault (first_mentions below) (teach_fault c t pupils below)
     where
+      -- of no unit more men were taught than it has, whether the order has a fault or not
       by_fault : (ns : List ℕ) (o : Option EventFault)
           → AreTaughtOnce c (option_map_or (λ fault. (taught, Fault (event_fault_number fault))) o (lesson c taught (pupils_per_teacher * men_at c t.unit) ns)).0
       by_fault ns (Some fault) = old

@@ -24,8 +24,11 @@ use Rattle.atl_action.proofs.TravelLaws.{IsSameUnit}
 -- Before and after there are as many units, each faction has the same unit numbers,
 -- and all together hold as much of each thing.
 pub record AreSamePeople (before after : FinMap nat_cmp Unit) : Type 0 where
+  -- there are as many units as before
   pub count : len after ≡ len before
+  -- each faction has the units that it had, by number
   pub of_factions : (m : ℕ) → numbers_of m after ≡ numbers_of m before
+  -- all units together hold as much of each thing as before
   pub hold : (t : Thing) → sum_over (λ (x : Unit). unit_amount t x.holding) after ≡ sum_over (λ (x : Unit). unit_amount t x.holding) before
 
 -- the units are the same people (`AreSamePeople`) when nothing changes

@@ -68,6 +68,7 @@ any_listed k [] listed = absurd listed
 any_listed k (n ∷ ns) (inl same) = ap (λ b. b || list_any (λ n. k == n) ns) (equal_passes k n same)
 any_listed k (n ∷ ns) (inr listed) = ap (λ b. (k == n) || b) (any_listed k ns listed) ∙ or_true (k == n)
   where
+    -- "b or true" is true
     or_true : (b : Bool) → (b || true) ≡ true
     or_true true = refl
     or_true false = refl
@@ -77,6 +78,7 @@ listed_any : (k : ℕ) (ns : List ℕ) → list_any (λ n. k == n) ns ≡ true �
 listed_any k [] e = false_true e
 listed_any k (n ∷ ns) e = by_test (k == n) refl e (λ rest. listed_any k ns rest)
   where
+    -- k is listed in n ∷ ns if the test is true of n ∷ ns, whether k is n or not
     by_test : (b : Bool) → (k == n) ≡ b → (b || list_any (λ n. k == n) ns) ≡ true → (list_any (λ n. k == n) ns ≡ true → IsListed k ns) → IsListed k (n ∷ ns)
     by_test true t e rest = inl (is_equal k n t)
     by_test false t e rest = inr (rest e)
@@ -118,7 +120,7 @@ module _ (ship to : ℕ) where
   abbrev IsInside : FinMap nat_cmp Unit → ℕ → Type 0
   IsInside m n = (v : Unit) × (get m n ≡ Some v) × (v.structure ≡ ship)
 
-  -- a unit inside the ship that goes along changes nothing but the units
+  -- taking along a unit that is inside the ship changes nothing of the campaign but the units (`elsewhere`)
   one_is : (d : CampaignValue) (n : ℕ) (v : Unit) → get d.units n ≡ Some v → v.structure ≡ ship → with_unit_aboard ship to d n ≡ record d { units = elsewhere ship to d.units n }
   unfolding with_place
   one_is d n v is here =
@@ -129,6 +131,7 @@ module _ (ship to : ℕ) where
   still_inside : (m : FinMap nat_cmp Unit) (n k : ℕ) → IsInside m k → IsInside (elsewhere ship to m n) k
   still_inside m n k (v, there, here) = (gone_if ship to (k == n) v, elsewhere_at ship to m n k ∙ ap (option_map (gone_if ship to (k == n))) there, by_test (k == n))
     where
+      -- unit k is inside the ship, whether it is the unit that went along or not
       by_test : (b : Bool) → (gone_if ship to b v).structure ≡ ship
       by_test true = refl
       by_test false = here
@@ -138,7 +141,7 @@ module _ (ship to : ℕ) where
   still_all m n [] all = tt
   still_all m n (k ∷ ns) all = (still_inside m n k all.0, still_all m n ns all.1)
 
-  -- units inside the ship that go along change nothing but the units
+  -- taking along a list of units that are inside the ship changes nothing of the campaign but the units (`elsewhere`)
   all_is : (d : CampaignValue) (ns : List ℕ) → AllByRecursion (IsInside d.units) ns → fold (with_unit_aboard ship to) d ns ≡ record d { units = fold (elsewhere ship to) d.units ns }
   all_is d [] all = refl
   all_is d (n ∷ ns) all =
@@ -242,16 +245,19 @@ module _ (w : WorldValue) (c : CampaignValue) (ship to : ℕ) (steady : IsSteady
   ship_owned : (q : ℕ) (y : Structure) → get c.structures q ≡ Some y → (b : Bool) → IsOwned behind q (if b then shifted y else y)
   ship_owned q y there b = by_test b
     where
+      -- the owner of the structure, if there is one, is still inside it after the ship sailed
       owned : y.owner ≢ 0 → (v : Unit) × (get units y.owner ≡ Some v) × (v.structure ≡ q)
       owned some =
           let (v, here, inside) = (steady.owners q y there).owned some in
           (f y.owner v, units_at y.owner ∙ ap (option_map (f y.owner)) here, inside_same y.owner v ∙ inside)
 
+      -- a structure without an owner has no unit inside after the ship sailed
       ownerless : y.owner ≡ 0 → Every (λ m v. v.structure ≢ q) units
       ownerless none m v at inside =
           let (u, was, same) = under (f m) (get c.units m) v (sym (units_at m) ∙ at) in
           (steady.owners q y there).ownerless none m u was (sym (inside_same m u) ∙ ap (λ (z : Unit). z.structure) same ∙ inside)
 
+      -- the structure has its right owner, whether it is the ship or not
       by_test : (b : Bool) → IsOwned behind q (if b then shifted y else y)
       by_test true = record { owned = owned; ownerless = ownerless }
       by_test false = record { owned = owned; ownerless = ownerless }
@@ -345,6 +351,7 @@ module _ (w : WorldValue) (c : CampaignValue) (ship to : ℕ) (steady : IsSteady
   pub sailed_inside : (k : ℕ) → inside (after_sailing c ship to) k ≡ inside c k
   sailed_inside k = ap (λ d. inside d k) sailed_is ∙ ap structure_in (units_at k) ∙ by_unit (get c.units k)
     where
+      -- unit k is inside the same structure as before, whether it is there or not
       by_unit : (o : Option Unit) → structure_in (option_map (f k) o) ≡ structure_in o
       by_unit None = refl
       by_unit (Some v) = inside_same k v
@@ -353,6 +360,7 @@ module _ (w : WorldValue) (c : CampaignValue) (ship to : ℕ) (steady : IsSteady
   sailed_same : (k : ℕ) → inside c k ≢ ship → get (after_sailing c ship to).units k ≡ get c.units k
   sailed_same k apart = ap (λ d. get d.units k) sailed_is ∙ units_at k ∙ by_unit (get c.units k) apart
     where
+      -- unit k is as it was if it isn't inside the ship, whether it is there or not
       by_unit : (o : Option Unit) → structure_in o ≢ ship → option_map (f k) o ≡ o
       by_unit None apart = refl
       by_unit (Some v) apart = ap (λ b. Some (gone_if ship to b v)) (other_number v.structure ship apart)
@@ -394,6 +402,7 @@ carried_spares = record { same = carried_same; again = carried_twice; faction = 
 region_there : (w : WorldValue) (r : ℕ) → is_region w r ≡ true → IsThere w.regions r
 region_there w r is = by_plan (get w.regions r) refl is
   where
+    -- the world has region r, since a look-up of r finds a region
     by_plan : (o : Option RegionPlan) → get w.regions r ≡ o → option_map_or (λ (p : RegionPlan). true) o false ≡ true → IsThere w.regions r
     by_plan None there t = false_true t
     by_plan (Some p) there t = (p, there)
@@ -411,12 +420,14 @@ unfolding sail
 sail_cases P w c n u direction same gone_off =
     by_fault (neighbour w u.region direction) (sail_fault w c n u (get c.structures u.structure) (neighbour w u.region direction)) refl
   where
+    -- P holds after sailing, if the unit is inside a complete ship, and there is a way to the region
     by_ship : (to : Option ℕ) (o : Option Structure) → get c.structures u.structure ≡ o → not (is_complete_ship w o) ≡ false → not (is_way w u.region to) ≡ false → P (after_sailing c u.structure (unwrap_or to 0), Done 0)
     by_ship to None at whole way = false_true (sym whole)
     by_ship to (Some x) at whole way =
         let parts = and_parts (is_ship w x) (x.done == size_of w x.kind) (not-false (is_complete_ship w (Some x)) whole) in
         gone_off (unwrap_or to 0) x at parts.0 (is_equal x.done (size_of w x.kind) parts.1) (way_there w u.region to way)
 
+    -- P holds of the result of the order, whether it has a fault or not
     by_fault : (to : Option ℕ) (o : Option EventFault) → sail_fault w c n u (get c.structures u.structure) to ≡ o → P (unless c o (after_sailing c u.structure (unwrap_or to 0), Done 0))
     by_fault to (Some fault) e = same (Fault (event_fault_number fault))
     by_fault to None e =
@@ -454,10 +465,12 @@ sail_orderly = record {
   bounded = λ w c steady e t. omega arith;
 }
   where
+    -- an order with any operands keeps a steady campaign steady, in its month and with balanced books (`StepsWell`)
     well : (w : WorldValue) (c : CampaignValue) (n : ℕ) (x : Unit) → IsSteady w c → (s : OperandsValue) → IfSome (sail_effect w n s) (λ deed. StepsWell IsSteady books_nothing w c (deed c x).0)
     well w c n x steady (operands.Direction direction) = sail_well w c n x direction steady
     well w c n x steady other = tt
 
+    -- an order with any operands at most takes unit k along with its structure (`IsAtMostMoved`)
     spared : (w : WorldValue) (c : CampaignValue) (n : ℕ) (x : Unit) → IsSteady w c → (k : ℕ) (v : Unit) → get c.units k ≡ Some v → (s : OperandsValue) → IfSome (sail_effect w n s) (λ deed. IsUnaffected IsAtMostMoved (deed c x).0 k v)
     spared w c n x steady k v there (operands.Direction direction) = sail_spares w c n x direction steady k v there
     spared w c n x steady k v there other = tt
@@ -500,10 +513,15 @@ module _ (w : WorldValue) (begun : CampaignValue) (number faction : ℕ) where
   -- The campaign is steady, and each unit is inside the structure that it was inside as the phase began.
   -- The structure that unit `number` is inside is as it was, and so are all units inside this structure.
   record IsAsBegun (c : CampaignValue) : Type 0 where
+    -- the campaign is steady
     pub steady : IsSteady w c
+    -- each unit is inside the structure that it was inside as the phase began
     pub places : (k : ℕ) → inside c k ≡ inside begun k
+    -- the structure of unit `number` is as it was
     pub structure : get c.structures s ≡ get begun.structures s
+    -- each unit that was inside this structure is as it was
     pub units : (k : ℕ) → inside begun k ≡ s → get c.units k ≡ get begun.units k
+    -- the list of the units inside this structure is as it was
     pub list : numbers_inside s c.units ≡ numbers_inside s begun.units
 
   module _ (c : CampaignValue) (same : IsAsBegun c) where
@@ -513,6 +531,7 @@ module _ (w : WorldValue) (begun : CampaignValue) (number faction : ℕ) where
         ap (sum_by (λ n. of_unit f (get c.units n))) same.list
         ∙ sum_same (λ n. of_unit f (get c.units n)) (λ n. of_unit f (get begun.units n)) (numbers_inside s begun.units) (λ k listed. ap (of_unit f) (same.units k (is_in k listed)))
       where
+        -- each unit listed as inside the structure of unit `number` is inside it as the phase begins
         is_in : (k : ℕ) → IsListed k (numbers_inside s begun.units) → inside begun k ≡ s
         is_in k listed = let (v, there, here) = listed_is_inside s begun.units k listed in ap structure_in there ∙ here
 
@@ -538,10 +557,12 @@ module _ (w : WorldValue) (begun : CampaignValue) (number faction : ℕ) where
     carried_same_told : (f n : ℕ) (direction : Direction) → inside begun n ≡ s → (faction_effect (sail w n direction) c f n).1 ≡ (faction_effect (sail w n direction) begun f n).1
     carried_same_told f n direction here = ap (λ o. (effect_on (sail w n direction) c (of_faction f o)).1) (same.units n here) ∙ by_unit (get begun.units n) here
       where
+        -- the order has the outcome that it would have had as the phase began, whether unit u is of faction f or not
         by_faction : (u : Unit) → u.structure ≡ s → (b : Bool) → (effect_on (sail w n direction) c (if b then Some u else None)).1 ≡ (effect_on (sail w n direction) begun (if b then Some u else None)).1
         by_faction u here true = told_same n u direction here
         by_faction u here false = refl
 
+        -- the order has the outcome that it would have had as the phase began, whether its unit is there or not
         by_unit : (o : Option Unit) → structure_in o ≡ s → (effect_on (sail w n direction) c (of_faction f o)).1 ≡ (effect_on (sail w n direction) begun (of_faction f o)).1
         by_unit None here = refl
         by_unit (Some u) here = by_faction u here (u.faction == f)

@@ -63,6 +63,7 @@ module _ (w : WorldValue) (taught n s : ℕ) (c d : CampaignValue) (u : Unit) (i
   unfolding study
   study_alike = by_fault (study_fault u.holding cost) (Done (days_in d - amount_of u.holding.days s)) (Done (days_in c - amount_of u.holding.days s))
     where
+      -- the order changes unit n alike in both campaigns, whether it has a fault or not
       by_fault : (o : Option EventFault) (x y : Outcome) → get (unless d o (after_study d n u s cost (days_in d), x)).0.units n ≡ get (unless c o (after_study c n u s cost (days_in c), y)).0.units n
       by_fault (Some fault) x y = in_d ∙ sym in_c
       by_fault None x y =
@@ -86,6 +87,7 @@ both_own t o never t_studies o_studies unit faction =
     (ap (λ j. j == o.unit) unit ∙ equal_itself o.unit) (ap (λ j. j == o.faction) faction ∙ equal_itself o.faction)
     (ap (λ v. are_of_slot (row_of v).slot (row_of o.order_value.verb).slot) (is_study t.order_value.verb t_studies) ∙ ap (λ v. are_of_slot (row_of verbs.Study).slot (row_of v).slot) (is_study o.order_value.verb o_studies)) never
   where
+    -- three truth values are not all true if their conjunction is false
     all_three : (a b d : Bool) → a ≡ true → b ≡ true → d ≡ true → (a && (b && d)) ≡ false → ⊥
     all_three true true true p q r never = cc
     all_three true true false p q r never = cc
@@ -105,6 +107,7 @@ module _ (w : WorldValue) (taught : TaughtMen) (n : ℕ) (u : Unit) where
   structures_stay : (d : CampaignValue) (l : MonthValue) (t : Task) → (step (d, l) t).0.structures ≡ d.structures
   structures_stay d l t = ordered_cases (λ b. b.structures ≡ d.structures) (study_step taught w l.aliases t) d t refl (λ x own. by_said t.order_value.operands x)
     where
+      -- the order changes no structure, whatever its operands are
       by_said : (o : OperandsValue) (x : Unit) → IfSome (study_effect w taught t.unit o) (λ deed. (deed d x).0.structures ≡ d.structures)
       by_said (operands.Skill s) x = study_cases (λ b. b.structures ≡ d.structures) w (taught t.unit) d t.unit s x refl (λ days payable most. refl)
       by_said other x = tt
@@ -113,6 +116,7 @@ module _ (w : WorldValue) (taught : TaughtMen) (n : ℕ) (u : Unit) where
   one_stays : (d : CampaignValue) (l : MonthValue) (t : Task) (v : Unit) → get d.units n ≡ Some v → v.faction ≡ u.faction → IsOther t → get (step (d, l) t).0.units n ≡ Some v
   one_stays d l t v there own other = ordered_cases (λ b. get b.units n ≡ Some v) (study_step taught w l.aliases t) d t there (λ x its. by_said t.order_value.operands x its)
     where
+      -- the order leaves unit n as it was, whatever its operands are
       by_said : (o : OperandsValue) (x : Unit) → IsUnitOf d t x → IfSome (study_effect w taught t.unit o) (λ deed. get (deed d x).0.units n ≡ Some v)
       by_said (operands.Skill s) x its =
           elim (cases_eq n t.unit) [
@@ -142,6 +146,7 @@ module _ (w : WorldValue) (taught : TaughtMen) (n : ℕ) (u : Unit) where
     all_apart [] all others = tt
     all_apart (t ∷ ts) all others = (one_apart, all_apart ts all.1 others.1)
       where
+        -- the first of the orders isn't for unit n, or not from its faction
         one_apart : IsOther t
         one_apart unit faction = both_own order t all.0 studies others.0 (for_unit ∙ sym unit) (own ∙ sym faction)
 

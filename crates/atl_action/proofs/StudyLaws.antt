@@ -63,7 +63,8 @@ module _ (w : WorldValue) (c : CampaignValue) (n : ℕ) (u : Unit) (s cost days 
   abbrev behind : CampaignValue
   behind = after_study c n u s cost days
 
-  -- the unit may hold what it then holds, if the skill is of the world, and the days are at most 450 for each man
+  -- the unit may hold (`MayHold`) what it holds after it studied, if the skill is of the world, and the days are at
+  -- most 450 for each man
   may : s < length w.skills → days ≤ most_days * u.holding.men → MayHold w u learned
   may known most =
       let old = may_have w c n u is steady in
@@ -80,12 +81,14 @@ module _ (w : WorldValue) (c : CampaignValue) (n : ℕ) (u : Unit) (s cost days 
   steady_behind : s < length w.skills → days ≤ most_days * u.holding.men → IsSteady w behind
   steady_behind known most = steady-amount w paid Study Money (neg_ℤ (pos cost)) (omega arith) (steady-unit_amount w c n u learned is (may known most) steady)
 
-  -- if the units have less of a thing, the difference is what is booked: the cost of money, and 0 of each other thing
+  -- the total of each thing changes from b to a by what is booked, as the unit pays: money falls by the cost, and every
+  -- other thing stays
   owed : (t : Thing) (a b : ℕ) → a + unit_amount t u.holding ≡ b + unit_amount t learned → pos a ≡ pos b +ℤ cond (thing_index t == 0) (neg_ℤ (pos cost)) (pos 0)
   owed Money a b e = omega (arith, ints, e, payable)
   owed People a b e = omega (arith, ints, e)
   owed (Item i) a b e = nothing (2 + i == 0) (let other : (2 + i == 0) ≡ false = grind (arith, nat_tests) in other)
     where
+      -- the total of an item stays, since the booking is of money and not of the item (q is false)
       nothing : (q : Bool) → q ≡ false → pos a ≡ pos b +ℤ cond q (neg_ℤ (pos cost)) (pos 0)
       nothing true off = cc
       nothing false off = omega (arith, ints, e)
@@ -104,6 +107,7 @@ module _ (w : WorldValue) (c : CampaignValue) (n : ℕ) (u : Unit) (s cost days 
       let money = λ (x : Unit). x.holding.money in
       sum (sum_over money behind.units) (sum_over money c.units) u.holding.money (sum_over-insert_known money c.units n u (record u { holding = learned }) is) payable
     where
+      -- the total a after the payment is the total b before it less the cost, where m is the unit's money before it
       sum : (a b m : ℕ) → a + m ≡ b + (m - cost) → cost ≤ m → a + cost ≡ b
       sum a b m e l = omega (arith, e, l)
 
@@ -120,6 +124,7 @@ module _ (w : WorldValue) (c : CampaignValue) (n : ℕ) (u : Unit) (s cost days 
       (by_amount (amount_number e t == amount_number Study Money) _ _ less)
       (booked-near c.books Study Money (neg_ℤ (pos cost)) cost (within-neg cost cost (omega arith)) e t)
     where
+      -- the remaining bound falls by the cost for the amount that is booked (q), and is 0 for every other amount
       by_amount : (q : Bool) (a b : ℕ) → a + cost ≡ b → (if q then a else 0) + (if q then cost else 0) ≡ (if q then b else 0)
       by_amount true a b e = e
       by_amount false a b e = omega arith
@@ -158,6 +163,7 @@ study_cases P w taught c n s u same learned =
     let helped = is_helpful w s (get c.structures u.structure) in
     by_fault (days_after u.holding.men old taught helped) (days_after u.holding.men old taught helped - old) (days_most u.holding.men old taught helped) (study_fault u.holding (fee_of w s * u.holding.men)) refl
   where
+    -- P holds of the campaign after the order, whether the order has a fault or not
     by_fault : (days done : ℕ) → days ≤ most_days * u.holding.men → (o : Option EventFault) → study_fault u.holding (fee_of w s * u.holding.men) ≡ o
         → P (unless c o (after_study c n u s (fee_of w s * u.holding.men) days, Done done)).0
     by_fault days done most (Some fault) e = same
@@ -185,6 +191,7 @@ unchanged = record { same = λ u. refl; again = λ u v x one two. two ∙ one; f
 money_most : (w : WorldValue) (c : CampaignValue) → IsSteady w c → (e : Entry) (t : Thing) → study_reserve c e t ≤ study_moves e t
 money_most w c steady e t = by_amount (amount_number e t == amount_number Study Money) _ _ (all_held_within w c steady Money)
   where
+    -- the bound holds of the money under the entry study (q), and of every other amount, which is 0
     by_amount : (q : Bool) (a b : ℕ) → a ≤ b → (if q then a else 0) ≤ (if q then b else 0)
     by_amount true a b l = l
     by_amount false a b l = omega arith
@@ -198,10 +205,12 @@ study_orderly taught = record {
   bounded = money_most;
 }
   where
+    -- an order with any operands keeps a steady campaign steady, in its month and with balanced books (`StepsWell`)
     well : (w : WorldValue) (c : CampaignValue) (n : ℕ) (x : Unit) → get c.units n ≡ Some x → IsSteady w c → (s : OperandsValue) → AreOperandsOf w s → IfSome (study_effect w taught n s) (λ deed. StepsWell IsSteady study_reserve w c (deed c x).0)
     well w c n x is steady (operands.Skill s) fit = study_well w (taught n) c n s x is steady fit
     well w c n x is steady other fit = tt
 
+    -- an order with any operands for unit n leaves every other unit k unchanged
     spared : (w : WorldValue) (c : CampaignValue) (n : ℕ) (x : Unit) (k : ℕ) (v : Unit) → get c.units k ≡ Some v → k ≢ n → (s : OperandsValue) → IfSome (study_effect w taught n s) (λ deed. IsUnaffected IsUnchanged (deed c x).0 k v)
     spared w c n x k v there apart (operands.Skill s) = record { unit = v; there = study_stays w (taught n) c n s x k apart ∙ there; spared = refl }
     spared w c n x k v there apart other = tt

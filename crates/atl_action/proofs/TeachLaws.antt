@@ -1,4 +1,4 @@
--- Laws of a lesson: it is the turn of the first listed unit, and then a lesson to the others.
+-- Laws of a lesson of TEACH: a lesson to a list of units is the first unit's part, and then a lesson to the others.
 use Rattle.std.proofs.Common.{◌≡◌, ◌≢◌, ◌==◌, ◌≤◌, ◌||◌, ℕ, ◌+◌, ◌-◌, min, not, Bool, true, false, cond, List, [], ◌∷◌, filter, take, sum_by, refl, sym, ap, subst, ◌∙◌, inl, inr, arith, rules}
 use Rattle.std.specs.Prelude.{nat_eq, if◌then◌else◌}
 use Rattle.std.specs.List.{AllByRecursion, IsDistinct, before_first, list_any, position_or_len}
@@ -21,6 +21,7 @@ filtered_others : (n : ℕ) (p : ℕ → Bool) (ns : List ℕ) → AreOthers n n
 filtered_others n p [] all = tt
 filtered_others n p (k ∷ ns) all = by_test (p k) (filtered_others n p ns all.1)
   where
+    -- no number of the filtered list is n, whether the first number k passes the test or not
     by_test : (b : Bool) → AreOthers n (filter p ns) → AreOthers n (cond b (k ∷ filter p ns) (filter p ns))
     by_test true rest = (all.0, rest)
     by_test false rest = rest
@@ -31,6 +32,7 @@ unfolding IsDistinct
 filtered_distinct p [] all = tt
 filtered_distinct p (k ∷ ns) all = by_test (p k) (filtered_distinct p ns all.1)
   where
+    -- the filtered list is without repetitions, whether the first number k passes the test or not
     by_test : (b : Bool) → IsDistinct nat_eq (filter p ns) → IsDistinct nat_eq (cond b (k ∷ filter p ns) (filter p ns))
     by_test true rest = (filtered_others k p ns all.0, rest)
     by_test false rest = rest
@@ -40,6 +42,7 @@ without : (n : ℕ) (ns : List ℕ) → AreOthers n (filter (λ k. not (k == n))
 without n [] = tt
 without n (k ∷ ns) = by_test (k == n) refl (without n ns)
   where
+    -- no number of the filtered list is n, whether the first number k is n or not
     by_test : (b : Bool) → (k == n) ≡ b → AreOthers n (filter (λ k. not (k == n)) ns)
         → AreOthers n (cond (not b) (k ∷ filter (λ k. not (k == n)) ns) (filter (λ k. not (k == n)) ns))
     by_test true t rest = rest
@@ -61,6 +64,7 @@ not_listed n (k ∷ ns) all = ap (λ b. b || list_any (λ k. n == k) ns) all.0 �
 before_cons : (p : ℕ → Bool) (n : ℕ) (ns : List ℕ) → before_first p (n ∷ ns) ≡ if p n then [] else n ∷ before_first p ns
 before_cons p n ns = by_test (p n)
   where
+    -- the numbers before the first that passes the test are as stated, whether n passes (b) or not
     by_test : (b : Bool) → take (cond (not b) (1 + position_or_len p ns) 0) (n ∷ ns) ≡ if b then [] else n ∷ take (position_or_len p ns) ns
     by_test true = refl
     by_test false = search rules
@@ -70,6 +74,7 @@ before_others : (n : ℕ) (p : ℕ → Bool) (ns : List ℕ) → AreOthers n ns 
 before_others n p [] all = tt
 before_others n p (k ∷ ns) all = subst (AreOthers n) (sym (before_cons p k ns)) (by_test (p k) (before_others n p ns all.1))
   where
+    -- none of the numbers before the first that passes the test is n, whether k passes or not
     by_test : (b : Bool) → AreOthers n (before_first p ns) → AreOthers n (if b then [] else k ∷ before_first p ns)
     by_test true rest = tt
     by_test false rest = (all.0, rest)
@@ -123,6 +128,7 @@ module _ (c : CampaignValue) (taught after : TaughtMen) (n given : ℕ) (here : 
         ∙ sym (ap (λ s. taught k + (if l then amount_in_turn places s want else 0)) sum_more)
         ∙ sym (ap (λ b. taught k + (if b || l then amount_in_turn places (sum_by (untaught_men c taught) (before_first (λ j. k == j) (n ∷ ns))) want else 0)) not_first)
       where
+        -- the lesson to the others teaches as many men of unit k as the whole lesson, whether it is listed (b) or not
         by_listed : (b : Bool)
             → taught k + (if b then amount_in_turn (places - given) (sum_by (untaught_men c taught) (before_first (λ j. k == j) ns)) (untaught_men c taught k) else 0)
             ≡ taught k + (if b then amount_in_turn places (untaught_men c taught n + sum_by (untaught_men c taught) (before_first (λ j. k == j) ns)) (untaught_men c taught k) else 0)

@@ -1,4 +1,4 @@
--- Laws of steady campaigns: they stay so when units change region, structure and guard flag,
+-- Laws of steady campaigns: a campaign stays steady when units change region, structure and guard flag,
 -- and structures change region and owner.
 use Rattle.std.proofs.Common.{◌≡◌, ◌≢◌, ℕ, ◌*◌, ◌≤◌, true, false, Some, None, sym, ap, subst, ◌∙◌}
 use Rattle.std.specs.Prelude.{IsTrue, option_map}
@@ -38,25 +38,40 @@ module _ (w : WorldValue) (c : CampaignValue) (units : FinMap nat_cmp Unit) (str
 
   -- the unit's region is there, and the structure that the unit is inside is in that region
   pub record IsPut (u : Unit) : Type 0 where
+    -- the unit's region is there
     pub region : IsThere c.regions u.region
+    -- the structure that the unit is inside, if any, is there, in the same region
     pub structure : u.structure ≢ 0 → (s : Structure) × (get structures u.structure ≡ Some s) × (s.region ≡ u.region)
 
-  -- f gives the units and g the structures, and all that a steady campaign needs of them holds.
+  -- The units and structures are what f and g make of those of c, and keep all that a steady campaign needs of them.
   -- Each unit is in a region that is there and in a structure of this region, each structure has its right owner,
   -- and units that still guard are as they were.
   pub record AreTravelled : Type 0 where
+    -- each unit is what f makes of the unit in c
     pub units_at : (k : ℕ) → get units k ≡ option_map (f k) (get c.units k)
+    -- each structure is what g makes of the structure in c
     pub structures_at : (k : ℕ) → get structures k ≡ option_map (g k) (get c.structures k)
+    -- there are as many units as in c
     pub unit_count : len units ≡ len c.units
+    -- there are as many structures as in c
     pub structure_count : len structures ≡ len c.structures
+    -- each faction has the units that it has in c, by number
     pub of_factions : (m : ℕ) → numbers_of m units ≡ numbers_of m c.units
+    -- f changes only region, structure and guard flag of a unit
     pub same_units : Every (λ k u. IsSameUnit u (f k u)) c.units
+    -- g changes only region and owner of a structure
     pub same_structures : Every (λ k y. IsSameStructure y (g k y)) c.structures
+    -- each unit is in a region that is there, and inside a structure of this region or none (`IsPut`)
     pub put : Every (λ k u. IsPut (f k u)) c.units
+    -- each structure is in a region that is there
     pub built : Every (λ k y. IsThere c.regions (g k y).region) c.structures
+    -- each structure has its right owner
     pub owned : Every (λ k y. IsOwned travelled k (g k y)) c.structures
+    -- each unit on water is inside a ship
     pub aboard : Every (λ k u. is_land_at w (f k u).region ≡ false → IsAboard w travelled (f k u)) c.units
+    -- each structure on water is a complete ship
     pub afloat : Every (λ k y. is_land_at w (g k y).region ≡ false → (is_ship w y ≡ true) × (y.done ≡ size_of w y.kind)) c.structures
+    -- a unit that guards is as it was in c
     pub guarding : Every (λ k u. guards (f k u) ≡ true → f k u ≡ u) c.units
 
   module _ (are : AreTravelled) where
@@ -136,6 +151,7 @@ module _ (w : WorldValue) (c : CampaignValue) (units : FinMap nat_cmp Unit) (str
         let second = are.guarding m v there two in
         agree first second (old k u here m v there) one two))
       where
+        -- two units that are equal to u and v agree (`Agree`), if u and v do
         agree : {x u y v : Unit} → x ≡ u → y ≡ v → Agree u v → Agree x y
         agree one two same = rw (one, two) same
 

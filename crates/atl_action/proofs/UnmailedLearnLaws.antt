@@ -25,8 +25,11 @@ use Rattle.atl_action.specs.Teach.{TaughtMen, after_lessons, is_teaching, teach,
 
 -- The month has the same readings and aliases, and its events report the same number of starved men for each unit.
 pub record AddsNoStarved (before after : MonthValue) : Type 0 where
+  -- the readings of the mailings are the same
   pub readings : after.readings ≡ before.readings
+  -- the aliases are the same
   pub aliases : after.aliases ≡ before.aliases
+  -- the events report for each unit as many starved men as before
   pub starved : (n : ℕ) → starved_in after.events n ≡ starved_in before.events n
 
 -- an order of TEACH keeps readings and aliases, and adds no men who starved to the events
@@ -97,5 +100,6 @@ learn_leaves = record {
       record { unit = one.unit; there = one.there; spared = subst (λ k. IsLessBy (starved_in (learn_meaning w c m).1.events n - k) u one.unit) (same.starved n) one.spared };
 }
   where
+    -- what the phase keeps (`learn_keeps`) is the same for two months with the same readings and aliases
     alike : (w : WorldValue) (c d : CampaignValue) (m l : MonthValue) → l.readings ≡ m.readings → l.aliases ≡ m.aliases → learn_keeps w m c d → learn_keeps w l c d
     alike w c d m l readings aliases h = rw (readings, aliases) h

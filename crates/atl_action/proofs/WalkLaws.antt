@@ -50,6 +50,7 @@ mapped_itself (Some y) = refl
 pub land_is_there : (w : WorldValue) (r : ℕ) → is_land_at w r ≡ true → IsThere w.regions r
 land_is_there w r land = by_plan (get w.regions r) refl land
   where
+    -- the world has region r, since a look-up of r finds a region
     by_plan : (o : Option RegionPlan) → get w.regions r ≡ o → option_map_or (is_land w.terrains) o false ≡ true → IsThere w.regions r
     by_plan None is dry = false_true dry
     by_plan (Some p) is dry = (p, is)
@@ -104,7 +105,7 @@ module _ (w : WorldValue) (c : CampaignValue) (n : ℕ) (u : Unit) (to : ℕ) (i
   not_first q y there zero = none_some y (sym steady.next.structures.first ∙ ap (get c.structures) (sym zero) ∙ there)
 
   module _ (structures : FinMap nat_cmp Structure) where
-    -- the campaign with unit n in region `to`, and with these structures
+    -- the campaign after the walk, given its structures: unit n is in region `to`
     abbrev behind : CampaignValue
     behind = travelled w c units structures f (λ q y. y)
 
@@ -192,13 +193,13 @@ module _ (w : WorldValue) (c : CampaignValue) (n : ℕ) (u : Unit) (to : ℕ) (i
   abbrev given : (a e b : Bool) → Structure → Structure
   given a e b y = let x = if a && e then owned_by next y else y in if b && x.owner == 0 then owned_by n x else x
 
-  -- a structure is the same but for its owner after both handovers
+  -- a structure whose number isn't 0 is the same but for its owner after both handovers
   given_same : (a e b : Bool) (y : Structure) → b ≡ false → IsSameStructure y (given a e b y) × ((given a e b y).region ≡ y.region)
   given_same true true b y high = rw high (record { kind = refl; done = refl; name = refl }, refl)
   given_same true false b y high = rw high (record { kind = refl; done = refl; name = refl }, refl)
   given_same false e b y high = rw high (record { kind = refl; done = refl; name = refl }, refl)
 
-  -- each structure has its right owner after both handovers, if the unit was inside a structure
+  -- each structure, whose number isn't 0, has its right owner after both handovers, if the unit was inside a structure
   given_owned : old_place ≢ 0 → (q : ℕ) (y : Structure) → get c.structures q ≡ Some y → (a e b : Bool) → (q == old_place) ≡ a → (y.owner == n) ≡ e → b ≡ false → IsOwned (behind gone_off.structures) q (given a e b y)
   given_owned some q y there true true b p r high = rw high (subst (λ k. IsOwned (behind gone_off.structures) k (owned_by next y)) (sym (is_equal q old_place p)) (left_owned gone_off.structures some y))
   given_owned some q y there true false b p r high = rw high (still_owned gone_off.structures q y there (is_unequal y.owner n r))
@@ -248,6 +249,7 @@ walk_cases : (P : CampaignValue → Type 0) (w : WorldValue) (c : CampaignValue)
 unfolding walk
 walk_cases P w c n u direction same gone = by_fault (neighbour w u.region direction) (walk_fault w u (neighbour w u.region direction)) refl
   where
+    -- P holds of the campaign after the order, whether the order has a fault or not
     by_fault : (to : Option ℕ) (o : Option EventFault) → walk_fault w u to ≡ o → P (unless c o (after_walk c n (unwrap_or to 0), Done 0)).0
     by_fault to (Some fault) e = same
     by_fault to None e =
@@ -279,10 +281,12 @@ walk_orderly = record {
   bounded = λ w c steady e t. omega arith;
 }
   where
+    -- an order with any operands keeps a steady campaign steady, in its month and with balanced books (`StepsWell`)
     well : (w : WorldValue) (c : CampaignValue) (n : ℕ) (x : Unit) → get c.units n ≡ Some x → IsSteady w c → (s : OperandsValue) → IfSome (walk_effect w n s) (λ deed. StepsWell IsSteady books_nothing w c (deed c x).0)
     well w c n x is steady (operands.Direction direction) = walk_well w c n x is direction steady
     well w c n x is steady other = tt
 
+    -- an order with any operands for unit n leaves every other unit j as it was
     stays : (w : WorldValue) (c : CampaignValue) (n : ℕ) (x : Unit) (j : ℕ) → j ≢ n → (s : OperandsValue) → IfSome (walk_effect w n s) (λ deed. get (deed c x).0.units j ≡ get c.units j)
     stays w c n x j apart (operands.Direction direction) = walk_stays w c n x direction j apart
     stays w c n x j apart other = tt

@@ -58,16 +58,23 @@ learners w c m = fold (with_learner w c) empty (study_tasks m)
 -- Unit n learns this skill by an order of STUDY that counts, from its own faction.
 -- It has men, and the fee for all of them.
 pub record IsLearning (w : WorldValue) (c : CampaignValue) (m : MonthValue) (n skill : ℕ) : Type 0 where
+  -- the order of STUDY by which the unit learns
   pub order : Task
+  -- the order is one of those of the month that count
   pub stands : Contains (study_tasks m) order
+  -- the order is for unit n
   pub for_unit : order.unit ≡ n
+  -- the order names the skill
   pub says : skill_of order.order_value.operands ≡ Some skill
+  -- the unit is of the faction that gives the order, and has men and the fee for all of them
   pub can : learns w skill order.faction (get c.units n) ≡ true
 
 -- each unit in `learners` learns its skill by an order of STUDY (`IsLearning`),
 -- and each unit that learns so is in `learners`
 pub record LearnByOrders (w : WorldValue) (c : CampaignValue) (m : MonthValue) : Type 0 where
+  -- a unit that is in `learners` with a skill learns this skill by an order
   pub only : (n skill : ℕ) → get (learners w c m) n ≡ Some skill → IsLearning w c m n skill
+  -- a unit that learns by an order is in `learners`
   pub each : (n skill : ℕ) → IsLearning w c m n skill → IsThere (learners w c m) n
 
 -- A law: in each world, campaign and month exactly those units are in

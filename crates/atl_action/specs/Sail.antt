@@ -102,7 +102,7 @@ abbrev pub sail_effect : WorldValue → (n : ℕ) → OperandsValue → Option O
 sail_effect w n (operands.Direction direction) = Some (sail w n direction)
 sail_effect w n other = None
 
--- the step of the phase: the effect of an order of SAIL
+-- the step of the phase of SAIL: the effect of an order, by its unit and its operands
 abbrev pub sail_step : OrderMeaning
 sail_step w aliases t = sail_effect w t.unit t.order_value.operands
 
@@ -113,9 +113,12 @@ sail_step w aliases t = sail_effect w t.unit t.order_value.operands
 pub record IsAtMostMoved (before after : Unit) : Type 0 where
   pub faction : after.faction ≡ before.faction
   pub structure : after.structure ≡ before.structure
+  -- a unit inside no structure keeps its region
   pub region : before.structure ≡ 0 → after.region ≡ before.region
   pub name : after.holding.name ≡ before.holding.name
+  -- a unit inside no structure keeps its guard flag
   pub guard : before.structure ≡ 0 → after.holding.guard ≡ before.holding.guard
+  -- a unit without a guard flag gets none
   pub no_flag : before.holding.guard ≡ false → after.holding.guard ≡ false
   pub men : before.holding.men ≤ after.holding.men
   pub money : before.holding.money ≤ after.holding.money
@@ -133,10 +136,12 @@ concerns_nobody t n f = ⊥
 -- By order t the ship that unit n is inside sails, as things are when the phase begins.
 -- The order is for a unit inside the same ship, of the faction that wrote it, and has no fault.
 pub record SailsWith (w : WorldValue) (begun : CampaignValue) (t : Task) (n f : ℕ) : Type 0 where
+  -- the order is for a unit inside the same structure as unit n
   pub together : inside begun t.unit ≡ inside begun n
+  -- the order has no fault as the phase begins
   pub done : (order_result (sail_effect w t.unit t.order_value.operands) begun t.faction t.unit).1 ≡ Some (Done 0)
 
--- what the phase keeps: each unit at most goes with its structure, and one whose structure doesn't sail is unchanged
+-- what SAIL keeps: each unit at most goes with its structure, and one whose structure doesn't sail is unchanged
 abbrev pub sail_keeps : Frame
 sail_keeps w m before after = AreAtMostMoved before after × spares_others (SailsWith w before) IsUnchanged is_sailing w m before after
 

@@ -71,25 +71,27 @@ abbrev pub study_effect : WorldValue → TaughtMen → (n : ℕ) → OperandsVal
 study_effect w taught n (operands.Skill s) = Some (study w (taught n) n s)
 study_effect w taught n other = None
 
--- the step of STUDY, where this many men of each unit were taught
+-- the step of STUDY: the effect of an order, given how many men of each unit were taught
 abbrev pub study_step : TaughtMen → OrderMeaning
 study_step taught w aliases t = study_effect w taught t.unit t.order_value.operands
 
 -- ---- the phase
 
--- the effect of the phase: all orders of TEACH, and then all orders of STUDY
+-- the effect of the phase of TEACH and STUDY: all orders of TEACH are carried out, and then all orders of STUDY
 abbrev pub learn_meaning : Meaning
 learn_meaning w c m =
     let lessons = after_lessons c (learners w c m) m in
     meaning_by_orders (study_step lessons.0) is_studying w c lessons.1
 
--- what the phase keeps: a unit for which its own faction wrote no order of STUDY is unchanged
+-- what the phase of TEACH and STUDY keeps:
+-- a unit for which no order of STUDY of its own faction counts is unchanged
 abbrev pub learn_keeps : Frame
 learn_keeps = spares_others IsOwnOrder IsUnchanged is_studying
 
 -- ---- by how much the phase moves the books
 
--- the bound on the books: the money under the entry study may move by less than 10^14, and nothing else
+-- how far the phase of TEACH and STUDY may move the books:
+-- the money under the entry study by less than 10^14, and nothing else
 abbrev pub study_moves : BookBound
 study_moves = moves_only most_moved Study Money
 

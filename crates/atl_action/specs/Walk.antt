@@ -57,12 +57,13 @@ abbrev pub walk_effect : WorldValue → (n : ℕ) → OperandsValue → Option O
 walk_effect w n (operands.Direction direction) = Some (walk w n direction)
 walk_effect w n other = None
 
--- the step of the phase: the effect of an order of MOVE
+-- the step of the phase of MOVE: the effect of an order, by its unit and its operands
 abbrev pub walk_step : OrderMeaning
 walk_step w aliases t = walk_effect w t.unit t.order_value.operands
 
 -- ---- the phase
 
--- the specification of the phase: a unit for which no MOVE of its own faction counts is no worse off
+-- the specification of the phase of MOVE, which books nothing;
+-- a unit for which no MOVE of its own faction counts is no worse off
 abbrev pub walk_spec : PhaseSpec
 walk_spec = goes_by_orders walk_step is_walking IsOwnOrder IsNoWorse

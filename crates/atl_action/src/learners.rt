@@ -16,7 +16,7 @@ use std::alloc::{AllocError, Global};
 /// The verb STUDY, whose orders say which units are learning.
 pub(crate) struct StudyVerbs;
 
-/// Has the verb STUDY.
+/// Selects orders with the verb STUDY alone.
 impl PhaseVerbs for StudyVerbs {
     ghost is_of = { is_studying };
 

@@ -26,7 +26,7 @@ use std::alloc::{AllocError, Global};
 #[derive(Drop, Clone, Copy)]
 pub struct SailPhase;
 
-/// The kind of a structure, by its index among the kinds of the world; None past the last.
+/// The kind of a structure, found by its index among the kinds of the world; None past the last.
 fn kind_of<'w>(world: &'w World, structure: &Structure) -> Option<&'w Kind>
     ensures { option_copied result ≡ slice_get world.now.kinds structure.now.kind }
 {
@@ -189,7 +189,7 @@ fn take_along(campaign: &mut Campaign, unit: u32, ship: u32, to: u32) -> Result<
     Ok(())
 }
 
-/// Puts these units, which are inside a ship, into its new region, and clears their guard flags.
+/// Puts units that are inside a ship into the ship's new region, and clears their guard flags.
 fn take_all(campaign: &mut Campaign, units: &[u32], ship: u32, to: u32) -> Result<(), AllocError>
     ensures what { OnOk result
         (campaign.new.value ≡ fold (with_unit_aboard ship to) campaign.old.value units.now) }
@@ -201,7 +201,7 @@ fn take_all(campaign: &mut Campaign, units: &[u32], ship: u32, to: u32) -> Resul
     Ok(())
 }
 
-/// Sets the region of a ship.
+/// Sets the region of a ship; the units inside stay where they are.
 fn put_ship(campaign: &mut Campaign, ship: u32, to: u32)
     ensures what { campaign.new.value ≡ with_structure_region campaign.old.value ship to }
     ensures marks { MarksChanges campaign.old campaign.new }
@@ -249,7 +249,7 @@ fn sail(
     Ok(Outcome::Done(0))
 }
 
-/// Has the verb SAIL.
+/// The phase carries out orders with the verb SAIL alone.
 impl PhaseVerbs for SailPhase {
     ghost is_of = { is_sailing };
 

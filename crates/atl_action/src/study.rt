@@ -154,7 +154,7 @@ fn study(
     Ok(Outcome::Done(u64::from(days - old)))
 }
 
-/// Has the verb STUDY.
+/// The phase carries out orders with the verb STUDY alone.
 impl PhaseVerbs for StudyPhase {
     ghost is_of = { is_studying };
 

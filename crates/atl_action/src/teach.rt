@@ -20,7 +20,7 @@ use std::alloc::{AllocError, Global};
 /// The verb TEACH, whose orders the phase of TEACH and STUDY carries out first.
 struct TeachVerbs;
 
-/// Has the verb TEACH.
+/// Selects orders with the verb TEACH alone.
 impl PhaseVerbs for TeachVerbs {
     ghost is_of = { is_teaching };
 

@@ -79,7 +79,7 @@ fn walk(
     Ok(Outcome::Done(0))
 }
 
-/// Has the verb MOVE.
+/// The phase carries out orders with the verb MOVE alone.
 impl PhaseVerbs for MovePhase {
     ghost is_of = { is_walking };
 
@@ -111,6 +111,7 @@ impl OrderPhase for MovePhase {
     fn is_orderly(&self) {}
 }
 
+/// Makes MOVE a `Phase`, which carries out its orders (`carry_out_orders`), and does nothing else.
 impl PlainPhase for MovePhase {
     ghost makes = { walk_step };
 

@@ -90,11 +90,11 @@ item_amount r h sort =
 good_amount : (n : ℕ) (r : StoredHas) → has_in_range r ≡ true → is_of n 0 r ≡ true → (1 ≤ amount_of r) × (amount_of r ≤ holding_limit)
 good_amount n r h of = item_amount r h (is_same (as_u32 r.sort) 0 (and_parts (as_u32 r.unit == n) (as_u32 r.sort == 0) of).1)
 
--- equal Some's have equal numbers
+-- if Some a and Some b are equal, a and b are equal
 some_same : (a b : ℕ) → Some a ≡ Some b → a ≡ b
 some_same a b e = cc
 
--- if each amount of a map is from 1 to holding_limit (AreAmounts), so it is once one more such amount is put in
+-- if each amount of a map is from 1 to holding_limit (AreAmounts), each still is once one more such amount is put in
 AreAmounts-insert : (m : FinMap nat_cmp ℕ) (k v : ℕ) → (1 ≤ v) × (v ≤ holding_limit) → AreAmounts m → AreAmounts (insert m k v)
 AreAmounts-insert m k v h old item amount e =
     elim (cases_eq item k) [

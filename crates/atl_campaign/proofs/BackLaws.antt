@@ -185,7 +185,7 @@ pub each_appended : {A : Type 0} (P : A → Type 0) (xs ys : List A) → AllByRe
 each_appended P [] ys h = (tt, h)
 each_appended P (x ∷ xs) ys h = let rest = each_appended P xs ys h.1 in ((h.0, rest.0), rest.1)
 
--- each element of a list is before, by a relation, all that follow it
+-- the relation Before holds of each element of a list and each one that follows it
 abbrev pub InOrder : {X : Type 0} → (X → X → Type 0) → List X → Type 0
 InOrder Before [] = ⊤
 InOrder Before (x ∷ xs) = AllByRecursion (Before x) xs × InOrder Before xs
@@ -199,22 +199,22 @@ module _ {A : Type 0} (e : A → A → Bool) where
 
   -- lists f x joined, where rows of elements in order differ
   module _ {X : Type 0} (f : X → List A) (Before : X → X → Type 0) (Own : X → A → Type 0) (apart : (x y : X) (a b : A) → Before x y → Own x a → Own y b → e a b ≡ false) (own : (x : X) → AllByRecursion (Own x) (f x)) (one : (x : X) → IsDistinct e (f x)) where
-    -- a row that belongs to x differs by e from all rows of the elements that come after x
+    -- for a row a that belongs to x, e is false with each row of the elements that come after x
     against : (x : X) (a : A) (xs : List X) → Own x a → AllByRecursion (Before x) xs → AllByRecursion (λ b. e a b ≡ false) (flat_map f xs)
     against x a [] mine h = tt
     against x a (y ∷ xs) mine h = append_each (λ b. e a b ≡ false) (f y) (flat_map f xs) (these (f y) (own y)) (against x a xs mine h.1)
       where
-        -- row a, which belongs to x, differs by e from each of some rows that belong to y, as x is before y
+        -- for a row a that belongs to x, e is false with each of some rows that belong to y, as x is before y
         these : (bs : List A) → AllByRecursion (Own y) bs → AllByRecursion (λ b. e a b ≡ false) bs
         these [] all = tt
         these (b ∷ bs) all = (apart x y a b h.0 mine all.0, these bs all.1)
 
-    -- each of some rows that belong to x differs by e from all rows of the elements that come after x
+    -- for each of some rows that belong to x, e is false with each row of the elements that come after x
     all_against : (x : X) (xs : List X) (rows : List A) → AllByRecursion (Own x) rows → AllByRecursion (Before x) xs → AllByRecursion (λ a. AllByRecursion (λ b. e a b ≡ false) (flat_map f xs)) rows
     all_against x xs [] mine h = tt
     all_against x xs (a ∷ rows) mine h = (against x a xs mine.0 h, all_against x xs rows mine.1 h)
 
-    -- the rows of all elements of a list in order, joined, are distinct by e
+    -- if the elements of a list are in order (InOrder), the rows that f makes of them, joined, are distinct by e
     pub flat_apart : (xs : List X) → InOrder Before xs → IsDistinct e (flat_map f xs)
     unfolding IsDistinct
     flat_apart [] h = tt
@@ -241,7 +241,7 @@ pub entries_rise : {V : Type 0} (m : FinMap nat_cmp V) → Rise (entries m)
 entries_rise m = rise_sorted (entries m) (sorted m)
 
 module _ {V R : Type 0} (row : ℕ → V → R) (e : R → R → Bool) (apart : (n k : ℕ) (v u : V) → n < k → e (row n v) (row k u) ≡ false) where
-  -- the row of a number differs by e from the rows of all entries with higher numbers
+  -- for the row of number n, e is false with the row of each entry of a higher number
   others : (n : ℕ) (v : V) (es : List (ℕ × V)) → AllByRecursion (λ f. n < f.0) es → AllByRecursion (λ r. e (row n v) r ≡ false) (rows_by row es)
   others n v [] h = tt
   others n v (f ∷ es) h = (apart n f.0 v f.1 h.0, others n v es h.1)

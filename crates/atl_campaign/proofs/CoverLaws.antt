@@ -173,7 +173,8 @@ pub data Part : Type 0 where
   Books : Part
   Row : Part
 
--- what a mark on a part names: a number; region and item of stocks, unit and thing of items and skills; of Row nothing
+-- what names one mark of a part: region and item for Stocks, unit and thing for Items and Skills, nothing for Row,
+-- and one number for each other part
 abbrev pub Mark : Part → Type 0
 Mark Stocks = ℕ × ℕ
 Mark Items = ℕ × ℕ
@@ -181,7 +182,7 @@ Mark Skills = ℕ × ℕ
 Mark Row = Prim.Unit {0}
 Mark _ = ℕ
 
--- whether something of a part is marked, alone or, of stocks and goods, with all of its region or unit
+-- whether the named mark of a part is set; for Stocks, Items and Skills alone, or with all of the region or unit
 abbrev pub is_marked : (p : Part) → Marks → Mark p → Bool
 is_marked Factions m k = contains m.factions k
 is_marked Regions m k = contains m.regions k
@@ -198,7 +199,8 @@ is_marked Skills m k = is_thing_marked m.goods m.skills k.0 k.1
 is_marked Books m k = contains m.books k
 is_marked Row m k = m.row
 
--- what a value of a part is looked up by: a number, two of stocks, items and skills, an account of Books, none of Row
+-- what a value of a part is looked up by: region and item for Stocks, unit and thing for Items and Skills, entry and
+-- thing for Books, nothing for Row, and one number for each other part
 abbrev pub LookupKey : Part → Type 0
 LookupKey Stocks = ℕ × ℕ
 LookupKey Items = ℕ × ℕ
@@ -292,12 +294,12 @@ part_by_part a b stays tells = record {
 pub marks-refl : (a : MarkedCampaign) → MarksChanges a a
 marks-refl a = part_by_part a a (λ p k h. h) (λ p k free. refl)
 
--- P holds of a map with f applied under n, and of the old value there, if it does where n has a value and where not
+-- P holds of a map with f applied under n and the old value there, if it does in both cases: a value there, or none
 pub changed_there : {V : Type 0} (P : FinMap nat_cmp V → Option V → Type 0) (f : V → V) (values : FinMap nat_cmp V) (n : ℕ)
     → P values None → ((v : V) → get values n ≡ Some v → P (map.insert values n (f v)) (Some v)) → P (changed f values n) (get values n)
 changed_there {V} P f values n none some = by_value (get values n) refl
   where
-    -- P holds for a map with f applied under n, for the old value there, whether None or not
+    -- P holds of the map with f applied under n and the old value o there, whether o is a value or None
     by_value : (o : Option V) → get values n ≡ o → P (changed_at f values n o) o
     by_value None is = none
     by_value (Some v) is = some v is
@@ -312,11 +314,11 @@ marks-faction f c n =
     (λ p. elim p as (Stays c.marks next.marks) [ Factions ↦ put_stays c.marks.factions n | _ ↦ λ k h. h ])
     (λ p. elim p as (KeepsUnmarked next.marks c.value next.value) [ Factions ↦ λ k free. get-insert_other c.value.factions n k (f v) (apart_by c.marks.factions n k free) | _ ↦ λ k free. refl ]))
 
--- replacing a value by one that a view shows alike changes nothing that the view shows of the map
+-- replacing the value of n by a value of which `shows` gives the same changes nothing that `shows` gives of the map
 pub shown_still : {V X : Type 0} (shows : Option V → X) (values : FinMap nat_cmp V) (n k : ℕ) (v w : V) → get values n ≡ Some v → (k ≡ n → shows (Some w) ≡ shows (Some v)) → shows (get (map.insert values n w) k) ≡ shows (get values k)
 shown_still shows values n k v w is same = ap shows (get-insert nat_cmp_total values n w k) ∙ by_number (eq_by_cmp nat_cmp k n) refl
   where
-    -- the view shows the same under k, whether k is n or not
+    -- `shows` gives the same under k once the value of n is replaced, whether k is n or not
     by_number : (b : Bool) → eq_by_cmp nat_cmp k n ≡ b → shows (cond b (Some w) (get values k)) ≡ shows (get values k)
     by_number true e = let here = same_key k n e in same here ∙ sym (ap shows (ap (get values) here ∙ is))
     by_number false e = refl
@@ -341,7 +343,7 @@ marks-region f same c n =
 
 -- the stock of an item is set in a region; if it was another amount, it is marked, alone or with all of the region
 module _ (c : MarkedCampaign) (n item amount : ℕ) where
-  -- the region with the stock of the item set
+  -- the region with its stock of the item set to the amount
   abbrev stocked : Region → Region
   stocked r = record r { stocks = with_amount_of r.stocks item amount }
 
@@ -439,7 +441,7 @@ module _ (c : MarkedCampaign) (n item amount : ℕ) where
       equal : (a b : ℕ) → (a == b) ≡ true → a ≡ b
       equal a b same = grind (arith, nat_tests)
 
-      -- if the test finds the stock equal to the amount, a region that is there has that amount
+      -- if the stock passes the test of being the amount, region n, which is there, has that amount in stock
       was : (v : Region) → get c.value.regions n ≡ Some v → (stock_of c.value n item == amount) ≡ true → amount_of v.stocks item ≡ amount
       was v is same = sym (ap (in_stock item) is) ∙ equal (stock_of c.value n item) amount same
 

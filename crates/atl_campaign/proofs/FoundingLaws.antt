@@ -41,7 +41,7 @@ use Rattle.atl_campaign.proofs.AmountLaws.{none_weighed}
 use Rattle.atl_campaign.proofs.AmountMarkLaws.{none_marked}
 use Rattle.atl_records.proofs.BookLaws.{booked-after_booking, booked-no_amounts, amount-no_amounts, AreBooks-no_amounts, AreBooks-after_booking, IsWithin-after_booking, share_of}
 
--- lists that are those of the units, and an empty dirty set with room for all amounts, are what is kept (AreKept)
+-- the campaign's invariant AreKept holds of the lists of its units and an empty dirty set with room for all amounts
 pub AreKept-without_marks : (things : ℕ) (units : FinMap nat_cmp Unit) (lists : UnitLists) → AreUnitLists units lists → AreKept units lists things (record { numbers = set.empty; room = entry_count * things })
 AreKept-without_marks things units lists listed = record { unit_lists = listed; amounts = none_marked things (entry_count * things) (omega arith) }
 
@@ -61,7 +61,7 @@ no_items w i =
     let nothing : Every (λ n r. region_amount (Item i) r ≡ 0) founded = every-mapped founded_region (λ n r. region_amount (Item i) r ≡ 0) w.regions (λ n p is. ap (λ o. unwrap_or o 0) (get-empty nat_cmp i)) in
     none_weighed (λ (r : Region). region_amount (Item i) r) (entries founded) (each-from_every (λ n r. region_amount (Item i) r ≡ 0) founded nothing)
 
--- the sum booked of a thing at founding is the money, the people, or 0
+-- the sum that founding books of a thing is the money for money, the people for people, and 0 for each item
 founding_booked : (things money people : ℕ) (t : Thing) → booked (after_booking (after_booking (no_amounts things) Founding Money (pos money)) Founding People (pos people)) t ≡ share_of t Money (pos money) +ℤ share_of t People (pos people)
 founding_booked things money people t =
     booked-after_booking (after_booking (no_amounts things) Founding Money (pos money)) Founding People (pos people) t
@@ -71,11 +71,11 @@ founding_booked things money people t =
     from_nothing : (z : ℤ) → pos 0 +ℤ z ≡ z
     from_nothing z = omega (arith, ints)
 
--- if units hold a = 0 money, the total of a + m money is what founding books of it: m, and 0 with the people
+-- if units hold no money (a is 0), the total a + m is what founding books of money: m as money, and 0 as people
 held_money : (a m : ℕ) → a ≡ 0 → pos (a + m) ≡ pos m +ℤ pos 0
 held_money a m h = omega (arith, ints)
 
--- if units have a = 0 men, the total of a + p people is what founding books of them: 0 with the money, and p
+-- if units have no men (a is 0), the total a + p is what founding books of people: 0 as money, and p as people
 held_people : (a p : ℕ) → a ≡ 0 → pos (a + p) ≡ pos 0 +ℤ pos p
 held_people a p h = omega (arith, ints)
 

@@ -42,7 +42,8 @@ use Rattle.atl_campaign.proofs.OrderLaws.{each_passes}
 -- ---- maps of rows
 
 module _ {R V : Type 0} (number : R → ℕ) (value : R → V) where
-  -- if P holds for a map's values, and for the value of each row that passes a test, it holds for all with such rows in
+  -- if P holds for a map's values, and for the value of each row that passes a test, it holds for all values once rows
+  -- that pass the test are put in
   put-every : (P : ℕ → V → Type 0) (p : R → Bool) → ((r : R) → p r ≡ true → P (number r) (value r)) → (rows : List R) (m : FinMap nat_cmp V) → list_all p rows ≡ true → Every P m → Every P (put_rows number value rows m)
   put-every P p each [] m all old = old
   put-every P p each (r ∷ rows) m all old =
@@ -53,7 +54,7 @@ module _ {R V : Type 0} (number : R → ℕ) (value : R → V) where
   pub by_number-every : (P : ℕ → V → Type 0) (p : R → Bool) → ((r : R) → p r ≡ true → P (number r) (value r)) → (rows : List R) → list_all p rows ≡ true → Every P (by_number number value rows)
   by_number-every P p each rows all = put-every P p each rows empty all (every-empty P)
 
-  -- one of n and n + 1 is at most n + 1
+  -- n or n + 1, whichever b picks, is at most n + 1
   at_most : (b : Bool) (n : ℕ) → cond b n (n + 1) ≤ n + 1
   at_most true n = omega arith
   at_most false n = omega arith
@@ -94,7 +95,7 @@ from_le m n h = grind (arith, nat_tests)
 
 -- ---- the books
 
--- books of some things are still books of these once a row's amount is put in, or left out if its thing is none of them
+-- books of `things` things (AreBooks) stay so once a row's amount is put in, or left out if its thing isn't theirs
 row_put : (things : ℕ) (books : BooksValue) (e : Entry) (r : StoredBooks) (b : Bool) → nat_lt (as_u32 r.thing) books.things ≡ b → AreBooks things books → AreBooks things (cond b (with_amount books e (thing_at (as_u32 r.thing)) r.amount) books)
 row_put things books e r true inside are =
     let few : as_u32 r.thing < books.things = grind (arith, nat_tests) in
@@ -102,7 +103,7 @@ row_put things books e r true inside are =
     AreBooks-with_amount books e (thing_at (as_u32 r.thing)) r.amount things are (omega (arith, few, place, are.count))
 row_put things books e r false inside are = are
 
--- books of some things are still books of them once a row is read into them
+-- books of `things` things (AreBooks) are still books of `things` things once a row is read into them
 row_read : (things : ℕ) (books : BooksValue) (r : StoredBooks) → AreBooks things books → AreBooks things (with_books_row books r)
 row_read things books r are =
     let put = λ (e : Entry). cond (nat_lt (as_u32 r.thing) books.things) (with_amount books e (thing_at (as_u32 r.thing)) r.amount) books in
@@ -115,7 +116,7 @@ row_unread books r past =
     let put = λ (e : Entry). with_amount books e (thing_at (as_u32 r.thing)) r.amount in
     elim (entry_numbered (as_u32 r.entry)) as (λ o. option_map_or (λ e. cond (nat_lt (as_u32 r.thing) books.things) (put e) books) o books ≡ books) [ None ↦ refl | Some e ↦ ap (λ b. cond b (put e) books) none ]
 
--- books of some things are still books of them once rows are read into them
+-- books of `things` things (AreBooks) are still books of `things` things once rows are read into them
 pub put-books : (things : ℕ) (rows : List StoredBooks) (books : BooksValue) → AreBooks things books → AreBooks things (put_amounts rows books)
 put-books things [] books are = are
 put-books things (r ∷ rows) books are = put-books things rows (with_books_row books r) (row_read things books r are)

@@ -98,7 +98,8 @@ thing_of r = as_u32 r.thing
 abbrev amount_of : StoredHas → ℕ
 amount_of r = as_u32 r.amount
 
--- a unit with a row put among its items, its days or neither is the unit with the items and the days chosen apart
+-- a unit with new items, new days or neither, as three tests pick, is the unit with its items and its days picked each
+-- for itself
 picked : (r : StoredUnit) (items items' days days' : FinMap nat_cmp ℕ) (mine item skill : Bool) → (item ≡ true → skill ≡ false)
     → cond mine (cond item (unit_with r items' days) (cond skill (unit_with r items days') (unit_with r items days))) (unit_with r items days) ≡ unit_with r (cond (mine && item) items' items) (cond (mine && skill) days' days)
 picked r items items' days days' false item skill h = refl
@@ -136,7 +137,7 @@ item_of r = as_u32 r.item
 abbrev stock_of : StoredMarket → ℕ
 stock_of r = as_u32 r.stock
 
--- choosing between a region with the one stocks or the other is the region with the chosen stocks
+-- a choice between two regions that differ in their stocks is the region with the chosen stocks
 stocked : (r : StoredRegion) (stocks stocks' : FinMap nat_cmp ℕ) (mine : Bool) → cond mine (region_with r stocks') (region_with r stocks) ≡ region_with r (cond mine stocks' stocks)
 stocked r stocks stocks' true = refl
 stocked r stocks stocks' false = refl

@@ -19,7 +19,7 @@ use Rattle.atl_campaign.proofs.CoverLaws.{marks-faction}
 use Rattle.atl_records.proofs.EveryLaws.{every-insert, get-insert_other, none_some, there-insert}
 use Rattle.atl_campaign.proofs.RegionLaws.{changed-known, get-insert_same, same_len}
 
--- the faction with the flag that it is gone
+-- the faction with its flag `gone` set
 abbrev pub as_gone : Faction → Faction
 as_gone f = record f { gone = true }
 
@@ -95,7 +95,7 @@ module _ (c : CampaignValue) (n : ℕ) (x : Faction) (is : get c.factions n ≡ 
     units = old.units;
   }
 
-  -- the campaign stays steady with faction n set gone (`left`), if it has no units
+  -- the campaign stays steady with faction n set gone (`left`), if the faction has no units
   steady_gone : (w : WorldValue) → numbers_of n c.units ≡ [] → IsSteady w c → IsSteady w left
   steady_gone w none old = record {
     numbers = numbers_kept w old.numbers;
@@ -117,7 +117,7 @@ module _ (c : CampaignValue) (n : ℕ) (x : Faction) (is : get c.factions n ≡ 
   pub steady-gone : (w : WorldValue) → numbers_of n c.units ≡ [] → IsSteady w c → IsSteady w (with_gone c n)
   steady-gone w none old = subst (IsSteady w) (sym gone-known) (steady_gone w none old)
 
-  -- setting a faction gone leaves the number of factions
+  -- setting a faction gone does not change how many factions there are
   pub count-gone : len (with_gone c n).factions ≡ len c.factions
   count-gone = ap (λ (d : CampaignValue). len d.factions) gone-known ∙ same_len c.factions n x (as_gone x) is
 

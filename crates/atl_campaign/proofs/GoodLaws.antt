@@ -77,7 +77,8 @@ module _ (w : WorldValue) (c : CampaignValue) (month : ℕ) (mail reports : FinM
       guarded = old.guarded;
     }
 
--- a sound campaign is sound with other mail and reports of its factions, if each mail is a mailing of one not gone
+-- a sound campaign stays sound with other mail and reports of its factions, if each mail is a mailing of a faction
+-- that is not gone
 posted-sound : (w : WorldValue) (c : CampaignValue) (mail reports : FinMap nat_cmp (List ℕ)) → AreOfFactions c.factions mail reports
     → Every (λ n text. IsMailingOf n text × IsActive c n) mail → IsSound w c → IsSound w (record c { mail = mail; reports = reports })
 unfolding total

@@ -101,7 +101,7 @@ module _ {R U : Type 0} (group : R → ℕ) (number : U → ℕ) where
   same_groups n rows (u ∷ units) apart =
       ap (λ rs. rs ++ flat_map (λ u. of_group (number u) rows) units) (same_group n (number u) apart.0 rows) ∙ ap (λ rs. of_group (number u) (others n rows) ++ rs) (same_groups n rows units apart.1)
 
-  -- a number that n or some unit has is one that some unit has, if it is not n
+  -- if g is n or some unit's number, and g is not n, g is some unit's number
   of_others : (n g : ℕ) (units : List U) → (n ≡ g) ⊎ HasNumber number units g → not (g == n) ≡ true → HasNumber number units g
   of_others n g units (inl e) other =
       let same : (g == n) ≡ true = grind (arith, nat_tests) in
@@ -141,7 +141,7 @@ module _ {R K : Type 0} (key : R → K) (same : K → K → Bool) (itself : (k :
   abbrev pub IsMine : R → Type 0
   IsMine r = P r × (mine r ≡ true)
 
-  -- if P holds of each row, each that the test `mine` picks passes it, and P holds of it (IsMine)
+  -- if P holds of each row, each row that the test `mine` lets through is one of which P holds and that passes (IsMine)
   pub all_mine : (rows : List R) → AllByRecursion P rows → AllByRecursion IsMine (filter mine rows)
   all_mine rows all = kept mine IsMine rows (each_so P (λ r. mine r ≡ true → IsMine r) (λ r one passes. (one, passes)) rows all)
 
@@ -165,7 +165,7 @@ module _ {R : Type 0} (thing amount : R → ℕ) where
     abbrev line : ℕ × ℕ → List R
     line e = filter some (row e.0 e.1 ∷ [])
 
-    -- if each row is the one written for its thing and amount, the rows so written are the rows
+    -- if each row is the one written for its thing and amount, writing all rows' things and amounts gives the rows
     row_lines : (rows : List R) → AllByRecursion (λ r. (row (thing r) (amount r) ≡ r) × (some r ≡ true)) rows → flat_map (λ r. line (thing r, amount r)) rows ≡ rows
     row_lines [] all = refl
     row_lines (r ∷ rows) all =

@@ -24,7 +24,7 @@ use Rattle.atl_campaign.proofs.OrderLaws.{Apart, HasNumber, each_so, flat_order}
 abbrev pub IsOfUnits : List StoredUnit → StoredHas → Type 0
 IsOfUnits units h = HasNumber (λ r. as_u32 r.number) units (as_u32 h.unit) × ((as_u32 h.sort ≡ 0) ⊎ (as_u32 h.sort ≡ 1))
 
--- those of the given rows of `has` that are of unit n
+-- the given rows of `has` that are of unit n
 abbrev rows_of_unit : ℕ → List StoredHas → List StoredHas
 rows_of_unit n has = of_group (λ h. as_u32 h.unit) (λ (r : StoredUnit). as_u32 r.number) n has
 
@@ -76,11 +76,11 @@ amount_of h = as_u32 h.amount
 abbrev IsHadBy : ℕ → ℕ → StoredHas → Type 0
 IsHadBy n sort h = IsKeyed h × (is_of n sort h ≡ true)
 
--- a row that is read as one of unit n, and as it is, has the unit number n
+-- a row that is read as one of unit n, and whose key is read as it is, has the unit number n
 its_unit : (n sort : ℕ) (h : StoredHas) → IsHadBy n sort h → h.unit ≡ pos n
 its_unit n sort h (exact, of) = exact.unit ∙ ap pos (is_same (as_u32 h.unit) n (and_parts (as_u32 h.unit == n) (as_u32 h.sort == sort) of).0)
 
--- a row that is read as one of a sort, and as it is, has the number of that sort
+-- a row that is read as one of a sort, and whose key is read as it is, has the number of that sort
 its_sort : (n sort : ℕ) (h : StoredHas) → IsHadBy n sort h → h.sort ≡ pos sort
 its_sort n sort h (exact, of) = exact.sort ∙ ap pos (is_same (as_u32 h.sort) sort (and_parts (as_u32 h.unit == n) (as_u32 h.sort == sort) of).1)
 

@@ -41,7 +41,7 @@ use Rattle.atl_campaign.proofs.TotalLaws.{total-with_unit}
 
 -- ---- the books
 
--- if a total x is the sum b booked, x + n is b + p + q, where p and q are n together
+-- if a total x is the sum b booked, and n is p + q, the total x + n is the sum b + p + q
 two : (x n : ℕ) (b p q : ℤ) → pos x ≡ b → pos n ≡ p +ℤ q → pos (x + n) ≡ (b +ℤ p) +ℤ q
 two x n b p q h g = omega (arith, ints)
 

@@ -31,12 +31,12 @@ use Rattle.atl_campaign.proofs.RegionLaws.{changed-known, get-insert_same, same_
 use Rattle.atl_records.proofs.RemovedLaws.{every-insert_other, every-remove, fewer, get-remove_other, still, sum_over-remove}
 use Rattle.atl_campaign.proofs.NumberListLaws.{IsListed, first_of, none_passing, nothing_listed}
 
--- the structure with another owner
+-- a structure with the given owner
 abbrev pub owned_by : ℕ → Structure → Structure
 owned_by n s = record s { owner = n }
 
 module _ (w : WorldValue) (c : CampaignValue) (n : ℕ) (u : Unit) (is : get c.units n ≡ Some u) where
-  -- the units without unit n
+  -- the campaign's units without unit n
   abbrev left : FinMap nat_cmp Unit
   left = remove c.units n
 
@@ -64,7 +64,7 @@ module _ (w : WorldValue) (c : CampaignValue) (n : ℕ) (u : Unit) (is : get c.u
     none_kept : (k : ℕ) → get c.structures k ≡ None → get structures k ≡ None
     none_kept k none = by_option (get structures k) refl
       where
-        -- a number without a structure has none among the AreReowned ones, whatever these have under it
+        -- the look-up o of a number without a structure among the new structures (AreReowned) is None
         by_option : (o : Option Structure) → get structures k ≡ o → o ≡ None
         by_option None e = refl
         by_option (Some x) e = let (y, p, was, same) = re.back k x e in none_some y (sym none ∙ was)
@@ -121,7 +121,7 @@ module _ (w : WorldValue) (c : CampaignValue) (n : ℕ) (u : Unit) (is : get c.u
         none_left : (k : ℕ) → get c.units k ≡ None → get left k ≡ None
         none_left k none = by_option (get left k) refl
           where
-            -- a number without a unit has none among the units left, whatever these have under it
+            -- the look-up o of a number without a unit among the units left is None
             by_option : (o : Option Unit) → get left k ≡ o → o ≡ None
             by_option None e = refl
             by_option (Some x) e = none_some x (sym none ∙ (still c.units n k x e).1)
@@ -215,7 +215,7 @@ module _ (w : WorldValue) (c : CampaignValue) (n : ℕ) (u : Unit) (is : get c.u
       abbrev next : ℕ
       next = heir c u.structure n
 
-      -- the structures with the next owner of the unit's structure
+      -- the campaign's structures once unit n's structure has its next owner
       abbrev handed_on : FinMap nat_cmp Structure
       handed_on = insert c.structures u.structure (owned_by next mine)
 

@@ -41,7 +41,7 @@ by_key lists k xs P here there r =
     ] refl)
 
 module _ (belongs_to : Unit → ℕ) where
-  -- the lists have just the units of each key (AreLists), also a new one once its number is put into its key's list
+  -- the lists have just the units of each key (AreLists), also a new unit once its number is put into its key's list
   pub AreLists-added : (units : FinMap nat_cmp Unit) (lists : FinMap nat_cmp (List ℕ)) (k : ℕ) (u : Unit) → get units k ≡ None → AreLists belongs_to units lists
       → AreLists belongs_to (insert units k u) (insert lists (belongs_to u) (put_number k (list_of lists (belongs_to u))))
   AreLists-added units lists k u fresh old =
@@ -64,7 +64,7 @@ module _ (belongs_to : Unit → ℕ) where
       (ap (take_number k) (old own ∙ numbers_where-insert_new (λ v. belongs_to v == own) units k u fresh (same_number own)) ∙ taken_put k _)
       (λ r ne. old r ∙ numbers_where-insert_other (λ v. belongs_to v == r) units k u fresh (other_number own r ne))
 
-  -- the lists have just the units of each key (AreLists) once a removed one's number is taken out of its key's list
+  -- the lists have just the units of each key (AreLists) once a removed unit's number is taken out of its key's list
   pub AreLists-removed : (units : FinMap nat_cmp Unit) (lists : FinMap nat_cmp (List ℕ)) (k : ℕ) (u : Unit) → get units k ≡ Some u → AreLists belongs_to units lists
       → AreLists belongs_to (remove units k) (insert lists (belongs_to u) (take_number k (list_of lists (belongs_to u))))
   AreLists-removed units lists k u is old =

@@ -86,7 +86,7 @@ module _ {R V : Type 0} (number : R → ℕ) (value : R → V) where
     flat_order rows h =
         subst (λ es. IsPermutation (flat_map f es ++ flat_of rows) (flat_map f (entries (by_number number value rows)))) (entries-empty {X = V}) (put_order rows empty h (all_none rows))
 
-  -- if each row is the one written for its number and value, the rows so written are the rows
+  -- if each row is the one written for its number and value, writing all rows' numbers and values gives the rows
   same_rows : (row : ℕ → V → R) (rows : List R) → AllByRecursion (λ r. row (number r) (value r) ≡ r) rows → flat_map (λ r. row (number r) (value r) ∷ []) rows ≡ rows
   same_rows row [] h = refl
   same_rows row (r ∷ rows) h = ap (λ s. s ∷ flat_map (λ r. row (number r) (value r) ∷ []) rows) h.0 ∙ ap (λ rs. r ∷ rs) (same_rows row rows h.1)
@@ -195,7 +195,7 @@ module _ {R V : Type 0} (number : R → ℕ) (value : R → V) where
       let order = flat_order number value (λ e. e ∷ []) rows h in
       len-entries (by_number number value rows) ∙ ap length (sym (flat_same es)) ∙ length_permutation (flat_map (λ r. (number r, value r) ∷ []) rows) (flat_map (λ e. e ∷ []) es) order ∙ count rows
     where
-      -- the list of the entries, one by one, is the list of entries
+      -- joining a list of one entry for each entry gives the entries
       flat_same : (es : List (ℕ × V)) → flat_map (λ e. e ∷ []) es ≡ es
       flat_same [] = refl
       flat_same (e ∷ es) = ap (λ xs. e ∷ xs) (flat_same es)

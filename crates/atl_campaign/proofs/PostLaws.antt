@@ -29,7 +29,7 @@ marks-report c n text =
 -- ---- the mail that is removed
 
 module _ (marks : FinSet nat_cmp) (mail : FinMap nat_cmp (List ℕ)) where
-  -- after all mail is removed, a number is marked if it was marked or had mail
+  -- after all mail is removed, a faction's mail is marked exactly if it was marked or the faction had mail
   either : (k : ℕ) → contains (union marks (from_list (keys mail))) k ≡ (contains marks k || contains_key mail k)
   either k = contains-union nat_cmp_total marks (from_list (keys mail)) k ∙ ap (λ b. contains marks k || b) (contains-from_list nat_cmp_total (keys mail) k ∙ sym (contains_key-keys mail k))
 
@@ -43,7 +43,7 @@ module _ (marks : FinSet nat_cmp) (mail : FinMap nat_cmp (List ℕ)) where
   none_there false b None is free = refl
   none_there false b (Some text) is free = absurd (true≢false (sym is ∙ free))
 
-  -- a faction that is not marked after all mail is removed had none before, and has none
+  -- a faction whose mail is not marked after all mail is removed had no mail before
   all_gone : SameBut (union marks (from_list (keys mail))) mail empty
   all_gone k free = get-empty nat_cmp k ∙ none_there (contains marks k) (contains_key mail k) (get mail k) refl (sym (either k) ∙ free)
 

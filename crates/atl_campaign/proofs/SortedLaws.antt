@@ -22,7 +22,7 @@ rises (x ∷ xs) zero (suc j) d h le l = least x xs j d h.0 (omega arith)
 rises (x ∷ xs) (suc i) zero d h le l = absurd (omega arith)
 rises (x ∷ xs) (suc i) (suc j) d h le l = rises xs i j d h.1 (omega arith) (omega arith)
 
--- a number at most one below n is below n
+-- if a is at most b, and b is below n, a is below n
 lower : (a b n : ℕ) → a ≤ b → nat_lt b n ≡ true → nat_lt a n ≡ true
 lower a b n le h = grind (arith, nat_tests)
 

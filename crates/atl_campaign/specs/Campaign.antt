@@ -198,7 +198,7 @@ without_mail c = record c { mail = empty }
 abbrev pub with_structure_begun : CampaignValue → Structure → CampaignValue
 with_structure_begun c s = record c { next_structure = c.next_structure + 1; structures = insert c.structures c.next_structure s }
 
--- the campaign with unit u put under number n, instead of one that has it
+-- the campaign with unit u put under number n, in place of the unit that has it, if any
 abbrev pub with_unit : CampaignValue → ℕ → Unit → CampaignValue
 with_unit c n u = record c { units = insert c.units n u }
 

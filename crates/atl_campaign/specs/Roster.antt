@@ -50,19 +50,19 @@ with_unit_at r n u = record (all_marked r n) { values = map.insert r.values n u 
 abbrev pub with_unit_row : (Unit → Unit) → Roster → ℕ → Roster
 with_unit_row f r n = record r { values = changed f r.values n; marks = marked_with r.marks n (map.get r.values n); rows = marked_with r.rows n (map.get r.values n) }
 
--- the roster with f applied to unit n, where it is there, and the unit and that item marked, not its row
+-- the roster with f applied to unit n, if there is one, and the unit and one of its items marked, but not its row
 abbrev pub with_item_at : (Unit → Unit) → Roster → ℕ → ℕ → Roster
 with_item_at f r n item = record r { values = changed f r.values n; marks = marked_with r.marks n (map.get r.values n); items = thing_marked r.items n item (map.get r.values n) }
 
--- the roster with f applied to unit n, where it is there, and the unit and that skill marked, not its row
+-- the roster with f applied to unit n, if there is one, and the unit and one of its skills marked, but not its row
 abbrev pub with_skill_at : (Unit → Unit) → Roster → ℕ → ℕ → Roster
 with_skill_at f r n skill = record r { values = changed f r.values n; marks = marked_with r.marks n (map.get r.values n); skills = thing_marked r.skills n skill (map.get r.values n) }
 
--- the roster with the same units, and unit n and that item marked, where the unit is there
+-- the roster with unit n and one of its items marked, if there is such a unit; the units stay as they are
 abbrev pub item_marked_at : Roster → ℕ → ℕ → Roster
 item_marked_at r n item = record r { marks = marked_with r.marks n (map.get r.values n); items = thing_marked r.items n item (map.get r.values n) }
 
--- the roster with the same units, and unit n and that skill marked, where the unit is there
+-- the roster with unit n and one of its skills marked, if there is such a unit; the units stay as they are
 abbrev pub skill_marked_at : Roster → ℕ → ℕ → Roster
 skill_marked_at r n skill = record r { marks = marked_with r.marks n (map.get r.values n); skills = thing_marked r.skills n skill (map.get r.values n) }
 

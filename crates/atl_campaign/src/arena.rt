@@ -8,8 +8,8 @@ use std::alloc::{AllocError, Global};
 use std::marker::Model;
 use std::slice::Iter;
 
-/// A map from numbers to values, each in a slot that it keeps until it is removed. The slot that
-/// was last freed is the first to be used again.
+/// A map from numbers to values, where each value keeps one slot until it is removed. The slot
+/// that was last freed is the first to be used again.
 pub(crate) struct Arena<V> {
     index: Index,
     slots: Slab<V>,

@@ -1,4 +1,4 @@
-//! The campaign, and the calls that read it.
+//! The campaign: the calls that read it, lend a unit's holding, or store mail and reports.
 ghost use Rattle.std.specs.Prelude.{◌≡◌, ◌<◌, ◌≤◌, IfOk, OnOk, OnErr};
 ghost use Rattle.std.specs.Option.{option_copied};
 ghost use Rattle.std.specs.FinMap as map;
@@ -289,8 +289,8 @@ impl Campaign {
         &self.books
     }
 
-    /// The amount booked of a thing under an entry so far: what came in less what went. The thing
-    /// is money, men and peasants, or pieces of an item.
+    /// The amount booked of a thing under an entry: what came in less what went. It counts money,
+    /// men and peasants, or pieces of an item.
     pub fn booked(&self, entry: Entry, thing: Thing) -> i64
         requires { thing_index thing < self.now.value.books.things }
         ensures { result ≡ amount_in self.now.value.books entry thing }

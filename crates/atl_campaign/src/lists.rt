@@ -83,7 +83,7 @@ impl UnitLists {
         }
     }
 
-    /// Removes a unit from its lists. It takes no memory.
+    /// Removes a unit from the lists of its region, faction and structure. It takes no memory.
     pub(crate) fn remove(&mut self, number: u32, listing: ListKeys)
         ensures { UnlistsUnit number listing self.old self.new }
     {

@@ -93,8 +93,8 @@ pub struct StoredRegion {
     pub money: i64,
 }
 
-/// A row of the table `unit`: its number, faction, name, region, structure, men, money and guard
-/// flag. Items and days of study are rows of `has`.
+/// A row of the table `unit`: a unit's number, faction, name, region, structure, men, money and
+/// guard flag. Items and days of study are rows of `has`.
 #[derive(Debug)]
 pub struct StoredUnit {
     /// From 1 to LAST_UNIT.
@@ -121,7 +121,8 @@ impl Drop for StoredUnit {
     }
 }
 
-/// A row of the table `structure`: its number, kind, name, region, how much is done, and its owner.
+/// A row of the table `structure`: a structure's number, kind, name, region, owner, and how much of
+/// it is done.
 #[derive(Debug)]
 pub struct StoredStructure {
     /// From 1 to MOST_STRUCTURES.

@@ -13,8 +13,8 @@ use atl_world::{Entries, MarkedNumbers, Marks, Numbered, let_go};
 use std::alloc::{AllocError, Global};
 use std::marker::Model;
 
-/// The regions by their numbers. The row of each, all of its stocks, and single stocks can be
-/// marked, each for itself.
+/// The regions of a campaign by number, with dirty marks. The row of each region, all its stocks,
+/// and single stocks can be marked, each for itself.
 pub(crate) struct Regions {
     values: Numbered<Region>,
     // The regions whose rows are marked, those of which a stock is, and those all of whose stocks

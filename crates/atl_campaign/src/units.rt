@@ -14,8 +14,8 @@ use atl_world::{Entries, MarkedNumbers, Marks, Numbered, Text, let_go};
 use std::alloc::{AllocError, Global};
 use std::marker::Model;
 
-/// The units by number, with marks on units, rows, goods, and single items and skills. A unit of
-/// which a part is marked is marked itself.
+/// The units of a campaign by number, with dirty marks on units, rows, goods, and single items and
+/// skills. A unit of which a part is marked is marked itself.
 pub(crate) struct Units {
     units: Arena<Unit>,
     // The units of which something is marked, those whose rows are, and those all of whose goods
@@ -106,7 +106,7 @@ impl Units {
         self.units.len()
     }
 
-    /// How many units there are of which something is marked, with those that are gone.
+    /// The number of units of which something is marked. Units that are gone are among them.
     pub(crate) fn marked(&self) -> usize
         ensures value { result ≡ set.len self.now.marks }
         ensures small { result ≤ most_map_entries }

@@ -14,8 +14,10 @@ struct Asking;
 
 /// Makes the text of the campaign's books; a closed service gives Store.
 impl Work for Asking {
+    // The text of the books.
     type Done = String;
 
+    /// Asks the service for the text of the books; Store if it is closed.
     fn run<S: Alter>(&self, service: &mut Service<S>) -> Result<String, Failure> {
         match service.books() {
             Some(text) => Ok(text?),
@@ -34,10 +36,12 @@ impl Subcommand for Books {
     const ABOUT: &'static str =
         "Prints the books: of each thing all entries, and how much there is";
 
+    /// The option `--db`.
     fn options<'a>(alloc: Global) -> Result<Vec<Arg<'a>>, AllocError> {
         Ok(vec![in alloc; options::db(alloc)]?)
     }
 
+    /// Prints the text of the books.
     fn run(rt: &HostRuntime, options: &ArgMatches<'_>) -> Result<(), Failure> {
         let path = options::text_of(options, options::DB)?;
         let text = work_on(rt, path, Opening::Kept, &Asking)?;

@@ -23,8 +23,10 @@ struct Closing<'a> {
 
 /// Runs a command Close with the month's words of the dice; the result is the answer.
 impl<'a> Work for Closing<'a> {
+    // The answer to the command Close.
     type Done = Answer;
 
+    /// Runs the command Close on the service, and returns its answer.
     fn run<S: Alter>(&self, service: &mut Service<S>) -> Result<Answer, Failure> {
         let month = self.month;
         let pass = Sequence::from_slice(self.alloc, self.pass.as_bytes())?;
@@ -43,6 +45,7 @@ impl Subcommand for Close {
     const ABOUT: &'static str =
         "Closes a month, with the words that the dice of a seed give for it";
 
+    /// The options `--db`, `--month`, `--pass` and `--seed`.
     fn options<'a>(alloc: Global) -> Result<Vec<Arg<'a>>, AllocError> {
         Ok(vec![in alloc;
             options::db(alloc),
@@ -56,6 +59,7 @@ impl Subcommand for Close {
         ]?)
     }
 
+    /// Closes the month and prints its number.
     fn run(rt: &HostRuntime, options: &ArgMatches<'_>) -> Result<(), Failure> {
         let closing = Closing {
             alloc: rt.alloc(),

@@ -18,8 +18,10 @@ pub trait Work {
 
 /// The work of running one command on the service; the result is the command's answer.
 impl Work for Command {
+    // The answer to the command.
     type Done = Answer;
 
+    /// Runs the command on the service, and returns its answer.
     fn run<S: Alter>(&self, service: &mut Service<S>) -> Result<Answer, Failure> {
         Ok(service.run(self))
     }

@@ -44,7 +44,8 @@ pub enum Failure {
     Output,
 }
 
-/// Drops the parser's error or the fault of a world by one call, which the prover meets only once.
+/// Drops what a failure holds: the parser's error or the fault of a world. As one function, it is
+/// proved once and not at each place that drops a failure.
 impl Drop for Failure {
     fn drop(self) {
         match self {
@@ -130,7 +131,8 @@ impl<'a> fmt::Display for OneLine<'a> {
     }
 }
 
-/// Prints the line of a fault of a world file: its number, name and path.
+/// Prints the line of a fault of a world file: its number, name and path; the line of Memory for a
+/// fault without a number.
 fn print_world_fault<R: Eprint>(rt: &R, fault: &WorldFault) -> io::Result<()> {
     let Some(number) = fault.number() else {
         return eprintln!(rt; "fault: Memory");
@@ -146,7 +148,8 @@ fn print_world_fault<R: Eprint>(rt: &R, fault: &WorldFault) -> io::Result<()> {
 }
 
 impl Failure {
-    /// The failure for an error of the system: Memory if it had none, else `other`.
+    /// The failure for an error of the system: Memory if the system ran out of memory, else
+    /// `other`.
     pub fn of_system(error: io::Error, other: Failure) -> Failure {
         match error.kind() {
             ErrorKind::OutOfMemory => Failure::Memory,

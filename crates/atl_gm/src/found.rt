@@ -15,8 +15,10 @@ struct CountRegions;
 
 /// Returns the number of the world's regions; nothing changes.
 impl Work for CountRegions {
+    // The number of the world's regions.
     type Done = usize;
 
+    /// Counts the regions of the world.
     fn run<S: Alter>(&self, service: &mut Service<S>) -> Result<usize, Failure> {
         Ok(service.world().regions().len())
     }
@@ -33,6 +35,7 @@ impl Subcommand for Found {
 
     const ABOUT: &'static str = "Founds a campaign in a database file, which is made where none is";
 
+    /// The options `--world`, `--db` and `--pass`.
     fn options<'a>(alloc: Global) -> Result<Vec<Arg<'a>>, AllocError> {
         Ok(vec![in alloc;
             options::file(alloc, options::WORLD, "The file of the world, in TOML"),
@@ -49,6 +52,7 @@ impl Subcommand for Found {
         ]?)
     }
 
+    /// Founds the campaign and prints its number of regions.
     fn run(rt: &HostRuntime, options: &ArgMatches<'_>) -> Result<(), Failure> {
         let world = text_at(rt, options::text_of(options, options::WORLD)?)?;
         let opening = Opening::Founded {

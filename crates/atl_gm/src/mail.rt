@@ -37,6 +37,7 @@ impl Subcommand for Mail {
 
     const ABOUT: &'static str = "Keeps a faction's orders, in place of those that it sent before";
 
+    /// The options `--db`, `--faction`, `--pass` and `--file`.
     fn options<'a>(alloc: Global) -> Result<Vec<Arg<'a>>, AllocError> {
         Ok(vec![in alloc;
             options::db(alloc),
@@ -46,6 +47,7 @@ impl Subcommand for Mail {
         ]?)
     }
 
+    /// Stores the mailing, and prints how many orders it has, and its faulty lines.
     fn run(rt: &HostRuntime, options: &ArgMatches<'_>) -> Result<(), Failure> {
         let mail = mailing(rt, options)?;
         print_answer_of(rt, options, &mail)

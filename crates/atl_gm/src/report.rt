@@ -26,6 +26,7 @@ impl Subcommand for Report {
 
     const ABOUT: &'static str = "Prints a faction's report";
 
+    /// The options `--db`, `--faction` and `--pass`.
     fn options<'a>(alloc: Global) -> Result<Vec<Arg<'a>>, AllocError> {
         Ok(vec![in alloc;
             options::db(alloc),
@@ -34,6 +35,7 @@ impl Subcommand for Report {
         ]?)
     }
 
+    /// Prints the stored report of the faction.
     fn run(rt: &HostRuntime, options: &ArgMatches<'_>) -> Result<(), Failure> {
         let request = request(rt, options)?;
         print_answer_of(rt, options, &request)

@@ -30,8 +30,10 @@ fn unbound(error: io::Error) -> Failure {
 /// Listens on the port at 127.0.0.1, and serves `count` connections. Net if the port can't be bound
 /// or no connection accepted, Memory if memory ran out.
 impl<'a> Work for Serving<'a> {
+    // Nothing: the work has no result besides what it serves.
     type Done = ();
 
+    /// Listens on the port, and serves the connections one after the other.
     fn run<S: Alter>(&self, service: &mut Service<S>) -> Result<(), Failure> {
         let address = (Ipv4Addr::LOCALHOST, self.port);
         let listener = TcpListener::bind(self.rt, address).map_err(unbound)?;
@@ -61,6 +63,7 @@ impl Subcommand for Serve {
     const ABOUT: &'static str =
         "Serves the campaign over HTTP to this machine, for so many connections";
 
+    /// The options `--db`, `--port`, `--count` and `--seed`.
     fn options<'a>(alloc: Global) -> Result<Vec<Arg<'a>>, AllocError> {
         Ok(vec![in alloc;
             options::db(alloc),
@@ -74,6 +77,7 @@ impl Subcommand for Serve {
         ]?)
     }
 
+    /// Serves the campaign until the count of connections is reached.
     fn run(rt: &HostRuntime, options: &ArgMatches<'_>) -> Result<(), Failure> {
         let path = options::text_of(options, options::DB)?;
         let serving = Serving {

@@ -75,6 +75,7 @@ impl Subcommand for Trial {
     const ABOUT: &'static str =
         "Founds a campaign in memory by the world text on standard input, and prints a first report";
 
+    /// Founds the campaign in memory, has Avalon join, and prints its first report.
     fn run(rt: &HostRuntime, _options: &ArgMatches<'_>) -> Result<(), Failure> {
         let alloc = rt.alloc();
         let text = text_on_input(rt, alloc)?;

@@ -16,8 +16,10 @@ struct CountMarkets;
 
 /// Returns the number of the markets of all regions; nothing changes.
 impl Work for CountMarkets {
+    // The number of the markets of all regions.
     type Done = usize;
 
+    /// Counts the markets of all regions of the world.
     fn run<S: Alter>(&self, service: &mut Service<S>) -> Result<usize, Failure> {
         let mut markets: usize = 0;
         for (_, region) in service.world().regions().iter() {
@@ -38,6 +40,7 @@ impl Subcommand for Upgrade {
     const ABOUT: &'static str =
         "Upgrades a campaign of the first format, with a world that adds markets";
 
+    /// The options `--db` and `--world`.
     fn options<'a>(alloc: Global) -> Result<Vec<Arg<'a>>, AllocError> {
         Ok(vec![in alloc;
             options::db(alloc),
@@ -49,6 +52,7 @@ impl Subcommand for Upgrade {
         ]?)
     }
 
+    /// Upgrades the campaign and prints the number of markets.
     fn run(rt: &HostRuntime, options: &ArgMatches<'_>) -> Result<(), Failure> {
         let path = options::text_of(options, options::DB)?;
         let world = text_at(rt, options::text_of(options, options::WORLD)?)?;

@@ -70,19 +70,19 @@ Takes key path rest = walk (kept_at key).pattern (kept_at key).text path (kept_a
 longer : (n : ℕ) (front rest : List ℕ) → length front ≡ n → n ≤ length (front ++ rest)
 longer n front rest e = let sum = length-append front rest in omega (arith, e, sum)
 
--- the route of `/close/` takes the rest as its number
+-- the route of `/close/` takes what follows this prefix in a path as its parameter `number`
 takes_close : (rest : List ℕ) → Takes 0 (codes "/close/" ++ rest) rest
 takes_close rest =
     let h = longer 7 (codes "/close/") rest refl in
     takes (codes "/close/" ++ param_token ∷ []) (codes "/close/{number}") (codes "/close/" ++ rest) rest 8 14 7 (walk_front (codes "/close/") (length (codes "/close/" ++ rest)) 0 (is_text (codes "/close/") refl) h) refl refl refl h
 
--- the route of `/orders/` takes the rest as its number
+-- the route of `/orders/` takes what follows this prefix in a path as its parameter `number`
 takes_orders : (rest : List ℕ) → Takes 2 (codes "/orders/" ++ rest) rest
 takes_orders rest =
     let h = longer 8 (codes "/orders/") rest refl in
     takes (codes "/orders/" ++ param_token ∷ []) (codes "/orders/{number}") (codes "/orders/" ++ rest) rest 9 15 8 (walk_front (codes "/orders/") (length (codes "/orders/" ++ rest)) 0 (is_text (codes "/orders/") refl) h) refl refl refl h
 
--- the route of `/report/` takes the rest as its number
+-- the route of `/report/` takes what follows this prefix in a path as its parameter `number`
 takes_report : (rest : List ℕ) → Takes 3 (codes "/report/" ++ rest) rest
 takes_report rest =
     let h = longer 8 (codes "/report/") rest refl in
@@ -96,7 +96,8 @@ data Leads (path : List ℕ) : Type 0 where
   to_number : (key : ℕ) → (rest : List ℕ) → first rows path ≡ Some key → Takes key path rest → (IsUtf8 path → IsUtf8 rest) → (route_of path ≡ None) ⊎ IsUtf8 path → route_of path ≡ route_in (kept_at key).value (Some rest) → Leads path
   nowhere : first rows path ≡ None → route_of path ≡ None → Leads path
 
--- What the lookup needs of the prefix of a route with a number: the rest is its parameter, and both are UTF-8 together.
+-- What the lookup needs of the prefix of a route with a number: what follows the prefix in a path is the parameter, is
+-- UTF-8 exactly where the path is, and gives no route where it is no number.
 record Fronted (key : ℕ) (front : List ℕ) : Type 0 where
   takes_rest : (rest : List ℕ) → Takes key (front ++ rest) rest
   cut : (rest : List ℕ) → IsUtf8 (front ++ rest) → IsUtf8 rest
@@ -185,7 +186,7 @@ leads_report q =
     let same : (x : Option (List ℕ)) → numbered route.Report x None ≡ in_found 3 x = λ x. elim x as (λ x. numbered route.Report x None ≡ in_found 3 x) [ None ↦ refl | Some r ↦ refl ] in
     leads_by 3 114 (codes "eport/") q (after_prefix (codes "eport/") q) refl fronted_report (letter_first 114 q ∙ first_behind (codes "eport/") (number_row 3) q (is_text (codes "eport/") refl)) (same (after_prefix (codes "eport/") q))
 
--- the row of `/join` after its prefix
+-- the row of the router for the route `/join` once all bytes of its text are matched
 abbrev join_row : Rows
 join_row = ([], 1) ∷ []
 

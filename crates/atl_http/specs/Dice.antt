@@ -3,8 +3,8 @@ use Rattle.std.specs.Prelude.{ℕ, zero, suc, List, [], ◌∷◌}
 use Rattle.rand_pcg.specs.Lcg.{Lcg, started, increment_of}
 use Rattle.rand_pcg.specs.Pcg.{multiplier_64, pcg32}
 
--- 10,000: a faction that joins has the stream of this plus its number; a month has the stream of its number, which is
--- lower
+-- what is added to a faction's number for the random stream of its joining: 10,000; a month has the stream of its own
+-- number, which is lower
 unfoldable pub joining_streams : ℕ
 joining_streams = 10000
 

@@ -12,7 +12,7 @@ use Rattle.atl_http.specs.Routes.{number_of}
 abbrev pub numbered_route : (front : List ℕ) → RouteKey → RouteOf RouteKey
 numbered_route front place = record { pattern = front ++ param_token ∷ []; text = front ++ codes "{number}"; names = (length front + 1, length front + 7) ∷ []; value = place }
 
--- the route of each index in the router's order, which is that of the texts
+-- the route at each index of the router, which has its routes in the order of their texts
 abbrev pub kept_at : ℕ → RouteOf RouteKey
 kept_at zero = numbered_route (codes "/close/") Close
 kept_at (suc zero) = record { pattern = codes "/join"; text = codes "/join"; names = []; value = Join }

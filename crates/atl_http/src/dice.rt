@@ -6,8 +6,8 @@ use rand_core::utils::NextWord;
 use rand_pcg::Lcg64Xsh32;
 use std::alloc::{AllocError, Global};
 
-/// 10,000: a faction that joins has its word from the random stream of this plus its number,
-/// which is no month's stream.
+/// What is added to a faction's number for the random stream of its joining: 10,000, so that it is
+/// no month's stream.
 const JOINING_STREAMS: u64 = 10_000;
 
 /// The dice of a campaign, by the seed that a club chose. The same seed gives the same words.

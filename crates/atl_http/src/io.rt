@@ -46,7 +46,7 @@ impl HttpFault {
     }
 }
 
-/// The number and the name, as `1 Cut`; `Memory` has its name alone.
+/// Writes the fault's number and name, as `1 Cut`; of `Memory` the name alone.
 impl fmt::Display for HttpFault {
     fn fmt<W: fmt::Write>(&self, f: &mut fmt::Formatter<W>) -> fmt::Result {
         match self.number() {
@@ -56,6 +56,7 @@ impl fmt::Display for HttpFault {
     }
 }
 
+/// Lets a caller handle a fault of HTTP as any `Error`; its text is what `Display` writes.
 impl std::error::Error for HttpFault {}
 
 /// A failed allocation becomes Memory.
@@ -127,7 +128,8 @@ fn room(alloc: Global) -> Result<Vec<u8>, AllocError>
     Ok(room)
 }
 
-/// The progress on the bytes received so far; they are parsed only if none are known to be missing.
+/// The verdict on the bytes received so far, or how many more are missing. They are parsed only if
+/// `lacking`, the number of bytes known to be missing, is 0.
 fn progress_if_due(alloc: Global, seen: &[u8], lacking: usize) -> Result<Progress, AllocError>
     requires { IsShortBy seen.now lacking }
     ensures { IfOk result (ComesTo seen.now) }

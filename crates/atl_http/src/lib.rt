@@ -1,5 +1,5 @@
-//! HTTP on loopback: one request, its reply, and the words that the dice give. See docs/FORMATS.md,
-//! "HTTP".
+//! Serves a campaign over HTTP on loopback: reads requests, runs their commands and writes replies.
+//! Also has the dice, which give random words. See docs/FORMATS.md, "HTTP".
 #![tactic(auto)]
 
 mod answering;

@@ -26,6 +26,7 @@ pub struct Message {
     pub bytes: String,
 }
 
+/// Drops the bytes of a reply.
 impl Drop for Message {
     fn drop(self) {
         let_go!(self: Message { status, bytes });

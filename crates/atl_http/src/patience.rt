@@ -20,6 +20,7 @@ pub struct Patience<'a, C: Clock> {
     left: Cell<Duration>,
 }
 
+/// Drops the time left; the clock is only lent.
 impl<'a, C: Clock> Drop for Patience<'a, C> {
     fn drop(self) {
         let Patience { clock: _, left: _ } = self;
@@ -60,6 +61,7 @@ pub struct Peer<'a, C: Clock> {
     pub patience: &'a Patience<'a, C>,
 }
 
+/// Drops only references: the connection and the patience are lent.
 impl<'a, C: Clock> Drop for Peer<'a, C> {
     fn drop(self) {
         let Peer {

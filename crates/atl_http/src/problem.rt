@@ -67,6 +67,7 @@ impl fmt::Display for Problem {
     }
 }
 
+/// Lets a caller handle a problem as any `Error`; its text is what `Display` writes.
 impl Error for Problem {}
 
 /// Why checking a request ended: out of memory, or a check failed.

@@ -32,6 +32,7 @@ pub enum Request {
     },
 }
 
+/// Drops the name, the pass text or the mailing of a request.
 impl Drop for Request {
     fn drop(self) {
         match self {

@@ -17,7 +17,7 @@ at_least_one : (n : ℕ) → (n == 0) ≡ false → 1 ≤ n
 at_least_one n some = grind (arith, nat_tests)
 
 module _ (f : ℕ → ℕ) where
-  -- the amount is the one that f gives to the number, and isn't 0
+  -- an amount of number n is the one that f gives n, and isn't 0
   abbrev IsSome : ℕ → ℕ → Type 0
   IsSome n amount = (1 ≤ amount) × (amount ≡ f n)
 
@@ -30,6 +30,7 @@ module _ (f : ℕ → ℕ) where
   each_some [] = tt
   each_some (n ∷ ns) = by_test (each_some ns) (f n == 0) refl
     where
+      -- the entries of n ∷ ns have their amounts (`IsSome`), whether the amount of n is 0 or not
       by_test : EachOf IsSome (listed ns) → (b : Bool) → (f n == 0) ≡ b → EachOf IsSome (cond (not b) ((n, f n) ∷ listed ns) (listed ns))
       by_test rest true is = rest
       by_test rest false is = ((at_least_one (f n) is, refl), rest)
@@ -39,7 +40,7 @@ module _ (f : ℕ → ℕ) where
   unfolding amounts_for
   each_said ns n amount is = found_of IsSome (listed ns) n amount (each_some ns) (sym (get-from_entries nat_cmp_total (listed ns) n) ∙ is)
 
-  -- the amount of a number in the map; 0 where it isn't listed
+  -- the amount that the entries `listed` have for a number; 0 where they have none
   abbrev found : ℕ → List ℕ → ℕ
   found q ns = unwrap_or (find nat_cmp q (listed ns)) 0
 
@@ -47,26 +48,30 @@ module _ (f : ℕ → ℕ) where
   abbrev is_among : ℕ → List ℕ → Bool
   is_among q ns = list_any (eq_by_cmp nat_cmp q) ns
 
-  -- a number in the list has the amount that f gives, and any other has 0
+  -- a number in the list has among the entries the amount that f gives it, and any other number has 0
   found_said : (q : ℕ) (ns : List ℕ) → found q ns ≡ cond (is_among q ns) (f q) 0
   found_said q [] = refl
   found_said q (n ∷ ns) = by_tests (found_said q ns) (f n == 0) (eq_by_cmp nat_cmp q n) refl refl
     where
+      -- if f q is 0, the choice between f q and 0 is f q
       both : (b : Bool) → 0 ≡ f q → cond b (f q) 0 ≡ f q
       both true none = refl
       both false none = none
 
+      -- q has its amount in the list n ∷ ns, whether f gives n 0 or not, and whether q is n or not
       by_tests : found q ns ≡ cond (is_among q ns) (f q) 0 → (b k : Bool) → (f n == 0) ≡ b → eq_by_cmp nat_cmp q n ≡ k → unwrap_or (find nat_cmp q (cond (not b) ((n, f n) ∷ listed ns) (listed ns))) 0 ≡ cond (k || is_among q ns) (f q) 0
       by_tests rest true true none same = rest ∙ both (is_among q ns) (sym (ap f (same_key q n same) ∙ is_equal (f n) 0 none))
       by_tests rest true false none other = rest
       by_tests rest false true some same = ap (λ k. unwrap_or (cond k (Some (f n)) (find nat_cmp q (listed ns))) 0) same ∙ ap f (sym (same_key q n same))
       by_tests rest false false some other = ap (λ k. unwrap_or (cond k (Some (f n)) (find nat_cmp q (listed ns))) 0) other ∙ rest
 
-  -- each number has in the map the amount that f gives it, if f gives 0 to each number outside of the list
+  -- each number has in the map of `amounts_for` the amount that f gives it, if f gives 0 to each number outside of the
+  -- list
   pub as_said : (ns : List ℕ) (q : ℕ) → (list_any (eq_by_cmp nat_cmp q) ns ≡ false → f q ≡ 0) → amount_of (amounts_for f ns) q ≡ f q
   unfolding amounts_for
   as_said ns q others = ap (λ (o : Option ℕ). unwrap_or o 0) (get-from_entries nat_cmp_total (listed ns) q) ∙ found_said q ns ∙ by_test (is_among q ns) refl
     where
+      -- the amount that the map has for q is f q, whether q is in the list or not
       by_test : (b : Bool) → is_among q ns ≡ b → cond b (f q) 0 ≡ f q
       by_test true is = refl
       by_test false is = sym (others is)
@@ -75,6 +80,7 @@ module _ (f : ℕ → ℕ) where
 pub same_amounts : (m o : FinMap nat_cmp ℕ) → Every (λ n amount. 1 ≤ amount) m → Every (λ n amount. 1 ≤ amount) o → ((n : ℕ) → amount_of m n ≡ amount_of o n) → m ≡ o
 same_amounts m o some also same = same_map nat_cmp_total nat_cmp-IsAntisymmetric m o (λ n. by_options n (get m n) (get o n) refl refl (same n))
   where
+    -- the two maps have the same under n, whether each of them lists n or not
     by_options : (n : ℕ) (a b : Option ℕ) → get m n ≡ a → get o n ≡ b → unwrap_or a 0 ≡ unwrap_or b 0 → a ≡ b
     by_options n None None one two e = refl
     by_options n None (Some y) one two e = let l = also n y two in absurd (omega (arith, l, e))

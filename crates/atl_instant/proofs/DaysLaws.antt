@@ -17,7 +17,8 @@ use Rattle.atl_records.proofs.HoldingLaws.{alike, every_amount, set_amount}
 
 -- the days of skills, each of which is set by a function of the skill and its days in a map
 module _ (days : FinMap nat_cmp ℕ) (f : ℕ → ℕ → ℕ) (s : ℕ) where
-  -- the map with the days of each entry set to f of its skill and its days
+  -- the map `left` after the days of each skill in a list of entries are set to f of the skill and of its days in the
+  -- list
   abbrev set_all : FinMap nat_cmp ℕ → List (ℕ × ℕ) → FinMap nat_cmp ℕ
   set_all left es = fold (λ (m : FinMap nat_cmp ℕ) (e : ℕ × ℕ). with_amount_of m e.0 (f e.0 e.1)) left es
 
@@ -33,10 +34,12 @@ module _ (days : FinMap nat_cmp ℕ) (f : ℕ → ℕ → ℕ) (s : ℕ) where
       ∙ ap (cond (is_among es) (f s (amount_of days s))) (set_amount left k (f k v) s)
       ∙ by_key (eq_by_cmp nat_cmp s k) refl
     where
+      -- a choice between x and x is x
       both : (b : Bool) (x : ℕ) → cond b x x ≡ x
       both true x = refl
       both false x = refl
 
+      -- skill s has its days after one entry more is set, whether that entry is for s or not
       by_key : (b : Bool) → eq_by_cmp nat_cmp s k ≡ b → cond (is_among es) (f s (amount_of days s)) (cond b (f k v) (amount_of left s)) ≡ cond (b || is_among es) (f s (amount_of days s)) (amount_of left s)
       by_key true is =
           let same : s ≡ k = alike k s is in
@@ -44,14 +47,15 @@ module _ (days : FinMap nat_cmp ℕ) (f : ℕ → ℕ → ℕ) (s : ℕ) where
           ap (cond (is_among es) (f s (amount_of days s))) here ∙ both (is_among es) (f s (amount_of days s))
       by_key false is = refl
 
-  -- after each skill of the map `days` is set to f of its days there, skill s has f of its days there, if it had f of 0
-  -- before where the map has 0 days of it
+  -- after each skill of the map `days` is set to f of its days there, skill s has f of its days there; where `days` has
+  -- 0 of s, s must have had f of 0 before
   pub set_each : (left : FinMap nat_cmp ℕ) → (amount_of days s ≡ 0 → amount_of left s ≡ f s 0) → amount_of (set_all left (entries days)) s ≡ f s (amount_of days s)
   set_each left others =
       set_among (entries days) left (each-from_every (λ k v. amount_of days k ≡ v) days (λ k v there. ap (λ (o : Option ℕ). unwrap_or o 0) there))
       ∙ ap (λ b. cond b (f s (amount_of days s)) (amount_of left s)) (sym (contains_key-keys days s))
       ∙ by_option (get days s) refl
     where
+      -- skill s has f of its days, whether the map `days` lists it or not
       by_option : (o : Option ℕ) → get days s ≡ o → cond (is_some o) (f s (amount_of days s)) (amount_of left s) ≡ f s (amount_of days s)
       by_option (Some d) there = refl
       by_option None there =
@@ -72,6 +76,7 @@ with_days_mapped f (e ∷ es) all = with_days_mapped f es (with_amount_of all e.
 none_listed : (days : FinMap nat_cmp ℕ) (s : ℕ) → list_any (eq_by_cmp nat_cmp s) (keys days) ≡ false → amount_of days s ≡ 0
 none_listed days s none = by_option (get days s) (contains_key-keys days s ∙ none)
   where
+    -- without an entry the days are 0
     by_option : (o : Option ℕ) → is_some o ≡ false → unwrap_or o 0 ≡ 0
     by_option None is = refl
     by_option (Some d) is = cc
@@ -111,8 +116,8 @@ every_set : (f : ℕ → ℕ → ℕ) (es : List (ℕ × ℕ)) (left : FinMap na
 every_set f [] left old = old
 every_set f (e ∷ es) left old = every_set f es (with_amount_of left e.0 (f e.0 e.1)) (every_amount (λ s d. 1 ≤ d) left e.0 (f e.0 e.1) (λ some. some) old)
 
--- setting, over `had`, each skill of `days` to `f` of its days gives `said`, if `said` has `f` of each skill's days,
--- and `had` has it where these are 0
+-- setting, in the map `had`, each skill of `days` to `f` of its days gives the map `said`, if `said` has `f` of each
+-- skill's days, and `had` has it already where `days` has 0
 set_as_said : (days had said : FinMap nat_cmp ℕ) (f : ℕ → ℕ → ℕ) → Every (λ s d. 1 ≤ d) had → Every (λ s d. 1 ≤ d) said
     → ((s : ℕ) → amount_of days s ≡ 0 → amount_of had s ≡ f s 0) → ((s : ℕ) → f s (amount_of days s) ≡ amount_of said s)
     → with_days had (map (λ e. (e.0, f e.0 e.1)) (entries days)) ≡ said
@@ -157,5 +162,6 @@ more_is n other h had =
     (λ s none. nothing_more (amount_of h.days s) (days_going n other.men 0) (nobody_goes n other.men))
     (λ s. sym (days_go_with_men n other h s).come))
   where
+    -- a number to which 0 is added stays the same
     nothing_more : (a g : ℕ) → g ≡ 0 → a ≡ a + g
     nothing_more a g e = omega arith

@@ -55,7 +55,7 @@ module _ (c : CampaignValue) (n : ℕ) (x : Faction) (name : List ℕ) (is : get
     books = old.books;
   }
 
-  -- if two factions joined under the same bytes, they have the same number
+  -- two factions that joined under the same bytes have the same number, so they are one
   abbrev JoinedOnce : ℕ → Faction → ℕ → Faction → Type 0
   JoinedOnce k f m g = f.joined_as ≡ g.joined_as → k ≡ m
 

@@ -37,7 +37,8 @@ module _ (w : WorldValue) (c : CampaignValue) (early : IsEarly w c) where
         ap (λ g. with_unit_begun c (new_unit c.next_unit g (region_of c n) (inside c n))) (sym own)
         ∙ ap (λ (o : Option Unit). with_unit_begun c (new_unit c.next_unit u.faction (option_map_or (λ x. x.region) o 0) (option_map_or (λ x. x.structure) o 0))) is
 
-    -- the changed campaign is early and in balance, nothing is booked (`StepsWell`), and each old unit is unchanged
+    -- campaign d, which an order of FORM makes of c, is early and in balance, nothing is booked (`StepsWell`), and each
+    -- unit of c is unchanged
     abbrev Fine : CampaignValue → Type 0
     Fine d = StepsWell IsEarly books_nothing w c d × Every (λ k v. get d.units k ≡ Some v) c.units
 
@@ -70,7 +71,7 @@ module _ (w : WorldValue) (c : CampaignValue) (early : IsEarly w c) where
   pub order_well : (m : MonthValue) (o : Forming) → StepsWell IsEarly books_nothing w c (form_apart (c, m) o).0
   order_well m o = (form_fine o.faction o.unit).0
 
-  -- a copied order of FORM leaves each unit as it was that was there before
+  -- a copied order of FORM leaves each unit that was there unchanged
   pub order_stays : (m : MonthValue) (o : Forming) → Every (λ k v. get (form_apart (c, m) o).0.units k ≡ Some v) c.units
   order_stays m o = (form_fine o.faction o.unit).1
 

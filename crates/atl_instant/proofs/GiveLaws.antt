@@ -119,9 +119,11 @@ both_hold (Item i) n h k l (things.Item j) =
     let more = set_amount k.items i (b + n) j in
     ap (λ x. x + amount_of (with_amount_of k.items i (b + n)) j) less ∙ ap (λ x. cond (eq_by_cmp nat_cmp j i) (a - n) (amount_of h.items j) + x) more ∙ by_test (eq_by_cmp nat_cmp j i) refl
   where
+    -- taking n from a and adding it to b leaves the sum of both as it was, if a is at least n
     sum : (a b n : ℕ) → n ≤ a → (a - n) + (b + n) ≡ a + b
     sum a b n l = omega arith
 
+    -- giver and receiver together have as many pieces of item j as before, whether j is the item that is given or not
     by_test : (q : Bool) → eq_by_cmp nat_cmp j i ≡ q → cond q (amount_of h.items i - n) (amount_of h.items j) + cond q (amount_of k.items i + n) (amount_of k.items j) ≡ amount_of h.items j + amount_of k.items j
     by_test true is = sum (amount_of h.items i) (amount_of k.items i) n l ∙ ap (λ x. amount_of h.items x + amount_of k.items x) (sym (alike i j is))
     by_test false is = refl
@@ -131,13 +133,16 @@ pub better_off : (gift : Gift) (n : ℕ) (v : Unit) → IsNoWorse v (record v { 
 better_off Money n v = record { faction = refl; region = refl; structure = refl; name = refl; guard = refl; men = omega arith; money = omega arith; items = λ i. omega arith; days = λ s. omega arith }
 better_off (Item i) n v = record { faction = refl; region = refl; structure = refl; name = refl; guard = refl; men = omega arith; money = omega arith; items = λ j. more j; days = λ s. omega arith }
   where
+    -- a number is at most an equal number plus n
     here : (x y n : ℕ) → x ≡ y → x ≤ y + n
     here x y n is = omega arith
 
+    -- the receiver has no fewer pieces of item j, whether j is the item that is given or not
     by_test : (j : ℕ) (q : Bool) → eq_by_cmp nat_cmp j i ≡ q → amount_of v.holding.items j ≤ cond q (amount_of v.holding.items i + n) (amount_of v.holding.items j)
     by_test j true is = here (amount_of v.holding.items j) (amount_of v.holding.items i) n (ap (amount_of v.holding.items) (alike i j is))
     by_test j false is = omega arith
 
+    -- the receiver has no fewer pieces of item j after the gift than before
     more : (j : ℕ) → amount_of v.holding.items j ≤ amount_of (with_amount_of v.holding.items i (amount_of v.holding.items i + n)) j
     more j = subst (λ x. amount_of v.holding.items j ≤ x) (sym (set_amount v.holding.items i (amount_of v.holding.items i + n) j)) (by_test j (eq_by_cmp nat_cmp j i) refl)
 
@@ -149,7 +154,8 @@ behind c from to gift n u v itself =
     if itself then c
     else with_held (with_held c from (with_held_of gift u.holding (held_of gift u.holding - n)) (Some u)) to (with_held_of gift v.holding (held_of gift v.holding + n)) (Some v)
 
--- P holds of the campaign after an order of GIVE or PAY, if it holds without a change and after a gift to another unit
+-- P holds of the campaign after an order of GIVE or PAY, if P holds of the campaign before and of the one after a gift
+-- to another unit
 pub give_cases : (P : CampaignValue → Type 0) (c : CampaignValue) (from to : ℕ) (gift : Gift) (n : ℕ) (u : Unit) (giver : get c.units from ≡ Some u) → P c
     → ((v : Unit) (receiver : get c.units to ≡ Some v) (apart : to ≢ from) → CanGive gift n false u v
     → P (moved c from to u v (with_held_of gift u.holding (held_of gift u.holding - n)) (with_held_of gift v.holding (held_of gift v.holding + n)) giver receiver apart))
@@ -157,14 +163,17 @@ pub give_cases : (P : CampaignValue → Type 0) (c : CampaignValue) (from to : �
 unfolding give
 give_cases P c from to gift n u giver same move = by_receiver (get c.units to) refl
   where
+    -- P holds after a gift without a fault, whether the giver is itself the receiver or not
     by_test : (v : Unit) → get c.units to ≡ Some v → (b : Bool) → (to == from) ≡ b → CanGive gift n b u v → P (behind c from to gift n u v b)
     by_test v receiver true is can = same
     by_test v receiver false is can = let apart : to ≢ from = grind (arith, nat_tests) in move v receiver apart can
 
+    -- P holds after an order for a receiver that is there, whether the gift has a fault or not
     by_fault : (v : Unit) → get c.units to ≡ Some v → (f : Option EventFault) → give_fault gift n (to == from) u (Some v) ≡ f → P (unless c f (behind c from to gift n u v (to == from), Done n)).0
     by_fault v receiver (Some fault) is = same
     by_fault v receiver None is = by_test v receiver (to == from) refl (can_give gift n (to == from) u v is)
 
+    -- P holds after the order, whether the receiver is there or not
     by_receiver : (o : Option Unit) → get c.units to ≡ o → P (give_to c from to gift n u o).0
     by_receiver None is = same
     by_receiver (Some v) receiver = by_fault v receiver (give_fault gift n (to == from) u (Some v)) refl
@@ -204,11 +213,13 @@ give_orderly = record {
   bounded = λ w c early e t. omega arith;
 }
   where
+    -- an order with the operands s keeps the campaign early and in balance (`StepsWell`)
     well : (w : WorldValue) (a : Aliases) (c : CampaignValue) (t : Task) (x : Unit) → IsEarly w c → IsUnitOf c t x → (s : OperandsValue) → AreOperandsOf w s → IfSome (give_effect a t.faction t.unit s) (λ deed. StepsWell IsEarly (λ d e t. 0) w c (deed c x).0)
     well w a c t x early own (operands.UnitAndGoods to n item) (ref, number, known) = give_steps_well w c early t.unit (unit_of a t.faction to) (Item item) n x own.there known
     well w a c t x early own (operands.UnitAndNumber to n) fit = give_steps_well w c early t.unit (unit_of a t.faction to) Money n x own.there tt
     well w a c t x early own other fit = tt
 
+    -- an order with the operands s leaves each unit but its own no worse off
     spared : (w : WorldValue) (a : Aliases) (c : CampaignValue) (t : Task) (x : Unit) → IsEarly w c → IsUnitOf c t x → (n : ℕ) (u : Unit) → get c.units n ≡ Some u → n ≢ t.unit → (s : OperandsValue)
         → IfSome (give_effect a t.faction t.unit s) (λ deed. IsUnaffected IsNoWorse (deed c x).0 n u)
     spared w a c t x early own n u there apart (operands.UnitAndGoods to k item) = give_spares w c early t.unit (unit_of a t.faction to) (Item item) k x own.there n u there apart

@@ -45,6 +45,7 @@ none_of : (p : ℕ → Bool) (ns : List ℕ) → list_any p ns ≡ false → (k 
 none_of p [] is k listed = absurd listed
 none_of p (n ∷ ns) is k listed = by_test (p n) refl is (λ e h. none_of p ns e k h) listed
   where
+    -- number k of the list n ∷ ns fails the test, whether n passes it or not
     by_test : (b : Bool) → p n ≡ b → (b || list_any p ns) ≡ false → (list_any p ns ≡ false → IsListed k ns → p k ≡ false) → IsListed k (n ∷ ns) → p k ≡ false
     by_test true t e rest h = cc
     by_test false t e rest (inl same) = ap p same ∙ t
@@ -58,6 +59,7 @@ own_guards c region faction none m v there guarding here =
     let no : guards_against faction (get c.units m) ≡ false = none_of (λ n. guards_against faction (get c.units n)) (numbers_in region c.units) none m listed in
     not_apart v.faction faction (second (guards v) (not (v.faction == faction)) guarding (sym (ap (guards_against faction) there) ∙ no))
   where
+    -- if a is true, and "a and b" is false, b is false
     second : (a b : Bool) → a ≡ true → (a && b) ≡ false → b ≡ false
     second true b t e = e
     second false b t e = cc
@@ -114,6 +116,7 @@ module _ (c : CampaignValue) (n : ℕ) (u : Unit) (is : get c.units n ≡ Some u
     total_same : (t : Thing) → total flagged t ≡ total c t
     total_same t = same (total flagged t) (total c t) (unit_amount t u.holding) (unit_amount t (record u.holding { guard = true })) (total-unit_amount w c n u (record u.holding { guard = true }) is t) (held_same t)
       where
+        -- if two sums are equal, and so are their second addends, their first addends are equal
         same : (a b x y : ℕ) → a + x ≡ b + y → y ≡ x → a ≡ b
         same a b x y e f = omega arith
 
@@ -136,11 +139,13 @@ flag_marks c d n what marks =
 
 -- ---- one order
 
--- P holds of the campaign after an order of GUARD 1, if it holds without a change and with the guard flag set
+-- P holds of the campaign after an order of GUARD 1, if P holds of the campaign before and of the one with the guard
+-- flag set
 guard_cases : (P : CampaignValue → Type 0) (c : CampaignValue) (n : ℕ) (u : Unit) → P c → (is_guarded_against c u.region u.faction ≡ false → P (with_guard c n true)) → P (guard n c u).0
 unfolding guard
 guard_cases P c n u same flag = by_fault (guard_fault c u) refl
   where
+    -- P holds after the order, whether it has a fault or not
     by_fault : (f : Option EventFault) → guard_fault c u ≡ f → P (unless c f (with_guard c n true, Done 0)).0
     by_fault (Some fault) e = same
     by_fault None e =
@@ -169,10 +174,12 @@ guard_orderly = record {
   bounded = λ w c steady e t. omega arith;
 }
   where
+    -- an order of GUARD with the operands s keeps the campaign steady and in balance (`StepsWell`)
     well : (w : WorldValue) (c : CampaignValue) (t : Task) (x : Unit) → IsSteady w c → IsUnitOf c t x → (s : OperandsValue) → IfSome (guard_effect t.unit s) (λ deed. StepsWell IsSteady (λ d e t. 0) w c (deed c x).0)
     well w c t x steady own (operands.Flag true) = guard_steps_well w c t.unit x own.there steady
     well w c t x steady own other = tt
 
+    -- an order of GUARD with the operands s leaves unit n no worse off, unless it is GUARD 1 for unit n
     spared : (w : WorldValue) (c : CampaignValue) (t : Task) (x : Unit) → IsUnitOf c t x → (n : ℕ) (u : Unit) → get c.units n ≡ Some u → (s : OperandsValue) → (s ≡ operands.Flag true → n ≢ t.unit)
         → IfSome (guard_effect t.unit s) (λ deed. IsUnaffected IsNoWorse (deed c x).0 n u)
     spared w c t x own n u there (operands.Flag true) apart = guard_spares w c t.unit x own.there n u there (apart refl)

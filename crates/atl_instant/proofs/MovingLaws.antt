@@ -39,7 +39,8 @@ module _ (c : CampaignValue) (from to : ℕ) (u v : Unit) (h k : HoldingValue) (
   pub receiver_still : get between.units to ≡ Some v
   receiver_still = get-insert_other c.units from to (record u { holding = h }) apart ∙ receiver
 
-  -- a campaign stays early if both units may hold what they now hold, and neither has its guard flag newly set
+  -- a campaign stays early after a move, if both units may hold what they then hold, and neither has its guard flag
+  -- newly set
   pub early-moved : (w : WorldValue) → MayHave w h → (h.guard ≡ true → u.holding.guard ≡ true) → MayHave w k → (k.guard ≡ true → v.holding.guard ≡ true) → IsEarly w c → IsEarly w moved
   early-moved w less less_flag more more_flag early =
       early-having w between to v k receiver_still more more_flag (early-having w c from u h giver less less_flag early)
@@ -53,6 +54,8 @@ module _ (c : CampaignValue) (from to : ℕ) (u v : Unit) (h k : HoldingValue) (
   total-moved w both t =
       sum (total moved t) (total between t) (total c t) (unit_amount t u.holding) (unit_amount t v.holding) (unit_amount t h) (unit_amount t k) (total-unit_amount w between to v k receiver_still t) (total-unit_amount w c from u h giver t) (both t)
     where
+      -- the total a after both changes is the total x before them, if giver and receiver together hold as much as
+      -- before
       sum : (a b x p q r s : ℕ) → a + q ≡ b + s → b + p ≡ x + r → r + s ≡ p + q → a ≡ x
       sum a b x p q r s e f g = omega arith
 

@@ -46,7 +46,8 @@ name_other w n text (operands.Flag false) a b = absurd (b refl)
 name_other w n text other a b = refl
 
 module _ (w : WorldValue) (c : CampaignValue) (n : ℕ) (u : Unit) (is : get c.units n ≡ Some u) (early : IsEarly w c) where
-  -- the changed campaign is early, of the same month, in balance (`StepsWell`), and nothing is booked
+  -- campaign d, which an order makes of c, is early and in balance, its month is the same, and nothing is booked
+  -- (`StepsWell`)
   abbrev Well : CampaignValue → Type 0
   Well d = StepsWell IsEarly books_nothing w c d
 
@@ -89,6 +90,7 @@ module _ (w : WorldValue) (c : CampaignValue) (n : ℕ) (u : Unit) (is : get c.u
       subst Well (ap (λ m. record c { units = m }) (sym (changed-known (λ (x : Unit). record x { holding = record x.holding { name = name } }) c.units n u is)))
       (held_well h (may_hold h ok refl refl refl refl (λ g. g)) (λ g. g) same)
     where
+      -- the unit holds as much of each thing under its new name
       same : (t : Thing) → unit_amount t (record u.holding { name = name }) ≡ unit_amount t u.holding
       same Money = refl
       same People = refl
@@ -101,6 +103,7 @@ module _ (w : WorldValue) (c : CampaignValue) (n : ℕ) (u : Unit) (is : get c.u
       subst Well (ap (λ m. record c { units = m }) (sym (changed-known (λ (x : Unit). record x { holding = record x.holding { guard = false } }) c.units n u is)))
       (held_well h (may_hold h (early.steady.names.units n u is) refl refl refl refl (λ g. false_true g)) (λ g. false_true g) same)
     where
+      -- the unit holds as much of each thing without its guard flag
       same : (t : Thing) → unit_amount t (record u.holding { guard = false }) ≡ unit_amount t u.holding
       same Money = refl
       same People = refl
@@ -128,10 +131,13 @@ module _ (w : WorldValue) (c : CampaignValue) (n : ℕ) (u : Unit) (is : get c.u
       (λ q y there. relabelled y (q == k)) (λ q y there. owned q y (q == k) (early.steady.owners q y there)) early)
       (same_month_by refl) refl (same_total_of c (with_structure_name c k name) refl refl)
     where
+      -- each structure, renamed or not, keeps its kind, its region and how much of it is built, and its name follows
+      -- the rule (`IsRelabelled`)
       relabelled : (y : Structure) (b : Bool) → IsRelabelled y (if b then titled name y else y)
       relabelled y true = record { kind = refl; region = refl; done = refl; name = λ old. ok }
       relabelled y false = record { kind = refl; region = refl; done = refl; name = λ old. old }
 
+      -- each structure, renamed or not, has its right owner (`IsOwned`)
       owned : (q : ℕ) (y : Structure) (b : Bool) → IsOwned c q y → IsOwned c q (if b then titled name y else y)
       owned q y true o = record { owned = o.owned; ownerless = o.ownerless }
       owned q y false o = o
@@ -141,6 +147,7 @@ module _ (w : WorldValue) (c : CampaignValue) (n : ℕ) (u : Unit) (is : get c.u
   structure_well : (k : ℕ) (ship : Bool) (name : List ℕ) → IsTrue (name_ok name) → Well (structure_name_result w c n k ship name).0
   structure_well k ship name ok = by_fault (structure_fault w n ship (get c.structures k))
     where
+      -- the campaign stays early and in balance (`StepsWell`), whether the order has a fault or not
       by_fault : (o : Option EventFault) → Well (unless c o (with_structure_name c k name, Done 0)).0
       by_fault (Some fault) = well_same w c early
       by_fault None = structure_name_well k name ok
@@ -163,7 +170,7 @@ module _ (w : WorldValue) (c : CampaignValue) (n : ℕ) (u : Unit) (is : get c.u
 -- ---- other units stay
 
 module _ (w : WorldValue) (c : CampaignValue) (n : ℕ) (u : Unit) (k : ℕ) (apart : k ≢ n) where
-  -- unit k is unchanged in the changed campaign
+  -- unit k is the same in campaign d, which an order makes of c, as in c
   abbrev Stays : CampaignValue → Type 0
   Stays d = get d.units k ≡ get c.units k
 
@@ -171,6 +178,7 @@ module _ (w : WorldValue) (c : CampaignValue) (n : ℕ) (u : Unit) (k : ℕ) (ap
   structure_stays : (j : ℕ) (ship : Bool) (name : List ℕ) → Stays (structure_name_result w c n j ship name).0
   structure_stays j ship name = by_fault (structure_fault w n ship (get c.structures j))
     where
+      -- unit k is unchanged, whether the order has a fault or not
       by_fault : (o : Option EventFault) → Stays (unless c o (with_structure_name c j name, Done 0)).0
       by_fault (Some fault) = refl
       by_fault None = refl
@@ -198,6 +206,7 @@ name_orderly = record {
   bounded = λ w c early e t. omega arith;
 }
   where
+    -- an order with the operands o leaves unit k no worse off, if it doesn't concern the unit
     spared : (w : WorldValue) (c : CampaignValue) (t : Task) (x : Unit) → IsUnitOf c t x → (k : ℕ) (v : Unit) → get c.units k ≡ Some v → (o : OperandsValue) → (o ≢ operands.Flag true → IsOwnOrder t k v.faction → ⊥)
         → IfSome (name_effect w t.unit o) (λ deed. IsUnaffected IsNoWorse (deed c x).0 k v)
     spared w c t x own k v there (operands.Name what name) apart = other_spared c _ t x (λ j other. order_stays w c t.unit x j other (operands.Name what name)) own k v there (apart (λ same. cc))

@@ -46,7 +46,8 @@ place_other w a f n text (operands.Unit to) l b d = absurd (d to refl)
 place_other w a f n text other l b d = refl
 
 module _ (w : WorldValue) (c : CampaignValue) (n : ℕ) (u : Unit) (is : get c.units n ≡ Some u) (early : IsEarly w c) where
-  -- the changed campaign is early, of the same month, in balance (`StepsWell`), and nothing is booked
+  -- campaign d, which an order makes of c, is early and in balance, its month is the same, and nothing is booked
+  -- (`StepsWell`)
   abbrev Well : CampaignValue → Type 0
   Well d = StepsWell IsEarly books_nothing w c d
 
@@ -102,12 +103,14 @@ module _ (w : WorldValue) (c : CampaignValue) (n : ℕ) (u : Unit) (is : get c.u
   -- ---- PROMOTE
 
   module _ (to : ℕ) where
-    -- if the structure of unit `to` (0 where there is no such unit) is that of unit n, and isn't 0, unit `to` is there
+    -- if the structure that unit `to` is inside (0 where there is no such unit) is that of unit n, and isn't 0, unit
+    -- `to` is there, and inside the same structure
     inside_to : (o : Option Unit) → get c.units to ≡ o → option_map_or (λ (x : Unit). x.structure) o 0 ≡ u.structure → u.structure ≢ 0 → (v : Unit) × (get c.units to ≡ Some v) × (v.structure ≡ u.structure)
     inside_to None there same some = absurd (some (sym same))
     inside_to (Some v) there same some = (v, there, same)
 
-    -- making unit `to` owner of the structure that it shares with unit n keeps the campaign early (`StepsWell`)
+    -- making unit `to` the owner of the structure that it shares with unit n keeps the campaign early and in balance
+    -- (`StepsWell`)
     new_owner : (u.structure == 0) ≡ false → (inside c to == u.structure) ≡ true → Well (with_owner c u.structure to)
     new_owner some near =
         unbooked_well w c (with_owner c u.structure to)
@@ -115,10 +118,13 @@ module _ (w : WorldValue) (c : CampaignValue) (n : ℕ) (u : Unit) (is : get c.u
         (λ q y there. relabelled y (q == u.structure)) (λ q y there. owned q y (q == u.structure) refl (early.steady.owners q y there)) early)
         (same_month_by refl) refl (same_total_of c (with_owner c u.structure to) refl refl)
       where
+        -- each structure, with the new owner or not, keeps its kind, its region and how much of it is built, and its
+        -- name follows the rule (`IsRelabelled`)
         relabelled : (y : Structure) (b : Bool) → IsRelabelled y (if b then owned_by to y else y)
         relabelled y true = record { kind = refl; region = refl; done = refl; name = λ old. old }
         relabelled y false = record { kind = refl; region = refl; done = refl; name = λ old. old }
 
+        -- each structure has its right owner (`IsOwned`), whether it is the one that gets the new owner or not
         owned : (q : ℕ) (y : Structure) (b : Bool) → (q == u.structure) ≡ b → IsOwned c q y → IsOwned c q (if b then owned_by to y else y)
         owned q y true here old =
             let (v, there, within) = inside_to (get c.units to) refl (is_equal (inside c to) u.structure near) (is_unequal u.structure 0 some) in
@@ -151,11 +157,11 @@ module _ (w : WorldValue) (c : CampaignValue) (n : ℕ) (u : Unit) (is : get c.u
 -- ---- other units stay
 
 module _ (w : WorldValue) (a : Aliases) (c : CampaignValue) (f n : ℕ) (u : Unit) (k : ℕ) (apart : k ≢ n) where
-  -- unit k is unchanged in the changed campaign
+  -- unit k is the same in campaign d, which an order makes of c, as in c
   abbrev Stays : CampaignValue → Type 0
   Stays d = get d.units k ≡ get c.units k
 
-  -- if unit k is unchanged without a fault, it is unchanged whether the order has a fault or not
+  -- if unit k is the same in d as in c, an order leaves it as it was, whether the order makes d or has a fault
   unless_stays : (o : Option EventFault) (d : CampaignValue) → Stays d → Stays (unless c o (d, Done 0)).0
   unless_stays (Some fault) d stay = refl
   unless_stays None d stay = stay

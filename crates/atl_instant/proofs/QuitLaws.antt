@@ -84,11 +84,13 @@ same_thing (Item i) (Item j) e = let same : i ≡ j = omega (arith, e) in ap Ite
 one_moves : (amount : ℕ) (t : Thing) (e : Entry) (s : Thing) → moves_only amount (loss_entry t) t e s ≤ under e s (part_of s t amount)
 one_moves amount t e s = by_number (amount_number e s == amount_number (loss_entry t) t) refl
   where
+    -- where two tests are true, an amount is at most the amount that they choose
     at_place : (b d : Bool) → b ≡ true → d ≡ true → amount ≤ cond b (cond d amount 0) 0
     at_place true true f g = omega arith
     at_place true false f g = cc
     at_place false d f g = cc
 
+    -- what is booked is within the bound, whether e and s are the entry and the thing that are booked or not
     by_number : (b : Bool) → (amount_number e s == amount_number (loss_entry t) t) ≡ b → (if b then amount else 0) ≤ under e s (part_of s t amount)
     by_number true is =
         let same : entry_count * thing_index s + entry_index e ≡ entry_count * thing_index t + entry_index (loss_entry t) = grind (arith, nat_tests) in
@@ -100,11 +102,12 @@ one_moves amount t e s = by_number (amount_number e s == amount_number (loss_ent
         at_place (entry_index e == entry_index (loss_entry s)) (thing_index s == thing_index t) (let f : (entry_index e == entry_index (loss_entry s)) ≡ true = grind (arith, nat_tests) in f) (let g : (thing_index s == thing_index t) ≡ true = grind (arith, nat_tests) in g)
     by_number false is = omega arith
 
--- if x is at most m, and y at most n, under the entry of a thing's loss, and both are 0 under any other entry,
--- x + y is at most m + n, and 0 (`under`)
+-- if x and y are within their bounds under entry e (`under`: m and n under the entry of the thing's loss, 0 under any
+-- other), their sum is within the sum of the bounds
 under_sum : (e : Entry) (s : Thing) (x y m n : ℕ) → x ≤ under e s m → y ≤ under e s n → x + y ≤ under e s (m + n)
 under_sum e s x y m n = by_test (entry_index e == entry_index (loss_entry s))
   where
+    -- x + y is within the sum of the bounds, whether e is the entry of the thing's loss or not
     by_test : (b : Bool) → x ≤ (if b then m else 0) → y ≤ (if b then n else 0) → x + y ≤ (if b then m + n else 0)
     by_test true k l = omega arith
     by_test false k l = omega arith
@@ -151,6 +154,7 @@ of_item j (e ∷ es) s =
       | Greater ↦ λ o. let l = ranked j e.0 Greater (sym o) in nothing_more (2 + j == 2 + e.0) e.1 (owing_items es (Item j)) (let t : (2 + j == 2 + e.0) ≡ false = grind (arith, nat_tests) in t) ∙ rest
     ] refl
   where
+    -- an amount that counts, since its test is true, is the same with 0 added
     here : (b : Bool) (x y : ℕ) → b ≡ true → y ≡ 0 → cond b x 0 + y ≡ x
     here true x y t none = omega (arith, none)
     here false x y t none = cc
@@ -169,16 +173,19 @@ held_moves h = both_move (moves_only h.men Left People) (both_move (moves_only h
 all_owed : (h : HoldingValue) (s : Thing) → owing h s ≡ unit_amount s h
 all_owed h Money = sum h.money (owing_items (entries h.items) Money) (no_money (entries h.items))
   where
+    -- the sum of 0, m and 0 is m
     sum : (m n : ℕ) → n ≡ 0 → 0 + (m + n) ≡ m
     sum m n e = omega (arith, e)
 all_owed h People = sum h.men (owing_items (entries h.items) People) (no_people (entries h.items))
   where
+    -- the sum of m, 0 and 0 is m
     sum : (m n : ℕ) → n ≡ 0 → m + (0 + n) ≡ m
     sum m n e = omega (arith, e)
 all_owed h (Item j) =
     sum (2 + j == 1) (2 + j == 0) h.men h.money (owing_items (entries h.items) (Item j)) (let t : (2 + j == 1) ≡ false = grind (arith, nat_tests) in t) (let t : (2 + j == 0) ≡ false = grind (arith, nat_tests) in t)
     ∙ of_item j (entries h.items) (sorted h.items) ∙ ap (λ (o : Option ℕ). unwrap_or o 0) (sym (get-entries h.items j))
   where
+    -- two amounts that don't count, since their tests are false, add nothing to k
     sum : (b d : Bool) (m n k : ℕ) → b ≡ false → d ≡ false → cond b m 0 + (cond d n 0 + k) ≡ k
     sum false false m n k e f = omega arith
     sum true d m n k e f = cc
@@ -194,8 +201,8 @@ moves_what_leaves h e s =
 
 -- ---- a campaign in which amounts of things are booked as gone
 
--- The campaign d is c with `off` of each thing booked as gone, and only the books differ.
--- It is steady, what the books have of a thing falls by `off`, and no amount of the books moves further than `moving`.
+-- The campaign d is c with `off` of each thing booked as gone, and only the books differ. Campaign d is steady, what
+-- the books have of a thing falls by `off`, and no amount of the books moves further than `moving`.
 pub record BooksOff (w : WorldValue) (off : Thing → ℕ) (moving : BookBound) (c d : CampaignValue) : Type 0 where
   pub steady : IsSteady w d
   pub owed : (s : Thing) → booked c.books s ≡ booked d.books s +ℤ pos (off s)
@@ -212,10 +219,12 @@ off_twice {o} {p} {i} {j} w a b c one two = record {
   same = two.same ∙ ap (λ (s : CampaignValue). record s { books = c.books }) one.same;
 }
   where
+    -- if x is y + m, and y is z + n, x is z + (m + n)
     grouped : (x y z : ℤ) (m n : ℕ) → x ≡ y +ℤ pos m → y ≡ z +ℤ pos n → x ≡ z +ℤ pos (m + n)
     grouped x y z m n e f = omega (arith, ints, e, f)
 
--- to book an amount of a thing as gone keeps a steady campaign steady (`BooksOff`), if the thing is of the world
+-- to book an amount of a thing of the world as gone lowers what the books have of it by that amount and changes nothing
+-- else, and a steady campaign stays steady (`BooksOff`)
 pub off_one : (w : WorldValue) (c : CampaignValue) (t : Thing) (amount : ℕ) → thing_index t < things_of w → IsSteady w c → BooksOff w (λ s. part_of s t amount) (moves_only amount (loss_entry t) t) c (with_loss c t amount)
 off_one w c t amount inside steady = record {
   steady = steady-amount w c (loss_entry t) t (neg_ℤ (pos amount)) inside steady;
@@ -226,11 +235,13 @@ off_one w c t amount inside steady = record {
   same = refl;
 }
   where
+    -- z is the same if an amount is taken from it and added again, or, where the test is false, neither
     less : (z : ℤ) (b : Bool) (a : ℕ) → z ≡ (z +ℤ cond b (neg_ℤ (pos a)) (pos 0)) +ℤ pos (cond b a 0)
     less z true a = omega (arith, ints)
     less z false a = omega (arith, ints)
 
--- to book items as lost, one after another, keeps a steady campaign steady (`BooksOff`), if they are of the world
+-- to book items of the world as lost, one after another, lowers what the books have of each by its amount and changes
+-- nothing else, and a steady campaign stays steady (`BooksOff`)
 off_items : (w : WorldValue) (c : CampaignValue) (es : List (ℕ × ℕ)) → EachOf (λ i a. i < length w.items) es → IsSteady w c → BooksOff w (owing_items es) (moving_items es) c (fold with_item_loss c es)
 off_items w c [] known steady = record {
   steady = steady;
@@ -239,13 +250,15 @@ off_items w c [] known steady = record {
   same = refl;
 }
   where
+    -- a number is the same with 0 added
     plain : (z : ℤ) → z ≡ z +ℤ pos 0
     plain z = omega (arith, ints)
 off_items w c ((i, a) ∷ es) known steady =
     let one = off_one w c (Item i) a (omega (arith, known.0)) steady in
     off_twice w c (with_item_loss c (i, a)) (fold with_item_loss (with_item_loss c (i, a)) es) one (off_items w (with_item_loss c (i, a)) es known.1 one.steady)
 
--- to book all that a unit has as gone keeps a steady campaign steady (`BooksOff`), if its items are of the world
+-- to book all that a unit has as gone, where its items are of the world, lowers what the books have of each thing by
+-- what it has and changes nothing else, and a steady campaign stays steady (`BooksOff`)
 pub off_all : (w : WorldValue) (c : CampaignValue) (h : HoldingValue) → Every (λ i a. i < length w.items) h.items → IsSteady w c → BooksOff w (owing h) (held_moves h) c (with_all_losses c h)
 off_all w c h known steady =
     let men = with_loss c People h.men in
@@ -269,6 +282,7 @@ first_room t amount next c room =
     less_room amount (moves_only amount (loss_entry t) t (loss_entry t) t + next (loss_entry t) t) (amount_in c.books (loss_entry t) t)
     (at_least (amount_number (loss_entry t) t == amount_number (loss_entry t) t) (next (loss_entry t) t) (same_number (amount_number (loss_entry t) t))) (room (loss_entry t) t)
   where
+    -- where a test is true, an amount is at most the amount that it chooses, plus m
     at_least : (b : Bool) (m : ℕ) → b ≡ true → amount ≤ (if b then amount else 0) + m
     at_least true m t = omega arith
     at_least false m t = cc
@@ -300,6 +314,7 @@ known_held w c n u is steady = each-from_every (λ j a. j < length w.items) u.ho
 pub held_room : (c : CampaignValue) (n : ℕ) (u : Unit) → get c.units n ≡ Some u → HaveRoom (quit_reserve c) c → HaveRoom (held_moves u.holding) c
 held_room c n u is room = room_less (held_moves u.holding) (quit_reserve c) c (λ e t. within (held_moves u.holding e t) (loss_under e t u.holding) (sum_over (λ (x : Unit). loss_under e t x.holding) (remove c.units n)) (quit_reserve c e t) (moves_what_leaves u.holding e t) (sum_over-remove c.units n (λ (x : Unit). loss_under e t x.holding) u is)) room
   where
+    -- if a is at most b, and s + b is r, a is at most r
     within : (a b s r : ℕ) → a ≤ b → s + b ≡ r → a ≤ r
     within a b s r l e = omega (arith, l, e)
 
@@ -339,6 +354,7 @@ module _ (w : WorldValue) (c : CampaignValue) (n : ℕ) (u : Unit) (is : get c.u
       rest (total behind t) (unit_amount t u.holding) (total off t) (total c t) (owing u.holding t) (booked c.books t) (booked off.books t) (total-without w off n u there t) totals (all_owed u.holding t) (old t) (off_is.owed t)
       ∙ ap (λ (books : BooksValue). booked books t) (sym only.books)
     where
+      -- the total a without the unit is what the books then have (y), since both fell by what the unit held
       rest : (a h b d o : ℕ) (z y : ℤ) → a + h ≡ b → b ≡ d → o ≡ h → pos d ≡ z → z ≡ y +ℤ pos o → pos a ≡ y
       rest a h b d o z y e f g k l = omega (arith, ints, e, f, g, k, l)
 
@@ -374,6 +390,7 @@ pub left_well : (w : WorldValue) (c : CampaignValue) (n : ℕ) → IsSteady w c 
 unfolding after_leaving
 left_well w c n steady = by_unit (get c.units n) refl
   where
+    -- the campaign stays steady and in balance (`StepsWell`), whether unit n is there or not
     by_unit : (o : Option Unit) → get c.units n ≡ o → StepsWell IsSteady quit_reserve w c (without_leaver c n o)
     by_unit None is = well_same w c steady
     by_unit (Some u) is = leaving_well w c n u is steady
@@ -397,6 +414,7 @@ left_others : (c : CampaignValue) (n k : ℕ) → k ≢ n → get (after_leaving
 unfolding after_leaving
 left_others c n k apart = by_unit (get c.units n)
   where
+    -- unit k is unchanged, whether unit n is there or not
     by_unit : (o : Option Unit) → get (without_leaver c n o).units k ≡ get c.units k
     by_unit None = refl
     by_unit (Some u) = without_others (with_all_losses c u.holding) n k apart ∙ ap (λ (m : FinMap nat_cmp Unit). get m k) (booked_units _ (entries u.holding.items))
@@ -418,11 +436,13 @@ all_left_others c (n ∷ ns) k apart = all_left_others (after_leaving c n) ns k 
 
 -- ---- one order
 
--- P holds of the campaign after an order of QUIT, if it holds without a change and after the faction's units left
+-- P holds of the campaign after an order of QUIT, if P holds of the campaign before and of the one in which the
+-- faction's units left
 pub quit_cases : (P : CampaignValue → Type 0) (c : CampaignValue) (number : ℕ) (u : Unit) → P c → (number ≡ u.faction → P (fold after_leaving c (numbers_of u.faction c.units))) → P (quit number c u).0
 unfolding quit
 quit_cases P c number u same leave = by_fault (quit_fault number u) refl
   where
+    -- P holds after the order, whether it has a fault or not
     by_fault : (f : Option EventFault) → quit_fault number u ≡ f → P (unless c f (fold after_leaving c (numbers_of u.faction c.units), Done 0)).0
     by_fault (Some fault) e = same
     by_fault None e = leave (not_apart number u.faction (none_fits (not (number == u.faction)) WrongNumber [] e).0)
@@ -437,6 +457,7 @@ quit_spares w c number u k x steady here other =
     quit_cases (λ d. IsUnaffected IsNoWorse d k x) c number u (record { unit = x; there = here; spared = no_worse x })
     (λ own. record { unit = x; there = all_left_others c (numbers_of u.faction c.units) k (λ m listed. stays (other own) m listed) ∙ here; spared = no_worse x })
   where
+    -- unit k, which is of another faction, is none of the units of the faction that quits
     stays : u.faction ≢ x.faction → (m : ℕ) → IsListed m (numbers_of u.faction c.units) → k ≢ m
     stays apart m listed same =
         let (v, at, t) = listed_passing (λ (y : Unit). y.faction == u.faction) c.units m listed in
@@ -451,9 +472,11 @@ quit_spares w c number u k x steady here other =
 reserve_within : (w : WorldValue) (c : CampaignValue) → IsSteady w c → (e : Entry) (t : Thing) → quit_reserve c e t ≤ quit_moves e t
 reserve_within w c steady e t = by_test (entry_index e == entry_index (loss_entry t))
   where
+    -- a number that is at most n times 0 is at most 0
     none : (s n : ℕ) → s ≤ n * 0 → s ≤ 0
     none s n l = omega (arith, l)
 
+    -- what QUIT may still book is within the bound of the phase, whether e is the entry of the thing's loss or not
     by_test : (b : Bool) → sum_over (λ (u : Unit). if b then unit_amount t u.holding else 0) c.units ≤ (if b then most_moved else 0)
     by_test true = all_held_within w c steady t
     by_test false = none (sum_over (λ (u : Unit). 0) c.units) (length (entries c.units)) (sum_within (λ (u : Unit). 0) 0 (entries c.units) (each-from_every (λ n u. 0 ≤ 0) c.units (λ n u is. omega arith)))
@@ -467,10 +490,12 @@ quit_orderly = record {
   bounded = reserve_within;
 }
   where
+    -- an order with the operands s keeps the campaign steady and in balance (`StepsWell`)
     well : (w : WorldValue) (c : CampaignValue) (x : Unit) → IsSteady w c → (s : OperandsValue) → IfSome (quit_effect s) (λ deed. StepsWell IsSteady quit_reserve w c (deed c x).0)
     well w c x steady (operands.Number number) = quit_well w c number x steady
     well w c x steady other = tt
 
+    -- an order with the operands s leaves unit n no worse off, unless the unit's own faction quits by it
     spared : (w : WorldValue) (c : CampaignValue) (t : Task) (x : Unit) → IsSteady w c → IsUnitOf c t x → (n : ℕ) (u : Unit) → get c.units n ≡ Some u → (s : OperandsValue) → ((t.faction ≡ u.faction) × (s ≡ operands.Number u.faction) → ⊥)
         → IfSome (quit_effect s) (λ deed. IsUnaffected IsNoWorse (deed c x).0 n u)
     spared w c t x steady own n u here (operands.Number number) other =

@@ -27,7 +27,7 @@ use Rattle.atl_instant.proofs.QuitLaws.{left_well, quit_cases, quit_orderly, qui
 
 -- ---- no unit comes, and none changes
 
--- each unit of d is an unchanged unit of c
+-- campaign d has no units but unchanged ones of c
 abbrev HasSomeOf : CampaignValue → CampaignValue → Type 0
 HasSomeOf c d = Every (λ k u. get c.units k ≡ Some u) d.units
 
@@ -36,6 +36,7 @@ left_some : (w : WorldValue) (c : CampaignValue) (n : ℕ) → IsSteady w c → 
 unfolding after_leaving
 left_some w c n steady = by_unit (get c.units n) refl
   where
+    -- each unit that is still there is unchanged (`HasSomeOf`), whether unit n was there or not
     by_unit : (o : Option Unit) → get c.units n ≡ o → HasSomeOf c (without_leaver c n o)
     by_unit None is = λ k u there. there
     by_unit (Some x) is =
@@ -54,11 +55,12 @@ quit_some w c number x steady = quit_cases (HasSomeOf c) c number x (λ k u ther
 is_own_unit : (c : CampaignValue) (t : Task) (x : Unit) → IsUnitOf c t x → is_own c t ≡ true
 is_own_unit c t x own = ap (is_of_faction t.faction) own.there ∙ equal_passes x.faction t.faction own.faction
 
--- if each unit of d is an unchanged unit of c, an order for a unit that is in d of the faction that wrote it (`is_own`)
--- is also in c for such a unit
+-- if each unit of d is an unchanged unit of c, an order that is for a unit of its own faction in d (`is_own`) is so in
+-- c, too
 own_before : (c d : CampaignValue) (t : Task) → HasSomeOf c d → is_own d t ≡ true → is_own c t ≡ true
 own_before c d t some own = by_unit (get d.units t.unit) refl own
   where
+    -- the order is for a unit of its own faction in c, too, whether d has the unit or not
     by_unit : (o : Option Unit) → get d.units t.unit ≡ o → is_of_faction t.faction o ≡ true → is_own c t ≡ true
     by_unit None is h = cc
     by_unit (Some u) is h = ap (is_of_faction t.faction) (some t.unit u is) ∙ h

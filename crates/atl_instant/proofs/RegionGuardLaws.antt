@@ -29,12 +29,12 @@ module _ (c : CampaignValue) where
   abbrev AreUnits : List (ℕ × Unit) → Type 0
   AreUnits es = EachOf (λ n u. get c.units n ≡ Some u) es
 
-  -- some unit of this faction guards the region
+  -- some unit of the given faction guards the region
   abbrev Held : (region faction : ℕ) → Type 0
   Held region faction = (n : ℕ) × (u : Unit) × (get c.units n ≡ Some u) × IsGuardOf region faction u
 
   module _ (region faction : ℕ) where
-    -- if the unit guards the region, it is of this faction
+    -- if the unit guards the region, it is of the given faction
     abbrev IsOwn : Unit → Type 0
     IsOwn u = guards u ≡ true → u.region ≡ region → u.faction ≡ faction
 
@@ -43,6 +43,7 @@ module _ (c : CampaignValue) where
     one_stays : (m : GuardMap) (u : Unit) → IsOwn u → get m region ≡ Some faction → get (with_guard_of m u) region ≡ Some faction
     one_stays m u own at = by_test (guards u) own
       where
+        -- the map keeps the faction of the region, whether the unit that is noted guards or not
         by_test : (b : Bool) → (b ≡ true → u.region ≡ region → u.faction ≡ faction) → get (if b then insert m u.region u.faction else m) region ≡ Some faction
         by_test true own =
             elim (cases_eq u.region region) [
@@ -61,6 +62,7 @@ module _ (c : CampaignValue) where
     held_more : (m : GuardMap) (n : ℕ) (u : Unit) → get c.units n ≡ Some u → (get m region ≡ Some faction → Held region faction) → get (with_guard_of m u) region ≡ Some faction → Held region faction
     held_more m n u is old = by_test (guards u) refl
       where
+        -- the faction that the map has for the region has a guard there, whether the unit that is noted guards or not
         by_test : (b : Bool) → guards u ≡ b → get (if b then insert m u.region u.faction else m) region ≡ Some faction → Held region faction
         by_test true on at =
             elim (cases_eq u.region region) [
@@ -89,6 +91,7 @@ module _ (c : CampaignValue) where
     noted_of m (e ∷ es) are =
         (λ on. all_stay e.1.region e.1.faction (with_guard_of m e.1) es (own_of e.0 e.1 are.0 on es are.1) (by_test (guards e.1) on), noted_of (with_guard_of m e.1) es are.1)
       where
+        -- a unit that guards has its faction in the map once it is noted
         by_test : (b : Bool) → b ≡ true → get (if b then insert m e.1.region e.1.faction else m) e.1.region ≡ Some e.1.faction
         by_test true on = get-insert_same m e.1.region e.1.faction
         by_test false on = cc
@@ -111,6 +114,7 @@ any_listed p [] k listed t = absurd listed
 any_listed p (n ∷ ns) k (inl same) t = ap (λ b. b || list_any p ns) (ap p (sym same) ∙ t)
 any_listed p (n ∷ ns) k (inr rest) t = either (p n) (any_listed p ns k rest t)
   where
+    -- if the rest of a list has an element that passes a test, so has the list
     either : (b : Bool) → list_any p ns ≡ true → (b || list_any p ns) ≡ true
     either true t = refl
     either false t = t
@@ -121,7 +125,7 @@ any_none p [] none = refl
 any_none p (n ∷ ns) none = ap (λ b. b || list_any p ns) (none n (inl refl)) ∙ any_none p ns (λ k listed. none k (inr listed))
 
 module _ (c : CampaignValue) (m : GuardMap) (are : AreRegionGuards c m) (region faction : ℕ) where
-  -- whether unit n guards, and is of another faction than this one
+  -- whether unit n guards, and is of another faction than the given one
   abbrev against : ℕ → Bool
   against n = guards_against faction (get c.units n)
 
@@ -129,10 +133,12 @@ module _ (c : CampaignValue) (m : GuardMap) (are : AreRegionGuards c m) (region 
   abbrev stands_here : Unit → Bool
   stands_here u = u.region == region
 
-  -- no other faction guards the region, if each faction that the map has for a unit there is this one
+  -- no other faction guards the region, if each unit there whose faction the map has for the region is of the given
+  -- faction
   all_own : ((u : Unit) → u.region ≡ region → get m u.region ≡ Some u.faction → u.faction ≡ faction) → is_guarded_against c region faction ≡ false
   all_own own = any_none against (numbers_in region c.units) (λ k listed. let (u, is, here) = listed_passing stands_here c.units k listed in ap (guards_against faction) is ∙ by_test u (guards u) (are.noted k u is) (is_equal u.region region here))
     where
+      -- unit u, which is in the region, is no guard of another faction, whether it guards or not
       by_test : (u : Unit) (b : Bool) → (b ≡ true → get m u.region ≡ Some u.faction) → u.region ≡ region → (b && not (u.faction == faction)) ≡ false
       by_test u true noted here = ap (λ f. not (f == faction)) (own u here (noted refl)) ∙ ap not (equal_itself faction)
       by_test u false noted here = refl
@@ -141,6 +147,7 @@ module _ (c : CampaignValue) (m : GuardMap) (are : AreRegionGuards c m) (region 
   pub map_agrees : has_other_guard faction (get m region) ≡ is_guarded_against c region faction
   map_agrees = by_holder (get m region) refl
     where
+      -- map and campaign agree where the map has a faction for the region, whether it is the given one or not
       other_holder : (holder : ℕ) → get m region ≡ Some holder → (b : Bool) → (holder == faction) ≡ b → not b ≡ is_guarded_against c region faction
       other_holder holder at true same =
           sym (all_own (λ u here noted. same_Some _ _ (sym noted ∙ ap (get m) here ∙ at) ∙ is_equal holder faction same))
@@ -150,11 +157,13 @@ module _ (c : CampaignValue) (m : GuardMap) (are : AreRegionGuards c m) (region 
           ap (guards_against faction) is ∙ ap (λ b. b && not (u.faction == faction)) guard.on_guard ∙ ap (λ f. not (f == faction)) guard.belongs ∙ ap not apart in
           sym (any_listed against (numbers_in region c.units) n (passing_listed stands_here c.units n u is (ap (λ r. r == region) guard.stands ∙ equal_itself region)) against_it)
 
+      -- map and campaign agree, whether the map has a faction for the region or not
       by_holder : (o : Option ℕ) → get m region ≡ o → has_other_guard faction o ≡ is_guarded_against c region faction
       by_holder None at = sym (all_own (λ u here noted. none_some u.faction (sym at ∙ ap (get m) (sym here) ∙ noted)))
       by_holder (Some holder) at = other_holder holder at (holder == faction) refl
 
--- the fault that the code finds by the map for a unit that begins to guard is that of the definition (`guard_fault`)
+-- the fault that the code finds by the map, for a unit that would begin to guard, is that of the definition
+-- (`guard_fault`)
 pub found_fault_is : (c : CampaignValue) (m : GuardMap) → AreRegionGuards c m → (u : Unit) (few held : Bool) → (u.holding.men == 0) ≡ few → has_other_guard u.faction (get m u.region) ≡ held
     → first_fault ((few, NoMen) ∷ (held, Guarded) ∷ []) ≡ guard_fault c u
 found_fault_is c m are u few held few_is held_is =
@@ -179,7 +188,7 @@ module _ (c : CampaignValue) (m : GuardMap) (n : ℕ) (u : Unit) (is : get c.uni
   abbrev set_now : GuardMap
   set_now = insert m u.region u.faction
 
-  -- the campaign in which the unit guards
+  -- the campaign after the unit began to guard
   abbrev behind : CampaignValue
   behind = flagged c n u is
 
@@ -188,6 +197,7 @@ module _ (c : CampaignValue) (m : GuardMap) (n : ℕ) (u : Unit) (is : get c.uni
   set_noted none =
       every-insert (λ k v. guards v ≡ true → get set_now v.region ≡ Some v.faction) c.units n (guarding c n u is) (λ on. get-insert_same m u.region u.faction) (λ k v there on. by_region k v there on)
     where
+      -- unit v, which guards, has its faction in the map `set_now`, in the region of unit u or in another
       by_region : (k : ℕ) (v : Unit) → get c.units k ≡ Some v → guards v ≡ true → get set_now v.region ≡ Some v.faction
       by_region k v there on =
           elim (cases_eq v.region u.region) [

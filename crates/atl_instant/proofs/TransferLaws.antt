@@ -81,6 +81,7 @@ sent_is c d e from to n u v h k apart sender receiver h_is k_is first second =
 pub days_within : (all : FinMap nat_cmp ℕ) (most skill : ℕ) → Every (λ s days. (1 ≤ days) × (days ≤ most)) all → amount_of all skill ≤ most
 days_within all most skill each = by_option (get all skill) refl
   where
+    -- the days of the skill are at most `most`, whether the skill is listed or not
     by_option : (o : Option ℕ) → get all skill ≡ o → unwrap_or o 0 ≤ most
     by_option None e = omega arith
     by_option (Some days) e = (each skill days e).1
@@ -89,10 +90,11 @@ days_within all most skill each = by_option (get all skill) refl
 pub going_most : (n men days : ℕ) → days ≤ most_days * men → days_going n men days ≤ most_days * n
 going_most n men days most = div-le_of_le-mul men (subst (λ x. days * n ≤ x) (turned most_days men n) (mul-le-mul_right n most))
   where
+    -- the product of k, m and l is the same in another order
     turned : (k m l : ℕ) → (k * m) * l ≡ m * (k * l)
     turned k m l = grind arith
 
--- of at most k days for each of s + n men, at most k for each of the s men stay when n go
+-- if s + n men have at most k days each, and n of them go with their part, at most k days for each of the s others stay
 rest_within : (k s n d : ℕ) → 0 < s + n → d ≤ k * (s + n) → d - d * n / (s + n) ≤ k * s
 rest_within k s n d some most = elim (cases_lt (k * s) d) [
   | inl more ↦
@@ -106,15 +108,19 @@ rest_within k s n d some most = elim (cases_lt (k * s) d) [
   | inr within ↦ let few : d ≤ k * s = within in omega (arith, few)
 ]
   where
+    -- k * (s + n), multiplied out
     spread : (k s n : ℕ) → k * (s + n) ≡ k * s + k * n
     spread k s n = grind arith
 
+    -- the product (k * s + y) * n, multiplied out
     turned : (k s n y : ℕ) → (k * s + y) * n ≡ (k * n) * s + y * n
     turned k s n y = grind arith
 
+    -- an inequality stays true if c is added on both sides
     sum : (a b c : ℕ) → a ≤ b → a + c ≤ b + c
     sum a b c l = omega arith
 
+    -- if y is at most k * n, y * (s + n) is at most (k * s + y) * n
     scaled : (y : ℕ) → y ≤ k * n → y * (s + n) ≤ (k * s + y) * n
     scaled y few = rw (turned k s n y, spread y s n) (sum (y * s) ((k * n) * s) (y * n) (mul-le-mul_right s few))
 
@@ -125,6 +131,7 @@ staying_days_within n men days fewer some most =
     let men_there : 0 < men = some_men men days some most in
     subst (λ m. days - days * n / m ≤ most_days * (men - n)) whole (rest_within most_days (men - n) n days (omega arith) (subst (λ m. days ≤ most_days * m) (sym whole) most))
   where
+    -- a unit that has days of a skill has men
     some_men : (men days : ℕ) → 1 ≤ days → days ≤ most_days * men → 0 < men
     some_men men days some most = omega arith
 
@@ -134,6 +141,7 @@ staying_days_within n men days fewer some most =
 known_skill : (w : WorldValue) (h : HoldingValue) (s : ℕ) → MayHave w h → 1 ≤ amount_of h.days s → s < length w.skills
 known_skill w h s may some = by_option (get h.days s) refl some
   where
+    -- skill s is a skill of the world, whether the unit lists it or not
     by_option : (o : Option ℕ) → get h.days s ≡ o → 1 ≤ unwrap_or o 0 → s < length w.skills
     by_option None there l = absurd (omega (arith, l))
     by_option (Some d) there l = may.skills s d there
@@ -154,6 +162,7 @@ may_have_fewer w n h fewer may = record {
       (some, subst (λ x. x ≤ most_days * (h.men - n)) (sym is) (staying_days_within n h.men (amount_of h.days s) fewer (had (amount_of h.days s) (going_of n h s) d is some) (days_may w h s may)));
 }
   where
+    -- if at least 1 day of a skill stays, the unit had at least 1 day of it
     had : (a g d : ℕ) → d ≡ a - g → 1 ≤ d → 1 ≤ a
     had a g d is some = omega (arith, is, some)
 
@@ -169,23 +178,28 @@ may_have_more w n other h room from may = record {
       (some, subst (λ x. x ≤ most_days * (h.men + n)) (sym is) (both most_days h.men n (amount_of h.days s) (going_of n other s) (days_may w h s may) (going_most n other.men (amount_of other.days s) (days_may w other s from))));
 }
   where
+    -- if the sum of a and g is at least 1, a or g is at least 1
     some_of : (a g d : ℕ) → d ≡ a + g → 1 ≤ d → (1 ≤ a) ⊎ (1 ≤ g)
     some_of a g d is some = elim (cases_lt 0 a) [
       | inl l ↦ inl (omega (arith, l))
       | inr l ↦ inr (omega (arith, l, is, some))
     ]
 
+    -- if days of skill s go with the men, their unit had days of it
     came : (s : ℕ) → 1 ≤ going_of n other s → (b : Bool) → (amount_of other.days s == 0) ≡ b → 1 ≤ amount_of other.days s
     came s some true none = let zero = none_go n other s (is_equal (amount_of other.days s) 0 none) in absurd (omega (arith, some, zero))
     came s some false there = grind (arith, nat_tests)
 
+    -- skill s is a skill of the world, if the receiver had days of it, or days of it came
     known : (s : ℕ) → (1 ≤ amount_of h.days s) ⊎ (1 ≤ going_of n other s) → s < length w.skills
     known s (inl some) = known_skill w h s may some
     known s (inr some) = known_skill w other s from (came s some (amount_of other.days s == 0) refl)
 
+    -- if a is at most k * m, and b at most k * n, a + b is at most k * (m + n)
     both : (k m n a b : ℕ) → a ≤ k * m → b ≤ k * n → a + b ≤ k * (m + n)
     both k m n a b f g = rw (spread k m n) (omega (arith, f, g))
       where
+        -- k * (s + n), multiplied out
         spread : (k s n : ℕ) → k * (s + n) ≡ k * s + k * n
         spread k s n = grind arith
 
@@ -217,7 +231,8 @@ better_off n other v = record {
 abbrev behind : CampaignValue → (from to n : ℕ) → Unit → Unit → (itself : Bool) → CampaignValue
 behind c from to n u v itself = if itself then c else with_held (with_held c from (with_fewer n u.holding) (Some u)) to (with_more n u.holding v.holding) (Some v)
 
--- P holds of the campaign after an order of TRANSFER, if it holds without a change and after men went to another unit
+-- P holds of the campaign after an order of TRANSFER, if P holds of the campaign before and of the one in which men
+-- went to another unit
 pub transfer_cases : (P : CampaignValue → Type 0) (c : CampaignValue) (from to n : ℕ) (u : Unit) (sender : get c.units from ≡ Some u) → P c
     → ((v : Unit) (receiver : get c.units to ≡ Some v) (apart : to ≢ from) → CanSend n false u v
     → P (moved c from to u v (with_fewer n u.holding) (with_more n u.holding v.holding) sender receiver apart))
@@ -225,14 +240,17 @@ pub transfer_cases : (P : CampaignValue → Type 0) (c : CampaignValue) (from to
 unfolding transfer
 transfer_cases P c from to n u sender same move = by_receiver (get c.units to) refl
   where
+    -- P holds after a transfer without a fault, whether the sender is itself the receiver or not
     by_test : (v : Unit) → get c.units to ≡ Some v → (b : Bool) → (to == from) ≡ b → CanSend n b u v → P (behind c from to n u v b)
     by_test v receiver true is can = same
     by_test v receiver false is can = let apart : to ≢ from = grind (arith, nat_tests) in move v receiver apart can
 
+    -- P holds after an order for a receiver that is there, whether the transfer has a fault or not
     by_fault : (v : Unit) → get c.units to ≡ Some v → (f : Option EventFault) → transfer_fault n (to == from) u (Some v) ≡ f → P (unless c f (behind c from to n u v (to == from), Done n)).0
     by_fault v receiver (Some fault) is = same
     by_fault v receiver None is = by_test v receiver (to == from) refl (can_send n (to == from) u v is)
 
+    -- P holds after the order, whether the receiver is there or not
     by_receiver : (o : Option Unit) → get c.units to ≡ o → P (transfer_to c from to n u o).0
     by_receiver None is = same
     by_receiver (Some v) receiver = by_fault v receiver (transfer_fault n (to == from) u (Some v)) refl
@@ -268,10 +286,12 @@ transfer_orderly = record {
   bounded = λ w c early e t. omega arith;
 }
   where
+    -- an order with the operands s keeps the campaign early and in balance (`StepsWell`)
     well : (w : WorldValue) (a : Aliases) (c : CampaignValue) (t : Task) (x : Unit) → IsEarly w c → IsUnitOf c t x → (s : OperandsValue) → IfSome (transfer_effect a t.faction t.unit s) (λ deed. StepsWell IsEarly (λ d e t. 0) w c (deed c x).0)
     well w a c t x early own (operands.UnitAndNumber to n) = transfer_steps_well w c early t.unit (unit_of a t.faction to) n x own.there
     well w a c t x early own other = tt
 
+    -- an order with the operands s leaves each unit but its own no worse off
     spared : (w : WorldValue) (a : Aliases) (c : CampaignValue) (t : Task) (x : Unit) → IsEarly w c → IsUnitOf c t x → (n : ℕ) (u : Unit) → get c.units n ≡ Some u → n ≢ t.unit → (s : OperandsValue)
         → IfSome (transfer_effect a t.faction t.unit s) (λ deed. IsUnaffected IsNoWorse (deed c x).0 n u)
     spared w a c t x early own n u there apart (operands.UnitAndNumber to k) = transfer_spares w c early t.unit (unit_of a t.faction to) k x own.there n u there apart

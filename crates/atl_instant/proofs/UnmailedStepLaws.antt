@@ -166,6 +166,7 @@ transfer_others c from to n x here =
       spared = record { faction = refl; men = refl };
     })
   where
+    -- two units under one number are the same unit
     same_unit : (k : ℕ) (y z : Unit) → get c.units k ≡ Some y → get c.units k ≡ Some z → y ≡ z
     same_unit k y z one two = let both : Some y ≡ Some z = sym one ∙ two in cc
 
@@ -209,6 +210,7 @@ quit_others : (c : CampaignValue) (number : ℕ) (x : Unit) → OthersHaveMen x.
 unfolding quit
 quit_others c number x k y there other = by_fault (quit_fault number x)
   where
+    -- unit k, which is of another faction, is none of the units of the faction that quits
     stays : (m : ℕ) → IsListed m (numbers_of x.faction c.units) → k ≢ m
     stays m listed same =
         let (v, at, t) = listed_passing (λ (z : Unit). z.faction == x.faction) c.units m listed in
@@ -216,6 +218,7 @@ quit_others c number x k y there other = by_fault (quit_fault number x)
         let unit : v ≡ y = cc in
         other (sym (is_equal v.faction x.faction t) ∙ ap (λ (z : Unit). z.faction) unit)
 
+    -- unit k keeps its faction and its men (`HasItsMen`), whether the order has a fault or not
     by_fault : (o : Option EventFault) → IsUnaffected HasItsMen (unless c o (fold after_leaving c (numbers_of x.faction c.units), Done 0)).0 k y
     by_fault (Some fault) = men_stay c k y there
     by_fault None = record { unit = y; there = all_left_others c (numbers_of x.faction c.units) k stays ∙ there; spared = record { faction = refl; men = refl } }

@@ -67,7 +67,8 @@ abbrev pub aliases_after : Aliases → (f alias : ℕ) → Outcome → Aliases
 aliases_after aliases f alias (Done number) = with_alias aliases f alias number
 aliases_after aliases f alias outcome = aliases
 
--- the campaign after an order of FORM, and the month with its event, and with its alias if a unit was formed
+-- the campaign after an order of FORM, and the month with the event of the order, and with its alias if a unit was
+-- formed
 abbrev pub with_form_result : MonthValue → Task → CampaignValue × Outcome → CampaignValue × MonthValue
 with_form_result m t (c, outcome) = (c, record m { aliases = aliases_after m.aliases t.faction (alias_of t.order_value.operands) outcome; events = m.events ++ event_for t outcome ∷ [] })
 

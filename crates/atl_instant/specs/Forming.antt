@@ -13,11 +13,12 @@ use Rattle.atl_instant.specs.Form.{alias_of, aliases_after, form_by}
 abbrev pub forming_of : Task → Forming
 forming_of t = record { unit = t.unit; line = t.line; faction = t.faction; verb = t.order_value.verb; alias = alias_of t.order_value.operands }
 
--- the event of a copied order, with its outcome
+-- the event that reports the outcome of a copied order of FORM
 abbrev pub forming_event : Forming → Outcome → Event
 forming_event o outcome = record { faction = o.faction; unit = o.unit; line = o.line; verb = Order o.verb; outcome = outcome }
 
--- the campaign after a copied order, and the month with its event, and with its alias if a unit was formed
+-- the campaign after a copied order of FORM, and the month with the event of the order, and with its alias if a unit
+-- was formed
 abbrev pub with_forming_result : MonthValue → Forming → CampaignValue × Outcome → CampaignValue × MonthValue
 with_forming_result m o (c, outcome) = (c, record m { aliases = aliases_after m.aliases o.faction o.alias outcome; events = m.events ++ forming_event o outcome ∷ [] })
 

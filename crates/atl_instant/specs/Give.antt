@@ -31,12 +31,12 @@ is_giving verb = false
 
 -- ---- what is given
 
--- how much a unit holds of what is given: of money, or of the item
+-- how much money, or how many pieces of an item, a unit holds, by what is given
 abbrev pub held_of : Gift → HoldingValue → ℕ
 held_of Money h = h.money
 held_of (Item i) h = amount_of h.items i
 
--- what a unit holds, with n of what is given: of money, or of the item
+-- what a unit holds once its money, or its amount of the item that is given, is n
 abbrev pub with_held_of : Gift → HoldingValue → ℕ → HoldingValue
 with_held_of Money h n = record h { money = n }
 with_held_of (Item i) h n = record h { items = with_amount_of h.items i n }
@@ -63,11 +63,12 @@ after_gift c from to gift n (Some u) (Some v) =
     if to == from then c else with_held (with_held c from less (Some u)) to more (Some v)
 after_gift c from to gift n giver receiver = c
 
--- the campaign and the outcome as unit u, under the number `from`, gives n to the receiver under `to`, if that is there
+-- the campaign and the outcome as unit u, under the number `from`, gives n of the gift to the receiver under `to`, if
+-- that is there
 abbrev pub give_to : CampaignValue → (from to : ℕ) → Gift → (n : ℕ) → Unit → Option Unit → CampaignValue × Outcome
 give_to c from to gift n u receiver = unless c (give_fault gift n (to == from) u receiver) (after_gift c from to gift n (Some u) receiver, Done n)
 
--- the effect of an order by which unit `from` gives n to unit `to`
+-- the effect of an order by which unit `from` gives n of the gift, money or an item, to unit `to`
 unfoldable pub give : (from to : ℕ) → Gift → (n : ℕ) → OrderEffect
 give from to gift n c u = give_to c from to gift n u (get c.units to)
 
@@ -77,12 +78,13 @@ give_effect aliases f from (operands.UnitAndGoods to n item) = Some (give from (
 give_effect aliases f from (operands.UnitAndNumber to n) = Some (give from (unit_of aliases f to) Money n)
 give_effect aliases f from other = None
 
--- the step of the phase: the effect of an order of GIVE or PAY
+-- what the phase does at one order: the effect of an order of GIVE or PAY
 abbrev pub give_step : OrderMeaning
 give_step w aliases t = give_effect aliases t.faction t.unit t.order_value.operands
 
 -- ---- the phase
 
--- the specification of the phase: a unit for which its own faction wrote no GIVE or PAY is no worse off
+-- the specification of the phase of GIVE and PAY: its orders are carried out one by one, and a unit for which its own
+-- faction wrote no GIVE or PAY is no worse off
 abbrev pub give_spec : PhaseSpec
 give_spec = goes_by_orders give_step is_giving IsOwnOrder IsNoWorse

@@ -24,12 +24,12 @@ is_guarding verb = false
 
 -- ---- guards of a region
 
--- whether a unit is there, guards, and is of another faction than this one
+-- whether a unit exists, guards, and is of another faction than the given one
 abbrev pub guards_against : (faction : ℕ) → Option Unit → Bool
 guards_against faction None = false
 guards_against faction (Some v) = guards v && not (v.faction == faction)
 
--- whether a unit of another faction than this one guards the region
+-- whether a unit of another faction than the given one guards a region
 abbrev pub is_guarded_against : CampaignValue → (region faction : ℕ) → Bool
 is_guarded_against c region faction = list_any (λ n. guards_against faction (get c.units n)) (numbers_in region c.units)
 
@@ -43,12 +43,12 @@ guard_fault c u = first_fault ((u.holding.men == 0, NoMen) ∷ (is_guarded_again
 unfoldable pub guard : (n : ℕ) → OrderEffect
 guard n c u = unless c (guard_fault c u) (with_guard c n true, Done 0)
 
--- the effect of GUARD 1, by the operands of an order of GUARD; None for GUARD 0, which this phase passes over
+-- the effect of an order of GUARD, by its operands: that of GUARD 1; None for GUARD 0, which this phase passes over
 abbrev pub guard_effect : (n : ℕ) → OperandsValue → Option OrderEffect
 guard_effect n (operands.Flag true) = Some (guard n)
 guard_effect n other = None
 
--- the step of the phase: the effect of an order of GUARD
+-- what the phase does at one order: the effect of an order of GUARD; None for GUARD 0
 abbrev pub guard_step : OrderMeaning
 guard_step w aliases t = guard_effect t.unit t.order_value.operands
 
@@ -58,6 +58,7 @@ guard_concerns t number faction = IsOwnOrder t number faction × (t.order_value.
 
 -- ---- the phase
 
--- the specification of the phase: a unit for which its own faction wrote no GUARD 1 is no worse off
+-- the specification of the phase of GUARD 1: its orders are carried out one by one, and a unit for which its own
+-- faction wrote no GUARD 1 is no worse off
 abbrev pub guard_spec : PhaseSpec
 guard_spec = goes_by_orders guard_step is_guarding guard_concerns IsNoWorse

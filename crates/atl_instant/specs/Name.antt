@@ -64,7 +64,7 @@ name_effect w n (operands.Name what name) = Some (naming w n what name)
 name_effect w n (operands.Flag false) = Some (leave_guard n)
 name_effect w n other = None
 
--- the step of the phase: the effect of an order of NAME or GUARD 0
+-- what the phase does at one order: the effect of an order of NAME or GUARD; None for GUARD 1
 abbrev pub name_step : OrderMeaning
 name_step w a t = name_effect w t.unit t.order_value.operands
 
@@ -74,6 +74,7 @@ name_concerns t number faction = IsOwnOrder t number faction × (t.order_value.o
 
 -- ---- the phase
 
--- the specification of the phase: a unit for which its own faction wrote no NAME or GUARD 0 is no worse off
+-- the specification of the phase of NAME and GUARD 0: its orders are carried out one by one, and a unit for which its
+-- own faction wrote no NAME or GUARD 0 is no worse off
 abbrev pub name_spec : PhaseSpec
 name_spec = goes_by_orders name_step is_naming name_concerns IsNoWorse

@@ -1,4 +1,4 @@
--- LEAVE, ENTER and PROMOTE: units leave structures, enter them, and make others their owners.
+-- LEAVE, ENTER and PROMOTE: units leave structures, enter them, and hand them over to other units.
 -- See docs/RULES.md, "Place".
 use Rattle.std.specs.Prelude.{ℕ, ◌==◌, Bool, true, false, not, [], ◌∷◌, Option, Some, None, if◌then◌else◌}
 use Rattle.std.specs.FinMap.{get}
@@ -44,7 +44,7 @@ leave w n c u = unless c (leave_fault w u) (with_place c n u.region 0, Done 0)
 
 -- ---- ENTER
 
--- whether a structure is there, and in this region
+-- whether a structure exists, and is in a given region
 abbrev pub is_in : ℕ → Option Structure → Bool
 is_in region None = false
 is_in region (Some s) = s.region == region
@@ -85,12 +85,13 @@ place_effect w a f n (operands.Number s) = Some (enter n s)
 place_effect w a f n (operands.Unit to) = Some (promote n (unit_of a f to))
 place_effect w a f n other = None
 
--- the step of the phase: the effect of an order of LEAVE, ENTER or PROMOTE
+-- what the phase does at one order: the effect of an order of LEAVE, ENTER or PROMOTE
 abbrev pub place_step : OrderMeaning
 place_step w a t = place_effect w a t.faction t.unit t.order_value.operands
 
 -- ---- the phase
 
--- the specification of the phase: a unit for which its own faction wrote no LEAVE, ENTER or PROMOTE is no worse off
+-- the specification of the phase of LEAVE, ENTER and PROMOTE: its orders are carried out one by one, and a unit for
+-- which its own faction wrote no LEAVE, ENTER or PROMOTE is no worse off
 abbrev pub place_spec : PhaseSpec
 place_spec = goes_by_orders place_step is_placing IsOwnOrder IsNoWorse

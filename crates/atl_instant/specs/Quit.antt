@@ -76,13 +76,13 @@ abbrev pub quit_effect : OperandsValue → Option OrderEffect
 quit_effect (operands.Number number) = Some (quit number)
 quit_effect other = None
 
--- the step of the phase: the effect of an order of QUIT
+-- what the phase does at one order: the effect of an order of QUIT
 abbrev pub quit_step : OrderMeaning
 quit_step w aliases t = quit_effect t.order_value.operands
 
 -- ---- the phase
 
--- the effect of the phase: the orders of QUIT, one by one
+-- the effect of the phase: all orders of QUIT, carried out one by one
 abbrev pub quit_meaning : Meaning
 quit_meaning = meaning_by_orders quit_step is_quitting
 
@@ -90,7 +90,8 @@ quit_meaning = meaning_by_orders quit_step is_quitting
 abbrev pub quit_concerns : Affects
 quit_concerns t number faction = (t.faction ≡ faction) × (t.order_value.operands ≡ operands.Number faction)
 
--- order t is one of QUIT with the number of faction f, which wrote it for a unit that was its own as the phase began
+-- task t is an order of QUIT with the number of faction f, which wrote it for a unit that was its own as the phase
+-- began
 pub record QuitsFrom (begun : CampaignValue) (t : Task) (n f : ℕ) : Type 0 where
   pub own : is_own begun t ≡ true
   pub faction : t.faction ≡ f
@@ -103,7 +104,8 @@ quit_keeps w m before after = spares_others (QuitsFrom before) IsNoWorse is_quit
 
 -- ---- by how much the phase moves the books
 
--- the bound on the books: each thing may move by less than 10^14 under the entry of its loss, and nothing else
+-- the most by which the phase moves the books: less than 10^14 of each thing under the entry for its loss, and nothing
+-- under any other entry
 abbrev pub quit_moves : BookBound
 quit_moves e t = if entry_index e == entry_index (loss_entry t) then most_moved else 0
 
@@ -111,11 +113,12 @@ quit_moves e t = if entry_index e == entry_index (loss_entry t) then most_moved 
 abbrev pub loss_under : Entry → Thing → HoldingValue → ℕ
 loss_under e t h = if entry_index e == entry_index (loss_entry t) then unit_amount t h else 0
 
--- the remaining bound of QUIT: what all units hold of a thing, under the entry for its loss
+-- by how much QUIT may still move the books: what all units together hold of a thing, under the entry for its loss
 abbrev pub quit_reserve : RemainingBound
 quit_reserve c e t = sum_over (λ u. loss_under e t u.holding) c.units
 
--- the specification of the phase of QUIT, which books all that the leaving units had as left and lost
+-- the specification of the phase of QUIT: its orders are carried out one by one, all that the leaving units had is
+-- booked as left and lost, and units of factions that don't quit are no worse off
 abbrev pub quit_spec : PhaseSpec
 quit_spec = record {
   meaning = quit_meaning;

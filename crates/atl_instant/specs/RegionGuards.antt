@@ -7,15 +7,15 @@ use Rattle.atl_records.specs.Every.{Every}
 use Rattle.atl_campaign.specs.Good.{guards}
 use Rattle.atl_campaign.specs.Campaign.{CampaignValue}
 
--- the number of the faction that guards each region, by region
+-- a map from each guarded region to the number of the faction that guards it
 abbrev pub GuardMap : Type 0
 GuardMap = FinMap nat_cmp ℕ
 
--- the map with the faction of a unit under its region, if the unit guards
+-- the map after a unit's faction is entered under the unit's region; unchanged if the unit doesn't guard
 abbrev pub with_guard_of : GuardMap → Unit → GuardMap
 with_guard_of m u = if guards u then insert m u.region u.faction else m
 
--- the map with the faction of each of these units that guards under its region, entered one after another
+-- the map after some units are noted one after another: the faction of each that guards is entered under its region
 abbrev pub with_guards_of : GuardMap → List (ℕ × Unit) → GuardMap
 with_guards_of m es = fold (λ held e. with_guard_of held e.1) m es
 
@@ -23,12 +23,12 @@ with_guards_of m es = fold (λ held e. with_guard_of held e.1) m es
 abbrev pub guard_map_of : CampaignValue → GuardMap
 guard_map_of c = with_guards_of empty (entries c.units)
 
--- whether there is a guarding faction, and it is another one than this
+-- whether a region, by its entry in the map, is guarded by another faction than the given one
 abbrev pub has_other_guard : (faction : ℕ) → Option ℕ → Bool
 has_other_guard faction None = false
 has_other_guard faction (Some holder) = not (holder == faction)
 
--- The unit guards this region, and is of this faction.
+-- unit u guards the given region, and is of the given faction
 pub record IsGuardOf (region faction : ℕ) (u : Unit) : Type 0 where
   pub on_guard : guards u ≡ true
   pub stands : u.region ≡ region

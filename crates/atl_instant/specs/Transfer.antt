@@ -37,30 +37,32 @@ days_going n men days = days * n / men
 abbrev pub going_of : (n : ℕ) → HoldingValue → (skill : ℕ) → ℕ
 going_of n h s = days_going n h.men (amount_of h.days s)
 
--- the days of a skill that stay with a unit as n of its men go
+-- the days of a skill that stay with a unit after n of its men went
 abbrev pub staying_of : (n : ℕ) → HoldingValue → (skill : ℕ) → ℕ
 staying_of n h s = amount_of h.days s - going_of n h s
 
--- the days of a skill that a unit has as n men of another unit come
+-- the days of a skill that a unit with holding h has after n men of another unit came
 abbrev pub raised_of : (n : ℕ) → (other h : HoldingValue) → (skill : ℕ) → ℕ
 raised_of n other h s = amount_of h.days s + going_of n other s
 
--- what a unit holds as n of its men go with their days
+-- what a unit holds after n of its men went, with their part of the days
 abbrev pub with_fewer : (n : ℕ) → HoldingValue → HoldingValue
 with_fewer n h = record h { men = h.men - n; days = amounts_for (staying_of n h) (keys h.days) }
 
--- what a unit holds as n men of another unit come with their days
+-- what a unit with holding h holds after n men of another unit came, with their part of the days
 abbrev pub with_more : (n : ℕ) → (other h : HoldingValue) → HoldingValue
 with_more n other h = record h { men = h.men + n; days = amounts_for (raised_of n other h) (keys h.days ++ keys other.days) }
 
 -- ---- a law: the days that both units have of each skill after n men went
 
--- after n men went, one unit has the days of a skill that stay, and the other those that it had and those that came
+-- after n men went from one unit to another, the one has the days of a skill that stay, and the other those that it had
+-- and those that came
 pub record HaveDaysOf (n : ℕ) (other h : HoldingValue) (skill : ℕ) : Type 0 where
   pub stay : amount_of (with_fewer n other).days skill ≡ staying_of n other skill
   pub come : amount_of (with_more n other h).days skill ≡ raised_of n other h skill
 
--- A law: however many men went, one unit has the days of each skill that stay, the other its own and those that came.
+-- the law that, however many men go from one unit to another, the one keeps the days of each skill that stay, and the
+-- other has its own and those that came
 abbrev pub DaysGoWithMen : Type 0
 DaysGoWithMen = (n : ℕ) (other h : HoldingValue) (skill : ℕ) → HaveDaysOf n other h skill
 
@@ -99,12 +101,13 @@ abbrev pub transfer_effect : Aliases → (f from : ℕ) → OperandsValue → Op
 transfer_effect aliases f from (operands.UnitAndNumber to n) = Some (transfer from (unit_of aliases f to) n)
 transfer_effect aliases f from other = None
 
--- the step of the phase: the effect of an order of TRANSFER
+-- what the phase does at one order: the effect of an order of TRANSFER
 abbrev pub transfer_step : OrderMeaning
 transfer_step w aliases t = transfer_effect aliases t.faction t.unit t.order_value.operands
 
 -- ---- the phase
 
--- the specification of the phase: a unit for which its own faction wrote no TRANSFER is no worse off
+-- the specification of the phase of TRANSFER: its orders are carried out one by one, and a unit for which its own
+-- faction wrote no TRANSFER is no worse off
 abbrev pub transfer_spec : PhaseSpec
 transfer_spec = goes_by_orders transfer_step is_transferring IsOwnOrder IsNoWorse

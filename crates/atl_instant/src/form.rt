@@ -128,8 +128,8 @@ fn alias_of(what: &Operands) -> u32
     }
 }
 
-/// A copy of an order of FORM, which doesn't borrow the month: the month gets aliases as orders are
-/// carried out.
+/// A copy of an order of FORM, made before the orders are carried out, since the month that has the
+/// orders gets new aliases then.
 #[derive(Drop, Clone, Copy)]
 pub(crate) struct Forming {
     unit: u32,

@@ -30,7 +30,7 @@ pub(crate) enum Gift {
     Item(u16),
 }
 
-/// How much a unit holds of what is given: of money, or of the item.
+/// How much money, or how many pieces of an item, a unit holds, by what is given.
 fn held_of(gift: Gift, holding: &Holding) -> u32
     ensures { result ≡ held_of gift holding.now }
 {
@@ -184,11 +184,16 @@ impl OrderPhase for GivePhase {
         }
     }
 
+    /// The law that an order of GIVE or PAY keeps the campaign early, books nothing, and leaves
+    /// each unit but its own no worse off (`IsOrderly`). Does nothing.
     fn is_orderly(&self) {}
 }
 
+/// Makes the phase of GIVE and PAY a `Phase` that carries out its orders one by one and does
+/// nothing else.
 impl PlainPhase for GivePhase {
     ghost makes = { give_step };
 
+    /// The law that each order of the phase has the effect that `give_step` says. Does nothing.
     fn is_plain(&self) {}
 }

@@ -208,11 +208,16 @@ impl OrderPhase for NamePhase {
         }
     }
 
+    /// The law that an order of NAME or GUARD 0 keeps the campaign early, books nothing, and leaves
+    /// each unit but its own no worse off (`IsOrderly`). Does nothing.
     fn is_orderly(&self) {}
 }
 
+/// Makes the phase of NAME and GUARD 0 a `Phase` that carries out its orders one by one and does
+/// nothing else.
 impl PlainPhase for NamePhase {
     ghost makes = { name_step };
 
+    /// The law that each order of the phase has the effect that `name_step` says. Does nothing.
     fn is_plain(&self) {}
 }

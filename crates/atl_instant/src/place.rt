@@ -1,5 +1,5 @@
-//! LEAVE, ENTER and PROMOTE: units leave structures, enter them, and make others their owners. See
-//! docs/RULES.md, "Place".
+//! LEAVE, ENTER and PROMOTE: units leave structures, enter them, and hand them over to other units.
+//! See docs/RULES.md, "Place".
 ghost use Rattle.std.specs.Prelude.{◌≡◌, IfOk, OnOk};
 ghost use Rattle.std.specs.FinMap as map;
 ghost use Rattle.atl_campaign.specs.Covers.{MarksChanges};
@@ -18,11 +18,11 @@ use atl_world::World;
 use std::alloc::{AllocError, Global};
 
 /// The phase of LEAVE, ENTER and PROMOTE: units leave structures, enter others of their region, and
-/// make others their owners. See docs/RULES.md, "Place".
+/// hand them over to other units. See docs/RULES.md, "Place".
 #[derive(Drop, Clone, Copy)]
 pub struct PlacePhase;
 
-/// Whether a structure is there, and in this region.
+/// Whether a structure exists, and is in a given region.
 fn is_in(campaign: &Campaign, structure: u32, region: u32) -> bool
     ensures { result ≡ is_in region (map.get campaign.now.value.structures structure) }
 {
@@ -32,7 +32,7 @@ fn is_in(campaign: &Campaign, structure: u32, region: u32) -> bool
     }
 }
 
-/// Whether a structure is there, and this unit owns it.
+/// Whether a structure exists, and a given unit owns it.
 fn is_owned_by(campaign: &Campaign, structure: u32, unit: u32) -> bool
     ensures { result ≡ is_owned_by (map.get campaign.now.value.structures structure) unit }
 {
@@ -218,11 +218,16 @@ impl OrderPhase for PlacePhase {
         }
     }
 
+    /// The law that an order of LEAVE, ENTER or PROMOTE keeps the campaign early, books nothing,
+    /// and leaves each unit but its own no worse off (`IsOrderly`). Does nothing.
     fn is_orderly(&self) {}
 }
 
+/// Makes the phase of LEAVE, ENTER and PROMOTE a `Phase` that carries out its orders one by one and
+/// does nothing else.
 impl PlainPhase for PlacePhase {
     ghost makes = { place_step };
 
+    /// The law that each order of the phase has the effect that `place_step` says. Does nothing.
     fn is_plain(&self) {}
 }

@@ -27,7 +27,7 @@ use std::alloc::{AllocError, Global};
 #[derive(Drop, Clone, Copy)]
 pub struct QuitPhase;
 
-/// The entry under which what a leaving unit has is booked: left for men, else lost.
+/// The entry under which what a leaving unit has is booked: left for men, lost for money and items.
 fn loss_entry(thing: Thing) -> Entry
     ensures { result ≡ loss_entry thing }
 {
@@ -193,6 +193,9 @@ impl OrderPhase for QuitPhase {
         }
     }
 
+    /// The law that an order of QUIT keeps the campaign steady, books no more than what the leaving
+    /// units had, and leaves units of factions that don't quit no worse off (`IsOrderly`). Does
+    /// nothing.
     fn is_orderly(&self) {}
 }
 

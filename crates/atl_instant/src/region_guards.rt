@@ -27,6 +27,8 @@ impl Model for RegionGuards {
     ghost view = { λ a. a.factions };
 }
 
+/// Makes the map from the units of a campaign, enters factions, and looks up whether another
+/// faction guards a region.
 impl RegionGuards {
     /// The map of which faction guards each region of a campaign, made in one pass over its units.
     /// AllocError without memory.

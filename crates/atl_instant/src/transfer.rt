@@ -193,12 +193,17 @@ impl OrderPhase for TransferPhase {
         }
     }
 
+    /// The law that an order of TRANSFER keeps the campaign early, books nothing, and leaves each
+    /// unit but its own no worse off (`IsOrderly`). Does nothing.
     fn is_orderly(&self) {}
 }
 
+/// Makes the phase of TRANSFER a `Phase` that carries out its orders one by one and does nothing
+/// else.
 impl PlainPhase for TransferPhase {
     ghost makes = { transfer_step };
 
+    /// The law that each order of the phase has the effect that `transfer_step` says. Does nothing.
     fn is_plain(&self) {}
 }
 

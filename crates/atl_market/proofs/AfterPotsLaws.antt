@@ -1,4 +1,5 @@
--- Laws that TAX, RECRUIT, WORK and PRODUCE change all units and regions at once: one payment changes its own alone.
+-- Laws that TAX, RECRUIT, WORK and PRODUCE change all units and regions at once: a payment changes only its own unit
+-- and region.
 use Rattle.std.proofs.Common.{◌≡◌, ℕ, ◌+◌, ◌-◌, ◌*◌, true, false, Option, Some, None, refl, ap, ◌∙◌, arith}
 use Rattle.std.specs.List.{slice_get}
 use Rattle.std.specs.Option.{option_map_or}
@@ -137,14 +138,17 @@ module _ (asked : FinMap nat_cmp ℕ) (w : WorldValue) where
   unfolding after_production
   produced_unit d e u is = by_item (get asked e.0)
     where
+      -- the unit has the pieces that it made more, and the raw item `o`, if one goes into them, less
       by_raw : (i amount : ℕ) (o : Option ℕ) → get (with_made (with_raw_used d e.0 amount o) e.0 i e.1).units e.0 ≡ Some (record u { holding = with_more (with_less u.holding o amount) i e.1 })
       by_raw i amount None = made_unit w d e.0 i e.1 u is
       by_raw i amount (Some r) = made_unit w (with_used d e.0 r amount) e.0 i e.1 (record u { holding = with_less u.holding (Some r) amount }) (used_unit w d e.0 r amount u is)
 
+      -- the unit has changed by making item `o` of the world (`maker_of`), or is as it was without such an item
       by_world : (i : ℕ) (o : Option Item) → get (option_map_or (with_item_made d e.0 e.1 i) o d).units e.0 ≡ Some (option_map_or (maker_of u e.1 i) o u)
       by_world i None = is
       by_world i (Some x) = by_raw i (e.1 * x.raw_count) x.raw
 
+      -- the unit has changed by making the item `o` that its order names (`maker_by`), if it names one
       by_item : (o : Option ℕ) → get (option_map_or (λ i. option_map_or (with_item_made d e.0 e.1 i) (slice_get w.items i) d) o d).units e.0 ≡ Some (maker_by w u e.1 o)
       by_item None = is
       by_item (Some i) = by_world i (slice_get w.items i)

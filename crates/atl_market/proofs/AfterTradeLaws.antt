@@ -60,11 +60,11 @@ traded_twice Sell stock s t = omega arith
 traded_twice Buy stock s t = omega arith
 
 module _ (d : CampaignValue) (n : ℕ) (u : Unit) (i : ℕ) (entry : Entry) (deal : TradeResult) (is : get d.units n ≡ Some u) where
-  -- the units after a trade is set: unit `n` with its new holding, the others as they were
+  -- the units after the result of a trade is set: unit `n` with its new holding, the others as they were
   dealt_units : (with_result d n u i entry deal).units ≡ insert d.units n (record u { holding = with_trade_result u.holding i deal })
   dealt_units = ap (λ o. (with_held d n (with_trade_result u.holding i deal) o).units) is
 
-  -- the regions after a trade is set: the unit's region with its new stock, the others as they were
+  -- the regions after the result of a trade is set: the unit's region with its new stock, the others as they were
   dealt_regions : (with_result d n u i entry deal).regions ≡ changed (λ r. restocked r i deal.stock) d.regions u.region
   dealt_regions = ap (λ o. changed (λ r. restocked r i deal.stock) (with_held d n (with_trade_result u.holding i deal) o).regions u.region) is
 
@@ -79,6 +79,7 @@ module _ (trade : Trade) (items : FinMap nat_cmp ℕ) (w : WorldValue) where
   unit_traded : (d : CampaignValue) (e : ℕ × ℕ) (u : Unit) → get d.units e.0 ≡ Some u → get (after_trade trade items w d e).units e.0 ≡ Some (trader e.0 u e.1)
   unit_traded d e u is = by_market (market_for w u (get items e.0)) refl
     where
+      -- the trade changes the unit by its share, whether there is a market `o` or not
       by_market : (o : Option Market) → market_for w u (get items e.0) ≡ o → get (after_trade trade items w d e).units e.0 ≡ Some (trader_of trade u e.1 o)
       by_market None at = ap (λ (s : CampaignValue). get s.units e.0) (traded_is trade items w d e u is None at) ∙ is
       by_market (Some m) at =
@@ -145,14 +146,17 @@ module _ (trade : Trade) (items : FinMap nat_cmp ℕ) (w : WorldValue) (units : 
       amounts = amounts;
     }
       where
+        -- in its own region the unit draws from the pot of the market's item alone
         mine : (i : ℕ) → draws_item units items (r, i) e.0 ≡ (m.item == i)
         mine i = draws r i ∙ ap (λ b. b && m.item == i) (ap (λ k. u.region == k) same ∙ same_number u.region)
 
+        -- the market's stock after the trade is `stock_after` of its stock before
         stock : deal.stock ≡ stock_after trade (amount_of q.stocks m.item) e.1
         stock =
             stock_traded trade u.holding (stock_of d u.region m.item) e.1 m
             ∙ ap (λ k. stock_after trade k e.1) (stock_is d u.region q m.item (ap (get d.regions) (sym same) ∙ around))
 
+        -- each stock of the region changes by what the unit draws of the item (`drawn_here`)
         amounts : (i : ℕ) → amount_of (with_amount_of q.stocks m.item deal.stock) i ≡ stock_after trade (amount_of q.stocks i) (drawn_here r i)
         amounts i = elim (cases_eq i m.item) [
           | inl one ↦
@@ -176,6 +180,7 @@ module _ (trade : Trade) (items : FinMap nat_cmp ℕ) (w : WorldValue) (units : 
   region_traded : IsWorld w → (market_for w u (get items e.0) ≡ None → e.1 ≡ 0) → (r : ℕ) (q : Region) → get d.regions r ≡ Some q → IsTraded r q
   region_traded world none r q around = by_market (market_for w u (get items e.0)) refl
     where
+      -- the stocks of region `r` change as `IsTraded` says, whether there is a market `o` or not
       by_market : (o : Option Market) → market_for w u (get items e.0) ≡ o → IsTraded r q
       by_market None at = without_market at (none at) r q around
       by_market (Some m) at =

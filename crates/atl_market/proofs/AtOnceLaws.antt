@@ -1,4 +1,4 @@
--- The law that payments one after the other change all units and regions at once, where each changes its own alone.
+-- The law that payments in turn change all units and regions at once, if each changes its own unit and region alone.
 use Rattle.std.proofs.Common.{◌≡◌, ◌≢◌, ℕ, ◌+◌, ◌<◌, ◌==◌, Bool, true, false, cond, List, [], ◌∷◌, map, filter, sum, Some, refl, sym, ap, subst, ◌∙◌, inl, inr, arith}
 use Rattle.std.specs.Prelude.{⊤, fold}
 use Rattle.std.specs.List.{AllByRecursion}
@@ -43,6 +43,7 @@ module _ {needs : Bool} {step : CampaignValue → ℕ × ℕ → CampaignValue} 
   still_around : (d : CampaignValue) (e : ℕ × ℕ) (u v : Unit) → get d.units e.0 ≡ Some u → Around needs d u → Around needs d v → Around needs (step d e) v
   still_around d e u v is here there = by_need needs (λ k apart. pays.regions d e u is here k apart) (λ q at. pays.region d e u q is at) there
     where
+      -- the region of unit `v` is still there after the payment, if it is needed (`b`)
       by_need : (b : Bool) → ((k : ℕ) → k ≢ u.region → get (step d e).regions k ≡ get d.regions k) → ((q : Region) → get d.regions u.region ≡ Some q → get (step d e).regions u.region ≡ Some (gives q e.1)) → Around b d v → Around b (step d e) v
       by_need false others mine there = tt
       by_need true others mine (q, at) = elim (cases_eq v.region u.region) [
@@ -55,7 +56,7 @@ module _ {needs : Bool} {step : CampaignValue → ℕ × ℕ → CampaignValue} 
     abbrev CanBePaid : CampaignValue → ℕ × ℕ → Type 0
     CanBePaid d e = (u : Unit) × (get c.units e.0 ≡ Some u) × Around needs d u
 
-    -- in campaign `d` the shares still to come can be paid: their units are as in `c`, and there
+    -- in campaign `d` the shares `es` can be paid, in the order of unit numbers: their units are as in `c`, and there
     record AreReady (d : CampaignValue) (es : List (ℕ × ℕ)) : Type 0 where
       rise : Rise es
       same : AreUntouched c d es
@@ -66,7 +67,7 @@ module _ {needs : Bool} {step : CampaignValue → ℕ × ℕ → CampaignValue} 
     payable_still d e u [] is here all = tt
     payable_still d e u (f ∷ es) is here ((v, there, around), all) = ((v, there, still_around d e u v is here around), payable_still d e u es is here all)
 
-    -- after the first payment the shares still to come can be paid
+    -- after the first payment of a list the later payments can be made (`AreReady`)
     ready_still : (d : CampaignValue) (e : ℕ × ℕ) (es : List (ℕ × ℕ)) (u : Unit) → get d.units e.0 ≡ Some u → Around needs d u → AreReady d (e ∷ es) → AreReady (step d e) es
     ready_still d e es u is here ready = record {
       rise = ready.rise.1;
@@ -123,6 +124,7 @@ pub drawn_is : (draws : Drawers) (es : List (ℕ × ℕ)) → drawn draws es ≡
 drawn_is draws [] = refl
 drawn_is draws (e ∷ es) = by_test (draws e.0) (drawn_is draws es)
   where
+    -- what is drawn is the sum of the drawing units' shares, whether the first unit draws (`b`) or not
     by_test : (b : Bool) → drawn draws es ≡ sum (map (λ f. f.1) (filter (λ f. draws f.0) es))
         → cond b e.1 0 + drawn draws es ≡ sum (map (λ f. f.1) (cond b (e ∷ filter (λ f. draws f.0) es) (filter (λ f. draws f.0) es)))
     by_test true rest = ap (λ k. e.1 + k) rest ∙ sym (sum_by-cons (λ x. x) e.1 (map (λ f. f.1) (filter (λ f. draws f.0) es)))

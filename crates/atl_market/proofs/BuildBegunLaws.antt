@@ -40,6 +40,7 @@ still_well w c d can same books totals reserves = record {
 pub first_name_ok : (k : Kind) (number : ℕ) → number ≤ last_unit → IsTrue (name_ok (name_prefix k ++ decimal number))
 first_name_ok k number l = by_sort k.ship
   where
+    -- the first name of a ship keeps the rule of names, and so does that of a building
     by_sort : (ship : Bool) → name_ok ((if ship then codes "Ship " else codes "Building ") ++ decimal number) ≡ true
     by_sort true = numbered_name_ok (codes "Ship ") (record { bytes = refl; begins = refl; some = lit≤ tt; few = lit≤ tt }) number l
     by_sort false = numbered_name_ok (codes "Building ") (record { bytes = refl; begins = refl; some = lit≤ tt; few = lit≤ tt }) number l

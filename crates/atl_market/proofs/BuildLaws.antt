@@ -72,6 +72,7 @@ next_within c numbered room = omega (arith, numbered.count, room)
 pub limit_by_next : (c : CampaignValue) → IsNumbered c.structures c.next_structure → nat_lt most_structures c.next_structure ≡ is_structure_limit c
 limit_by_next c numbered = rw numbered.count (by_count most_structures (len c.structures))
   where
+    -- `most` is less than `count + 1` exactly if it is at most `count`
     by_count : (most count : ℕ) → nat_lt most (count + 1) ≡ nat_le most count
     by_count most count = grind (arith, nat_tests)
 
@@ -265,6 +266,7 @@ module _ (w : WorldValue) (c : CampaignValue) (n : ℕ) (u : Unit) (s : Structur
     most : s.done + added ≤ size_of w s.kind
     most = subst (λ x. s.done + added ≤ x) (sym (kind_size w s.kind k kind_is)) (up added s.done k.size (size_missing k u.holding s.done) fit.missing)
       where
+        -- what is done of a size, and an addition of at most what is missing, are together at most the size
         up : (a d m : ℕ) → a ≤ m - d → d < m → d + a ≤ m
         up a d m l h = omega (arith, l, h)
 
@@ -283,6 +285,7 @@ begin_cases : (P : CampaignValue → Type 0) (w : WorldValue) (c : CampaignValue
 unfolding begin
 begin_cases P w c n kind k u same go = by_fault (begin_fault w c u k) refl
   where
+    -- `P` holds after `BUILD kind`, whether the order has a fault `o` or not
     by_fault : (o : Option EventFault) → begin_fault w c u k ≡ o → P (unless c o (after_start c n kind k u.region (size_added k u.holding 0), Done (size_added k u.holding 0))).0
     by_fault (Some fault) e = same
     by_fault None e = go (can_begin w c u k e)
@@ -294,19 +297,23 @@ go_on_cases : (P : CampaignValue → Type 0) (w : WorldValue) (c : CampaignValue
 unfolding go_on
 go_on_cases P w c n u same go = by_structure (get c.structures u.structure) refl
   where
+    -- `P` holds after `BUILD` inside structure `s`, whether the order has a fault `o` or not
     by_fault : (s : Structure) (k : Kind) → get c.structures u.structure ≡ Some s → slice_get w.kinds s.kind ≡ Some k → (o : Option EventFault) → inside_fault u s k ≡ o
         → P (unless c o (after_building_on c n k.material (size_added k u.holding s.done) u.structure (s.done + size_added k u.holding s.done), Done (size_added k u.holding s.done))).0
     by_fault s k there kind_is (Some fault) e = same
     by_fault s k there kind_is None e = go s k there kind_is (can_go_on u s k e)
 
+    -- `P` holds after `BUILD` by a unit outside any structure, which has a fault: NoMen or NotInside
     outside : (b : Bool) → P (unless c (if b then Some NoMen else Some NotInside) (c, Done 0)).0
     outside true = same
     outside false = same
 
+    -- `P` holds after `BUILD` inside structure `s`, whether the world has its kind or not
     by_kind : (s : Structure) → get c.structures u.structure ≡ Some s → (o : Option Kind) → slice_get w.kinds s.kind ≡ o → P (go_on_at c n u (option_map (λ k. (s, k)) o)).0
     by_kind s there None kind_is = outside (u.holding.men == 0)
     by_kind s there (Some k) kind_is = by_fault s k there kind_is (inside_fault u s k) refl
 
+    -- `P` holds after `BUILD`, whether the unit is inside a structure or not
     by_structure : (o : Option Structure) → get c.structures u.structure ≡ o → P (go_on_at c n u (option_and_then (with_kind w) o)).0
     by_structure None there = outside (u.holding.men == 0)
     by_structure (Some s) there = by_kind s there (slice_get w.kinds s.kind) refl
@@ -334,22 +341,28 @@ module _ (w : WorldValue) (c : CampaignValue) (n : ℕ) (u : Unit) (is : get c.u
 reserve_within : (w : WorldValue) (c : CampaignValue) → CanBuild w c → (e : Entry) (t : Thing) → build_reserve c e t ≤ build_moves e t
 reserve_within w c can e t = by_thing t
   where
+    -- what is at most `most` for each holding is, over all units, at most `most` times the count of units
     all_within : (f : HoldingValue → ℕ) (most : ℕ) → ((h : HoldingValue) → IsHolding h → f h ≤ most) → sum_over (λ (u : Unit). f u.holding) c.units ≤ length (entries c.units) * most
     all_within f most each = sum_within (λ (u : Unit). f u.holding) most (entries c.units) (each-from_every (λ n u. f u.holding ≤ most) c.units (λ n u is. each u.holding (can.steady.numbers.units n u is).1))
 
+    -- a holding's limit for each of at most 100,000 units is together at most `most_moved`
     few : (s n : ℕ) → s ≤ n * holding_limit → n ≤ most_units → s ≤ most_moved
     few s n l m = omega (arith, l, m)
 
+    -- a sum that is at most 0 for each unit is at most 0
     nothing : (s n : ℕ) → s ≤ n * 0 → s ≤ 0
     nothing s n l = omega (arith, l)
 
+    -- the sum of 0 over all units is at most 0
     none : sum_over (λ (u : Unit). 0) c.units ≤ 0
     none = nothing (sum_over (λ (u : Unit). 0) c.units) (length (entries c.units)) (all_within (λ h. 0) 0 (λ h is. omega arith))
 
+    -- what BUILD may still book of item `i` is at most `most_moved` under Used (`b`), and 0 under other entries
     by_entry : (i : ℕ) (b : Bool) → sum_over (λ (u : Unit). if b then amount_of u.holding.items i else 0) c.units ≤ (if b then most_moved else 0)
     by_entry i true = few (sum_over (λ (u : Unit). amount_of u.holding.items i) c.units) (length (entries c.units)) (all_within (λ h. amount_of h.items i) holding_limit (λ h is. amount_within h i is)) (omega (arith, len-entries c.units, can.steady.numbers.few_units))
     by_entry i false = none
 
+    -- what BUILD may still book of thing `s` is within the bound of the phase
     by_thing : (s : Thing) → build_reserve c e s ≤ build_moves e s
     by_thing Money = none
     by_thing People = none
@@ -367,18 +380,22 @@ build_orderly = record {
   bounded = reserve_within;
 }
   where
+    -- an order of BUILD keeps what BUILD needs of the campaign (`CanBuild`), whatever its operands are
     well : (w : WorldValue) (c : CampaignValue) (n : ℕ) (x : Unit) → get c.units n ≡ Some x → CanBuild w c → (s : OperandsValue) → IfSome (build_effect w n s) (λ deed. StepsWell CanBuild build_reserve w c (deed c x).0)
     well w c n x is can (operands.Kind (Some kind)) = by_kind (slice_get w.kinds kind) refl
       where
+        -- `BUILD kind` keeps what BUILD needs of the campaign, whether the world has the kind or not
         by_kind : (o : Option Kind) → slice_get w.kinds kind ≡ o → IfSome (option_map (begin w n kind) o) (λ deed. StepsWell CanBuild build_reserve w c (deed c x).0)
         by_kind None kind_is = tt
         by_kind (Some k) kind_is = begin_well w c n x is kind k kind_is can
     well w c n x is can (operands.Kind None) = go_on_well w c n x is can
     well w c n x is can other = tt
 
+    -- an order of BUILD leaves the units other than its own as they are, whatever its operands are
     stays : (w : WorldValue) (c : CampaignValue) (n : ℕ) (x : Unit) → get c.units n ≡ Some x → (j : ℕ) → j ≢ n → (s : OperandsValue) → IfSome (build_effect w n s) (λ deed. get (deed c x).0.units j ≡ get c.units j)
     stays w c n x is j apart (operands.Kind (Some kind)) = by_kind (slice_get w.kinds kind)
       where
+        -- `BUILD kind` leaves the other units as they are, whether the world has the kind or not
         by_kind : (o : Option Kind) → IfSome (option_map (begin w n kind) o) (λ deed. get (deed c x).0.units j ≡ get c.units j)
         by_kind None = tt
         by_kind (Some k) = begin_stays w c n x is kind k j apart
@@ -437,5 +454,6 @@ go_on_done w c d f n u s k size told is there kind_is none first told_is size_is
 pub done_small : (u : Unit) (s : Structure) (k : Kind) → inside_fault u s k ≡ None → k.size ≤ most_size → s.done + size_added k u.holding s.done ≤ most_size
 done_small u s k none small = up (size_added k u.holding s.done) s.done k.size (size_missing k u.holding s.done) (can_go_on u s k none).missing small
   where
+    -- what is done of a size, and an addition of at most what is missing, are at most the greatest size of a kind
     up : (a d m : ℕ) → a ≤ m - d → d < m → m ≤ most_size → d + a ≤ most_size
     up a d m l h small = omega (arith, l, h, small)

@@ -44,9 +44,11 @@ item_less : (h : HoldingValue) (item amount j : ℕ) → amount ≤ amount_of h.
 item_less h item amount j enough =
     by_test (eq_by_cmp nat_cmp j item) refl ∙ ap (λ x. x + cond (eq_by_cmp nat_cmp j item) amount 0) (sym (set_amount h.items item (amount_of h.items item - amount) j))
   where
+    -- an amount is what is left of it when `n` is taken, plus `n`
     here : (x a n : ℕ) → n ≤ a → x ≡ a → x ≡ (a - n) + n
     here x a n l e = omega (arith, l, e)
 
+    -- what the unit had of item `j` is what it has left plus what it used, whether `j` is the item used or not
     by_test : (q : Bool) → eq_by_cmp nat_cmp j item ≡ q → amount_of h.items j ≡ cond q (amount_of h.items item - amount) (amount_of h.items j) + cond q amount 0
     by_test true is = here (amount_of h.items j) (amount_of h.items item) amount enough (ap (amount_of h.items) (alike item j is))
     by_test false is = omega arith
@@ -56,28 +58,32 @@ abbrev used_of : (item amount : ℕ) → Entry → Thing → ℕ
 used_of item amount e (Item j) = if entry_index e == entry_index Used then cond (eq_by_cmp nat_cmp j item) amount 0 else 0
 used_of item amount e t = 0
 
--- after a unit used an amount of an item, what its holding may still have booked is less by that amount under Used
+-- using an amount of an item lowers what BUILD may still book for the holding (`usable`) by that amount, under Used
 usable_less : (h : HoldingValue) (item amount : ℕ) → amount ≤ amount_of h.items item → (e : Entry) (t : Thing) → usable e t h ≡ usable e t (with_less h item amount) + used_of item amount e t
 usable_less h item amount enough e Money = refl
 usable_less h item amount enough e People = refl
 usable_less h item amount enough e (Item j) = by_entry (entry_index e == entry_index Used)
   where
+    -- what BUILD may book of item `j` falls by what was used of it under Used, and is 0 under any other entry
     by_entry : (b : Bool) → (if b then amount_of h.items j else 0) ≡ (if b then amount_of (with_less h item amount).items j else 0) + (if b then cond (eq_by_cmp nat_cmp j item) amount 0 else 0)
     by_entry true = item_less h item amount j enough
     by_entry false = refl
 
--- using an amount of an item moves the books by at most that amount, under Used and for that item alone
+-- the bound on using `amount` of an item is at most `used_of`: `amount` under Used for that item, else 0
 only_used : (item amount : ℕ) (e : Entry) (t : Thing) → moves_only amount Used (Item item) e t ≤ used_of item amount e t
 only_used item amount e t = by_number (amount_number e t == amount_number Used (Item item)) refl
   where
+    -- `used_of` gives at least `amount` where both of its tests hold, for the entry and for the item
     at : (b d : Bool) → b ≡ true → d ≡ true → amount ≤ (if b then cond d amount 0 else 0)
     at true true f g = omega arith
     at true false f g = cc
     at false d f g = cc
 
+    -- if two amounts of the books have the same number, they are of the same thing and under the same entry
     places : (i j p q : ℕ) → entry_count * i + p ≡ entry_count * j + q → p < entry_count → q < entry_count → (i ≡ j) × (p ≡ q)
     places i j p q e l m = (omega (arith, e, l, m), omega (arith, e, l, m))
 
+    -- `used_of` gives at least `amount` for a thing `s` whose amount has the number of Used of the item
     by_thing : (s : Thing) → entry_count * thing_index s + entry_index e ≡ entry_count * thing_index (Item item) + entry_index Used → amount ≤ used_of item amount e s
     by_thing Money same = let p = places 0 (2 + item) (entry_index e) (entry_index Used) same (entry_small e) (entry_small Used) in absurd (omega (arith, p.0))
     by_thing People same = let p = places 1 (2 + item) (entry_index e) (entry_index Used) same (entry_small e) (entry_small Used) in absurd (omega (arith, p.0))
@@ -88,6 +94,7 @@ only_used item amount e t = by_number (amount_number e t == amount_number Used (
         at (entry_index e == entry_index Used) (eq_by_cmp nat_cmp j item) (let f : (entry_index e == entry_index Used) ≡ true = grind (arith, nat_tests) in f)
         (sym (unsigned_ties j item) ∙ (let g : (j == item) ≡ true = grind (arith, nat_tests) in g))
 
+    -- the bound is at most `used_of`, whether the amount's number is that of Used of the item or not
     by_number : (b : Bool) → (amount_number e t == amount_number Used (Item item)) ≡ b → (if b then amount else 0) ≤ used_of item amount e t
     by_number true is = by_thing t (let same : entry_count * thing_index t + entry_index e ≡ entry_count * thing_index (Item item) + entry_index Used = grind (arith, nat_tests) in same)
     by_number false is = omega arith
@@ -111,7 +118,7 @@ module _ (w : WorldValue) (c : CampaignValue) (n item amount : ℕ) (u : Unit) (
   pub user_there : get used.units n ≡ Some user
   user_there = get-insert_same c.units n user
 
-  -- the other units stay as they are
+  -- using the item leaves the other units as they are
   pub others_stay : (k : ℕ) → k ≢ n → get used.units k ≡ get c.units k
   others_stay k apart = get-insert_other c.units n k user apart
 
@@ -120,7 +127,7 @@ module _ (w : WorldValue) (c : CampaignValue) (n item amount : ℕ) (u : Unit) (
     well : LeavesWell IsSteady (moves_only amount Used (Item item)) w c used
     well = subst (LeavesWell IsSteady (moves_only amount Used (Item item)) w c) (used_is w c n item amount u is) (used_up_to w c n item amount amount (omega arith) u is known enough can.steady)
 
-    -- what BUILD may still book is less by what the books moved
+    -- using the item lowers what BUILD may still book by at least as much as it moves the books (`UsesBound`)
     drawn : (e : Entry) (t : Thing) → UsesBound (build_reserve c e t) (build_reserve used e t) (amount_in c.books e t) (amount_in used.books e t)
     drawn e t =
         let f = λ (x : Unit). usable e t x.holding in
@@ -156,5 +163,6 @@ used_room c n item amount u is enough room =
     less_room amount (build_reserve c Used (Item item)) (amount_in c.books Used (Item item))
     (within amount (amount_of u.holding.items item) (sum_over f (remove c.units n)) (build_reserve c Used (Item item)) enough (sum_over-remove c.units n f u is)) (room Used (Item item))
   where
+    -- an amount that is at most one term of a sum is at most the sum
     within : (a b s r : ℕ) → a ≤ b → s + b ≡ r → a ≤ r
     within a b s r l e = omega (arith, l, e)

@@ -32,7 +32,7 @@ in_by_index [] n i low at = absurd (omega arith)
 in_by_index (k ∷ ns) n zero low at = inl (sym at)
 in_by_index (k ∷ ns) n (suc i) low at = inr (in_by_index ns n i (omega arith) at)
 
--- each number of a sorted list is above a number that is less than all of the list
+-- each number of a list is above `n`, if `n` compares as less than each of them
 risen_above : (n : ℕ) (ns : List ℕ) → AllByRecursion (λ k. nat_cmp n k ≡ Less) ns → (k : ℕ) → IsIn k ns → n < k
 risen_above n [] h k is = absurd is
 risen_above n (m ∷ ns) h k is = elim is [
@@ -40,11 +40,11 @@ risen_above n (m ∷ ns) h k is = elim is [
   | inr rest ↦ risen_above n ns h.1 k rest
 ]
 
--- a number of a list that is above its first is one of the rest
+-- a number of the list `n ∷ ns` that is above `n` is one of `ns`
 another : (k n : ℕ) (ns : List ℕ) → n < k → IsIn k (n ∷ ns) → IsIn k ns
 another k n ns above is = elim is [ inl same ↦ absurd (omega (arith, above, same)) | inr rest ↦ rest ]
 
--- a number that is one of a list, and isn't its first, is one of the rest
+-- a number of the list `n ∷ ns` that isn't `n` is one of `ns`
 not_this : (k n : ℕ) (ns : List ℕ) → k ≢ n → IsIn k (n ∷ ns) → IsIn k ns
 not_this k n ns apart is = elim is [ inl same ↦ absurd (apart same) | inr rest ↦ rest ]
 
@@ -70,7 +70,7 @@ module _ (draws : Drawers) where
     abbrev pub Listed : List ℕ → ℕ × ℕ → Type 0
     Listed ns e = draws e.0 ≡ true → IsIn e.0 ns × (amount e.0 ≡ e.1)
 
-    -- shares listed under a list, all of units above its first, are listed under the rest
+    -- shares that are `Listed` for the numbers `n ∷ ns`, all of units above `n`, are `Listed` for `ns`
     narrowed : (n : ℕ) (ns : List ℕ) (es : List (ℕ × ℕ)) → AllByRecursion (λ f. n < f.0) es → AllByRecursion (Listed (n ∷ ns)) es → AllByRecursion (Listed ns) es
     narrowed n ns [] above all = tt
     narrowed n ns (f ∷ es) above all = (λ draws. let (is, same) = all.0 draws in (another f.0 n ns above.0 is, same), narrowed n ns es above.1 all.1)
@@ -159,15 +159,17 @@ module _ {K : Type 0} (pots : DrawnPots K) where
     pub first_draws : (k : K) (q : Region) → get d.regions (pots.pot_region k) ≡ Some q → pots.draws k e.0 ≡ true → e.1 ≤ pots.left k q
     first_draws k q around mine = at_least (pots.left k q) (subst (λ b. cond b e.1 0 + drawn (pots.draws k) es ≤ pots.left k q) mine (enough k q around))
       where
+        -- a share is at most the pot if the share and what later units draw are together at most the pot
         at_least : (all : ℕ) → e.1 + drawn (pots.draws k) es ≤ all → e.1 ≤ all
         at_least all h = omega (arith, h)
 
-    -- if the pots have enough for all shares, and the first unit has had its turn, they have enough for the others
+    -- if the pots have enough for all shares, they have enough for the later shares after the first unit had its turn
     pub others_draw : (after : CampaignValue) → Drains d e after → HaveEnough after es
     others_draw after drains k x is =
         let (q, around, less) = drains k x is in
         left_over (cond (pots.draws k e.0) e.1 0) (drawn (pots.draws k) es) (pots.left k x) (pots.left k q) (enough k q around) less
       where
+        -- what later units draw is at most what is left of the pot after the first share
         left_over : (share rest less all : ℕ) → share + rest ≤ all → less + share ≡ all → rest ≤ less
         left_over share rest less all h k = omega (arith, h, k)
 
@@ -190,6 +192,7 @@ module _ {K : Type 0} (pots : DrawnPots K) where
           (x, sym (get-insert_other d.regions r (pots.pot_region k) (f q) apart) ∙ put, subst (λ b. pots.left k x + cond b e.1 0 ≡ pots.left k x) (sym (others k apart)) (no_less (pots.left k x)))
     ]
       where
+        -- the region `x` of pot `k` afterwards is its region in `d` with region `r` replaced by `f q`
         put : get (insert d.regions r (f q)) (pots.pot_region k) ≡ Some x
         put = sym (ap (λ m. get m (pots.pot_region k)) (changed ∙ changed-known f d.regions r q around)) ∙ found
 
@@ -197,6 +200,7 @@ module _ {K : Type 0} (pots : DrawnPots K) where
     pub nothing_drains : after.regions ≡ d.regions → e.1 ≡ 0 → Drains d e after
     nothing_drains same none k x found = (x, sym (ap (λ m. get m (pots.pot_region k)) same) ∙ found, ap (λ s. pots.left k x + cond (pots.draws k e.0) s 0) none ∙ neither (pots.draws k e.0) (pots.left k x))
       where
+        -- an amount plus a share of 0, whether drawn or not, is the amount
         neither : (b : Bool) (a : ℕ) → a + cond b 0 0 ≡ a
         neither true a = no_less a
         neither false a = no_less a
@@ -292,7 +296,7 @@ pub record AreReady {K : Type 0} (pots : DrawnPots K) (Fits : ℕ × ℕ → Typ
   pub fits : AllByRecursion Fits es
   pub enough : HaveEnough pots d es
 
--- after the first unit was paid, and its share left the pots, the other shares can be paid
+-- after the first unit was paid, and its share left the pots, the later shares can be paid (`AreReady`)
 pub ready_behind : {K : Type 0} (pots : DrawnPots K) {Fits : ℕ × ℕ → Type 0} (w : WorldValue) (c d : CampaignValue) (e : ℕ × ℕ) (es : List (ℕ × ℕ)) (after : CampaignValue)
     → AreReady pots Fits w c d (e ∷ es) → IsEarly w after → ((k : ℕ) → k ≢ e.0 → get after.units k ≡ get d.units k)
     → Drains pots d e after → AreReady pots Fits w c after es

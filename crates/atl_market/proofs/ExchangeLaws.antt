@@ -44,21 +44,25 @@ module _ (w : WorldValue) (c : CampaignValue) (n : ℕ) (u : Unit) (q : Region) 
   abbrev exchanged : CampaignValue
   exchanged = with_amount left entry Money z
 
-  -- the total of each thing changes by what is booked
+  -- an exchange that keeps goods together (`KeepsTogether`) changes the total of each thing by what it books
   total_of : KeepsTogether u q f more z → (t : Thing) → pos (total exchanged t) ≡ pos (total c t) +ℤ share_of t Money z
   total_of keeps t = by_thing t (total-amount left entry Money t z) (total-region f supplied u.region q around t) (total-unit_amount w c n u more is t)
     where
+      -- the total of an item stays the same, if what the unit gains of it is what the region loses
       same : (a b d e g h i j : ℕ) → a ≡ b → b + g ≡ d + h → d + i ≡ e + j → j + h ≡ i + g → a ≡ e
       same a b d e g h i j s k l m = omega (arith, s, k, l, m)
 
+      -- what is booked of an item, which is nothing, leaves the item's total as it is
       none_booked : (x i : ℕ) → pos x +ℤ share_of (Item i) Money z ≡ pos x
       none_booked x i =
           let other : (2 + i == 0) ≡ false = grind (arith, nat_tests) in
           ap (λ b. pos x +ℤ cond b z (pos 0)) other ∙ zero_more
         where
+          -- a number plus 0 is the number
           zero_more : pos x +ℤ pos 0 ≡ pos x
           zero_more = omega (arith, ints)
 
+      -- the total of money, people or an item changes by what is booked, given what each step changes of it
       by_thing : (t : Thing) → total exchanged t ≡ total left t → total left t + region_amount t q ≡ total supplied t + region_amount t (f q)
           → total supplied t + unit_amount t u.holding ≡ total c t + unit_amount t more → pos (total exchanged t) ≡ pos (total c t) +ℤ share_of t Money z
       by_thing Money s a b = omega (arith, ints, s, a, b, keeps.money)

@@ -28,15 +28,15 @@ use Rattle.atl_market.proofs.PotLaws.{Entries, IsApart, IsRisen, as_pairs, found
 -- ---- entries that agree with a function, put into a map in turn
 
 module _ (g : ℕ → Option ℕ) where
-  -- each entry's value is what the function has for its number
+  -- each entry's value is the one that the function `g` has for the entry's number
   abbrev AgreeWith : Entries → Type 0
   AgreeWith es = AllByRecursion (λ e. g e.0 ≡ Some e.1) es
 
-  -- an entry that agrees with the function gives its number the function's value, once it is put in
+  -- an entry that agrees with the function `g`, put into a map, gives its number the value that `g` has for it
   put_here : (m : FinMap nat_cmp ℕ) (e : ℕ × ℕ) (n s : ℕ) → n ≡ e.0 → g e.0 ≡ Some e.1 → g n ≡ Some s → get (insert m e.0 e.1) n ≡ Some s
   put_here m e n s same tells is = ap (get (insert m e.0 e.1)) same ∙ get-insert_same m e.0 e.1 ∙ sym tells ∙ ap g (sym same) ∙ is
 
-  -- a value that the function has, once in the map, stays when entries that agree with the function are put in
+  -- a value that the function `g` has, once in the map, stays when entries that agree with `g` are put in
   agreeing_stays : (m : FinMap nat_cmp ℕ) (es : Entries) (n s : ℕ) → AgreeWith es → g n ≡ Some s → get m n ≡ Some s → get (with_each m es) n ≡ Some s
   agreeing_stays m [] n s tells is at = at
   agreeing_stays m (e ∷ es) n s tells is at =
@@ -45,7 +45,7 @@ module _ (g : ℕ → Option ℕ) where
         | inr apart ↦ get-insert_other m e.0 n e.1 apart ∙ at
       ])
 
-  -- entries that agree with the function, put into a map, give each of their numbers the function's value there
+  -- entries that agree with the function `g`, put into a map, give each of their numbers the value that `g` has for it
   agreeing_comes : (m : FinMap nat_cmp ℕ) (es : Entries) (n s : ℕ) → AgreeWith es → g n ≡ Some s → is_some (find nat_cmp n es) ≡ true → get (with_each m es) n ≡ Some s
   agreeing_comes m [] n s tells is some = absurd (false≢true some)
   agreeing_comes m (e ∷ es) n s tells is some = elim (cases_eq n e.0) [
@@ -53,14 +53,16 @@ module _ (g : ℕ → Option ℕ) where
     | inr apart ↦ agreeing_comes (insert m e.0 e.1) es n s tells.1 is (ap is_some (sym (found_other e es n apart)) ∙ some)
   ]
 
-  -- entries that agree with a function and have all its numbers, put into the empty map, make a map of the function
+  -- entries that agree with the function `g` and have all its numbers, put into the empty map, make a map of `g`
   pub agreeing_put : (es : Entries) → AgreeWith es → ((n s : ℕ) → g n ≡ Some s → is_some (find nat_cmp n es) ≡ true) → (n : ℕ) → get (with_each empty es) n ≡ g n
   agreeing_put es tells whole n = by_find (find nat_cmp n es) refl
     where
+      -- the function has no value for a number that isn't among the entries
       nothing : find nat_cmp n es ≡ None → (o : Option ℕ) → g n ≡ o → o ≡ None
       nothing none None is = refl
       nothing none (Some s) is = absurd (false≢true (ap is_some (sym none) ∙ whole n s is))
 
+      -- the map has the function's value for `n`, whether `n` is among the entries or not
       by_find : (o : Option ℕ) → find nat_cmp n es ≡ o → get (with_each empty es) n ≡ g n
       by_find None is = left empty es n is ∙ get-empty nat_cmp n ∙ sym (nothing is (g n) refl)
       by_find (Some s) is =
@@ -78,6 +80,7 @@ found_among : {A : Type 0} (f : A → Entries) (n : ℕ) (e : A → A → Bool) 
 found_among f n e exact [] x among some = absurd (false≢true among)
 found_among f n e exact (y ∷ xs) x among some = by_first (λ h. found_among f n e exact xs x h some) (find nat_cmp n (f y)) refl (e x y) refl among
   where
+    -- a number is found among all entries, whether the entries of the first element have it or those of later ones
     by_first : (list_any (e x) xs ≡ true → is_some (find nat_cmp n (flat_map f xs)) ≡ true)
         → (o : Option ℕ) → find nat_cmp n (f y) ≡ o → (b : Bool) → e x y ≡ b → (b || list_any (e x) xs) ≡ true → is_some (find nat_cmp n (flat_map f (y ∷ xs))) ≡ true
     by_first rest (Some s) is b at h = ap is_some (found_first n (f y) (flat_map f xs) s is)
@@ -93,6 +96,7 @@ each_flat P f (x ∷ xs) h = append_each P (f x) (flat_map f xs) h.0 (each_flat 
 tied : (a b : ℕ) → eq_by_cmp nat_cmp a b ≡ true → a ≡ b
 tied a b h = by_order (nat_cmp a b) refl h
   where
+    -- `a` and `b` are equal if their comparison `o` is Equal
     by_order : (o : _) → nat_cmp a b ≡ o → is_eq o ≡ true → a ≡ b
     by_order Less is h = absurd (false≢true h)
     by_order Equal is h = nat_cmp-IsAntisymmetric a b is
@@ -151,10 +155,12 @@ module _ (item_of : ℕ → Option ℕ) (wants : FinMap nat_cmp ℕ) where
   asks : (i n want : ℕ) → get (mine i) n ≡ Some want → item_of n ≡ Some i
   asks i n want is = by_item (item_of n) refl (sym (mine_at i n) ∙ is)
     where
+      -- a unit that has a want for item `i` asks for `i`, whichever item `o` it asks for
       by_item : (o : Option ℕ) → item_of n ≡ o → cond (is_for i o) (get wants n) None ≡ Some want → item_of n ≡ Some i
       by_item None at h = none_some want h
       by_item (Some j) at h = by_test (j == i) refl h
         where
+          -- a unit that asks for item `j` has a want for item `i` only if `j` is `i`
           by_test : (b : Bool) → (j == i) ≡ b → cond b (get wants n) None ≡ Some want → item_of n ≡ Some i
           by_test true same h = at ∙ ap Some (eqb-true j i same)
           by_test false same h = none_some want h
@@ -163,6 +169,7 @@ module _ (item_of : ℕ → Option ℕ) (wants : FinMap nat_cmp ℕ) where
   is_wanted : (i n want : ℕ) → get (mine i) n ≡ Some want → get wants n ≡ Some want
   is_wanted i n want is = by_test (is_for i (item_of n)) (sym (mine_at i n) ∙ is)
     where
+      -- a want for item `i` is the unit's want, since the test of its item only keeps or drops the want
       by_test : (b : Bool) → cond b (get wants n) None ≡ Some want → get wants n ≡ Some want
       by_test true h = h
       by_test false h = none_some want h
@@ -171,6 +178,7 @@ module _ (item_of : ℕ → Option ℕ) (wants : FinMap nat_cmp ℕ) where
   wants_the_same : (i n : ℕ) → is_some (get (mine i) n) ≡ true → want_of wants n ≡ want_of (mine i) n
   wants_the_same i n some = by_test (is_for i (item_of n)) refl
     where
+      -- the unit has the same want in both maps, since it asks for item `i` (the test `b`)
       by_test : (b : Bool) → is_for i (item_of n) ≡ b → want_of wants n ≡ want_of (mine i) n
       by_test true is = sym (ap (λ o. unwrap_or o 0) (mine_at i n ∙ ap (λ b. cond b (get wants n) None) is))
       by_test false is = absurd (false≢true (sym (ap is_some (mine_at i n ∙ ap (λ b. cond b (get wants n) None) is)) ∙ some))
@@ -183,6 +191,7 @@ module _ (item_of : ℕ → Option ℕ) (wants : FinMap nat_cmp ℕ) where
   one_put : (groups : Groups) (n : ℕ) (rest : Entries) (i : ℕ) → with_each (group_of (with_want item_of wants groups n) i) rest ≡ with_each (group_of groups i) (want_entry n (get (mine i) n) ++ rest)
   one_put groups n rest i = by_item (item_of n) (get wants n) ∙ sym (ap (λ o. with_each (group_of groups i) (want_entry n o ++ rest)) (mine_at i n))
     where
+      -- the group of item `i` gets the want `v` of unit `n` exactly if `i` is the item `o` that the unit asks for
       by_item : (o v : Option ℕ) → with_each (group_of (with_item_want groups n o v) i) rest ≡ with_each (group_of groups i) (want_entry n (cond (is_for i o) v None) ++ rest)
       by_item None v = refl
       by_item (Some j) None = elim (j == i) as (λ b. with_each (group_of groups i) rest ≡ with_each (group_of groups i) (want_entry n (cond b None None) ++ rest)) [ true ↦ refl | false ↦ refl ]
@@ -216,6 +225,7 @@ filtered_map : (p : ℕ → Bool) (f g : ℕ → ℕ) → ((n : ℕ) → p n ≡
 filtered_map p f g same [] = refl
 filtered_map p f g same (n ∷ ns) = by_test (p n) refl (filtered_map p f g same ns)
   where
+    -- the two lists stay alike with number `n` in front, whether `n` passes the test or not
     by_test : (b : Bool) → p n ≡ b → map f (filter p ns) ≡ map g (filter p ns) → map f (cond b (n ∷ filter p ns) (filter p ns)) ≡ map g (cond b (n ∷ filter p ns) (filter p ns))
     by_test true is rest = λ i. same n is i ∷ rest i
     by_test false is rest = rest
@@ -225,7 +235,7 @@ found_all : (es : Entries) → IsApart es → AllByRecursion (λ e. find nat_cmp
 found_all [] apart = tt
 found_all (e ∷ es) apart = (found_head e es, each_so (λ f. find nat_cmp f.0 es ≡ Some f.1) (λ f. find nat_cmp f.0 (e ∷ es) ≡ Some f.1) (λ f is. found_tail e es f.0 f.1 apart is) es (found_all es apart.1))
 
--- what is so of all is so of each element of a list
+-- what holds of all values holds of each element of a list
 so_each : {A : Type 0} (P : A → Type 0) → ((x : A) → P x) → (xs : List A) → AllByRecursion P xs
 so_each P h [] = tt
 so_each P h (x ∷ xs) = (h x, so_each P h xs)
@@ -281,6 +291,7 @@ module _ (item_of : ℕ → Option ℕ) (pot_of : (item region : ℕ) → ℕ) (
     region_agrees : IsThere c.regions r → AgreeWith gets (region_shares item_of pot_of wants c r)
     region_agrees there = subst (AgreeWith gets) (sym region_is) (each_flat (λ e. gets e.0 ≡ Some e.1) of_item (keys groups) (so_each _ one (keys groups)))
       where
+        -- each share of item `i` in the region is its unit's share by the definition
         one : (i : ℕ) → AgreeWith gets (of_item i)
         one i =
             each_so (λ e. find nat_cmp e.0 (of_item i) ≡ Some e.1) (λ e. gets e.0 ≡ Some e.1)
@@ -294,6 +305,7 @@ module _ (item_of : ℕ → Option ℕ) (pot_of : (item region : ℕ) → ℕ) (
         subst (λ (es : Entries). is_some (find nat_cmp n es) ≡ true) (sym region_is)
         (found_among of_item n (eq_by_cmp nat_cmp) tied (keys groups) i (sym (contains_key-keys groups i) ∙ by_group (get groups i) refl) (ap is_some is))
       where
+        -- an item of which some unit of the region has a share has a group
         by_group : (o : Option (FinMap nat_cmp ℕ)) → get groups i ≡ o → is_some o ≡ true
         by_group (Some group) at = refl
         by_group None at =
@@ -304,6 +316,7 @@ module _ (item_of : ℕ → Option ℕ) (pot_of : (item region : ℕ) → ℕ) (
   pub items_give : (n s : ℕ) → gets n ≡ Some s → (want : ℕ) × (get wants n ≡ Some want) × (s ≤ want)
   items_give n s is = by_item (item_of n) is
     where
+      -- a unit that has a share of item `o` wants at least that much
       by_item : (o : Option ℕ) → share_for n o ≡ Some s → (want : ℕ) × (get wants n ≡ Some want) × (s ≤ want)
       by_item None is = none_some s is
       by_item (Some i) is =
@@ -328,10 +341,12 @@ module _ (item_of : ℕ → Option ℕ) (pot_of : (item region : ℕ) → ℕ) (
     | inr apart ↦ other apart (gets e.0) ∙ found_listed es n ∙ sym (ap (λ o. cond (is_some o) (gets n) None) (found_other e es n apart))
   ]
     where
+      -- the unit of the first entry is found with its share `o`, if it has one
       here : n ≡ e.0 → (o : Option ℕ) → gets e.0 ≡ o → find nat_cmp n (of_wants es) ≡ cond (is_some (find nat_cmp n es)) (gets n) None → find nat_cmp n (cons_option (share_at e.0 o) (of_wants es)) ≡ o
       here same None is rest = rest ∙ ap (λ o. cond (is_some (find nat_cmp n es)) o None) (ap gets same ∙ is) ∙ either (is_some (find nat_cmp n es)) None
       here same (Some s) is rest = ap (λ k. find nat_cmp k ((e.0, s) ∷ of_wants es)) same ∙ first (e.0, s) (of_wants es)
 
+      -- what is found for another unit than that of the first entry is what the later entries give
       other : (n ≡ e.0 → ⊥) → (o : Option ℕ) → find nat_cmp n (cons_option (share_at e.0 o) (of_wants es)) ≡ find nat_cmp n (of_wants es)
       other apart None = refl
       other apart (Some s) = found_other (e.0, s) (of_wants es) n apart
@@ -340,6 +355,7 @@ module _ (item_of : ℕ → Option ℕ) (pot_of : (item region : ℕ) → ℕ) (
   pub shares_at : (n : ℕ) → get (item_shares item_of pot_of wants c) n ≡ gets n
   shares_at n = get-from_entries nat_cmp_total (of_wants (entries wants)) n ∙ found_listed (entries wants) n ∙ by_share (gets n) refl
     where
+      -- a unit's share `o` is in the map, since a unit with a share has a want
       by_share : (o : Option ℕ) → gets n ≡ o → cond (is_some (find nat_cmp n (entries wants))) o None ≡ o
       by_share None is = either (is_some (find nat_cmp n (entries wants))) None
       by_share (Some s) is =
@@ -358,6 +374,7 @@ module _ (item_of : ℕ → Option ℕ) (pot_of : (item region : ℕ) → ℕ) (
   all_shares_agree : AgreeWith gets all_shares
   all_shares_agree = each_flat (λ e. gets e.0 ≡ Some e.1) (region_shares item_of pot_of wants c) (keys c.regions) (by_region (entries c.regions) (each-from_every (λ r q. get c.regions r ≡ Some q) c.regions (λ r q is. is)))
     where
+      -- in each of some regions of the campaign, the shares that the code puts in are those of the definition
       by_region : (es : List (ℕ × Region)) → EachOf (λ r q. get c.regions r ≡ Some q) es → AllByRecursion (λ r. AgreeWith gets (region_shares item_of pot_of wants c r)) (map (λ e. e.0) es)
       by_region [] h = tt
       by_region (e ∷ es) h = (region_agrees e.0 (e.1, h.0), by_region es h.1)
@@ -366,12 +383,14 @@ module _ (item_of : ℕ → Option ℕ) (pot_of : (item region : ℕ) → ℕ) (
   none_missing : (n s : ℕ) → gets n ≡ Some s → is_some (find nat_cmp n all_shares) ≡ true
   none_missing n s is = by_item (item_of n) is
     where
+      -- a unit that has a share of item `o` is among the shares that the code puts in
       by_item : (o : Option ℕ) → share_for n o ≡ Some s → is_some (find nat_cmp n all_shares) ≡ true
       by_item None is = none_some s is
       by_item (Some i) is =
           let (r, among, found) = somewhere (of_item_in i) n s (keys c.regions) (sym (found_is (pot_of i) (mine item_of wants i) c n) ∙ is) in
           found_among (region_shares item_of pot_of wants c) n (eq_by_cmp nat_cmp) tied (keys c.regions) r among (region_whole r i n s found)
         where
+          -- the shares of item `i` in region `r`, by unit
           of_item_in : ℕ → ℕ → Entries
           of_item_in i r = shares_in (pot_of i) (mine item_of wants i) c.units r
 
@@ -386,15 +405,18 @@ module _ (item_of : ℕ → Option ℕ) (pot_of : (item region : ℕ) → ℕ) (
   pub nothing_put : (r : ℕ) → takers_in wants c.units r ≡ [] → region_shares item_of pot_of wants c r ≡ []
   nothing_put r nobody = ap (λ (gs : Groups). flat_map (item_shares_in pot_of wants r) (entries gs)) (unwanted empty (numbers_in r c.units) nobody) ∙ ap (flat_map (item_shares_in pot_of wants r)) (no_entries nat_cmp)
     where
+      -- a unit without a want changes no group
       skipped : (groups : Groups) (n : ℕ) (i v : Option ℕ) → is_some v ≡ false → with_item_want groups n i v ≡ groups
       skipped groups n None v h = refl
       skipped groups n (Some i) None h = refl
       skipped groups n (Some i) (Some v) h = absurd (false≢true (sym h))
 
+      -- units of which none has a want change no group
       unwanted : (groups : Groups) (ns : List ℕ) → filter (λ n. is_some (get wants n)) ns ≡ [] → fold (with_want item_of wants) groups ns ≡ groups
       unwanted groups [] h = refl
       unwanted groups (n ∷ ns) h = by_test (unwanted groups ns) (is_some (get wants n)) refl h
         where
+          -- the groups stay the same with unit `n` in front, which has no want either
           by_test : (filter (λ k. is_some (get wants k)) ns ≡ [] → fold (with_want item_of wants) groups ns ≡ groups) → (b : Bool) → is_some (get wants n) ≡ b → cond b (n ∷ filter (λ k. is_some (get wants k)) ns) (filter (λ k. is_some (get wants k)) ns) ≡ [] → fold (with_want item_of wants) groups (n ∷ ns) ≡ groups
           by_test rest true is h = cc
           by_test rest false is h = ap (λ (gs : Groups). fold (with_want item_of wants) gs ns) (skipped groups n (item_of n) (get wants n) is) ∙ rest h

@@ -57,6 +57,7 @@ module _ (asked : FinMap nat_cmp ℕ) (w : WorldValue) (c : CampaignValue) (want
   least : (n want : ℕ) → get wants n ≡ Some want → made_by w asked c wants (n, want) ≤ want
   least n want wanted = by_item (is_some (output_item w asked n))
     where
+      -- a unit's share `o` of what its region gives of its item, or 0 without one, is at most its want
       by_share : (o : Option ℕ) → output_share w asked c wants n ≡ o → unwrap_or o 0 ≤ want
       by_share None is = omega arith
       by_share (Some share) is =
@@ -64,6 +65,7 @@ module _ (asked : FinMap nat_cmp ℕ) (w : WorldValue) (c : CampaignValue) (want
           let same : most ≡ want = cc in
           subst (λ k. share ≤ k) same low
 
+      -- a unit makes at most its want, whether out of what its region gives (`b`) or out of raw items
       by_item : (b : Bool) → cond b (unwrap_or (output_share w asked c wants n) 0) want ≤ want
       by_item true = by_share (output_share w asked c wants n) refl
       by_item false = omega arith

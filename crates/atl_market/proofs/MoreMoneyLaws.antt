@@ -28,7 +28,7 @@ module _ (c : CampaignValue) (n : ℕ) (u : Unit) (money : ℕ) where
     pub richer_is : with_money c n (u.holding.money + money) ≡ richer
     richer_is = ap (λ m. record c { units = m }) (changed-known (λ (v : Unit). record v { holding = record v.holding { money = u.holding.money + money } }) c.units n u is)
 
-    -- the other units stay as they are
+    -- more money for unit `n` leaves the other units as they are
     pub others_stay : (k : ℕ) → k ≢ n → get richer.units k ≡ get c.units k
     others_stay k apart = get-insert_other c.units n k paid_unit apart
 

@@ -90,7 +90,7 @@ found_later n (e ∷ es) fs h =
       | false ↦ found_later n es fs
     ] h
 
--- a number other than that of the first entry is found among the rest
+-- a number other than the first entry's is found among all entries as among the later ones
 pub found_other : {V : Type 0} (e : ℕ × V) (es : List (ℕ × V)) (n : ℕ) → n ≢ e.0 → find nat_cmp n (e ∷ es) ≡ find nat_cmp n es
 found_other e es n apart =
     elim (nat_cmp n e.0) as (λ o. nat_cmp n e.0 ≡ o → cond (is_eq o) (Some e.1) (find nat_cmp n es) ≡ find nat_cmp n es) [
@@ -124,7 +124,7 @@ found_tail e es n s apart is =
 
 -- ---- entries put into a map in turn
 
--- a number that none of the entries has keeps its value in the map
+-- a number that none of the entries has keeps its value in a map into which they are put
 pub left : (m : FinMap nat_cmp ℕ) (es : Entries) (n : ℕ) → find nat_cmp n es ≡ None → get (with_each m es) n ≡ get m n
 left m [] n h = refl
 left m (e ∷ es) n h =
@@ -133,7 +133,7 @@ left m (e ∷ es) n h =
       | false ↦ λ g none. left (insert m e.0 e.1) es n none ∙ g
     ] (get-insert nat_cmp_total m e.0 e.1 n) h
 
--- a number that an entry has gets the entry's value in the map, if no two entries have the same number
+-- a number that an entry has gets the entry's value in a map into which entries with different numbers are put
 pub put : (m : FinMap nat_cmp ℕ) (es : Entries) (n s : ℕ) → IsApart es → find nat_cmp n es ≡ Some s → get (with_each m es) n ≡ Some s
 put m [] n s apart h = none_some s h
 put m (e ∷ es) n s apart h =
@@ -148,6 +148,7 @@ put m (e ∷ es) n s apart h =
 pub found_put : (es : Entries) → IsApart es → (n : ℕ) → get (with_each empty es) n ≡ find nat_cmp n es
 found_put es apart n = by_find (find nat_cmp n es) refl
   where
+    -- the map has under `n` what is found among the entries, `o`: a value or nothing
     by_find : (o : Option ℕ) → find nat_cmp n es ≡ o → get (with_each empty es) n ≡ o
     by_find None is = left empty es n is ∙ get-empty nat_cmp n
     by_find (Some s) is = put empty es n s apart is
@@ -176,11 +177,13 @@ last_put : {V : Type 0} (m : FinMap nat_cmp V) (es : List (ℕ × V)) (n : ℕ) 
 last_put m [] n = refl
 last_put {V} m (e ∷ es) n = last_put (insert m e.0 e.1) es n ∙ by_find (find nat_cmp n (reverse es)) refl ∙ sym (ap (λ fs. or_else (find nat_cmp n fs) (get m n)) (reverse-append (e ∷ []) es))
   where
+    -- what later entries have for `n` (`o`), or else the map with `e`, is what all entries have, or else the map
     by_find : (o : Option V) → find nat_cmp n (reverse es) ≡ o → or_else o (get (insert m e.0 e.1) n) ≡ or_else (find nat_cmp n (reverse es ++ e ∷ [])) (get m n)
     by_find (Some s) is = ap (λ o. or_else o (get m n)) (sym (found_first n (reverse es) (e ∷ []) s is))
     by_find None is =
         get-insert nat_cmp_total m e.0 e.1 n ∙ by_test (is_eq (nat_cmp n e.0)) ∙ ap (λ o. or_else o (get m n)) (sym (found_later n (reverse es) (e ∷ []) is))
       where
+        -- a map into which entry `e` was put has under `n` the entry's value if the number is its own, else what it had
         by_test : (b : Bool) → cond b (Some e.1) (get m n) ≡ or_else (cond b (Some e.1) None) (get m n)
         by_test true = refl
         by_test false = refl
@@ -190,6 +193,7 @@ pub put_in_turn : {V : Type 0} (es : List (ℕ × V)) → with_each empty es ≡
 put_in_turn {V} es = same_map nat_cmp_total nat_cmp-IsAntisymmetric _ _ (λ n.
     last_put empty es n ∙ ap (or_else (find nat_cmp n (reverse es))) (get-empty nat_cmp n) ∙ or_none (find nat_cmp n (reverse es)) ∙ sym (get-from_entries nat_cmp_total (reverse es) n))
   where
+    -- an option, or None in its place where it is None, is the option
     or_none : (o : Option V) → or_else o None ≡ o
     or_none None = refl
     or_none (Some s) = refl
@@ -302,6 +306,7 @@ module _ (p : ℕ → Bool) where
   kept_each P [] h = tt
   kept_each P (n ∷ ns) h = either (kept_each P ns h.1) (p n) refl
     where
+      -- each number that passes the test keeps its property with `n` in front, whether `n` passes the test or not
       either : AllByRecursion (λ n. P n × (p n ≡ true)) (filter p ns) → (b : Bool) → p n ≡ b → AllByRecursion (λ n. P n × (p n ≡ true)) (cond b (n ∷ filter p ns) (filter p ns))
       either rest true e = ((h.0, e), rest)
       either rest false e = rest
@@ -311,6 +316,7 @@ module _ (p : ℕ → Bool) where
   kept_risen [] h = tt
   kept_risen (n ∷ ns) h = either (kept_risen ns h.1) (p n)
     where
+      -- the numbers that pass the test stay sorted with `n` in front, whether `n` passes the test or not
       either : IsRisen (filter p ns) → (b : Bool) → IsRisen (cond b (n ∷ filter p ns) (filter p ns))
       either rest true = (each_so _ _ (λ k both. both.0) (filter p ns) (kept_each (λ k. nat_cmp n k ≡ Less) ns h.0), rest)
       either rest false = rest
@@ -321,6 +327,7 @@ module _ (p : ℕ → Bool) where
   kept_index (k ∷ ns) n zero l at h = subst (λ b. (j : ℕ) × (j < length (cond b (k ∷ filter p ns) (filter p ns))) × (get_or (cond b (k ∷ filter p ns) (filter p ns)) j 0 ≡ n)) (sym (ap p at ∙ h)) (0, omega arith, at)
   kept_index (k ∷ ns) n (suc i) l at h = either (kept_index ns n i (omega arith) at h) (p k)
     where
+      -- `n` keeps an index among the numbers that pass with `k` in front, whether `k` passes or not
       either : (j : ℕ) × (j < length (filter p ns)) × (get_or (filter p ns) j 0 ≡ n) → (b : Bool) → (j : ℕ) × (j < length (cond b (k ∷ filter p ns) (filter p ns))) × (get_or (cond b (k ∷ filter p ns) (filter p ns)) j 0 ≡ n)
       either (j, low, is) true = (suc j, omega arith, is)
       either (j, low, is) false = (j, low, is)
@@ -379,10 +386,12 @@ module _ (r : ℕ) where
         | Greater ↦ λ _ g. behind (listed_index es n u g h) (stands e.1)
       ] refl is)
     where
+      -- a unit listed among the later units keeps an index with the first unit in front, whether that is listed or not
       behind : (i : ℕ) × (i < length (listed es)) × (get_or (listed es) i 0 ≡ n) → (b : Bool) → (i : ℕ) × (i < length (cond b (e.0 ∷ listed es) (listed es))) × (get_or (cond b (e.0 ∷ listed es) (listed es)) i 0 ≡ n)
       behind (i, low, at) true = (suc i, omega arith, at)
       behind (i, low, at) false = (i, low, at)
 
+      -- the first unit, if it is in the region, has index 0 in the list
       here : e.0 ≡ n → (b : Bool) → b ≡ true → (i : ℕ) × (i < length (cond b (e.0 ∷ listed es) (listed es))) × (get_or (cond b (e.0 ∷ listed es) (listed es)) i 0 ≡ n)
       here at true t = (0, omega arith, at)
       here at false t = absurd (false≢true t)
@@ -513,6 +522,7 @@ module _ (wants : FinMap nat_cmp ℕ) (c : CampaignValue) where
   pub none_asked : (r : ℕ) → is_some (get (regions_with_wants wants c) r) ≡ false → takers_in wants c.units r ≡ []
   none_asked r free = by_takers (takers_in wants c.units r) (takers_each wants c.units r)
     where
+      -- a list of units that each have a want in the region is empty, since a unit's want would list the region
       by_takers : (ns : List ℕ) → AllByRecursion (IsTaker wants c.units r) ns → ns ≡ []
       by_takers [] all = refl
       by_takers (n ∷ ns) all =
@@ -561,10 +571,12 @@ pots_give pot_of c wants n share is = let (want, u, wanted, low, at, region) = o
 amounts : (g : ℕ → Option ℕ) (ns ss : List ℕ) → map g ns ≡ map Some ss → map (λ n. unwrap_or (g n) 0) ns ≡ ss
 amounts g ns ss h = mapped ns ∙ ap (map (λ o. unwrap_or o 0)) h ∙ back ss
   where
+    -- mapping numbers to amounts is mapping them to options, and then each option to its amount
     mapped : (ns : List ℕ) → map (λ n. unwrap_or (g n) 0) ns ≡ map (λ o. unwrap_or o 0) (map g ns)
     mapped [] = refl
     mapped (n ∷ ns) = ap (λ l. unwrap_or (g n) 0 ∷ l) (mapped ns)
 
+    -- the amounts of options that are Some of some amounts are these amounts
     back : (ss : List ℕ) → map (λ o. unwrap_or o 0) (map Some ss) ≡ ss
     back [] = refl
     back (s ∷ ss) = ap (λ l. s ∷ l) (back ss)

@@ -146,6 +146,7 @@ module _ (asked : FinMap nat_cmp ℕ) (w : WorldValue) (c : CampaignValue) (e : 
               (room_less (both_move (moves_only holding_limit booked.Used (things.Item r)) (moves_only holding_limit booked.Made (things.Item i))) (produce_moves holding_limit) c (both_less r i) can.room) booked.Made (things.Item i)));
         }
       where
+        -- if an amount has room for the share within a holding's limit, so has any smaller amount
         below : (a b : ℕ) → a ≤ b → b + e.1 ≤ holding_limit → a + e.1 ≤ holding_limit
         below a b l m = omega (arith, l, m)
 
@@ -153,6 +154,7 @@ module _ (asked : FinMap nat_cmp ℕ) (w : WorldValue) (c : CampaignValue) (e : 
     can_make_then : CanMake w (with_raw_used c e.0 (e.1 * x.raw_count) x.raw) e.0 i e.1
     can_make_then = by_raw x.raw refl
       where
+        -- the unit can make the item after it used the raw item `o`, or at once if none goes into it
         by_raw : (o : Option ℕ) → x.raw ≡ o → CanMake w (with_raw_used c e.0 (e.1 * x.raw_count) o) e.0 i e.1
         by_raw None is = can_at_once
         by_raw (Some r) is = can_behind r is
@@ -169,6 +171,7 @@ module _ (asked : FinMap nat_cmp ℕ) (w : WorldValue) (c : CampaignValue) (e : 
     item_well : LeavesWell IsSteady (produce_moves holding_limit) w c (with_made (with_raw_used c e.0 (e.1 * x.raw_count) x.raw) e.0 i e.1)
     item_well = by_raw x.raw refl
       where
+        -- making the item keeps the campaign steady and its books balanced, whether a raw item `o` goes into it or not
         by_raw : (o : Option ℕ) → x.raw ≡ o → LeavesWell IsSteady (produce_moves holding_limit) w c (with_made (with_raw_used c e.0 (e.1 * x.raw_count) o) e.0 i e.1)
         by_raw None is = well_within (moves_only holding_limit booked.Made (things.Item i)) (produce_moves holding_limit) w c (with_made c e.0 i e.1) (made_less i) (made_well w c e.0 i e.1 can_at_once)
         by_raw (Some r) is =
@@ -210,6 +213,7 @@ produce_keeps_others w c os = others_no_worse produce_pots w (λ items. produced
 needs_item : (w : WorldValue) (h : HoldingValue) → make_fault h (item_of w None) ≡ None → ⊥
 needs_item w h fine = by_men (h.men == 0) fine
   where
+    -- an order without an item has a fault: NoMen for a unit without men (`b`), else NoSkill
     by_men : (b : Bool) → first_fault ((b, NoMen) ∷ (true, NoSkill) ∷ []) ≡ None → ⊥
     by_men true never = none_some NoMen (sym never)
     by_men false never = none_some NoSkill (sym never)
@@ -229,6 +233,7 @@ module _ (w : WorldValue) (c : CampaignValue) (os : List Task) where
       let (u, t, there, own, low, fine, named) = given_is_named produce_pots w c (makes_give w c) os n made is in
       (u, there, by_item u (item_in t.order_value.operands) low fine named)
     where
+      -- a unit makes at most what it can make of the item `s` that its order names, which is its item in `items`
       by_item : (u : Unit) (s : Option ℕ) → made ≤ most_makeable w u.holding s → make_fault u.holding (item_of w s) ≡ None → ((i : ℕ) → s ≡ Some i → get items n ≡ Some i) → made ≤ most_makeable w u.holding (get items n)
       by_item u None low fine named = absurd (needs_item w u.holding fine)
       by_item u (Some i) low fine named = subst (λ o. made ≤ most_makeable w u.holding o) (sym (named i refl)) low

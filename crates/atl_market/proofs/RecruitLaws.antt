@@ -172,6 +172,7 @@ module _ (w : WorldValue) (c : CampaignValue) (e : ℕ × ℕ) where
   recruited_drains can units there =
       one_drains units peasants_of c e can.at.unit can.at.region there can.at.around (after_recruiting w c e) (leave can.at.region e.1) (ap (λ (d : CampaignValue). d.regions) (made_is can)) (less can.at.region.peasants can.enough)
     where
+      -- the peasants that are left and the recruits are together the peasants from before
       less : (all : ℕ) → e.1 ≤ all → all - e.1 + e.1 ≡ all
       less all enough = omega (arith, enough)
 

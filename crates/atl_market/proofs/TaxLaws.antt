@@ -75,6 +75,7 @@ module _ (w : WorldValue) (c : CampaignValue) (n : ℕ) (u : Unit) (q : Region) 
     same_total People a b = omega (arith, a, b)
     same_total (Item i) a b = same (total after (Item i)) (total (richer c n u share) (Item i)) (total c (Item i)) (amount_of q.stocks i) (amount_of u.holding.items i) a b
       where
+        -- the total of an item stays the same if unit and region have as much of it as before
         same : (x y z j k : ℕ) → x + j ≡ y + j → y + k ≡ z + k → x ≡ z
         same x y z j k a b = omega (arith, a, b)
 
@@ -127,6 +128,7 @@ module _ (w : WorldValue) (c : CampaignValue) (e : ℕ × ℕ) where
       one_drains units money_of c e can.at.unit can.at.region there can.at.around (after_tax c e) (drain can.at.region e.1)
       (ap (λ (d : CampaignValue). d.regions) (taxed_is can.at.unit can.at.region can.at.there can.at.around)) (less can.at.region.money can.enough)
     where
+      -- the money that is left and the share are together the money from before
       less : (all : ℕ) → e.1 ≤ all → all - e.1 + e.1 ≡ all
       less all enough = omega (arith, enough)
 

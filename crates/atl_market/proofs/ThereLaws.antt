@@ -11,6 +11,7 @@ use Rattle.atl_phase.specs.There.{at_region, at_unit}
 pub by_option : {A B : Type 0} (P : B → Type 0) (f : A → B) (o : Option A) (otherwise : B) → P otherwise → ((x : A) → o ≡ Some x → P (f x)) → P (option_map_or f o otherwise)
 by_option {A} P f o otherwise without with = by_case o refl
   where
+    -- `P` holds of what `option_map_or` gives, whether the option is None or Some
     by_case : (p : Option A) → o ≡ p → P (option_map_or f p otherwise)
     by_case None is = without
     by_case (Some x) is = with x is
@@ -20,7 +21,7 @@ module _ (c : CampaignValue) (n : ℕ) where
   pub unit_there : (change : Unit → CampaignValue) (u : Unit) → get c.units n ≡ Some u → at_unit c n change ≡ change u
   unit_there change u is = ap (λ o. option_map_or change o c) is
 
-  -- what holds of the campaign, and of it with the change if unit `n` is there, holds of the result
+  -- what holds of the campaign, and of the changed campaign if unit `n` is there, holds of what `at_unit` gives
   pub by_unit : (P : CampaignValue → Type 0) (change : Unit → CampaignValue) → P c → ((u : Unit) → get c.units n ≡ Some u → P (change u)) → P (at_unit c n change)
   by_unit P change without with = by_option P change (get c.units n) c without with
 
@@ -28,6 +29,6 @@ module _ (c : CampaignValue) (n : ℕ) where
   pub region_there : (change : Region → CampaignValue) (q : Region) → get c.regions n ≡ Some q → at_region c n change ≡ change q
   region_there change q is = ap (λ o. option_map_or change o c) is
 
-  -- what holds of the campaign, and of it with the change if region `n` is there, holds of the result
+  -- what holds of the campaign, and of the changed campaign if region `n` is there, holds of what `at_region` gives
   pub by_region : (P : CampaignValue → Type 0) (change : Region → CampaignValue) → P c → ((q : Region) → get c.regions n ≡ Some q → P (change q)) → P (at_region c n change)
   by_region P change without with = by_option P change (get c.regions n) c without with

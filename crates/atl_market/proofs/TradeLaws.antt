@@ -122,11 +122,13 @@ module _ (w : WorldValue) (c : CampaignValue) (n : ℕ) (u : Unit) (q : Region) 
     together : KeepsTogether u q (λ r. restocked r i d.stock) more d.booked
     together = record { money = omega (arith, ints, fits.paid); people = refl; items = items }
       where
+        -- unit and region together have what they had of item `j`, whether `j` is the item that is traded or not
         by_test : (j : ℕ) (b : Bool) → eq_by_cmp nat_cmp j i ≡ b
             → cond b d.amount (amount_of u.holding.items j) + cond b d.stock (amount_of q.stocks j) ≡ amount_of u.holding.items j + amount_of q.stocks j
         by_test j true is_i = fits.goods ∙ ap (λ k. amount_of u.holding.items k + amount_of q.stocks k) (sym (alike i j is_i))
         by_test j false is_other = refl
 
+        -- unit and region together have as much of each item as before
         items : (j : ℕ) → amount_of more.items j + amount_of (restocked q i d.stock).stocks j ≡ amount_of u.holding.items j + amount_of q.stocks j
         items j =
             ap (λ k. k + amount_of (restocked q i d.stock).stocks j) (set_amount u.holding.items i d.amount j)
@@ -151,6 +153,7 @@ pub market_is : (w : WorldValue) → IsWorld w → (u : Unit) (item : Option ℕ
 market_is w world u None m is = none_some m is
 market_is w world u (Some i) m is = by_plan (get w.regions u.region) refl is
   where
+    -- the market found in the plan `o` of the unit's region, if any, is the market for item `i` (`IsMarketFor`)
     by_plan : (o : Option RegionPlan) → get w.regions u.region ≡ o → option_and_then (λ (p : RegionPlan). get p.markets i) o ≡ Some m → IsMarketFor w u (Some i) m
     by_plan None at found = none_some m found
     by_plan (Some p) at found =
@@ -222,11 +225,12 @@ stock_is c r q i around = ap (λ o. option_map_or (λ (x : Region). amount_of x.
 stock_low : (w : WorldValue) (c : CampaignValue) (r : ℕ) (q : Region) (i : ℕ) → IsEarly w c → get c.regions r ≡ Some q → amount_of q.stocks i ≤ stock_limit w r i
 stock_low w c r q i early around = by_amount (get q.stocks i) refl
   where
+    -- the stock `o` that the region lists of the item, or 0 if it lists none, is at most the limit
     by_amount : (o : Option ℕ) → get q.stocks i ≡ o → unwrap_or o 0 ≤ stock_limit w r i
     by_amount None is = omega arith
     by_amount (Some a) is = ((early.steady.numbers.regions r q around).stocks i a is).1
 
--- which units draw from the pot of a region and an item: those that are there and whose order names the item
+-- which units draw from the pot of a region and an item: those that are in the region and whose order names the item
 abbrev pub draws_item : FinMap nat_cmp Unit → FinMap nat_cmp ℕ → ℕ × ℕ → ℕ → Bool
 draws_item units items k n = stands_in k.0 (get units n) && is_for k.1 (get items n)
 
@@ -287,14 +291,17 @@ module _ (trade : Trade) (items : FinMap nat_cmp ℕ) (w : WorldValue) (c : Camp
         (λ k same. here k same (eq_by_cmp nat_cmp k.1 m.item) refl)
         (λ k apart. ap (λ b. b && is_for k.1 (get items e.0)) (ap (stands_in k.0) there ∙ other_number can.at.unit.region k.0 (λ is. apart (sym is))))
       where
+        -- a number plus 0 is the number
         no_less : (a : ℕ) → a + 0 ≡ a
         no_less a = omega arith
 
+        -- the unit draws from a pot of its own region exactly if the pot is of the market's item
         told_is : (k : ℕ × ℕ) → k.0 ≡ can.at.unit.region → draws_item units items k e.0 ≡ (m.item == k.1)
         told_is k same =
             ap (λ b. b && is_for k.1 (get items e.0)) (ap (stands_in k.0) there ∙ ap (λ r. can.at.unit.region == r) same ∙ same_number can.at.unit.region)
             ∙ ap (is_for k.1) market.told
 
+        -- a pot of the unit's region has the share less if it is of the market's item, and else stays as it was
         here : (k : ℕ × ℕ) → k.0 ≡ can.at.unit.region → (b : Bool) → eq_by_cmp nat_cmp k.1 m.item ≡ b
             → pot_by trade (limit_of w k.1 k.0) (amount_of (with_amount_of can.at.region.stocks m.item deal.stock) k.1) + cond (draws_item units items k e.0) e.1 0 ≡ pot_by trade (limit_of w k.1 k.0) (amount_of can.at.region.stocks k.1)
         here k same true is =
@@ -315,6 +322,7 @@ module _ (trade : Trade) (items : FinMap nat_cmp ℕ) (w : WorldValue) (c : Camp
   pub traded_well : CanTrade trade items w c e → LeavesWell IsEarly (trade_moves trade holding_limit) w c (after_trade trade items w c e)
   traded_well can = by_market (market_for w can.at.unit (get items e.0)) refl
     where
+      -- the trade keeps the campaign early and its books balanced, whether there is a market `o` or not
       by_market : (o : Option Market) → market_for w can.at.unit (get items e.0) ≡ o → LeavesWell IsEarly (trade_moves trade holding_limit) w c (after_trade trade items w c e)
       by_market None at =
           subst (λ d. LeavesWell IsEarly (trade_moves trade holding_limit) w c d) (sym (traded_is can.at.unit can.at.there None at))
@@ -325,6 +333,7 @@ module _ (trade : Trade) (items : FinMap nat_cmp ℕ) (w : WorldValue) (c : Camp
   traded_drains : (can : CanTrade trade items w c e) (units : FinMap nat_cmp Unit) → get units e.0 ≡ Some can.at.unit → Drains (item_pots trade w units items) c e (after_trade trade items w c e)
   traded_drains can units there = by_market (market_for w can.at.unit (get items e.0)) refl
     where
+      -- the trade takes the share out of the pot of its region and item alone, whether there is a market `o` or not
       by_market : (o : Option Market) → market_for w can.at.unit (get items e.0) ≡ o → Drains (item_pots trade w units items) c e (after_trade trade items w c e)
       by_market None at =
           nothing_drains (item_pots trade w units items) c e (after_trade trade items w c e) (ap (λ (d : CampaignValue). d.regions) (traded_is can.at.unit can.at.there None at)) (subst (CanAfford trade can.at.unit.holding e.1) at can.deal)
@@ -399,6 +408,7 @@ module _ (trade : Trade) (items : FinMap nat_cmp ℕ) (w : WorldValue) (world : 
   has_pot : (limit stock share : ℕ) (m : Market) → limit ≡ m.limit → stock ≤ m.limit → share ≤ pot_by trade limit stock → HasPot trade stock share (Some m)
   has_pot limit stock share m same low few = by_trade trade few
     where
+      -- the market has room for the share (SELL) or has it in stock (BUY), if the share is at most the pot
       by_trade : (t : Trade) → share ≤ pot_by t limit stock → HasPot t stock share (Some m)
       by_trade Sell few = omega (arith, same, low, few)
       by_trade Buy few = few
@@ -469,10 +479,12 @@ module _ (trade : Trade) (w : WorldValue) (world : IsWorld w) (c : CampaignValue
       let (u, t, there, own, low, fine, told) = given_is_named (trade_pots trade) w c (trades_give trade w c) os n share is in
       (u, there, by_item u there (count_in t.order_value.operands) (item_in t.order_value.operands) low fine told)
     where
+      -- a unit can afford a share of at most its want, whether there is a market `m` or not
       by_market : (asked : ℕ) (u : Unit) → get c.units n ≡ Some u → (m : Option Market) → share ≤ trade_want trade u.holding asked m → CanAfford trade u.holding share m
       by_market asked u there None low = omega (arith, low)
       by_market asked u there (Some m) low = wanted_fits u.holding m asked share (early.steady.numbers.units n u there).1 trade low
 
+      -- the unit can afford its share of the item `s` that its order names, which is its item in `named`
       by_item : (u : Unit) → get c.units n ≡ Some u → (asked : ℕ) (s : Option ℕ) → share ≤ trade_want trade u.holding asked (market_for w u s) → trade_fault trade u.holding (market_for w u s) ≡ None → ((i : ℕ) → s ≡ Some i → get named n ≡ Some i) → CanAfford trade u.holding share (market_for w u (get named n))
       by_item u there asked None low fine told = none_some NoMarket (sym fine)
       by_item u there asked (Some i) low fine told = subst (λ o. CanAfford trade u.holding share (market_for w u o)) (sym (told i refl)) (by_market asked u there (market_for w u (Some i)) low)
@@ -487,6 +499,7 @@ module _ (trade : Trade) (w : WorldValue) (world : IsWorld w) (c : CampaignValue
       let told = for_item k.1 (get named n) parts.1 in
       (sym (ap (share_for (get named) (trade_pot trade w c) wants c n) told) ∙ sym (shares_at (get named) (trade_pot trade w c) wants c n) ∙ is, parts.0)) (q, around))
     where
+      -- if a unit that asks for `o` passes the test for item `i`, it asks for item `i`
       for_item : (i : ℕ) (o : Option ℕ) → is_for i o ≡ true → o ≡ Some i
       for_item i None never = cc
       for_item i (Some j) same = ap Some (eqb-true j i same)
@@ -545,14 +558,17 @@ can_book_result trade items w c n share can u m stock entry d there at stock_at 
 pub stock_most : (w : WorldValue) (c : CampaignValue) (r i : ℕ) → IsWorld w → IsEarly w c → stock_of c r i ≤ most_amount
 stock_most w c r i world early = by_region (get c.regions r) refl
   where
+    -- the limit of the region's stock is at most 999,999,999, whether the world has a plan `o` of the region or not
     by_market : (q : Region) → amount_of q.stocks i ≤ stock_limit w r i → (o : Option RegionPlan) → get w.regions r ≡ o → stock_limit w r i ≤ most_amount
     by_market q low None at = subst (λ p. option_map_or (λ (x : Market). x.limit) (option_and_then (λ (p : RegionPlan). get p.markets i) p) most_amount ≤ most_amount) (sym at) (omega arith)
     by_market q low (Some p) at = subst (λ p. option_map_or (λ (x : Market). x.limit) (option_and_then (λ (p : RegionPlan). get p.markets i) p) most_amount ≤ most_amount) (sym at) (limited (get p.markets i) refl)
       where
+        -- the limit of a market `o`, or 999,999,999 without a market, is at most 999,999,999
         limited : (o : Option Market) → get p.markets i ≡ o → option_map_or (λ (x : Market). x.limit) o most_amount ≤ most_amount
         limited None is = omega arith
         limited (Some m) is = ((world.regions r p at).markets i m is).limit
 
+    -- the stock is at most 999,999,999, whether the region `o` is there or not
     by_region : (o : Option Region) → get c.regions r ≡ o → option_map_or (λ (x : Region). amount_of x.stocks i) o 0 ≤ most_amount
     by_region None is = omega arith
     by_region (Some q) is =

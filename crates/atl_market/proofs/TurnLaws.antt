@@ -1,5 +1,5 @@
--- Laws of steps carried out in turn: they keep the campaign's rules and its books balanced, if each does; and need room
--- in the books.
+-- Laws of steps that are carried out in turn: together they keep the campaign's rules and its books balanced, if each
+-- step does; and the room in the books that they need.
 use Rattle.std.proofs.Common.{◌≡◌, ◌==◌, ◌≤◌, ◌+◌, ◌*◌, ℕ, Bool, true, false, List, [], ◌∷◌, length, arith}
 use Rattle.std.specs.Prelude.{fold, if◌then◌else◌}
 use Rattle.std.proofs.Math.Nat.{suc-mul}
@@ -19,19 +19,20 @@ use Rattle.atl_market.specs.Bounds.{CanInTurn}
 pub few_holdings : (k : ℕ) → k ≤ most_units → (a : Entry) (b : Thing) (e : Entry) (t : Thing) → moved_times k (moves_only holding_limit a b) e t ≤ moves_only most_moved a b e t
 few_holdings k few a b e t = by_test (amount_number e t == amount_number a b)
   where
+    -- `k` times a holding's limit is at most `most_moved`, and `k` times 0 is 0
     by_test : (same : Bool) → k * (if same then holding_limit else 0) ≤ (if same then most_moved else 0)
     by_test true = omega (arith, few)
     by_test false = omega (arith, few)
 
--- one step and then the others move no amount further than all of them
+-- the bounds on one step and on the steps after it are together at most the bound on all steps
 pub one_more : {B : Type 0} (moving : BookBound) (x : B) (xs : List B) → MovesLess (both_move moving (moved_times (length xs) moving)) (moved_times (length (x ∷ xs)) moving)
 one_more moving x xs e t = let one : length (x ∷ xs) * moving e t ≡ length xs * moving e t + moving e t = suc-mul (length xs) (moving e t) in omega arith
 
--- books with room for all steps together have room for the first
+-- books with room for all steps together have room for the first step
 pub first_room : {B : Type 0} (moving : BookBound) (c : CampaignValue) (x : B) (xs : List B) → HaveRoom (moved_times (length (x ∷ xs)) moving) c → HaveRoom moving c
 first_room moving c x xs room = room_less moving (moved_times (length (x ∷ xs)) moving) c (λ e t. omega (arith, one_more moving x xs e t)) room
 
--- after the first step, which moved the books within its bound, the books have room for the others
+-- after the first step, which moved the books within its bound, the books have room for the later steps
 pub later_room : {B : Type 0} {leaves : Condition} (moving : BookBound) (w : WorldValue) (c d : CampaignValue) (x : B) (xs : List B)
     → LeavesWell leaves moving w c d → HaveRoom (moved_times (length (x ∷ xs)) moving) c → HaveRoom (moved_times (length xs) moving) d
 later_room moving w c d x xs well room =

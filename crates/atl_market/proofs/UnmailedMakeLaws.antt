@@ -62,10 +62,12 @@ go_on_men : (w : WorldValue) (c : CampaignValue) (n : ℕ) (u : Unit) → HaveTh
 unfolding go_on
 go_on_men w c n u = by_structure (get c.structures u.structure)
   where
+    -- `BUILD` inside structure `s` leaves all units their men, whether the world has its kind or not
     by_kind : (s : Structure) (o : Option Kind) → HaveTheirMen c (go_on_at c n u (option_map (λ k. (s, k)) o)).0
     by_kind s None = men_unless c c (Done 0) (outside_fault u) (men_stay c)
     by_kind s (Some k) = let size = size_added k u.holding s.done in men_unless c (after_building_on c n k.material size u.structure (s.done + size)) (Done size) (inside_fault u s k) (gone_on_men c n k.material size u.structure (s.done + size))
 
+    -- `BUILD` leaves all units their men, whether the unit is inside a structure or not
     by_structure : (o : Option Structure) → HaveTheirMen c (go_on_at c n u (option_and_then (with_kind w) o)).0
     by_structure None = men_unless c c (Done 0) (outside_fault u) (men_stay c)
     by_structure (Some s) = by_kind s (slice_get w.kinds s.kind)
@@ -74,6 +76,7 @@ go_on_men w c n u = by_structure (get c.structures u.structure)
 built_men : (w : WorldValue) (c : CampaignValue) (f n : ℕ) (x : Unit) (s : OperandsValue) → IfSome (build_effect w n s) (λ deed. OthersHaveMen f c (deed c x).0)
 built_men w c f n x (operands.Kind (Some kind)) = by_kind (slice_get w.kinds kind)
   where
+    -- `BUILD kind` leaves units of other factions than the order's their men, whether the world has the kind or not
     by_kind : (o : Option Kind) → IfSome (option_map (begin w n kind) o) (λ deed. OthersHaveMen f c (deed c x).0)
     by_kind None = tt
     by_kind (Some k) = others_men f c (begin w n kind k c x).0 (begin_men w c n kind k x)

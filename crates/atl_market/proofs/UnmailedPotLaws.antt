@@ -38,7 +38,7 @@ use Rattle.atl_market.proofs.TradeLaws.{traded_others, trades_give}
 
 -- ---- all phases with pots
 
--- the orders of a month with these verbs, whatever the campaign is
+-- the orders of a month whose verbs pass the test `is_of`, whatever the campaign is
 abbrev pub ordered_for : (Verb → Bool) → CampaignValue → MonthValue → List Task
 ordered_for is_of c = orders_by_unit is_of
 
@@ -50,6 +50,7 @@ module _ (p : PotMeaning) (w : WorldValue) (c : CampaignValue) where
       sum_by-cons (λ (e : Event). if e.unit == n then men_starved_by e.verb e.outcome else 0) (event_of p w c given o) (map (event_of p w c given) os)
       ∙ ap (λ x. (if o.unit == n then 0 else 0) + x) (none_starve given os n) ∙ nobody (o.unit == n)
     where
+      -- an order adds 0 men who starved to a count of 0, whether or not it is for unit `n`
       nobody : (b : Bool) → (if b then 0 else 0) + 0 ≡ 0
       nobody true = refl
       nobody false = refl
@@ -61,6 +62,7 @@ module _ (p : PotMeaning) (w : WorldValue) (c : CampaignValue) where
       sum_by-append (λ (e : Event). if e.unit == n then men_starved_by e.verb e.outcome else 0) events (map (event_of p w c (given_by p w c os)) os)
       ∙ ap (λ x. starved_in events n + x) (none_starve (given_by p w c os) os n) ∙ plus_none (starved_in events n)
     where
+      -- a count of men plus 0 is the count
       plus_none : (x : ℕ) → x + 0 ≡ x
       plus_none x = omega arith
 
@@ -121,6 +123,7 @@ none_listed : (n f : ℕ) (ts : List Task) → AllByRecursion (λ t. t.faction �
 none_listed n f [] h = refl
 none_listed n f (t ∷ ts) h = neither (t.unit == n) (t.faction == f) _ (other_number t.faction f h.0) (none_listed n f ts h.1)
   where
+    -- no order is found if the first is from another faction and none is found among the later ones
     neither : (a b d : Bool) → b ≡ false → d ≡ false → (a && b || d) ≡ false
     neither true b d e g = rw (e, g) refl
     neither false b d e g = g
@@ -132,7 +135,7 @@ module _ (is_of : Verb → Bool) (m : MonthValue) where
       let ts = orders_by_unit is_of m in
       none_listed n u.faction ts (recursion_from_All (λ t. t.faction ≢ u.faction) ts (none_ordered is_of ByUnit m u.faction none))
 
-  -- if a phase leaves units without an order of their own no worse off, it keeps the items of those without a mailing
+  -- if units without an order of their own are no worse off, units of factions without a mailing keep their items
   pub others_items : (c d : CampaignValue) → OthersAreNoWorse (orders_by_unit is_of m) c d → UnmailedAre HasItsItems m c d
   others_items c d h n u there none = let (v, behind, better) = h n u there (unordered n u none) in record { unit = v; there = behind; spared = items_of_no_worse u v better }
 

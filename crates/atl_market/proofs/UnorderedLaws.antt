@@ -37,10 +37,11 @@ module _ (p : PotMeaning) (w : WorldValue) (c : CampaignValue) (n : ℕ) (u : Un
   no_order : (o : Task) → o.unit ≡ n → (u.faction == o.faction) ≡ true → own o ≡ false → ⊥
   no_order o unit faction is = false≢true (sym (clash o.unit n o.faction u.faction unit faction is))
     where
+      -- the test `own` holds of an order with the number and the faction of the unit
       clash : (a b f g : ℕ) → a ≡ b → (g == f) ≡ true → (a == b && f == g) ≡ false → true ≡ false
       clash a b f g same one none = grind (arith, nat_tests)
 
-  -- an order that isn't for unit `n` of its own faction gives it no want
+  -- an order that isn't for unit `n`, or isn't from its own faction, gives the unit no want
   unwanted_by : (m : FinMap nat_cmp ℕ) (o : Task) (r : Result Unit EventFault) → unit_for p w c o ≡ r → own o ≡ false → get (with_any m (option_map (λ v. (o.unit, p.want w v o)) (result_ok r))) n ≡ get m n
   unwanted_by m o (Err f) is none = refl
   unwanted_by m o (Ok v) is none =
@@ -50,7 +51,7 @@ module _ (p : PotMeaning) (w : WorldValue) (c : CampaignValue) (n : ℕ) (u : Un
       let unit : v ≡ u = cc in
       no_order o (sym same) (subst (λ (x : Unit). (x.faction == o.faction) ≡ true) unit of.own) none)
 
-  -- a unit without an order of its own faction has no want
+  -- orders of which none is for unit `n` and from its own faction give the unit no want
   unwanted : (m : FinMap nat_cmp ℕ) (os : List Task) → is_ordered os n u ≡ false → get (with_each m (filter_map (want_by p w c) os)) n ≡ get m n
   unwanted m [] none = refl
   unwanted m (o ∷ os) none =

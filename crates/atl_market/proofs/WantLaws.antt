@@ -67,6 +67,7 @@ unfolding IsDistinct
 rise_apart [] h = tt
 rise_apart (e ∷ es) h = (others e.0 es h.0, rise_apart es h.1)
   where
+    -- a number below those of all entries is equal to none of them
     others : (k : ℕ) (es : List (ℕ × ℕ)) → AllByRecursion (λ f. k < f.0) es → AllByRecursion (λ n. eq_by_cmp nat_cmp k n ≡ false) (keys_of es)
     others k [] h = tt
     others k (f ∷ es) h = (differs k f.0 h.0, others k es h.1)
@@ -92,14 +93,17 @@ module _ (p : PotMeaning) (w : WorldValue) (c : CampaignValue) where
   unfolding unit_for
   carries_out t u is = by_unit (get c.units t.unit) refl is
     where
+      -- a unit `v` of the order's faction carries the order out if the phase finds no fault `f`
       by_fault : (v : Unit) → get c.units t.unit ≡ Some v → (v.faction == t.faction) ≡ true → (f : Option EventFault) → p.fault w v t ≡ f → option_map_or Err f (Ok v) ≡ Ok u → CarriesOut t u
       by_fault v at own (Some f) fault h = none_some u (ap result_ok h)
       by_fault v at own None fault h = subst (CarriesOut t) (same_Some _ _ (ap result_ok h)) (record { there = at; own = own; fine = fault })
 
+      -- a unit `v` that is there carries the order out if it is of the order's faction (`b`) and has no fault
       by_test : (v : Unit) → get c.units t.unit ≡ Some v → (b : Bool) → (v.faction == t.faction) ≡ b → unless_fault t (cond b (Some v) None) ≡ Ok u → CarriesOut t u
       by_test v at true own h = by_fault v at own (p.fault w v t) refl h
       by_test v at false own h = none_some u (ap result_ok h)
 
+      -- the unit `o` under the order's number, if there is one, carries the order out where it is returned
       by_unit : (o : Option Unit) → get c.units t.unit ≡ o → unless_fault t (of_faction t.faction o) ≡ Ok u → CarriesOut t u
       by_unit None at h = none_some u (ap result_ok h)
       by_unit (Some v) at h = by_test v at (v.faction == t.faction) refl h
@@ -173,6 +177,7 @@ module _ (p : PotMeaning) (w : WorldValue) (c : CampaignValue) where
     in_units : (os : List Task) (n : ℕ) → is_some (get (given_by p w c os) n) ≡ true → is_some (get c.units n) ≡ true
     in_units os n got = by_share (get (given_by p w c os) n) refl got
       where
+        -- a unit that is given an amount `o` is there
         by_share : (o : Option ℕ) → get (given_by p w c os) n ≡ o → is_some o ≡ true → is_some (get c.units n) ≡ true
         by_share None is h = absurd (false≢true h)
         by_share (Some share) is h = let (u, o, there, own, low) = given_is_wanted os n share is in ap is_some there

@@ -73,6 +73,7 @@ module _ (w : WorldValue) (c : CampaignValue) (n : ℕ) (u : Unit) (money : ℕ)
   total_paid : (t : Thing) → pos (total wages_paid t) ≡ pos (total c t) +ℤ share_of t Money (pos money)
   total_paid t = total_of t (total-amount given Wages Money t (pos money)) (total-unit_amount w c n u more is t)
     where
+      -- the total of money, people or an item grows by what is booked, given what paying and booking change of it
       total_of : (t : Thing) → total wages_paid t ≡ total given t → total given t + unit_amount t u.holding ≡ total c t + unit_amount t more → pos (total wages_paid t) ≡ pos (total c t) +ℤ share_of t Money (pos money)
       total_of Money a b = omega (arith, ints, a, b)
       total_of People a b = omega (arith, ints, a, b)
@@ -81,9 +82,11 @@ module _ (w : WorldValue) (c : CampaignValue) (n : ℕ) (u : Unit) (money : ℕ)
           ap pos (same (total wages_paid (Item i)) (total given (Item i)) (total c (Item i)) (amount_of u.holding.items i) a b)
           ∙ sym (ap (λ q. pos (total c (Item i)) +ℤ cond q (pos money) (pos 0)) other ∙ zero_more (total c (Item i)))
         where
+          -- the total of an item stays the same if the unit holds as much of it as before
           same : (x y z k : ℕ) → x ≡ y → y + k ≡ z + k → x ≡ z
           same x y z k a b = omega arith
 
+          -- a number plus 0 is the number
           zero_more : (x : ℕ) → pos x +ℤ pos 0 ≡ pos x
           zero_more x = omega (arith, ints)
 
@@ -98,7 +101,7 @@ module _ (w : WorldValue) (c : CampaignValue) (n : ℕ) (u : Unit) (money : ℕ)
     near = booked-near c.books Wages Money (pos money) holding_limit (within-pos money holding_limit (omega (arith, fits)));
   }
 
-  -- the other units stay as they are
+  -- wages for unit `n` leave the other units as they are
   pub wages_leave_others : (k : ℕ) → k ≢ n → get wages_paid.units k ≡ get c.units k
   wages_leave_others k apart = others_stay c n u money is k apart
 

@@ -191,30 +191,36 @@ module _ (c : CampaignValue) where
 
 -- ---- who has an order
 
--- a unit is in the map after some orders exactly if it was before, or if its own faction wrote one of them for it
+-- A unit is in the map into which the writers of some orders are put exactly if it was before, or if its own faction
+-- wrote one of the orders for it.
 writes_own : (c : CampaignValue) (os : List Task) (n : ℕ) (u : Unit) → get c.units n ≡ Some u → (m : FinMap nat_cmp ℕ) → is_some (get (with_each m (flat_map (own_unit c) os)) n) ≡ (is_ordered os n u || is_some (get m n))
 writes_own c [] n u is m = refl
 writes_own c (o ∷ os) n u is m =
     ap (λ (k : FinMap nat_cmp ℕ). is_some (get k n)) (appended_entries m (own_unit c o) (flat_map (own_unit c) os))
     ∙ writes_own c os n u is (with_each m (own_unit c o)) ∙ ap (λ b. is_ordered os n u || b) one ∙ swapped (is_ordered os n u) (o.unit == n && o.faction == u.faction) (is_some (get m n))
   where
+    -- whether one of three tests holds doesn't depend on the order of the tests
     swapped : (a b d : Bool) → (a || (b || d)) ≡ ((b || a) || d)
     swapped true true d = refl
     swapped true false d = refl
     swapped false true d = refl
     swapped false false d = refl
 
+    -- the unit of an order for unit `n` is of the order's faction exactly if the faction of `u` is that faction
     here : o.unit ≡ n → is_of_faction o.faction (get c.units o.unit) ≡ (u.faction == o.faction)
     here same = ap (λ k. is_of_faction o.faction (get c.units k)) same ∙ ap (is_of_faction o.faction) is
 
+    -- unit `n` is in the map after an order for it exactly if its own faction wrote the order (`b`), or it was before
     put_for : (b : Bool) → o.unit ≡ n → is_some (get (with_each m (cond b ((o.unit, o.faction) ∷ []) [])) n) ≡ (b || is_some (get m n))
     put_for true same = ap (λ k. is_some (get (insert m o.unit o.faction) k)) (sym same) ∙ some_new m o.unit o.faction
     put_for false same = refl
 
+    -- an order for another unit changes nothing in the map under `n`
     put_elsewhere : (b : Bool) → n ≢ o.unit → get (with_each m (cond b ((o.unit, o.faction) ∷ []) [])) n ≡ get m n
     put_elsewhere true apart = get-insert_other m o.unit n o.faction apart
     put_elsewhere false apart = refl
 
+    -- unit `n` is in the map after one order exactly if its own faction wrote the order for it, or it was before
     one : is_some (get (with_each m (own_unit c o)) n) ≡ ((o.unit == n && o.faction == u.faction) || is_some (get m n))
     one = elim (cases_eq n o.unit) [
       | inl same ↦
@@ -229,6 +235,7 @@ writes_own c (o ∷ os) n u is m =
 is_writer : (c : CampaignValue) (os : List Task) (n : ℕ) (u : Unit) → get c.units n ≡ Some u → is_some (get (own_writers c os) n) ≡ is_ordered os n u
 is_writer c os n u is = writes_own c os n u is empty ∙ ap (λ o. is_ordered os n u || is_some o) (get-empty nat_cmp n) ∙ or_false (is_ordered os n u)
   where
+    -- a test or false is the test
     or_false : (b : Bool) → (b || false) ≡ b
     or_false true = refl
     or_false false = refl
@@ -249,6 +256,7 @@ module _ (c : CampaignValue) (ts : List Task) where
       ap (λ os. os ++ flat_map (idle_by (own_writers c ts)) es) (one_idle n u h.0)
       ∙ ap (λ os. cond (is_idle ts (n, u)) (idle_task n u.faction ∷ []) [] ++ os) (idle_are es h.1) ∙ by_test (is_idle ts (n, u))
     where
+      -- the orders defined for the units have one more for unit `n` in front, exactly if the unit is idle (`b`)
       by_test : (b : Bool) → cond b (idle_task n u.faction ∷ []) [] ++ of_idle es ≡ map (λ e. idle_task e.0 e.1.faction) (cond b ((n, u) ∷ filter (is_idle ts) es) (filter (is_idle ts) es))
       by_test true = refl
       by_test false = refl

@@ -21,11 +21,11 @@ stands_in region unit = option_map_or (λ u. u.region == region) unit false
 abbrev pub given_in : FinMap nat_cmp ℕ → FinMap nat_cmp Unit → (region : ℕ) → ℕ
 given_in given units region = sum (map (λ e. e.1) (filter (λ e. stands_in region (get units e.0)) (entries given)))
 
--- a change of a unit by its share: what the unit is with it
+-- a function that says what a unit is after it got its share
 abbrev pub UnitChange : Type 0
 UnitChange = Unit → (share : ℕ) → Unit
 
--- a change of a region by the amount that it gives to units: what the region is then
+-- a function that says what a region is after it gave an amount to its units
 abbrev pub RegionChange : Type 0
 RegionChange = Region → (given : ℕ) → Region
 
@@ -54,8 +54,8 @@ abbrev pub given_of : (item_of : ℕ → Option ℕ) → FinMap nat_cmp ℕ → 
 given_of item_of given units region item =
     sum (map (λ e. e.1) (filter (λ e. stands_in region (get units e.0) && is_for item (item_of e.0)) (entries given)))
 
--- A region is there with only its stocks changed: each item's is `becomes` of what it was and of what was given of the
--- item.
+-- The region `after` is `q` with only its stocks changed: the stock of each item is `becomes` of the old stock and of
+-- the amount of the item that was given.
 pub record HasNewStocks (q : Region) (becomes : (stock given : ℕ) → ℕ) (given : (item : ℕ) → ℕ) (after : Option Region) : Type 0 where
   pub stocks : FinMap nat_cmp ℕ
   pub region : after ≡ Some (record q { stocks = stocks })

@@ -43,11 +43,11 @@ count_in other = 0
 pub record PotMeaning : Type 0 where
   -- the fault of an order of the unit's own faction, if there is one
   pub fault : WorldValue → Unit → Task → Option EventFault
-  -- how much a unit wants by an order of the pot of its region, or of its item there
+  -- how much a unit wants by an order: of the pot of its region, or of its item's pot there
   pub want : WorldValue → Unit → Task → ℕ
-  -- what each unit gets, from the items that the orders name and from the wants, all by unit
+  -- how much each unit gets, by unit, from the items that the orders name and from the wants, which are also by unit
   pub grants : (items : FinMap nat_cmp ℕ) → WorldValue → CampaignValue → (wants : FinMap nat_cmp ℕ) → FinMap nat_cmp ℕ
-  -- the number that the event of a unit says, by the unit's share of the pot
+  -- the number in the event of a unit's order, by the unit's share of the pot
   pub event_number : WorldValue → Unit → ℕ → ℕ
   -- the campaign after a unit, by its number, got its share of the pot of its region, or of that of its item there
   pub paid : (items : FinMap nat_cmp ℕ) → WorldValue → CampaignValue → ℕ × ℕ → CampaignValue

@@ -37,7 +37,7 @@ item_of w asked = option_and_then (slice_get w.items) asked
 
 -- ---- how much a unit can make
 
--- how many pieces the raw items held allow, at `count` each, but at most `most`; `most` where no raw item goes in
+-- how many pieces of an item a unit's raw items allow, at `count` each, up to `most`; `most` where no raw item goes in
 abbrev pub up_to_raw : HoldingValue → (count : ℕ) → (raw : Option ℕ) → (most : ℕ) → ℕ
 up_to_raw h count raw most = option_map_or (λ r. min (amount_of h.items r / count) most) raw most
 
@@ -93,11 +93,11 @@ after_production asked w c (n, made) =
 
 -- ---- the faults
 
--- whether no skill makes the item, or the unit's level in that skill is too low
+-- whether a unit lacks the skill to make an item: no skill makes it, or the unit's level in its skill is too low
 abbrev pub is_unskilled : HoldingValue → Item → Bool
 is_unskilled h x = if is_some x.skill then nat_lt (level_in_any h x.skill) x.level else true
 
--- whether the item needs raw items and the unit holds too few for a single piece
+-- whether an item needs raw items, `count` each, and a unit holds too few of them for a single piece
 abbrev pub lacks_raw : HoldingValue → (count : ℕ) → (raw : Option ℕ) → Bool
 lacks_raw h count raw = option_map_or (λ r. amount_of h.items r / count == 0) raw false
 

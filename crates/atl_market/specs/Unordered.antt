@@ -18,6 +18,6 @@ is_ordered os n u = list_any (λ o. o.unit == n && o.faction == u.faction) os
 abbrev pub OthersAreNoWorse : List Task → CampaignValue → CampaignValue → Type 0
 OthersAreNoWorse os before after = Every (λ n u. is_ordered os n u ≡ false → (v : Unit) × (get after.units n ≡ Some v) × IsNoWorse u v) before.units
 
--- what a phase with these verbs leaves alone: units for which their own faction wrote no order of it are no worse off
+-- what a phase with the verbs `is_of` leaves alone: units for which their own faction wrote no order are no worse off
 abbrev pub spares_unordered : (Verb → Bool) → Frame
 spares_unordered is_of w m before after = OthersAreNoWorse (orders_by_unit is_of m) before after

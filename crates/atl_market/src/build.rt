@@ -276,6 +276,7 @@ fn go_on(
 impl PhaseVerbs for BuildPhase {
     ghost is_of = { is_building };
 
+    /// Whether the verb is BUILD.
     fn has(&self, verb: Verb) -> bool {
         matches!(verb, Verb::Build)
     }
@@ -311,6 +312,8 @@ impl OrderPhase for BuildPhase {
         }
     }
 
+    /// The law of what each order of BUILD keeps, and how far it moves the books (`IsOrderly`).
+    /// Does nothing.
     fn is_orderly(&self) {}
 }
 
@@ -322,6 +325,7 @@ impl Phase for BuildPhase {
 
     ghost keeps = { build_spec.keeps };
 
+    /// Plays BUILD, and returns the campaign and the month after it. AllocError without memory.
     fn run(
         &self,
         alloc: Global,

@@ -22,14 +22,16 @@ pub(crate) fn item_of(world: &World, asked: Option<u16>) -> Option<&Item>
     world.item(asked?)
 }
 
-/// Whether no skill makes an item, or a unit's level in that skill is too low.
+/// Whether a unit lacks the skill to make an item: no skill makes it, or the unit's level in its
+/// skill is too low.
 fn is_unskilled(holding: &Holding, item: &Item) -> bool
     ensures { result ≡ is_unskilled holding.now item.now }
 {
     item.skill.is_none() || level_in_any(holding, item.skill) < item.level
 }
 
-/// Whether an item needs raw items, `count` each, and the unit holds too few for a single piece.
+/// Whether an item needs raw items, `count` each, and a unit holds too few of them for a single
+/// piece.
 fn lacks_raw(holding: &Holding, count: u32, raw: Option<u16>) -> bool
     requires { 1 ≤ count }
     ensures { result ≡ lacks_raw holding.now count raw }
@@ -40,7 +42,8 @@ fn lacks_raw(holding: &Holding, count: u32, raw: Option<u16>) -> bool
     }
 }
 
-/// How many pieces the raw items held allow, at `count` each, but at most `most`.
+/// How many pieces of an item a unit's raw items allow, at `count` each, but at most `most`; `most`
+/// where no raw item goes in.
 fn up_to_raw(holding: &Holding, count: u32, raw: Option<u16>, most: u32) -> u32
     requires { 1 ≤ count }
     ensures value { result ≡ up_to_raw holding.now count raw most }

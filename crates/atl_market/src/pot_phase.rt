@@ -20,7 +20,8 @@ use atl_phase::{PhaseOrder, own_unit};
 use atl_world::{Numbered, World};
 use std::alloc::{AllocError, Global};
 
-/// What is particular to one phase in which the units of each region share a pot.
+/// A phase in which the units of each region share a pot: the faults of its orders, what each unit
+/// wants and gets, and what a share changes.
 pub(crate) trait PotPhase {
     // The faults, wants and shares of the phase, and what the payment of a share changes.
     ghost meaning: { Self → PotMeaning };
@@ -28,7 +29,8 @@ pub(crate) trait PotPhase {
     // What the phase needs of the campaign.
     ghost needs: { Self → WorldValue → CampaignValue → Type 0 };
 
-    // When a unit can be paid its share, given as a pair of both; the map has each unit's item.
+    // When a unit can be paid its share, given as the pair (unit, share). The map has the item that
+    // each unit's order names.
     ghost can_pay: { Self → FinMap nat_cmp ℕ → WorldValue → CampaignValue → ℕ × ℕ → Type 0 };
 
     /// The fault of an order of the unit's own faction, if there is one.
@@ -42,8 +44,8 @@ pub(crate) trait PotPhase {
             (task_of order.entry) }
         ensures bound { result ≤ most_amount };
 
-    /// What each unit gets, from the items that the orders name and from the wants, all by unit.
-    /// AllocError without memory.
+    /// How much each unit gets, by unit, from the items that the orders name and from the wants,
+    /// which are also by unit. AllocError without memory.
     fn grants(
         &self,
         alloc: Global,
@@ -57,7 +59,7 @@ pub(crate) trait PotPhase {
         ensures { IfOk result (λ given. given
             ≡ PotMeaning.grants (meaning self.now) items.now world.now campaign.now.value wants.now) };
 
-    /// The number that the event of a unit says, by the unit's share of the pot.
+    /// The number in the event of a unit's order, by the unit's share of the pot.
     fn event_number(&self, world: &World, unit: &Unit, share: u32) -> u64
         ensures { result ≡ PotMeaning.event_number (meaning self.now) world.now unit.now share };
 

@@ -68,7 +68,7 @@ fn wants_of(alloc: Global, takers: &[u32], wants: &Numbered<u32>) -> Result<Vec<
     Ok(wanted)
 }
 
-/// Puts the share of each unit of `takers` into a map by unit.
+/// Puts the share of each unit of `takers` into the map `given`, by unit.
 fn put_shares(takers: &[u32], shares: &[u64], given: &mut Numbered<u32>) -> Result<(), AllocError>
     requires length { length shares.now ≡ length takers.now }
     requires bound { All (λ share. share ≤ most_amount) shares.now }

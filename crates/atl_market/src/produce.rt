@@ -25,6 +25,7 @@ pub struct ProducePhase;
 impl PhaseVerbs for ProducePhase {
     ghost is_of = { is_produce };
 
+    /// Whether the verb is PRODUCE.
     fn has(&self, verb: Verb) -> bool {
         matches!(verb, Verb::Produce)
     }
@@ -99,6 +100,7 @@ impl Phase for ProducePhase {
 
     ghost keeps = { produce_keeps };
 
+    /// Plays PRODUCE, and returns the campaign and the month after it. AllocError without memory.
     fn run(
         &self,
         alloc: Global,

@@ -34,6 +34,7 @@ pub struct RecruitPhase;
 impl PhaseVerbs for RecruitPhase {
     ghost is_of = { is_recruit };
 
+    /// Whether the verb is RECRUIT.
     fn has(&self, verb: Verb) -> bool {
         matches!(verb, Verb::Recruit)
     }
@@ -175,6 +176,7 @@ impl Phase for RecruitPhase {
 
     ghost keeps = { recruit_keeps };
 
+    /// Plays RECRUIT, and returns the campaign and the month after it. AllocError without memory.
     fn run(
         &self,
         alloc: Global,

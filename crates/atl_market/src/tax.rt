@@ -27,6 +27,7 @@ pub struct TaxPhase;
 impl PhaseVerbs for TaxPhase {
     ghost is_of = { is_tax };
 
+    /// Whether the verb is TAX.
     fn has(&self, verb: Verb) -> bool {
         matches!(verb, Verb::Tax)
     }
@@ -141,6 +142,7 @@ impl Phase for TaxPhase {
 
     ghost keeps = { spares_all };
 
+    /// Plays TAX, and returns the campaign and the month after it. AllocError without memory.
     fn run(
         &self,
         alloc: Global,

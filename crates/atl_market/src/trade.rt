@@ -151,7 +151,8 @@ fn trade_result_of(
     }
 }
 
-/// Sets a unit's money, and how much of an item it has, where it is there.
+/// Sets a unit's money and how much of an item it has; nothing where the unit isn't there.
+/// AllocError without memory, after the money was set.
 fn set_goods(
     campaign: &mut Campaign,
     number: u32,
@@ -168,8 +169,8 @@ fn set_goods(
     campaign.set_item(number, item, amount)
 }
 
-/// Sets a unit's goods, its region's stock and the books to what the result of a trade says.
-/// AllocError without memory; the campaign may then be changed in part.
+/// Sets a unit's money and amount of an item, and its region's stock, to the result of a trade, and
+/// books the money. AllocError without memory; the campaign may then be changed in part.
 fn book_trade(
     campaign: &mut Campaign,
     number: u32,
@@ -325,6 +326,7 @@ fn trade_of(sells: bool) -> Trade
 impl<const SELLS: bool> PhaseVerbs for TradePhase<SELLS> {
     ghost is_of = { is_trade (trade_of SELLS) };
 
+    /// Whether the verb is the one of the phase, SELL or BUY.
     fn has(&self, verb: Verb) -> bool {
         match trade_of(SELLS) {
             Trade::Sell => matches!(verb, Verb::Sell),
@@ -345,6 +347,8 @@ impl<const SELLS: bool> Phase for TradePhase<SELLS> {
 
     ghost keeps = { trade_keeps (trade_of SELLS) };
 
+    /// Plays SELL or BUY, and returns the campaign and the month after it. AllocError without
+    /// memory.
     fn run(
         &self,
         alloc: Global,

@@ -223,7 +223,7 @@ impl PotPhase for WorkPhase {
 
     ghost can_pay = { λ _ _. CanWork };
 
-    /// NoMen where the unit has none; else None.
+    /// NoMen for a unit without men; else None.
     fn fault(&self, _world: &World, unit: &Unit, _order: PhaseOrder<'_>) -> Option<EventFault> {
         if unit.holding.men() == 0 {
             Some(EventFault::NoMen)
@@ -232,7 +232,8 @@ impl PotPhase for WorkPhase {
         }
     }
 
-    /// A work place for each of the unit's men, at most as many as it has room for the wages.
+    /// How many work places the unit wants: one for each of its men, as far as it has room for the
+    /// wages; 0 where there is no terrain.
     fn want(&self, world: &World, unit: &Unit, _order: PhaseOrder<'_>) -> u32 {
         match world.terrain_of(unit.region) {
             Some(terrain) => {
@@ -289,6 +290,7 @@ impl Phase for WorkPhase {
 
     ghost keeps = { spares_all };
 
+    /// Plays WORK, and returns the campaign and the month after it. AllocError without memory.
     fn run(
         &self,
         alloc: Global,

@@ -8,7 +8,8 @@ use atl_world::let_go;
 use sqlite::{Alter, Connection};
 use std::alloc::{AllocError, Global};
 
-/// A public call that needs memory and is tried with too little of it.
+/// A public call of atl_service or atl_campaign, or `check` of atl_state, that is tried with too
+/// little memory.
 #[derive(Clone, Copy, Debug, PartialEq, Eq)]
 pub enum Call {
     Found,
@@ -96,6 +97,7 @@ pub struct Case {
     pub books: String,
 }
 
+/// Drops the commands and the recorded texts of a case.
 impl Drop for Case {
     fn drop(self) {
         let_go!(self: Case { call, commands, later, told, rows, books });

@@ -1,5 +1,5 @@
-//! Makes memory short and ample again, in two ways: one growth is refused, or only a few blocks are
-//! left.
+//! Makes memory short and ample again, in two ways: one growth (a request for memory) is refused,
+//! or only a few blocks are left.
 use crate::drought::Drought;
 use crate::fuse;
 use atl_world::let_go;
@@ -22,6 +22,7 @@ pub struct Shortage {
     drought: Drought,
 }
 
+/// Drops the drought, which frees all its blocks.
 impl Drop for Shortage {
     fn drop(self) {
         let_go!(self: Shortage { limit, was_refused, drought });

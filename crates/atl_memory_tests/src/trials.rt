@@ -24,7 +24,8 @@ enum Came {
     Wrong(&'static str),
 }
 
-/// What a call did with memory short, judged together with whether a growth was refused.
+/// What a call did with memory short, judged together with whether a growth (a request for memory)
+/// was refused.
 #[derive(Clone, Copy, PartialEq, Eq, Debug)]
 pub enum Outcome {
     /// The answer is Memory, and all is as before.
@@ -50,7 +51,7 @@ fn judged(was_refused: Option<bool>, came: Came) -> Outcome {
     }
 }
 
-/// `Memory` if all is as before, else `Wrong`; for a call that answered Memory.
+/// What a call that answered Memory did: `Memory` if all is as before, else `Wrong`.
 fn held(is_as_before: bool) -> Came {
     if is_as_before {
         Came::Memory
@@ -59,7 +60,7 @@ fn held(is_as_before: bool) -> Came {
     }
 }
 
-/// `Done` if the outcome is that of ample memory, else `Wrong`; for a call that succeeded.
+/// What a call that succeeded did: `Done` if the outcome is that of ample memory, else `Wrong`.
 fn done(is_as_wanted: bool) -> Came {
     if is_as_wanted {
         Came::Done

@@ -1,5 +1,4 @@
--- The law that of two maps of the same size, where one has each number of the other, the other has each number of the
--- one.
+-- The law that two maps of the same size have the same numbers, if one has each number of the other.
 use Rattle.std.proofs.Common.{◌≡◌, ℕ, suc, zero, ◌+◌, ◌-◌, ◌≤◌, cond, List, [], ◌∷◌, length, Option, Some, None, refl, sym, ap, ◌∙◌, inl, inr, arith}
 use Rattle.std.specs.Prelude.{is_some}
 use Rattle.std.specs.Ordering.{nat_cmp}
@@ -27,6 +26,7 @@ module _ {V : Type 0} where
   some_values : (m : FinMap nat_cmp V) (n : ℕ) (v : V) → get m n ≡ Some v → 1 ≤ len m
   some_values m n v is = by_count (len m) refl
     where
+      -- a map of size `k` that has number `n` isn't empty, whether `k` is 0, which can't be, or more
       by_count : (k : ℕ) → len m ≡ k → 1 ≤ k
       by_count zero none = none_some v (sym (get-empty nat_cmp n) ∙ ap (λ e. get e n) (sym (empty_of_len m none)) ∙ is)
       by_count (suc k) some = omega arith
@@ -43,12 +43,16 @@ module _ {V : Type 0} where
   at_least zero a b count all = omega arith
   at_least (suc k) a b count all = by_entries (λ c d less has. at_least k c d less has) (entries b) refl
     where
+      -- if a size `x` is one more than `k`, and `y` is one less than `x`, `y` is `k`
       fewer : (x y : ℕ) → x ≡ suc k → y ≡ x - 1 → y ≡ k
       fewer x y count is = omega (arith, count, is)
 
+      -- if `y` is at least `k`, and one less than a size `x` of at least 1, `x` is at least `k + 1`
       more : (x y : ℕ) → k ≤ y → y ≡ x - 1 → 1 ≤ x → suc k ≤ x
       more x y l is some = omega (arith, l, is, some)
 
+      -- map `a` has at least size `k + 1`, from the entries of map `b`: without the first of them, both maps are as for
+      -- size `k`
       by_entries : ((c d : FinMap nat_cmp V) → len d ≡ k → HasAllNumbers c d → k ≤ len c) → (es : List (ℕ × V)) → entries b ≡ es → suc k ≤ len a
       by_entries step [] is = absurd (omega (arith, count, len-entries b ∙ ap length is))
       by_entries step (e ∷ es) is =
@@ -67,9 +71,12 @@ module _ {V : Type 0} where
   pub has_all_back : (a b : FinMap nat_cmp V) → len b ≡ len a → HasAllNumbers a b → HasAllNumbers b a
   has_all_back a b count all n (v, here) = by_value (get b n) refl
     where
+      -- sizes that contradict each other (`x` is `y`, and `x + 1` is at most `y`) prove anything, so also that map `b`
+      -- has number `n`
       too_many : (x y z : ℕ) → x ≡ y → z ≡ x + 1 → z ≤ y → IsThere b n
       too_many x y z count is l = absurd (omega (arith, count, is, l))
 
+      -- map `b` has number `n`, whether its look-up finds a value or, which can't be, none
       by_value : (o : Option V) → get b n ≡ o → IsThere b n
       by_value (Some x) is = (x, is)
       by_value None none = too_many (len b) (len a) (len (insert b n v)) count (len_with b n v none) (at_least (len (insert b n v)) a (insert b n v) refl (has_all_with a b n v all here))

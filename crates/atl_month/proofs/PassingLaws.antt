@@ -66,15 +66,23 @@ kept-with u money items more all = record {
 
 -- ---- what passing on does
 
--- Campaign `c`, and `d` after something of unit `n` was passed on: `d` has `owing` more of each thing than is booked,
--- its books moved by at most `moving`, unit `n` itself is unchanged, and nothing is taken from any unit.
+-- Campaign `d` is campaign `c` after something of unit `n` was passed on: the total of each thing is above the books by
+-- `owing` more than before, the books moved by at most `moving`, unit `n` itself is unchanged, and nothing is taken
+-- from any unit.
 pub record PassesOn (w : WorldValue) (n : ℕ) (owing : Thing → ℕ) (moving : BookBound) (c d : CampaignValue) : Type 0 where
+  -- the campaign is steady after something was passed on
   pub steady : IsSteady w d
+  -- of each thing the total is above the books by `owing` more than before
   pub owes : (s : Thing) (x : ℕ) → Owes c s x → Owes d s (x + owing s)
+  -- each amount of the books moves by at most its bound
   pub near : (e : Entry) (s : Thing) → IsNear (moving e s) (amount_in c.books e s) (amount_in d.books e s)
+  -- the month's number, the reports and the set of factions stay
   pub same : IsSameMonth c d
+  -- unit `n` stays as it is
   pub unit : get d.units n ≡ get c.units n
+  -- each unit that was there is there, and nothing is taken from it
   pub forth : Every (λ m u. (v : Unit) × (get d.units m ≡ Some v) × IsKept u v) c.units
+  -- each unit that is there was there before, and nothing was taken from it
   pub back : Every (λ m v. (u : Unit) × (get c.units m ≡ Some u) × IsKept u v) d.units
 
 -- a steady campaign that stays as it is has passed on nothing (`PassesOn` with 0 of each thing)
@@ -89,6 +97,7 @@ passes-refl w n c steady = record {
   back = λ m v is. (v, is, kept-refl v);
 }
   where
+    -- a number is itself plus 0
     plain : (x : ℕ) → x ≡ x + 0
     plain x = omega arith
 
@@ -105,6 +114,7 @@ passes-trans {o} {p} {i} {j} w n a b c one two = record {
   back = λ m x is. let (v, there, more) = two.back m x is in let (u, before, kept) = one.back m v there in (u, before, kept-trans u v x kept more);
 }
   where
+    -- a sum of three numbers is the same in either grouping
     grouped : (x y z : ℕ) → (x + y) + z ≡ x + (y + z)
     grouped x y z = omega arith
 
@@ -116,6 +126,7 @@ owed true taken lost x before after books e h = omega (arith, ints, e, h)
 owed false taken lost x before after books e h = omega (arith, ints, e, h)
 
 -- after `lost` was booked as lost, of a thing for which test `b` holds, the total is above the books by `lost` more
+-- than before; of any other thing by as much as before
 owed_all : (b : Bool) (lost x all : ℕ) (books : ℤ) → pos all ≡ books +ℤ pos x
     → pos all ≡ (books +ℤ cond b (neg_ℤ (pos lost)) (pos 0)) +ℤ pos (x + cond b lost 0)
 owed_all true lost x all books h = omega (arith, ints, h)
@@ -150,6 +161,8 @@ module _ (w : WorldValue) (c : CampaignValue) (n : ℕ) (t : Thing) (inside : th
     grown : (s : Thing) → total given s ≡ total c s + part_of s t taken
     grown s = sum (total given s) (unit_amount s v.holding) (total c s) (unit_amount s h) (part_of s t taken) (total-unit_amount w c k v h is s) (more s)
       where
+        -- if a total less the old amount of a unit plus its new one is the new total, and the new amount is greater by
+        -- `p`, the total grows by `p`
         sum : (a x b y p : ℕ) → a + x ≡ b + y → y ≡ x + p → a ≡ b + p
         sum a x b y p e f = omega (arith, e, f)
 
@@ -173,6 +186,7 @@ module _ (w : WorldValue) (c : CampaignValue) (n : ℕ) (t : Thing) (inside : th
           (λ m x there. (x, there, kept-refl x));
     }
       where
+        -- each unit that was there is there after unit `k` got holding `h`, and nothing is taken from it
         new_unit : (m : ℕ) (u : Unit) → get c.units m ≡ Some u → (x : Unit) × (get (insert c.units k (record v { holding = h })) m ≡ Some x) × IsKept u x
         new_unit m u there =
             elim (nat_cmp m k) as (λ o. nat_cmp m k ≡ o → (x : Unit) × (get (insert c.units k (record v { holding = h })) m ≡ Some x) × IsKept u x) [
@@ -210,12 +224,15 @@ more_amount items i n j =
       | Greater ↦ λ o. let l = ranked j i Greater (sym o) in nothing_added (2 + j == 2 + i) (amount_of items j) n (above l)
     ] refl
   where
+    -- for an item `j` below item `i`, the test whether they are the same thing of the books is false
     below : j < i → (2 + j == 2 + i) ≡ false
     below l = grind (arith, nat_tests)
 
+    -- for an item `j` above item `i`, the test whether they are the same thing of the books is false
     above : i < j → (2 + j == 2 + i) ≡ false
     above l = grind (arith, nat_tests)
 
+    -- if `j` is the item that grows by `n`, its amount is the old one plus `n`
     here : j ≡ i → amount_of items i + n ≡ amount_of items j + cond (2 + j == 2 + i) n 0
     here same =
         let tie : (2 + j == 2 + i) ≡ true = grind (arith, nat_tests) in
@@ -227,6 +244,7 @@ more_amount items i n j =
 whole : (amount have : ℕ) → accepted_of amount have + (amount - accepted_of amount have) ≡ amount
 whole amount have = omega (arith, least amount (holding_limit - have))
   where
+    -- the lesser of two numbers is at most the first
     least : (a b : ℕ) → min a b ≤ a
     least a b = omega arith
 
@@ -234,6 +252,7 @@ whole amount have = omega (arith, least amount (holding_limit - have))
 fits : (amount have : ℕ) → have ≤ holding_limit → have + accepted_of amount have ≤ holding_limit
 fits amount have l = omega (arith, least amount (holding_limit - have))
   where
+    -- the lesser of two numbers is at most the second
     least : (a b : ℕ) → min a b ≤ b
     least a b = omega arith
 
@@ -252,6 +271,7 @@ module _ (w : WorldValue) (c : CampaignValue) (n k : ℕ) (apart : n ≢ k) (ste
   all_left : (t : Thing) (amount : ℕ) → Passed t amount (with_lost c t amount) → Passed t amount (with_lost c t (amount - 0))
   all_left t amount lost = subst (λ a. Passed t amount (with_lost c t a)) (same amount) lost
     where
+      -- a number is itself less 0
       same : (x : ℕ) → x ≡ x - 0
       same x = omega arith
 
@@ -266,6 +286,8 @@ module _ (w : WorldValue) (c : CampaignValue) (n k : ℕ) (apart : n ≢ k) (ste
   unfolding after_passing_money
   pass_money amount = by_unit (get c.units k) refl
     where
+      -- giving the money is passing it on (`Passed`), whether unit `k` is there, and takes a part, or isn't, and all is
+      -- lost
       by_unit : (o : Option Unit) → get c.units k ≡ o → Passed Money amount (money_to amount o)
       by_unit None is = all_left Money amount (all_lost w c n Money (omega arith) steady amount)
       by_unit (Some v) is =
@@ -299,9 +321,12 @@ module _ (w : WorldValue) (c : CampaignValue) (n k : ℕ) (apart : n ≢ k) (ste
   unfolding after_passing_item
   pass_item i amount known = by_unit (get c.units k) refl
     where
+      -- the item is one of the things of the world's books
       inside : thing_index (Item i) < things_of w
       inside = omega (arith, known)
 
+      -- giving the item is passing it on (`Passed`), whether unit `k` is there, and takes a part, or isn't, and all is
+      -- lost
       by_unit : (o : Option Unit) → get c.units k ≡ o → Passed (Item i) amount (item_to i amount o)
       by_unit None is = all_left (Item i) amount (all_lost w c n (Item i) inside steady amount)
       by_unit (Some v) is =

@@ -52,7 +52,8 @@ MovesAlone moving moved = (e : Entry) (t : Thing) → moving e t ≤ (if may_mov
 nothing : (moved : MovedEntries) → MovesAlone moves_nothing moved
 nothing moved e t = omega arith
 
--- two entries whose amounts for the same thing are one amount are the same entry
+-- for one thing of the books, a bound that applies to a single amount is within a bound that applies to the entry of
+-- that amount
 same_thing : (a x y : ℕ) (p : Bool) → (x == y) ≡ p → (q : Bool) → (entry_count * a + x == entry_count * a + y) ≡ q → (if q then most_moved else 0) ≤ (if p then most_moved else 0)
 same_thing a x y true e false f = omega arith
 same_thing a x y true e true f = omega arith
@@ -134,7 +135,9 @@ sweep_alone e (Item i) = both_hold (entry_index e == entry_index entries.Lost) (
 
 -- a phase moves its own entries of the books alone, and leaves units of factions without a mailing what is theirs
 pub record IsPhase (phase : PhaseSpec) : Type 0 where
+  -- the phase moves its own entries of the books alone, each by less than 10^14
   pub moves : MovesItsOwn phase
+  -- the phase leaves units of factions without a mailing what is theirs
   pub leaves : PhaseLeavesUnmailed phase
 
 -- `IsPhase` of a phase follows from its law of the books and its law of units without a mailing

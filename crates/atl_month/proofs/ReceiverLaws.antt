@@ -47,6 +47,8 @@ module _ {V : Type 0} (p : V → Bool) where
       subst (λ ns. first_or_zero ns ≤ k) (sym (chosen-cons p e es))
       (by_test (p e.1) (first_least k es (and_parts _ _ s).1) (below_listed e.0 k es (and_parts _ _ s).0) (subst (IsListed k) (chosen-cons p e es) h))
     where
+      -- number `k` is at least the first one listed, whether the first entry passes the test (`b`) and is listed in
+      -- front, or not
       by_test : (b : Bool) → (IsListed k (numbers_among p es) → first_or_zero (numbers_among p es) ≤ k) → (IsListed k (numbers_among p es) → e.0 < k)
           → IsListed k (cond b (e.0 ∷ numbers_among p es) (numbers_among p es)) → first_or_zero (cond b (e.0 ∷ numbers_among p es) (numbers_among p es)) ≤ k
       by_test true least above (inl same) = omega (arith, same)
@@ -67,6 +69,7 @@ module _ {V : Type 0} (p : V → Bool) where
       let listed = passing_listed p m first v is t in
       (there (numbers_where p m) (λ k h. let (x, at, u) = listed_passing p m k h in low k x at) first listed, first_least first (entries m) (sorted m) listed)
     where
+      -- a list that has a number, and only numbers of at least 1, doesn't have 0 as its first
       there : (ns : List ℕ) → ((k : ℕ) → IsListed k ns → 1 ≤ k) → (k : ℕ) → IsListed k ns → first_or_zero ns ≢ 0
       there [] least k h = absurd h
       there (n ∷ ns) least k h = let l = least n (inl refl) in λ zero. absurd (omega (arith, zero, l))
@@ -164,22 +167,31 @@ module _ (m : ReceiverMap) (n : ℕ) (u : Unit) (es : List (ℕ × Unit)) (low :
       by_tests (nat_lt 0 u.holding.men) (receiver_in m u.region u.faction == 0) refl refl
       ∙ ap (λ b. or_if_zero x (cond b n F)) (sym passes) ∙ ap (or_if_zero x) (sym (opened u.region u.faction))
     where
+      -- the receiver that the map has for the unit's faction in its region, before the unit is noted; 0 where there is
+      -- none
       x : ℕ
       x = receiver_in m u.region u.faction
 
+      -- the first receiver among the units that come after unit `n`, for its faction in its region; 0 where there is
+      -- none
       F : ℕ
       F = behind u.region u.faction
 
+      -- a unit receives for its own faction in its own region exactly if it has men
       passes : receives u.region u.faction u ≡ nat_lt 0 u.holding.men
       passes = ap (λ a. a && ((u.faction == u.faction) && nat_lt 0 u.holding.men)) (same_number u.region) ∙ ap (λ a. a && nat_lt 0 u.holding.men) (same_number u.faction)
 
+      -- `or_if_zero` gives the first number, if it is at least 1
       some_else : (a b : ℕ) → 1 ≤ a → or_if_zero a b ≡ a
       some_else a b l = by_test (a == 0) refl
         where
+          -- a choice between `b`, where `a` is 0, and `a` gives `a`, since `a` is at least 1
           by_test : (t : Bool) → (a == 0) ≡ t → (if t then b else a) ≡ a
           by_test true e = let zero : a ≡ 0 = grind (arith, nat_tests) in absurd (omega (arith, zero, l))
           by_test false e = refl
 
+      -- noting unit `n` keeps the receiver, whether the unit has men (`k`) or not, and whether the map has no receiver
+      -- yet (`z`) or has one
       by_tests : (k z : Bool) → nat_lt 0 u.holding.men ≡ k → (receiver_in m u.region u.faction == 0) ≡ z
           → or_if_zero (receiver_in (with_receiver_of m n u) u.region u.faction) F ≡ or_if_zero x (cond (nat_lt 0 u.holding.men) n F)
       by_tests true true k z =
@@ -202,14 +214,17 @@ module _ (m : ReceiverMap) (n : ℕ) (u : Unit) (es : List (ℕ × Unit)) (low :
       ap (λ a. or_if_zero a (behind r f)) (by_test (nat_lt 0 u.holding.men && (receiver_in m u.region u.faction == 0)))
       ∙ ap (λ b. or_if_zero (receiver_in m r f) (cond b n (behind r f))) (sym (fails apart)) ∙ ap (or_if_zero (receiver_in m r f)) (sym (opened r f))
     where
+      -- the receiver of another faction or region stays, whether unit `n` is noted (`b`) or not
       by_test : (b : Bool) → receiver_in (if b then with_receiver m u.region u.faction n else m) r f ≡ receiver_in m r f
       by_test true = noted_apart m u.region u.faction n r f apart
       by_test false = refl
 
+      -- a test and false are false together
       no_second : (a : Bool) → a && false ≡ false
       no_second true = refl
       no_second false = refl
 
+      -- the unit doesn't receive for another faction or in another region
       fails : (r ≢ u.region) ⊎ (f ≢ u.faction) → receives r f u ≡ false
       fails (inl h) = ap (λ a. a && ((u.faction == f) && nat_lt 0 u.holding.men)) (other_number u.region r (λ e. h (sym e)))
       fails (inr h) = ap (λ a. (u.region == r) && (a && nat_lt 0 u.holding.men)) (other_number u.faction f (λ e. h (sym e))) ∙ no_second (u.region == r)
@@ -237,9 +252,11 @@ nothing_noted c m none r f =
 pub all_noted : (c : CampaignValue) (m : ReceiverMap) → ((r f : ℕ) → or_if_zero (receiver_in m r f) (first_or_zero (numbers_among (receives r f) [])) ≡ receiver c r f) → AreReceivers c m
 all_noted c m h r f = plain (receiver_in m r f) ∙ h r f
   where
+    -- `or_if_zero` with 0 as the second number gives the first
     plain : (x : ℕ) → x ≡ or_if_zero x 0
     plain x = by_test (x == 0) refl
       where
+        -- a choice between 0, where `x` is 0, and `x` gives `x`
         by_test : (b : Bool) → (x == 0) ≡ b → x ≡ (if b then 0 else x)
         by_test true e = grind (arith, nat_tests)
         by_test false e = refl

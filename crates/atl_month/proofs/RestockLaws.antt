@@ -55,11 +55,14 @@ stocking (x ∷ xs) e t = moves_only most_amount Stocked (Item x.0) e t + stocki
 one_stocked : (k : ℕ) (e : Entry) (t : Thing) → moves_only most_amount Stocked (Item k) e t ≤ (if (entry_index e == entry_index Stocked) && (thing_index t == 2 + k) then most_amount else 0)
 one_stocked k e t = by_number (amount_number e t == amount_number Stocked (Item k)) refl
   where
+    -- a bound that applies where two tests hold is `most_amount`, if both hold
     at_place : (a b : Bool) → a ≡ true → b ≡ true → most_amount ≤ (if a && b then most_amount else 0)
     at_place true true f g = omega arith
     at_place true false f g = cc
     at_place false b f g = cc
 
+    -- the bound for entry `e` and thing `t` holds, whether their amount is that of item `k` under Stocked (`b`) or
+    -- another
     by_number : (b : Bool) → (amount_number e t == amount_number Stocked (Item k)) ≡ b → (if b then most_amount else 0) ≤ (if (entry_index e == entry_index Stocked) && (thing_index t == 2 + k) then most_amount else 0)
     by_number true is =
         let same : entry_count * thing_index t + entry_index e ≡ entry_count * (2 + k) + entry_index Stocked = grind (arith, nat_tests) in
@@ -92,6 +95,7 @@ none_above k (x ∷ xs) e t at above =
     let first : k < x.0 = is_below k x.0 both.0 in
     sum_of_none (moves_only most_amount Stocked (Item x.0) e t) (stocking xs e t) (other_item x.0 e t (grind (arith, nat_tests))) (none_above k xs e t at both.1)
   where
+    -- a number that compares as less is less
     is_below : (a b : ℕ) → is_lt (nat_cmp a b) ≡ true → a < b
     is_below a b h = grind (arith, nat_tests)
 
@@ -100,29 +104,37 @@ little : (xs : List (ℕ × Market)) → is_sorted nat_cmp xs ≡ true → (e : 
 little [] rising e t = omega arith
 little (x ∷ xs) rising e t = with_rest (little xs (and_parts _ _ rising).1 e t)
   where
+    -- what the new goods of the first market may move of the amount
     first : ℕ
     first = moves_only most_amount Stocked (Item x.0) e t
 
+    -- the bound on the amount: `most_amount` under Stocked, and 0 under any other entry
     bound : ℕ
     bound = if entry_index e == entry_index Stocked then most_amount else 0
 
+    -- a number within a bound by two tests is within the bound by the first of them
     head : (a b : Bool) (n : ℕ) → n ≤ (if a && b then most_amount else 0) → n ≤ (if a then most_amount else 0)
     head true true n l = l
     head true false n l = omega (arith, l)
     head false b n l = l
 
+    -- a number within a bound stays within it when a number that is 0 is added
     alone : (n y z : ℕ) → n ≤ z → y ≡ 0 → n + y ≤ z
     alone n y z l e = omega (arith, l, e)
 
+    -- a number that is 0, plus a number within a bound, is within the bound
     behind : (n y z : ℕ) → n ≡ 0 → y ≤ z → n + y ≤ z
     behind n y z e l = omega (arith, l, e)
 
+    -- the goods of the first and of the other markets together are within the bound, whether the thing is the first
+    -- market's item (`b`) or not
     by_thing : (b : Bool) → (thing_index t == 2 + x.0) ≡ b → stocking xs e t ≤ bound → first + stocking xs e t ≤ bound
     by_thing true is rest =
         alone first (stocking xs e t) bound (head (entry_index e == entry_index Stocked) (thing_index t == 2 + x.0) first (one_stocked x.0 e t))
         (none_above x.0 xs e t (let at : thing_index t ≡ 2 + x.0 = grind (arith, nat_tests) in at) (and_parts _ _ rising).0)
     by_thing false is rest = behind first (stocking xs e t) bound (other_item x.0 e t is) rest
 
+    -- if the goods of the other markets are within the bound, they are so together with those of the first
     with_rest : stocking xs e t ≤ bound → first + stocking xs e t ≤ bound
     with_rest rest = by_thing (thing_index t == 2 + x.0) refl rest
 
@@ -138,6 +150,7 @@ stocks_little xs rising e Money = omega (arith, not_stocked xs e Money (omega ar
 stocks_little xs rising e People = omega (arith, not_stocked xs e People (omega arith))
 stocks_little xs rising e (Item i) = item (entry_index e == entry_index Stocked) (stocking xs e (Item i)) (little xs rising e (Item i))
   where
+    -- a number within a bound by a test is within the bound by the test and true
     item : (a : Bool) (n : ℕ) → n ≤ (if a then most_amount else 0) → n ≤ (if a && true then most_amount else 0)
     item true n l = l
     item false n l = l
@@ -148,6 +161,7 @@ stocks_little xs rising e (Item i) = item (entry_index e == entry_index Stocked)
 fits : (a b d : ℕ) → d ≤ b → d + min a (b - d) ≤ b
 fits a b d l = omega (arith, least a (b - d))
   where
+    -- the lesser of two numbers is at most the second
     least : (x y : ℕ) → min x y ≤ y
     least x y = omega arith
 
@@ -172,6 +186,7 @@ module _ (w : WorldValue) (c : CampaignValue) (n i : ℕ) (m : Market) (r : Regi
   pub stock_small : stock ≤ m.limit
   stock_small = by_option (get r.stocks i) refl
     where
+      -- the stock that a look-up finds for the item, or 0 where it finds none, is at most the market's limit
       by_option : (o : Option ℕ) → get r.stocks i ≡ o → unwrap_or o 0 ≤ m.limit
       by_option None is = omega arith
       by_option (Some amount) is = omega (arith, ((steady.numbers.regions n r here).stocks i amount is).1, limit_is)
@@ -196,9 +211,11 @@ module _ (w : WorldValue) (c : CampaignValue) (n i : ℕ) (m : Market) (r : Regi
   filled_total : (t : Thing) → total filled t ≡ total c t + cond (thing_index t == 2 + i) more 0
   filled_total t = by_place (thing_index t == 2 + i) refl
     where
+      -- if the new total plus the old stock is the old total plus the new stock, the total grows by the new goods
       added : (a b : ℕ) → a + stock ≡ b + (stock + more) → a ≡ b + more
       added a b e = omega (arith, e)
 
+      -- the total grows by the new goods if the thing is the item (`b`), and stays if not
       by_place : (b : Bool) → (thing_index t == 2 + i) ≡ b → total filled t ≡ total c t + cond b more 0
       by_place true is =
           let place : thing_index t ≡ thing_index (Item i) = grind (arith, nat_tests) in
@@ -208,9 +225,11 @@ module _ (w : WorldValue) (c : CampaignValue) (n i : ℕ) (m : Market) (r : Regi
           let apart : t ≢ Item i = λ same. absurd (other (ap thing_index same) is) in
           total-stock_other c n i (stock + more) r here t apart ∙ plain (total c t)
         where
+          -- a thing with the number of the item can't fail the test for it
           other : thing_index t ≡ 2 + i → (thing_index t == 2 + i) ≡ false → ⊥
           other e f = grind (arith, nat_tests)
 
+          -- a number is itself plus 0
           plain : (k : ℕ) → k ≡ k + 0
           plain k = omega arith
 
@@ -220,6 +239,8 @@ module _ (w : WorldValue) (c : CampaignValue) (n i : ℕ) (m : Market) (r : Regi
       ap pos (total-amount filled Stocked (Item i) t (pos more)) ∙ ap pos (filled_total t) ∙ added (thing_index t == 2 + i) (total c t) (booked c.books t) (old t)
       ∙ sym (booked-after_booking c.books Stocked (Item i) (pos more) t)
     where
+      -- if the total of a thing is what the books account for, it is so with the new goods in both, if the thing is the
+      -- item (`b`)
       added : (b : Bool) (x : ℕ) (z : ℤ) → pos x ≡ z → pos (x + cond b more 0) ≡ z +ℤ cond b (pos more) (pos 0)
       added true x z e = omega (arith, ints, e)
       added false x z e = omega (arith, ints, e)
@@ -276,6 +297,7 @@ module _ (w : WorldValue) (world : IsWorld w) (n : ℕ) where
   pub restocked_leaves_well : (c : CampaignValue) → IsSteady w c → LeavesWell IsSteady (stocks_by most_amount) w c (after_restock n c (entries (markets_of w n)))
   restocked_leaves_well c steady = by_plan (get w.regions n) refl
     where
+      -- restocking keeps the campaign steady and its books balanced, whether the world has a plan of the region or not
       by_plan : (o : Option RegionPlan) → get w.regions n ≡ o → LeavesWell IsSteady (stocks_by most_amount) w c (after_restock n c (entries (option_map_or (λ (p : RegionPlan). p.markets) o empty)))
       by_plan None is = subst (λ es. LeavesWell IsSteady (stocks_by most_amount) w c (after_restock n c es)) (sym none_there) (well_unchanged (stocks_by most_amount) w c steady)
       by_plan (Some p) is =
@@ -298,6 +320,7 @@ restocked_keeps n c (x ∷ xs) = restocked_keeps n (after_market_restock n c x) 
 pub restock_small : (m : Market) (stock : ℕ) → m.limit ≤ most_amount → restock m stock ≤ most_amount
 restock_small m stock l = omega (arith, l, least m.restock (m.limit - stock))
   where
+    -- the lesser of two numbers is at most the second
     least : (x y : ℕ) → min x y ≤ y
     least x y = omega arith
 

@@ -95,6 +95,8 @@ module _ (w : WorldValue) (c : CampaignValue) (n : ℕ) (r : Region) (born earne
       total_of t (total-amount counted Income Money t (pos earned)) (total-amount paid Births People t (pos born))
       (total-region more_people c n r is t) (total-region more_money peopled n (more_people r) peopled_there t)
     where
+      -- the total of thing `t` grows by the births and the income, from how each step changes it: births, income, and
+      -- their booking
       total_of : (t : Thing) → total (with_growth c n r.peasants r.money born earned) t ≡ total counted t → total counted t ≡ total paid t
           → total peopled t + region_amount t r ≡ total c t + region_amount t (more_people r) → total paid t + region_amount t (more_people r) ≡ total peopled t + region_amount t (more_money (more_people r))
           → pos (total (with_growth c n r.peasants r.money born earned) t) ≡ (pos (total c t) +ℤ share_of t People (pos born)) +ℤ share_of t Money (pos earned)
@@ -107,9 +109,11 @@ module _ (w : WorldValue) (c : CampaignValue) (n : ℕ) (r : Region) (born earne
           ∙ sym (ap (λ q. (pos (total c (Item i)) +ℤ cond q (pos born) (pos 0)) +ℤ cond (2 + i == 0) (pos earned) (pos 0)) people
           ∙ ap (λ q. (pos (total c (Item i)) +ℤ pos 0) +ℤ cond q (pos earned) (pos 0)) money ∙ zeros (total c (Item i)))
         where
+          -- the total of an item stays, since births and income change nothing of it
           same : (x y z u k : ℕ) → x ≡ y → y ≡ z → u + k ≡ total c (Item i) + k → z + k ≡ u + k → x ≡ total c (Item i)
           same x y z u k a b g h = omega arith
 
+          -- an integer that 0 is added to twice is the same
           zeros : (x : ℕ) → (pos x +ℤ pos 0) +ℤ pos 0 ≡ pos x
           zeros x = omega (arith, ints)
 
@@ -191,9 +195,12 @@ pub season_at_leaves_well : (w : WorldValue) → IsWorld w → (c : CampaignValu
 unfolding season_at
 season_at_leaves_well w world c (n, word) steady = by_terrain (terrain_of w n) refl
   where
+    -- an unchanged campaign stays steady and in balance, as after the season of a region that isn't there
     same : LeavesWell IsSteady (season_moves most_amount) w c c
     same = well_unchanged (season_moves most_amount) w c steady
 
+    -- the season of a region with terrain `t` keeps the campaign steady and its books balanced, whether the region is
+    -- there or not
     by_region : (t : Terrain) → terrain_of w n ≡ Some t → (o : Option Region) → get c.regions n ≡ o → LeavesWell IsSteady (season_moves most_amount) w c (option_map_or (season_of w c n word t) o c)
     by_region t here None is = same
     by_region t here (Some r) is =
@@ -204,6 +211,8 @@ season_at_leaves_well w world c (n, word) steady = by_terrain (terrain_of w n) r
         both_leave_well (grows_by most_amount) (stocks_by most_amount) w c grown (after_restock n grown (entries (markets_of w n))) growth
         (restocked_leaves_well w world n grown growth.leaves_it)
 
+    -- the season of a region keeps the campaign steady and its books balanced, whether the world has a terrain for it
+    -- or not
     by_terrain : (o : Option Terrain) → terrain_of w n ≡ o → LeavesWell IsSteady (season_moves most_amount) w c (option_map_or (λ t. at_region c n (season_of w c n word t)) o c)
     by_terrain None is = same
     by_terrain (Some t) is = by_region t is (get c.regions n) refl
@@ -218,19 +227,24 @@ length-zip (x ∷ xs) (y ∷ ys) = omega (arith, length-zip xs ys)
 pub season_little : (k : ℕ) → k ≤ most_regions → (e : Entry) (t : Thing) → moved_times k (season_moves most_amount) e t ≤ season_moves most_moved e t
 season_little k few e t = scaled (amount_number e t == amount_number Income Money) (amount_number e t == amount_number Births People) ((entry_index e == entry_index Stocked) && is_item t)
   where
+    -- the bound for one region on an amount: `most_amount` if the season may move it (`a`), and else 0
     one : Bool → ℕ
     one a = if a then most_amount else 0
 
+    -- the bound for the whole season on an amount: `most_moved` if the season may move it (`a`), and else 0
     most : Bool → ℕ
     most a = if a then most_moved else 0
 
+    -- the bounds of `k` regions on an amount are together within that of the whole season
     each : (a : Bool) → k * one a ≤ most a
     each true = omega (arith, few)
     each false = omega arith
 
+    -- `k` times a sum of three numbers is the sum of `k` times each
     parts : (x y z : ℕ) → k * ((x + y) + z) ≡ (k * x + k * y) + k * z
     parts x y z = omega arith
 
+    -- the bounds of `k` regions on three amounts are together within those of the whole season
     scaled : (a b d : Bool) → k * ((one a + one b) + one d) ≤ (most a + most b) + most d
     scaled a b d = omega (arith, parts (one a) (one b) (one d), each a, each b, each d)
 
@@ -248,6 +262,7 @@ season_at_keeps : (w : WorldValue) (c : CampaignValue) (x : ℕ × ℕ) → (sea
 unfolding season_at
 season_at_keeps w c (n, word) = by_terrain (terrain_of w n)
   where
+    -- the season of a region with terrain `t` changes no unit, whether the campaign has the region or not
     by_region : (t : Terrain) (o : Option Region) → (option_map_or (season_of w c n word t) o c).units ≡ c.units
     by_region t None = refl
     by_region t (Some r) =
@@ -255,6 +270,7 @@ season_at_keeps w c (n, word) = by_terrain (terrain_of w n)
         let earned = income w.rules.income t.money_limit (r.peasants + born) r.money in
         restocked_keeps n (with_growth c n r.peasants r.money born earned) (entries (markets_of w n))
 
+    -- the season of a region changes no unit, whether the world has a terrain for it or not
     by_terrain : (o : Option Terrain) → (option_map_or (λ t. at_region c n (season_of w c n word t)) o c).units ≡ c.units
     by_terrain None = refl
     by_terrain (Some t) = by_region t (get c.regions n)

@@ -48,11 +48,14 @@ module _ (w : WorldValue) (c : CampaignValue) (n : ℕ) (steady : IsSteady w c) 
   unfolding after_sweeping_unit
   swept_at_leaves_well = by_unit (get c.units n) refl
     where
+      -- sweeping unit `n`, which is there, keeps the campaign steady and in balance, whether it has no men (`b`) or has
+      -- some
       by_men : (u : Unit) → get c.units n ≡ Some u → (b : Bool) → (u.holding.men == 0) ≡ b → LeavesWell IsSteady (loses_by most_amount) w c (swept_in c n (Some u))
       by_men u is true t =
           subst (λ b. LeavesWell IsSteady (loses_by most_amount) w c (if b then without_unit (after_passing_all c (receiver c u.region u.faction) u) n else c)) (sym t) (swept_leaves_well w c n u is (is_equal u.holding.men 0 t) steady)
       by_men u is false t = subst (λ b. LeavesWell IsSteady (loses_by most_amount) w c (if b then without_unit (after_passing_all c (receiver c u.region u.faction) u) n else c)) (sym t) (well_unchanged (loses_by most_amount) w c steady)
 
+      -- sweeping unit `n` keeps the campaign steady and in balance, whether the unit is there or not
       by_unit : (o : Option Unit) → get c.units n ≡ o → LeavesWell IsSteady (loses_by most_amount) w c (swept_in c n o)
       by_unit None is = well_unchanged (loses_by most_amount) w c steady
       by_unit (Some u) is = by_men u is (u.holding.men == 0) refl
@@ -66,9 +69,12 @@ module _ (w : WorldValue) (c : CampaignValue) (n : ℕ) (steady : IsSteady w c) 
   unfolding after_sweeping_unit
   swept_at_keeps = by_unit (get c.units n) refl
     where
+      -- a campaign that stays as it is keeps each unit with men
       same : Kept c
       same m x there some = (x, there, kept-refl x)
 
+      -- after unit `n`, which has no men, passed on what it has and was removed, nothing is taken from any unit with
+      -- men
       all_but_it : (u : Unit) (is : get c.units n ≡ Some u) (none : u.holding.men ≡ 0) → Kept (without_unit (after_passing_all c (receiver c u.region u.faction) u) n)
       all_but_it u is none m x there some =
           others_keep w c n u is none steady m x there (λ own.
@@ -76,10 +82,13 @@ module _ (w : WorldValue) (c : CampaignValue) (n : ℕ) (steady : IsSteady w c) 
           let men = ap (λ (y : Unit). y.holding.men) (same_Some x u one) in
           absurd (omega (arith, men, none, some)))
 
+      -- sweeping unit `n`, which is there, takes nothing from units with men, whether it has no men itself (`b`) or has
+      -- some
       by_men : (u : Unit) → get c.units n ≡ Some u → (b : Bool) → (u.holding.men == 0) ≡ b → Kept (swept_in c n (Some u))
       by_men u is true t = subst (λ b. Kept (if b then without_unit (after_passing_all c (receiver c u.region u.faction) u) n else c)) (sym t) (all_but_it u is (is_equal u.holding.men 0 t))
       by_men u is false t = subst (λ b. Kept (if b then without_unit (after_passing_all c (receiver c u.region u.faction) u) n else c)) (sym t) same
 
+      -- sweeping unit `n` takes nothing from units with men, whether it is there or not
       by_unit : (o : Option Unit) → get c.units n ≡ o → Kept (swept_in c n o)
       by_unit None is = same
       by_unit (Some u) is = by_men u is (u.holding.men == 0) refl
@@ -93,6 +102,8 @@ module _ (w : WorldValue) (c : CampaignValue) (n : ℕ) (steady : IsSteady w c) 
   unfolding after_sweeping_unit
   swept_at_were = by_unit (get c.units n) refl
     where
+      -- after sweeping unit `n`, which is there, each unit left was there before (`Were`), whether unit `n` has no men
+      -- (`b`) or some
       by_men : (u : Unit) → get c.units n ≡ Some u → (b : Bool) → (u.holding.men == 0) ≡ b → Were (swept_in c n (Some u))
       by_men u is true t =
           subst (λ b. Were (if b then without_unit (after_passing_all c (receiver c u.region u.faction) u) n else c)) (sym t)
@@ -106,6 +117,7 @@ module _ (w : WorldValue) (c : CampaignValue) (n : ℕ) (steady : IsSteady w c) 
             (v, there, kept-refl v),
           ))
 
+      -- after sweeping unit `n`, each unit left was there before (`Were`), whether unit `n` is there or not
       by_unit : (o : Option Unit) → get c.units n ≡ o → Were (swept_in c n o)
       by_unit None is = λ m v there. (λ none own. none_some v (sym is ∙ ap (get c.units) (sym own) ∙ there), (v, there, kept-refl v))
       by_unit (Some u) is = by_men u is (u.holding.men == 0) refl
@@ -125,6 +137,7 @@ behind_it m n ns apart (inr rest) = rest
 at_least_one : (n : ℕ) → (n ≡ 0 → ⊥) → 1 ≤ n
 at_least_one n some = by_test (n == 0) refl
   where
+    -- the number is at least 1, whether it tests as 0 (`b`), which can't be, or not
     by_test : (b : Bool) → (n == 0) ≡ b → 1 ≤ n
     by_test true t = absurd (some (is_equal n 0 t))
     by_test false t = let one = is_unequal n 0 t in grind (arith, nat_tests)
@@ -167,6 +180,7 @@ module _ (c : CampaignValue) (n : ℕ) where
   pub gone_at_units : (after_sweeping_faction c n).units ≡ c.units
   gone_at_units = by_test (is_empty (numbers_of n c.units))
     where
+      -- the units stay, whether faction `n` is set to gone (`b`) or not
       by_test : (b : Bool) → (if b then with_gone c n else c).units ≡ c.units
       by_test true = refl
       by_test false = refl
@@ -175,6 +189,8 @@ module _ (c : CampaignValue) (n : ℕ) where
   pub gone_at_leaves_well : (w : WorldValue) → IsSteady w c → LeavesWell IsSteady nothing_moves w c (after_sweeping_faction c n)
   gone_at_leaves_well w steady = by_test (is_empty (numbers_of n c.units)) refl
     where
+      -- setting a faction without units to gone keeps the campaign steady and the books as they are, whether it is
+      -- there or not
       by_faction : numbers_of n c.units ≡ [] → (o : Option Faction) → get c.factions n ≡ o → LeavesWell IsSteady nothing_moves w c (with_gone c n)
       by_faction none None is = subst (LeavesWell IsSteady nothing_moves w c) (sym (none-gone c n is)) (well_unchanged nothing_moves w c steady)
       by_faction none (Some f) is = record {
@@ -184,6 +200,8 @@ module _ (c : CampaignValue) (n : ℕ) where
         near = λ e t. near_same 0 (amount_in c.books e t);
       }
 
+      -- sweeping the faction keeps the campaign steady and the books as they are, whether it has no units (`b`) or has
+      -- some
       by_test : (b : Bool) → is_empty (numbers_of n c.units) ≡ b → LeavesWell IsSteady nothing_moves w c (if b then with_gone c n else c)
       by_test true t = by_faction (none_at (numbers_of n c.units) t) (get c.factions n) refl
       by_test false t = well_unchanged nothing_moves w c steady
@@ -196,6 +214,8 @@ module _ (c : CampaignValue) (n : ℕ) where
   pub gone_at_remains : Remains (after_sweeping_faction c n)
   gone_at_remains = by_test (is_empty (numbers_of n c.units)) refl
     where
+      -- after faction `n` is set to gone, the other factions without a unit that aren't gone are as before (`Remains`),
+      -- whether faction `n` is there or not
       by_faction : (o : Option Faction) → get c.factions n ≡ o → Remains (with_gone c n)
       by_faction None is =
           subst Remains (sym (none-gone c n is)) (λ m f there none stays. (λ own. none_some f (sym is ∙ ap (get c.factions) (sym own) ∙ there), there))
@@ -207,13 +227,17 @@ module _ (c : CampaignValue) (n : ℕ) where
             | inr apart ↦ (apart, sym (get-gone_other c n x is m apart) ∙ there)
           ]
         where
+          -- whether the faction in an option is gone; where it holds none, whether another one is
           gone_in : Option Faction → Faction → Bool
           gone_in (Some y) z = y.gone
           gone_in None z = z.gone
 
+          -- no test is both true and false
           both_ways : (b : Bool) → b ≡ true → b ≡ false → ⊥
           both_ways b e f = cc
 
+      -- after sweeping faction `n`, the factions without a unit that aren't gone are as before (`Remains`), whether
+      -- faction `n` has no units (`b`) or some
       by_test : (b : Bool) → is_empty (numbers_of n c.units) ≡ b → Remains (if b then with_gone c n else c)
       by_test true t = by_faction (get c.factions n) refl
       by_test false t = λ m f there none stays. (λ own. some_at (numbers_of n c.units) (ap (λ k. numbers_of k c.units) (sym own) ∙ none) t, there)
@@ -248,6 +272,8 @@ length-numbers : {V : Type 0} (p : V → Bool) (es : List (ℕ × V)) → length
 length-numbers p [] = omega arith
 length-numbers p (e ∷ es) = subst (λ ns. length ns ≤ length (e ∷ es)) (sym (chosen-cons p e es)) (one_more (p e.1) e.0 _ (length-numbers p es))
   where
+    -- a list of at most as many numbers as entries, with one more in front if test `b` is true, is at most longer by
+    -- one than the entries
     one_more : (b : Bool) (n : ℕ) (ns : List ℕ) → length ns ≤ length es → length (cond b (n ∷ ns) ns) ≤ suc (length es)
     one_more true n ns l = omega arith
     one_more false n ns l = omega arith
@@ -256,6 +282,8 @@ length-numbers p (e ∷ es) = subst (λ ns. length ns ≤ length (e ∷ es)) (sy
 pub loses_little : (k : ℕ) → k ≤ most_units → (e : Entry) (t : Thing) → moved_times k (loses_by most_amount) e t ≤ loses_by most_moved e t
 loses_little k few e t = scaled ((entry_index e == entry_index Lost) && not (thing_index t == thing_index People))
   where
+    -- the bounds of `k` units on an amount are together within that of the sweep, if the sweep may move it (`b`), and
+    -- else 0
     scaled : (b : Bool) → k * (if b then most_amount else 0) ≤ (if b then most_moved else 0)
     scaled true = omega (arith, few)
     scaled false = omega (arith, few)

@@ -53,6 +53,7 @@ moving_all h = both_move (moves_only h.money Lost Money) (moving_items (entries 
 all_owed : (h : HoldingValue) → h.men ≡ 0 → (s : Thing) → owing_all h s ≡ unit_amount s h
 all_owed h none Money = ap (λ n. h.money + n) (no_money (entries h.items)) ∙ plain h.money
   where
+    -- a number plus 0 is the number
     plain : (x : ℕ) → x + 0 ≡ x
     plain x = omega arith
 all_owed h none People = ap (λ n. 0 + n) (no_people (entries h.items)) ∙ sym none
@@ -61,6 +62,7 @@ all_owed h none (Item j) =
     ap (λ b. cond b h.money 0 + owing_items (entries h.items) (Item j)) apart ∙ nothing (owing_items (entries h.items) (Item j))
     ∙ of_item j (entries h.items) (sorted h.items) ∙ ap (λ (o : Option ℕ). unwrap_or o 0) (sym (get-entries h.items j))
   where
+    -- 0 plus a number is the number
     nothing : (x : ℕ) → 0 + x ≡ x
     nothing x = omega arith
 
@@ -74,11 +76,13 @@ of_lost e n = cond (entry_index e == 7) n 0
 one_moved : (a : ℕ) (t : Thing) (e : Entry) (s : Thing) → moves_only a Lost t e s ≤ of_lost e (part_of s t a)
 one_moved a t e s = by_number (amount_number e s == amount_number Lost t) refl
   where
+    -- the amount `a` is within a bound that is `a` where two tests hold, if both hold
     at_place : (b d : Bool) → b ≡ true → d ≡ true → a ≤ cond b (cond d a 0) 0
     at_place true true f g = omega arith
     at_place true false f g = cc
     at_place false d f g = cc
 
+    -- the amount of entry `e` and thing `s` is within its bound, whether it is the one that is booked (`b`) or another
     by_number : (b : Bool) → (amount_number e s == amount_number Lost t) ≡ b → (if b then a else 0) ≤ of_lost e (part_of s t a)
     by_number true is =
         let same : entry_count * thing_index s + entry_index e ≡ entry_count * thing_index t + 7 = grind (arith, nat_tests) in
@@ -94,6 +98,7 @@ one_moved a t e s = by_number (amount_number e s == amount_number Lost t) refl
 lost_sum : (e : Entry) (x y m n : ℕ) → x ≤ of_lost e m → y ≤ of_lost e n → x + y ≤ of_lost e (m + n)
 lost_sum e x y m n = by_test (entry_index e == 7)
   where
+    -- two amounts within bounds are together within the sum of the bounds, whether the entry is Lost (`b`) or another
     by_test : (b : Bool) → x ≤ cond b m 0 → y ≤ cond b n 0 → x + y ≤ cond b (m + n) 0
     by_test true k l = omega arith
     by_test false k l = omega arith
@@ -117,11 +122,13 @@ little_lost : (h : HoldingValue) → h.men ≡ 0 → h.money ≤ holding_limit �
     → of_lost e (unit_amount s h) ≤ loses_by most_amount e s
 little_lost h none money items e Money = by_test (entry_index e == 7)
   where
+    -- the money of the holding is within the bound, whether the entry is Lost (`b`) or another
     by_test : (b : Bool) → cond b h.money 0 ≤ (if b && not false then most_amount else 0)
     by_test true = money
     by_test false = omega arith
 little_lost h none money items e People = by_test (entry_index e == 7)
   where
+    -- the men of the holding, which are none, are within the bound of 0
     by_test : (b : Bool) → cond b h.men 0 ≤ (if b && not true then most_amount else 0)
     by_test true = omega (arith, none)
     by_test false = omega arith
@@ -129,6 +136,8 @@ little_lost h none money items e (Item j) =
     let apart : (2 + j == 1) ≡ false = grind (arith, nat_tests) in
     by_test (entry_index e == 7) (2 + j == 1) apart
   where
+    -- an item of the holding is within the bound, whether the entry is Lost (`b`) or another, since an item isn't
+    -- people (`d`)
     by_test : (b d : Bool) → d ≡ false → cond b (amount_of h.items j) 0 ≤ (if b && not d then most_amount else 0)
     by_test true false f = items j
     by_test true true f = cc
@@ -150,6 +159,7 @@ module _ (w : WorldValue) (c : CampaignValue) (n : ℕ) (u : Unit) (is : get c.u
       let one : Some v ≡ Some u = sym there ∙ is in
       without_men v.holding.men (ap (λ (x : Unit). x.holding.men) (same_Some v u one) ∙ none) men
     where
+      -- a number of men that is 0 doesn't test as more than 0
       without_men : (men : ℕ) → men ≡ 0 → nat_lt 0 men ≡ true → ⊥
       without_men men e t = let some : 1 ≤ men = grind (arith, nat_tests) in absurd (omega (arith, e, some))
 
@@ -200,9 +210,11 @@ module _ (w : WorldValue) (c : CampaignValue) (n : ℕ) (u : Unit) (is : get c.u
       (all_owed u.holding none s) before
       ∙ ap (λ (books : BooksValue). booked books s) (sym only.books)
     where
+      -- an integer is itself plus 0
       plain : (z : ℤ) → z ≡ z +ℤ pos 0
       plain z = omega (arith, ints)
 
+      -- if the total was above the books by what unit `n` had, the total without the unit is what the books account for
       rest : (a h b o : ℕ) (z : ℤ) → a + h ≡ b → o ≡ h → pos b ≡ z +ℤ pos (0 + o) → pos a ≡ z
       rest a h b o z e f g = omega (arith, ints, e, f, g)
 

@@ -51,13 +51,16 @@ gone_marks c d n what marks = marks_by c d (record { value = with_gone c.value n
 
 -- ---- an item that is passed on
 
--- setting a unit's item to what it had and accepts, and booking the rest as lost, is passing the item on
+-- setting unit `to`'s amount of an item to what it had plus what it accepts, and booking the rest as lost, is passing
+-- the item on (`after_passing_item`)
 pub passed_item_is : (c : CampaignValue) (to item amount : ℕ) (v : Unit) → get c.units to ≡ Some v
     → with_lost (with_item c to item (amount_of v.holding.items item + accepted_of amount (amount_of v.holding.items item))) (Item item) (amount - accepted_of amount (amount_of v.holding.items item))
     ≡ after_passing_item to c (item, amount)
 unfolding after_passing_item
 passed_item_is c to item amount v is = sym (ap given is)
   where
+    -- the campaign after the item went to the unit that a look-up found, up to its room; what it doesn't take is booked
+    -- as lost
     given : Option Unit → CampaignValue
     given o =
         let taken = option_map_or (λ u. accepted_of amount (amount_of u.holding.items item)) o 0 in

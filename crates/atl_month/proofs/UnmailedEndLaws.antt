@@ -35,6 +35,7 @@ less_plus a b u v x one two = record {
   items = λ i. omega (arith, one.items i, two.items i);
 }
   where
+    -- a number less `a`, and then less `b`, is the number less `a + b`
     less : (j k l : ℕ) → k ≡ j - a → l ≡ k - b → l ≡ j - (a + b)
     less j k l e f = omega (arith, e, f)
 
@@ -58,6 +59,7 @@ held_by s u b = record (if b then u.holding else record u.holding { men = men_le
 fewer_by : (s : UpkeepResult) (u : Unit) → IsLessBy s.starved u (supplied_unit s u)
 fewer_by s u = by_test (men_left s u == u.holding.men) refl
   where
+    -- the unit has exactly those men less who starved, whether it has all its men (`b`) or fewer
     by_test : (b : Bool) → (men_left s u == u.holding.men) ≡ b → IsLessBy s.starved u (record u { holding = held_by s u b })
     by_test true is = record { faction = refl; name = refl; men = sym (is_equal (men_left s u) u.holding.men is); items = λ i. omega arith }
     by_test false is = record { faction = refl; name = refl; men = refl; items = λ i. omega arith }
@@ -78,6 +80,7 @@ supplied_at c s n u there = elim (cases_eq n s.unit) [
       record { unit = u; there = by_unit apart (get c.units s.unit) ∙ there; spared = subst (λ b. IsLessBy (if b then s.starved else 0) u u) (sym (other_number s.unit n (λ same. apart (sym same)))) (nobody_less u) }
 ]
   where
+    -- upkeep of another unit leaves unit `n` as it is, whether that other unit is there or not
     by_unit : n ≢ s.unit → (o : Option Unit) → get (upkeep_in c s o).units n ≡ get c.units n
     by_unit apart None = refl
     by_unit apart (Some v) = get-insert_other c.units s.unit n (supplied_unit s v) apart
@@ -103,10 +106,13 @@ starved_are_reported : (ss : List UpkeepResult) (n : ℕ) → starved_reported n
 starved_are_reported [] n = refl
 starved_are_reported (s ∷ ss) n = by_test (starved_are_reported ss n) (s.starved == 0) refl ∙ sym (sum_by-cons (among n) s ss)
   where
+    -- a number stays when a number that is 0 is added, if a test `b` says so
     none : (a x : ℕ) (b : Bool) → a ≡ 0 → x ≡ (if b then a else 0) + x
     none a x true is = omega (arith, is)
     none a x false is = omega arith
 
+    -- the events report all men of the unit who starve, with one result more, whether nobody starves by it (`b`) or
+    -- some do
     by_test : starved_reported n (filter starves ss) ≡ sum_by (among n) ss → (b : Bool) → (s.starved == 0) ≡ b → starved_reported n (cond (not b) (s ∷ filter starves ss) (filter starves ss)) ≡ among n s + sum_by (among n) ss
     by_test rest true is = rest ∙ none s.starved (sum_by (among n) ss) (s.unit == n) (is_equal s.starved 0 is)
     by_test rest false is = sum_by-cons (by_event n) (starved_event s) (map starved_event (filter starves ss)) ∙ ap (λ x. among n s + x) rest
@@ -121,15 +127,19 @@ upkeep_leaves = record {
       record { unit = one.unit; there = one.there; spared = subst (λ k. IsLessBy k u one.unit) (less (starved_in m.events n) (all w c n) _ (sums w c m n)) one.spared };
 }
   where
+    -- how many men of unit `n` starve by the upkeep of the campaign
     all : (w : WorldValue) (c : CampaignValue) (n : ℕ) → ℕ
     all w c n = sum_by (among n) (upkeep_results w c)
 
+    -- after upkeep the events report for unit `n` the men starved before and those who starve by upkeep
     sums : (w : WorldValue) (c : CampaignValue) (m : MonthValue) (n : ℕ) → starved_in (upkeep_meaning w c m).1.events n ≡ starved_in m.events n + all w c n
     sums w c m n = sum_by-append (by_event n) m.events (map starved_event (filter starves (upkeep_results w c))) ∙ ap (λ x. starved_in m.events n + x) (starved_are_reported (upkeep_results w c) n)
 
+    -- one of two numbers is at most their sum
     more : (x y z : ℕ) → z ≡ x + y → x ≤ z
     more x y z is = omega (arith, is)
 
+    -- one of two numbers is their sum less the other
     less : (x y z : ℕ) → z ≡ x + y → y ≡ z - x
     less x y z is = omega (arith, is)
 
@@ -151,8 +161,10 @@ sweep_leaves = record {
       record { unit = v; there = behind; spared = record { faction = kept.no_worse.faction; name = kept.no_worse.name; men = nobody (starved_in m.events n) u.holding.men v.holding.men kept.men; items = kept.no_worse.items } };
 }
   where
+    -- a number that is more than x - x, which is 0, is at least 1
     some_men : (x a : ℕ) → x - x < a → 1 ≤ a
     some_men x a l = omega (arith, l)
 
+    -- a number that stays is what it was less x - x, which is 0
     nobody : (x a b : ℕ) → b ≡ a → b ≡ a - (x - x)
     nobody x a b is = omega (arith, is)

@@ -34,6 +34,7 @@ month_leaves =
 none_read : (f : ℕ) (ms : List Mailing) → SentNone ms f → get (by_faction (map reading_of ms)) f ≡ None
 none_read f ms none = get-from_entries nat_cmp_total (map (λ r. (r.faction, r)) (map reading_of ms)) f ∙ not_found ms (recursion_from_All (λ m. m.faction ≢ f) ms none)
   where
+    -- the search finds no reading of the faction among the readings of these mailings
     not_found : (ms : List Mailing) → AllByRecursion (λ m. m.faction ≢ f) ms → find nat_cmp f (map (λ r. (r.faction, r)) (map reading_of ms)) ≡ None
     not_found [] none = refl
     not_found (m ∷ ms) none =

@@ -69,12 +69,15 @@ module _ (w : WorldValue) (left men : ℕ) (fewer : left ≤ men) where
   part : (days : ℕ) → days ≤ most_days * men → days * left / men ≤ most_days * left
   part days most = div-le_of_le-mul men (scaled days most)
     where
+      -- days of at most `most_days` for each man, times `left`, are at most `men` times the most days of `left` men
       scaled : (days : ℕ) → days ≤ most_days * men → days * left ≤ men * (most_days * left)
       scaled days most = subst (λ n. days * left ≤ n) (turned most_days men left) (times days (most_days * men) left most)
         where
+          -- the factors of a product can be taken in another order
           turned : (k m l : ℕ) → (k * m) * l ≡ m * (k * l)
           turned k m l = grind arith
 
+          -- a number that is at most another is so when both are multiplied by the same
           times : (a b l : ℕ) → a ≤ b → a * l ≤ b * l
           times a b l h = mul-le-mul_right l h
 
@@ -90,9 +93,12 @@ module _ (w : WorldValue) (h : HoldingValue) (left : ℕ) (fewer : left ≤ h.me
       let (some, said) = each_said (going_of left h) (keys h.days) k d is in
       by_option (get h.days k) refl some said
     where
+      -- of 0 days 0 stay
       nothing : 0 * left / h.men ≡ 0
       nothing = ap (λ n. n / h.men) (zero-mul left) ∙ zero-div h.men
 
+      -- the days that stay of skill `k` are no more than the men left may have, whether the holding has days of the
+      -- skill or not
       by_option : (o : Option ℕ) → get h.days k ≡ o → 1 ≤ d → d ≡ unwrap_or o 0 * left / h.men → IsStudied w left k d
       by_option None there some said = let none : d ≡ 0 = said ∙ nothing in absurd (omega (arith, some, none))
       by_option (Some had) there some said =
@@ -107,6 +113,8 @@ module _ (w : WorldValue) (h : HoldingValue) (left : ℕ) (fewer : left ≤ h.me
   less_men : IsWithMen (with_men_left left h)
   less_men = by_men (left == h.men) refl
     where
+      -- the holding with `left` men has days that they may have (`IsWithMen`), whether these are all its men (`b`) or
+      -- fewer
       by_men : (b : Bool) → (left == h.men) ≡ b → IsWithMen (if b then h else record h { men = left; days = days_left left h })
       by_men true is =
           let same : h.men ≡ left = grind (arith, nat_tests) in
@@ -155,6 +163,7 @@ module _ (w : WorldValue) (c : CampaignValue) (s : UpkeepResult) (u : Unit) (is 
   guard_kept : guards (record u { holding = now }) ≡ true → guards u ≡ true
   guard_kept = both_true now.guard old.guard now.men old.men with_less.3 (omega (arith, with_less.0))
     where
+      -- a unit with the same guard flag and at least as many men guards, if the other unit guards
       both_true : (a b : Bool) (m n : ℕ) → a ≡ b → m ≤ n → (a && nat_lt 0 m) ≡ true → (b && nat_lt 0 n) ≡ true
       both_true a b m n same fewer is = grind (arith, nat_tests)
 
@@ -202,14 +211,18 @@ module _ (w : WorldValue) (c : CampaignValue) (s : UpkeepResult) (u : Unit) (is 
       total_of t (total-amount paid_off Starved People t (neg_ℤ (pos s.starved))) (total-amount held_back Upkeep Money t (neg_ℤ (pos s.paid)))
       (total-unit_amount w c s.unit u now is t)
     where
+      -- the total of money falls by the money `p` that the unit pays
       taken : (x y z a l p : ℕ) → x ≡ y → y ≡ z → z + a ≡ total c Money + l → l ≡ a - p → p ≤ a
           → pos x ≡ (pos (total c Money) +ℤ neg_ℤ (pos p)) +ℤ pos 0
       taken x y z a l p e f g h k = omega (arith, ints, e, f, g, h, k)
 
+      -- the total of people falls by the men `p` who starve
       starved_away : (x y z a l p : ℕ) → x ≡ y → y ≡ z → z + a ≡ total c People + l → l ≡ a - p → p ≤ a
           → pos x ≡ (pos (total c People) +ℤ pos 0) +ℤ neg_ℤ (pos p)
       starved_away x y z a l p e f g h k = omega (arith, ints, e, f, g, h, k)
 
+      -- the total of thing `t` falls by what the unit paid or by those who starved, or stays, from how each step
+      -- changes it
       total_of : (t : Thing) → total after t ≡ total paid_off t → total paid_off t ≡ total held_back t
           → total held_back t + unit_amount t old ≡ total c t + unit_amount t now
           → pos (total after t) ≡ (pos (total c t) +ℤ share_of t Money (neg_ℤ (pos s.paid))) +ℤ share_of t People (neg_ℤ (pos s.starved))
@@ -222,9 +235,11 @@ module _ (w : WorldValue) (c : CampaignValue) (s : UpkeepResult) (u : Unit) (is 
           ∙ sym (ap (λ q. (pos (total c (Item i)) +ℤ cond (2 + i == 0) (neg_ℤ (pos s.paid)) (pos 0)) +ℤ cond q (neg_ℤ (pos s.starved)) (pos 0)) people
           ∙ ap (λ q. (pos (total c (Item i)) +ℤ cond q (neg_ℤ (pos s.paid)) (pos 0)) +ℤ pos 0) money ∙ zeros (total c (Item i)))
         where
+          -- the total of an item stays, since upkeep changes no items
           same : (x y z a l : ℕ) → x ≡ y → y ≡ z → z + a ≡ total c (Item i) + l → l ≡ a → x ≡ total c (Item i)
           same x y z a l e f g h = omega (arith, e, f, g, h)
 
+          -- an integer that 0 is added to twice is the same
           zeros : (x : ℕ) → (pos x +ℤ pos 0) +ℤ pos 0 ≡ pos x
           zeros x = omega (arith, ints)
 
@@ -284,6 +299,7 @@ pub other_unit : (c : CampaignValue) (s : UpkeepResult) (n : ℕ) → n ≢ s.un
 unfolding upkeep_at
 other_unit c s n apart = by_unit (get c.units s.unit)
   where
+    -- unit `n` stays as it is, whether the unit whose upkeep is taken is there or not
     by_unit : (o : Option Unit) → get (upkeep_in c s o).units n ≡ get c.units n
     by_unit None = refl
     by_unit (Some u) = get-insert_other c.units s.unit n (record u { holding = after_upkeep s u.holding }) apart
@@ -358,6 +374,8 @@ module _ (w : WorldValue) (c : CampaignValue) (some : 1 ≤ w.rules.maintenance)
   little : MovesLess (moved_times (length list) (takes_up_to most_amount)) (takes_up_to most_moved)
   little e t = scaled (length list) few (amount_number e t == amount_number Upkeep Money) (amount_number e t == amount_number Starved People)
     where
+      -- the bounds of `k` units on two amounts, each moved only if a test says so, are together within those of the
+      -- whole phase
       scaled : (k : ℕ) → k ≤ most_units → (a b : Bool)
           → k * ((if a then most_amount else 0) + (if b then most_amount else 0)) ≤ (if a then most_moved else 0) + (if b then most_moved else 0)
       scaled k few true true = omega (arith, few)
@@ -384,6 +402,7 @@ module _ (w : WorldValue) (c : CampaignValue) (some : 1 ≤ w.rules.maintenance)
 men_stay : (h : HoldingValue) (left : ℕ) → left ≡ h.men → with_men_left left h ≡ h
 men_stay h left is = by_men (left == h.men) refl
   where
+    -- a holding of which all men are left is as it was, whether the test for it (`b`) is true or, which can't be, false
     by_men : (b : Bool) → (left == h.men) ≡ b → (if b then h else record h { men = left; days = days_left left h }) ≡ h
     by_men true test = refl
     by_men false test = grind (arith, nat_tests)
@@ -418,18 +437,23 @@ days_set left h listed =
     (λ k. set_each h.days stays k empty (λ free. ap (λ (o : Option ℕ). unwrap_or o 0) (get-empty nat_cmp k) ∙ sym (none k))
     ∙ sym (as_said (going_of left h) (keys h.days) k (λ other. none_go left h k (not_listed k other))))
   where
+    -- how many of `d` days stay: `d` times the men left, divided by the men before, rounded down
     stays : ℕ → ℕ → ℕ
     stays k d = d * left / h.men
 
+    -- of 0 days 0 stay
     none : (k : ℕ) → stays k 0 ≡ 0
     none k = ap (λ d. d / h.men) (zero-mul left) ∙ zero-div h.men
 
+    -- the map of the days that stay, set one by one in an empty map
     anew : FinMap nat_cmp ℕ
     anew = fold (λ (m : FinMap nat_cmp ℕ) (e : ℕ × ℕ). with_amount_of m e.0 (stays e.0 e.1)) empty (entries h.days)
 
+    -- a skill that isn't among the holding's skills has 0 days
     not_listed : (k : ℕ) → list_any (eq_by_cmp nat_cmp k) (keys h.days) ≡ false → amount_of h.days k ≡ 0
     not_listed k other = by_option (get h.days k) (contains_key-keys h.days k ∙ other)
       where
+        -- a look-up that finds no value counts as 0
         by_option : (o : Option ℕ) → is_some o ≡ false → unwrap_or o 0 ≡ 0
         by_option None is = refl
         by_option (Some d) is = cc
@@ -439,6 +463,8 @@ pub starved_supplied : (s : UpkeepResult) (h : HoldingValue) → 1 ≤ s.starved
     → record h { men = h.men - s.starved; money = h.money - s.paid; days = with_days h.days (staying_list (h.men - s.starved) h.men h.days) } ≡ after_upkeep s h
 starved_supplied s h some fewer listed = by_men ((h.men - s.starved) == h.men) refl
   where
+    -- setting men, money and days gives the holding after upkeep, whether all men are left (`b`), which can't be, or
+    -- fewer
     by_men : (b : Bool) → ((h.men - s.starved) == h.men) ≡ b
         → record h { men = h.men - s.starved; money = h.money - s.paid; days = with_days h.days (staying_list (h.men - s.starved) h.men h.days) }
         ≡ record (if b then h else record h { men = h.men - s.starved; days = days_left (h.men - s.starved) h }) { money = h.money - s.paid }

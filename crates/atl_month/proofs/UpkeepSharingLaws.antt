@@ -52,10 +52,14 @@ module _ (m : FactionAccounts) (r f : ℕ) (a : Account) where
   pub account_put : (s g : ℕ) → account_at put s g ≡ cond ((r == s) && (f == g)) a (account_at m s g)
   account_put s g = by_region (r == s) refl
     where
+      -- in the region of the account that was set, its faction has this account, and any other has what it had, as test
+      -- `c` says
       by_faction : r ≡ s → (c : Bool) → (f == g) ≡ c → account_at put s g ≡ cond c a (account_at m s g)
       by_faction same true is = let one : f ≡ g = grind (arith, nat_tests) in rw (← same, ← one) put_same
       by_faction same false is = let apart : g ≢ f = grind (arith, nat_tests) in rw (← same) (other_faction g apart)
 
+      -- a faction has the account that was set, if its region (`b`) and faction are those of it, and else the one that
+      -- it had
       by_region : (b : Bool) → (r == s) ≡ b → account_at put s g ≡ cond (b && (f == g)) a (account_at m s g)
       by_region true is = by_faction (grind (arith, nat_tests)) (f == g) refl
       by_region false is = let apart : s ≢ r = grind (arith, nat_tests) in other_region s g apart
@@ -69,6 +73,7 @@ module _ (amount : UpkeepInput → ℕ) (test : UpkeepInput → Bool) (xs : List
       ap (sum_by amount) (filter-append test xs (p ∷ [])) ∙ sum_by-append amount (filter test xs) (filter test (p ∷ []))
       ∙ ap (λ n. sum_by amount (filter test xs) + n) (one (test p))
     where
+      -- the sum over one more unit is its amount if it passes the test (`b`), and else 0
       one : (b : Bool) → sum_by amount (cond b (p ∷ []) []) ≡ cond b (amount p) 0
       one true = omega arith
       one false = refl
@@ -87,9 +92,11 @@ pub each_account : (P : ℕ → ℕ → Account → Type 0) (m : FactionAccounts
     → (s g : ℕ) → P s g (account_at (with_account m p.region p.faction a) s g)
 each_account P m p a here others s g = by_test (is_input_of s g p) refl
   where
+    -- the account of a faction in a region is the new one if the unit is of both (`test`), and else the old one
     at : (test : Bool) → is_input_of s g p ≡ test → account_at (with_account m p.region p.faction a) s g ≡ cond test a (account_at m s g)
     at test is = account_put m p.region p.faction a s g ∙ ap (λ b. cond b a (account_at m s g)) is
 
+    -- P holds of the account of a faction in a region, whether the unit is of both (`test`) or not
     by_test : (test : Bool) → is_input_of s g p ≡ test → P s g (account_at (with_account m p.region p.faction a) s g)
     by_test true is =
         let (first, second) = and_parts (p.region == s) (p.faction == g) is in
@@ -110,7 +117,9 @@ no_accounts m s g = ap (account_in g) (get-empty nat_cmp s) ∙ ap account_or (g
 
 -- the sums of an account are at most what `n` units may have left and be short of
 pub record IsFew (n : ℕ) (a : Account) : Type 0 where
+  -- the money that the units have left is within what `n` units may have
   pub left : a.left ≤ holding_limit * n
+  -- the money that the units are short of is within what `n` units may be short of
   pub short : a.short ≤ most_per_head * men_limit * n
 
 -- in the empty map the sums of each account are within those of 0 units
@@ -181,6 +190,8 @@ module _ {A : Type 0} where
   filters_swap t q [] = refl
   filters_swap t q (x ∷ xs) = either (filters_swap t q xs) (t x) (q x) refl refl
     where
+      -- with one more element in front, filtering gives the same in either order, whether each test (`b`, `d`) is true
+      -- of it or not
       either : filter q (filter t xs) ≡ filter t (filter q xs) → (b d : Bool) → t x ≡ b → q x ≡ d
           → filter q (if_so b x (filter t xs)) ≡ filter t (if_so d x (filter q xs))
       either same true true is as_well =
@@ -269,15 +280,17 @@ module _ (m : ℕ) (all before : List UpkeepInput) (p : UpkeepInput) (accounts :
       ap (λ b. upkeep_result_by m b p) (each p.region p.faction)
       ∙ same_settled _ _ _ _ (ap (λ n. paid_by m p + n) (part_of (left_of m))) (ap (λ n. starved_of m (short_of m p - n)) (part_of (short_of m)))
     where
-      -- what the unit gets or gives of an amount of all
+      -- what a unit gives or gets by the account is what it gives or gets in turn, after its peers with lower numbers
       part_of : (f : UpkeepInput → ℕ) → min (amount - min (sum_by f (peers_of p.region p.faction before)) amount) (f p) ≡ amount_in_turn amount (sum_by f (filter (is_lower p.unit) peers)) (f p)
       part_of f =
           is_dealt (sum_by f (peers_of p.region p.faction before)) (f p) amount
           ∙ ap (λ xs. amount_in_turn amount (sum_by f xs) (f p)) (sym (before_among first))
 
+      -- a result of upkeep for the unit, with these numbers of money paid and men starved
       settled : (paid starved : ℕ) → UpkeepResult
       settled paid starved = record { unit = p.unit; faction = p.faction; paid = paid; starved = starved }
 
+      -- results of upkeep for the unit with the same numbers are the same
       same_settled : (a b c d : ℕ) → a ≡ c → b ≡ d → settled a b ≡ settled c d
       same_settled a b c d x y = rw (x, y) refl
 
@@ -305,5 +318,6 @@ can_spare m some peers p =
       starved = few_starve m p.men short some (omega arith);
     }
   where
+    -- what a unit pays for itself, with what it gives to others in turn, is at most its money
     within : (given before money due : ℕ) → min money due + amount_in_turn given before (money - min money due) ≤ money
     within given before money due = omega arith

@@ -60,7 +60,9 @@ account_after maintenance a input = record a {
 
 -- of an account, at most the amount to give (`to_give`) was given so far, and at most that amount covered
 pub record IsOpen (a : Account) : Type 0 where
+  -- at most the amount to give was given so far
   pub given : a.given ≤ to_give a
+  -- at most the amount to give was covered so far
   pub covered : a.covered ≤ to_give a
 
 -- the account of a faction in a region, where `all` are the units of upkeep, and those `before` had their turn

@@ -103,8 +103,11 @@ loses_by most e t = if (entry_index e == entry_index Lost) && not (thing_index t
 
 -- a unit is no worse off, and its men and their days are as they were
 pub record IsKept (before after : Unit) : Type 0 where
+  -- the unit is no worse off
   pub no_worse : IsNoWorse before after
+  -- the number of the unit's men stays
   pub men : after.holding.men ≡ before.holding.men
+  -- the days of study of the unit's men stay
   pub days : after.holding.days ≡ before.holding.days
 
 -- What the sweep leaves alone: each unit with men is still there, no worse off, with its men and their days as they

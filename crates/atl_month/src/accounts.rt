@@ -11,16 +11,21 @@ use std::alloc::{AllocError, Global};
 /// added up, and how much of it was given and covered so far.
 #[derive(Drop, Clone, Copy, Debug, PartialEq, Eq)]
 pub(crate) struct Account {
+    /// The money that the units have left after their own upkeep.
     pub(crate) left: u128,
+    /// The money that the units are short of for their own upkeep.
     pub(crate) short: u128,
+    /// How much units with money left gave so far to others.
     pub(crate) given: u128,
+    /// How much units that are short got so far from others.
     pub(crate) covered: u128,
 }
 
 /// The accounts by region, and then by faction.
 pub(crate) type Accounts = Numbered<Numbered<Account>>;
 
-/// The account of an input's faction in its region; all amounts are 0 where there is none yet.
+/// The account of the faction of a unit (`input`) in the unit's region; all amounts are 0 where
+/// there is none yet.
 pub(crate) fn account_of(accounts: &Accounts, input: &UpkeepInput) -> Account
     ensures { result ≡ account_at accounts.now input.now.region input.now.faction }
 {
@@ -33,8 +38,8 @@ pub(crate) fn account_of(accounts: &Accounts, input: &UpkeepInput) -> Account
     })
 }
 
-/// Sets the account of an input's faction in its region. After an AllocError the accounts are no
-/// longer valid.
+/// Sets the account of the faction of a unit (`input`) in the unit's region. After an AllocError
+/// the accounts are no longer valid.
 pub(crate) fn put_account(
     alloc: Global,
     accounts: &mut Accounts,

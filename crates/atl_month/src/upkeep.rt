@@ -38,7 +38,8 @@ fn upkeep_inputs_of(alloc: Global, campaign: &Campaign) -> Result<Vec<UpkeepInpu
     Ok(inputs)
 }
 
-/// For each skill, by its number, the days that stay with `left` of a unit's men.
+/// For each skill of a unit, by its number, the days of study that stay when `left` of the unit's
+/// men are left.
 fn days_with(alloc: Global, left: u32, holding: &Holding) -> Result<Vec<(u32, u32)>, AllocError>
     requires some { 1 ≤ holding.now.men }
     requires fewer { left ≤ holding.now.men }

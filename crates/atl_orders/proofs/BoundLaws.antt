@@ -60,7 +60,8 @@ module _ (world : WorldValue) (given : ℕ → Bool) where
   end_sound (Skipping None) h = (tt, tt)
   end_sound (Skipping (Some n)) h = (tt, h)
 
-  -- what a FORM line with an alias gives and the state after it are in bounds (`IsStep`), be the alias new or given
+  -- what a FORM line with an alias gives and the state after it are in bounds (`IsStep`), if unit and alias are, be the
+  -- alias new or given before
   given_sound : (t : Bool) (n alias : ℕ) → IsNumber n → IsAlias alias → IsStep world (cond t (record { effect = faulty BadAlias; place = Skipping (Some n); given = given }) (record { effect = says (Number n) (form_value alias); place = Forming n alias; given = with_alias given alias }))
   given_sound true n alias h k = (tt, h)
   given_sound false n alias h k = ((h, k), (h, k))
@@ -106,7 +107,8 @@ module _ (world : WorldValue) (given : ℕ → Bool) where
   words_sound place [] h = (tt, h)
   words_sound place (w ∷ ws) h = keyword_sound place (keyword_of w) ws h
 
-  -- what a line gives and the state after it are in bounds (`IsStep`), whether its bytes are allowed or not
+  -- what a line gives and the state after it are in bounds (`IsStep`), if the state before it is, whether the bytes of
+  -- the line are allowed or not
   tested_sound : (t : Bool) (place : ReaderState) (ws : List WordText) → IsStateInBounds place → IsStep world (cond t (words_step world place given ws) (record { effect = faulty BadByte; place = place; given = given }))
   tested_sound true place ws h = words_sound place ws h
   tested_sound false place ws h = (tt, h)
@@ -125,7 +127,8 @@ module _ (world : WorldValue) where
   entry_sound n (faulty fault) h = All-nil (IsEntry world)
   entry_sound n (says unit order_value) h = All-cons (IsEntry world) _ [] (record { target = h.0; order = h.1 }) (All-nil (IsEntry world))
 
-  -- the orders of a line and of those after it, none if the line is `#END`, are in bounds, if what these lines give is
+  -- the orders of a line and of the lines after it are in bounds (`IsEntry`), if what these lines give is; there are no
+  -- orders from `#END` on
   one_more : (t : Bool) (n : ℕ) (effect : Effect) (more : List (ℕ × Effect)) → IsEffect world effect → All (IsEntry world) (flat_map entry_of more) → All (IsEntry world) (flat_map entry_of (cond t [] ((n, effect) ∷ more)))
   one_more true n effect more h k = All-nil (IsEntry world)
   one_more false n effect more h k = All-append (IsEntry world) (entry_of (n, effect)) (flat_map entry_of more) (entry_sound n effect h) k
@@ -158,7 +161,7 @@ body_rises world (line ∷ rest) n m place given h =
     let s = line_step world place given line in
     rise_test world (begins (codes "#END") (words line)) n m s.effect (effects world (n + 1) s.place s.given rest) h (λ k l. body_rises world rest (n + 1) k s.place s.given l)
 
--- P holds of the value of a result; a fault has no condition
+-- P holds of the value of a result, if the result is no fault
 abbrev HoldsOf : {X : Type 0} → (X → Type 0) → Result X MailFault → Type 0
 HoldsOf P (Ok x) = P x
 HoldsOf P (Err e) = Unit {0}
@@ -194,7 +197,7 @@ behind_sound : (world : WorldValue) (r : Result HeaderValue MailFault) → Holds
 behind_sound world (Err fault) h = tt
 behind_sound world (Ok head) h = record { faction = h.0; entries = body_sound world head.rest head.next Nowhere no_alias tt; lines = body_rises world head.rest head.next 0 Nowhere no_alias h.1 }
 
--- the reading of a text is in bounds, whether the text is too long or not, if what its lines give is in bounds
+-- the reading of a text is in bounds (`IsReading`), if what its lines give is, whether the text is too long or not
 test_sound : (world : WorldValue) (t : Bool) (r : Result Reading MailFault) → HoldsOf (IsReading world) r → HoldsOf (IsReading world) (cond t (Err TooLong) r)
 test_sound world true r h = tt
 test_sound world false r h = h

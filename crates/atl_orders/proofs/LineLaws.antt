@@ -80,7 +80,7 @@ line_place text left line e s =
     let b : length (e.front ++ line) ≡ length e.front + length line = length-append e.front line in
     record { front = e.front; back = s.back; whole = e.whole ∙ ap (λ l. e.front ++ l) s.whole; place_is = omega arith }
 
--- what a text starts with is no longer than it
+-- a start of a text is no longer than the text
 pub starts_shorter : (text front : List ℕ) → StartsWith text front → length front ≤ length text
 starts_shorter text front s = omega (arith, ap length s.whole, length-append front s.back)
 

@@ -26,7 +26,7 @@ use Rattle.atl_orders.specs.Verbs.{row_of}
 use Rattle.atl_orders.specs.Orders.{OperandsValue, OrderValue, kind_of_name, read_alias, read_flag, read_number, read_unit, read_units, read_unit_and_number, read_unit_and_goods, read_goods, read_name, read_direction, read_kind, read_skill, read_item, read_operands, said_by}
 use Rattle.atl_orders.specs.Bounds.{IsWithin, IsNumber, IsAlias, IsUnitRef, AreOperandsOf, IsOrderOf}
 
--- P holds of the value of a result; a fault has no condition
+-- P holds of the value of a result, if the result is no fault
 abbrev pub Holds : {X : Type 0} → (X → Type 0) → Result X LineFault → Type 0
 Holds P (Ok x) = P x
 Holds P (Err e) = Unit {0}

@@ -23,7 +23,9 @@ IsOutside line = is_header line ≡ false
 -- lines from the number n on have no header, and `header_from` gives NoHeader; or they have a first header, and
 -- `header_from` gives what this header gives
 data Found (n : ℕ) (all : List (List ℕ)) : Type 0 where
+  -- the lines have no header, and `header_from` gives NoHeader
   none : HaveNoHeader all → header_from n all ≡ Err NoHeader → Found n all
+  -- the lines have a first header, and `header_from` gives what this header gives
   one : (before : List (List ℕ)) (header : List ℕ) (behind : List (List ℕ)) → HaveHeader all before header behind
       → header_from n all ≡ header_line (length before + n) behind (faction_of (words header)) → Found n all
 

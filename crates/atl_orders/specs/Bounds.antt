@@ -63,6 +63,7 @@ LinesRise n (e ∷ es) = (n < e.line) × LinesRise e.line es
 pub record IsReading (world : WorldValue) (r : Reading) : Type 0 where
   pub faction : IsWithin last_faction r.faction
   pub entries : All (IsEntry world) r.entries
+  -- the line numbers of the orders are above 0, and strictly ascending
   pub lines : LinesRise 0 r.entries
 
 -- Every text that is read as a mailing gives a faction, orders and line numbers that are in bounds (`IsReading`).

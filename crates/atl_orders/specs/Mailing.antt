@@ -20,8 +20,11 @@ use Rattle.atl_orders.specs.Reading.{Effect, nothing, faulty, says, line_step}
 
 -- an order of a mailing: its line's number, the unit that it is for, and the order
 pub record EntryValue : Type 0 where
+  -- the number of the order's line, from 1 on over the whole text
   pub line : ℕ
+  -- the unit that the order is for
   pub target : UnitRef
+  -- the order's verb and operands
   pub order_value : OrderValue
 
 -- the effect of each line above the first `#END`, with the line's number; the first line has the number n
@@ -53,7 +56,9 @@ faction_of (w ∷ v ∷ ws) = not_zero (number_of last_faction v.bytes)
 -- what a header gives: its faction's number, and the lines after it, of which the first has the number `next`
 pub record HeaderValue : Type 0 where
   pub faction : ℕ
+  -- the number of the line after the header
   pub next : ℕ
+  -- the lines after the header
   pub rest : List (List ℕ)
 
 -- what the header at line n gives: its faction and the lines after it; BadHeader if it names no faction
@@ -91,7 +96,9 @@ reading world text =
 
 -- a text is a mailing of a faction: it isn't too long, and its header names the faction
 pub record IsMailingOf (faction : ℕ) (text : List ℕ) : Type 0 where
+  -- the text isn't too long
   pub short : length text ≤ most_bytes
+  -- the first header of the text names the faction
   pub header : (next : ℕ) × (rest : List (List ℕ)) × (header_from 1 (lines text) ≡ Ok (record { faction = faction; next = next; rest = rest }))
 
 -- ---- what the code returns

@@ -82,7 +82,7 @@ read_goods world ws = do
   goods ← amount_of_item_at world ws
   Ok (operands.Goods goods.0 goods.1)
 
--- what the word after NAME says gets a new name: unit, faction, building or ship; None for another word
+-- what gets a new name by the word after NAME: unit, faction, building or ship; None for another word
 abbrev pub kind_of_name : WordText → Option NameKind
 kind_of_name w =
     if is_word (codes "UNIT") w then Some kinds.Unit

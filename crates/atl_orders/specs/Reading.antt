@@ -45,8 +45,11 @@ pub data Effect : Type 0 where
 -- the step of a line: what reading it gives, which is its effect, the reader's state after it (`place`), and the
 -- aliases given so far
 pub record LineStep : Type 0 where
+  -- what the line gives: nothing, a fault, or an order for a unit
   pub effect : Effect
+  -- the reader's state after the line
   pub place : ReaderState
+  -- the aliases that FORM lines have given so far, this line included
   pub given : ℕ → Bool
 
 -- the unit that an order is for, in a state of the reader; None if no unit is named, or in a skipped block

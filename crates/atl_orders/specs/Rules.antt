@@ -122,8 +122,11 @@ HaveNoHeader lines = All (λ line. is_header line ≡ false) lines
 
 -- `header` is the first header in a list of lines, with the lines `before` above it and the lines `behind` below it
 pub record HaveHeader (lines before : List (List ℕ)) (header : List ℕ) (behind : List (List ℕ)) : Type 0 where
+  -- the lines are those above the header, the header, and those below it
   pub whole : lines ≡ before ++ header ∷ behind
+  -- `header` is a header
   pub leads : is_header header ≡ true
+  -- no line above it is a header
   pub first : HaveNoHeader before
 
 -- the rules for a whole text: it is read as `read`, a mailing or a fault

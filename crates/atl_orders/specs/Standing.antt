@@ -4,26 +4,38 @@ use Rattle.atl_orders.specs.declared.words.Cursor.{Cursor}
 
 -- a text starts with `front`
 pub record StartsWith (text front : List ℕ) : Type 0 where
+  -- the bytes of the text after `front`
   pub back : List ℕ
+  -- the text is `front` and then `back`
   pub whole : text ≡ front ++ back
 
 -- bytes are a part of a line, and from their first byte on the line has `behind` bytes
 pub record IsPartOf (line bytes : List ℕ) (behind : ℕ) : Type 0 where
+  -- the bytes of the line before the part
   pub front : List ℕ
+  -- the bytes of the line after the part
   pub back : List ℕ
+  -- the line is `front`, then the part, then `back`
   pub whole : line ≡ front ++ (bytes ++ back)
+  -- `behind` is the number of bytes from the first byte of the part to the end of the line
   pub behind_is : length (bytes ++ back) ≡ behind
 
 -- a line ends with `rest`
 pub record EndsWith (line rest : List ℕ) : Type 0 where
+  -- the bytes of the line before `rest`
   pub front : List ℕ
+  -- the line is `front` and then `rest`
   pub whole : line ≡ front ++ rest
 
 -- `rest` is a part of a text, and ends at the index `place` of the text
 pub record EndsAt (text : List ℕ) (place : ℕ) (rest : List ℕ) : Type 0 where
+  -- the bytes of the text before `rest`
   pub front : List ℕ
+  -- the bytes of the text after `rest`
   pub back : List ℕ
+  -- the text is `front`, then `rest`, then `back`
   pub whole : text ≡ front ++ (rest ++ back)
+  -- `place` is the number of bytes up to the end of `rest`
   pub place_is : length (front ++ rest) ≡ place
 
 -- the rest of a cursor's line is a part of its text, and ends at the index `end`

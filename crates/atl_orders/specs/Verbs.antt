@@ -19,7 +19,7 @@ pub record Row : Type 0 where
 abbrev pub row : List ℕ → Shape → Option Slot → Row
 row keyword shape slot = record { keyword = keyword; shape = shape; slot = slot }
 
--- the order table: the row of each verb. Of the orders in one slot a unit carries out one a month.
+-- the order table: the row of each verb; a mailing's last order for a unit in a slot replaces its earlier ones
 abbrev pub row_of : Verb → Row
 row_of Form = row (codes "FORM") shapes.Alias None
 row_of Name = row (codes "NAME") shapes.Name None

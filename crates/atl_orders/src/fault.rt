@@ -65,6 +65,7 @@ impl fmt::Display for LineFault {
     }
 }
 
+/// Lets a caller handle a line fault as any `Error`; its text is what `Display` writes.
 impl Error for LineFault {}
 
 /// A faulty line of a mailing: its number, and its fault.
@@ -117,6 +118,7 @@ impl fmt::Display for MailFault {
     }
 }
 
+/// Lets a caller handle a mail fault as any `Error`; its text is what `Display` writes.
 impl Error for MailFault {}
 
 /// A failed allocation becomes the fault `Memory`.

@@ -49,6 +49,7 @@ pub struct Mailing {
     pub faults: Sequence<FaultyLine>,
 }
 
+/// Drops the mailing's text, its orders and its faulty lines.
 impl Drop for Mailing {
     fn drop(self) {
         let_go!(self: Mailing { faction, text, entries, faults });
@@ -179,6 +180,7 @@ struct Body {
     faults: Sequence<FaultyLine>,
 }
 
+/// Drops the orders and the faulty lines.
 impl Drop for Body {
     fn drop(self) {
         let_go!(self: Body { entries, faults });

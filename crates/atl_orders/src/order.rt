@@ -72,6 +72,7 @@ pub enum Operands<N = Span> {
     Item(u16),
 }
 
+/// Drops the list of units or the name, if the operands have one.
 impl<N: Drop> Drop for Operands<N> {
     fn drop(self) {
         match self {

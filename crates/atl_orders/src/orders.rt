@@ -107,8 +107,8 @@ fn read_goods(world: &World, cursor: Cursor) -> Result<Operands, LineFault>
     Ok(Operands::Goods { amount, item })
 }
 
-/// What the word after NAME says gets a new name: unit, faction, building or ship; `None` for
-/// another word.
+/// What gets a new name by the word after NAME: unit, faction, building or ship; `None` for another
+/// word.
 fn kind_of_name(word: Word) -> Option<NameKind>
     ensures { result ≡ kind_of_name (word_text word.entry) }
 {
@@ -190,8 +190,8 @@ fn read_item(world: &World, cursor: Cursor) -> Result<Operands, LineFault>
     Ok(Operands::Item(item))
 }
 
-/// Reads the words after a verb by the verb's shape in the order table; else their first fault.
-/// Only units take memory; after AllocError nothing is known of the words.
+/// Reads the words after a verb by the verb's shape in the order table, else gives their first
+/// fault. Only a list of units takes memory; after AllocError nothing is known of the words.
 fn read_operands(
     alloc: Global,
     world: &World,

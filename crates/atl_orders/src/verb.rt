@@ -94,7 +94,7 @@ pub struct Row {
     pub slot: Option<Slot>,
 }
 
-/// A row of the order table with a keyword, a shape and a slot.
+/// Makes the row of the order table that has a keyword, a shape and a slot.
 fn table_row(keyword: &'static str, shape: Shape, slot: Option<Slot>) -> Row
     ensures { row_value result ≡ row keyword.now shape slot }
 {

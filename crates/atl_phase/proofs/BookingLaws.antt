@@ -30,6 +30,8 @@ module _ (books : BooksValue) (e : Entry) (t : Thing) (z : ℤ) (n : ℕ) (small
   pub booked-near : (f : Entry) (u : Thing) → IsNear (moves_only n e t f u) (amount_in books f u) (amount_in (after_booking books e t z) f u)
   booked-near f u = by_number (amount_number f u == amount_number e t) refl
     where
+      -- the amount of entry f and thing u moves by at most n if test `b` finds that it is the booked amount, and else
+      -- by 0
       by_number : (b : Bool) → (amount_number f u == amount_number e t) ≡ b → IsNear (if b then n else 0) (amount_in books f u) (amount_in (after_booking books e t z) f u)
       by_number true is = near_by _ _ z n small (amount-after_booking books e t z f u)
       by_number false is = near_same _ _ (amount-other books f e u t z (is_unequal _ _ is))

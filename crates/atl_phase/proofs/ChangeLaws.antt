@@ -22,6 +22,7 @@ use Rattle.atl_phase.proofs.MarkLaws.{marks_by}
 pub changed_twice : (f g : Unit → Unit) (c : CampaignValue) (n : ℕ) → unit_changed g (unit_changed f c n) n ≡ unit_changed (λ u. g (f u)) c n
 changed_twice f g c n = by_unit (get c.units n) refl
   where
+    -- to change unit n by f and then by g is to change it by both at once, whether the unit is there or not
     by_unit : (o : Option Unit) → get c.units n ≡ o → unit_changed g (record c { units = changed_at f c.units n o }) n ≡ record c { units = changed_at (λ u. g (f u)) c.units n o }
     by_unit None is = ap (λ o. record c { units = changed_at g c.units n o }) is
     by_unit (Some u) is =
@@ -31,6 +32,7 @@ changed_twice f g c n = by_unit (get c.units n) refl
 pub same_held : (c : CampaignValue) (n : ℕ) → unit_changed (λ u. u) c n ≡ c
 same_held c n = by_unit (get c.units n) refl
   where
+    -- a change that leaves unit n as it is leaves the campaign as it is, whether the unit is there or not
     by_unit : (o : Option Unit) → get c.units n ≡ o → record c { units = changed_at (λ u. u) c.units n o } ≡ c
     by_unit None is = refl
     by_unit (Some u) is = ap (λ m. record c { units = m }) (put_same c.units n u u is refl)
@@ -43,6 +45,7 @@ changed_held f c d n what u is = what ∙ ap (λ o. record c { units = changed_a
 pub others_held : (f : Unit → Unit) (c : CampaignValue) (n k : ℕ) → k ≢ n → get (unit_changed f c n).units k ≡ get c.units k
 others_held f c n k apart = by_unit (get c.units n)
   where
+    -- a change of unit n leaves unit k as it is, whether unit n is there or not
     by_unit : (o : Option Unit) → get (changed_at f c.units n o) k ≡ get c.units k
     by_unit None = refl
     by_unit (Some u) = get-insert_other c.units n k (f u) apart

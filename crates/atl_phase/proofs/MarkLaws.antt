@@ -28,9 +28,12 @@ marks_place_at : (c : MarkedCampaign) (n r s : ℕ) (o : Option Unit) → MarksC
 marks_place_at c n r s None = marks-refl c
 marks_place_at c n r s (Some u) = by_test (u.structure == s)
   where
+    -- putting unit n in region r and structure s marks all that changes, while no structure changes its owner
     one_put : MarksChanges c (put_marked c n r s)
     one_put = marks-unit_row (λ x. record x { region = r; structure = s }) (λ x. refl) c n
 
+    -- putting unit u in a region and a structure marks all that changes, whether structures keep their owners (`b`) or
+    -- not
     by_test : (b : Bool) → MarksChanges c (if b then put_marked c n r s else handed_marked (handed_marked (put_marked c n r s) u.structure n (heir c.value u.structure n)) s 0 n)
     by_test true = one_put
     by_test false =

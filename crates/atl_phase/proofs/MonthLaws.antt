@@ -100,9 +100,11 @@ pub missing : (ms : List Mailing) (f i : ℕ) → IsPartitionPoint (λ m. nat_cm
 missing ms f i h =
     get-from_entries nat_cmp_total (map by_its_faction (map reading_of ms)) f ∙ unfound ms f (λ j d l. either j d l (trichotomy j))
   where
+    -- each index j is below i, where the search ended, or at least i
     trichotomy : (j : ℕ) → (j < i) ⊎ (i ≤ j)
     trichotomy j = elim (nat_lt j i) as (λ b. nat_lt j i ≡ b → (j < i) ⊎ (i ≤ j)) [ true ↦ λ e. inl (grind (arith, nat_tests)) | false ↦ λ e. inr (grind (arith, nat_tests)) ] refl
 
+    -- the mailing at index j isn't of faction f, whether j is below i, where the search ended, or not
     either : (j : ℕ) (d : Mailing) → j < length ms → (j < i) ⊎ (i ≤ j) → eq_by_cmp nat_cmp (get_or ms j d).faction f ≡ false
     either j d l (inl b) = ap is_eq (h.0 j d (omega arith) b)
     either j d l (inr b) = ap is_eq (h.1 j d b l)

@@ -107,10 +107,12 @@ no_worse_spares = record { same = no_worse; again = no_worse_twice; faction = λ
 pub carried_cases : (P : CampaignValue × Outcome → Type 0) (deed : OrderEffect) (c : CampaignValue) (faction n : ℕ) → P (c, Fault 1) → ((u : Unit) → get c.units n ≡ Some u → u.faction ≡ faction → P (deed c u)) → P (faction_effect deed c faction n)
 carried_cases P deed c faction n other own = by_unit (get c.units n) refl
   where
+    -- P holds of the result of an order for unit u, whether the unit is of the faction or not
     by_faction : (u : Unit) → get c.units n ≡ Some u → (b : Bool) → (u.faction == faction) ≡ b → P (effect_on deed c (if b then Some u else None))
     by_faction u there true is = own u there (is_equal u.faction faction is)
     by_faction u there false is = other
 
+    -- P holds of the result of an order for unit n, whether the unit is there or not
     by_unit : (o : Option Unit) → get c.units n ≡ o → P (effect_on deed c (of_faction faction o))
     by_unit None there = other
     by_unit (Some u) there = by_faction u there (u.faction == faction) refl

@@ -74,6 +74,7 @@ module _ (aliases : Aliases) (a : Arrangement) where
       let rest = behind p faction low (place + 1) es (omega arith) in
       kept _ _ (p _) (refl, le) rest
     where
+      -- orders that are each `IsBehind`, with one more such order in front if test `b` is true, are each `IsBehind`
       kept : (ts : List Task) (t : Task) (b : Bool) → IsBehind faction low t → AllByRecursion (IsBehind faction low) ts → AllByRecursion (IsBehind faction low) (cond b (t ∷ ts) ts)
       kept ts t true h r = (h, r)
       kept ts t false h r = r
@@ -90,6 +91,7 @@ module _ (aliases : Aliases) (a : Arrangement) where
   apart_within p faction place (e ∷ es) =
       kept _ _ (p _) (apart_behind _ faction (filter p (tasks_from aliases faction (place + 1) es)) (behind p faction (place + 1) (place + 1) es (omega arith))) (apart_within p faction (place + 1) es)
     where
+      -- orders with different keys, with an order of another key in front if test `b` is true, have different keys
       kept : (ts : List Task) (t : Task) (b : Bool) → AllByRecursion (λ u. same_key a t u ≡ false) ts → IsDistinct (same_key a) ts → IsDistinct (same_key a) (cond b (t ∷ ts) ts)
       kept ts t true h r = (h, r)
       kept ts t false h r = r
@@ -99,6 +101,7 @@ module _ (aliases : Aliases) (a : Arrangement) where
   of_faction p faction place [] Q q = tt
   of_faction p faction place (e ∷ es) Q q = kept _ _ (p _) q (of_faction p faction (place + 1) es Q q)
     where
+      -- if Q holds of the factions of some orders and of order t, it holds of those with t in front if test `b` is true
       kept : (ts : List Task) (t : Task) (b : Bool) → Q t.faction → AllByRecursion (λ t. Q t.faction) ts → AllByRecursion (λ t. Q t.faction) (cond b (t ∷ ts) ts)
       kept ts t true h r = (h, r)
       kept ts t false h r = r

@@ -23,7 +23,7 @@ not_apart a b is = let same : (a == b) ≡ true = not-false (a == b) is in grind
 pub not_less : (a b : ℕ) → nat_lt a b ≡ false → b ≤ a
 not_less a b is = grind (arith, nat_tests)
 
--- if `not itself && fits` is false, and `itself` is false, `fits` is false
+-- if a fault that is tested by `not itself && fits` doesn't apply, and `itself` is false, `fits` is false
 pub unless_itself : (itself fits : Bool) → (not itself && fits) ≡ false → itself ≡ false → fits ≡ false
 unless_itself true fits is other = cc
 unless_itself false fits is other = is

@@ -80,6 +80,8 @@ module _ (aliases : Aliases) (readings : FinMap nat_cmp Reading) where
       })
       (in_mailing p f r h (place + 1) es (λ j x is. let next : place + suc j ≡ (place + 1) + j = omega arith in subst (λ n. slice_get r.entries n ≡ Some x) next (whole (suc j) x is)))
     where
+      -- orders that are in their mailings, with one more such order in front if test `b` is true, are all in their
+      -- mailings
       kept : (ts : List Task) (t : Task) (b : Bool) → IsInMailing aliases readings t → AllByRecursion (IsInMailing aliases readings) ts → AllByRecursion (IsInMailing aliases readings) (cond b (t ∷ ts) ts)
       kept ts t true h r = (h, r)
       kept ts t false h r = r
@@ -108,6 +110,8 @@ module _ (is_of : Verb → Bool) (a : Arrangement) (aliases : Aliases) (readings
   passing q [] = tt
   passing q (t ∷ ts) = by_test (is_of t.order_value.verb) (q t) refl (filter (λ t. is_of t.order_value.verb && q t) ts) (passing q ts)
     where
+      -- orders with verbs of the phase, with t in front if tests `b` (of its verb) and `c` are true, have verbs of the
+      -- phase
       by_test : (b c : Bool) → is_of t.order_value.verb ≡ b → (us : List Task) → AllByRecursion HasVerb us → AllByRecursion HasVerb (cond (b && c) (t ∷ us) us)
       by_test true true is us rest = (is, rest)
       by_test true false is us rest = rest

@@ -67,7 +67,7 @@ module _ (w : WorldValue) (c : CampaignValue) (n : ℕ) (u : Unit) (s : ℕ) (is
   abbrev begun : CampaignValue
   begun = placed c n u.region s
 
-  -- the campaign after the structure that the unit left got its next owner
+  -- the campaign with unit n inside structure s, after a handover of the structure that the unit left to its next owner
   abbrev gone_out : CampaignValue
   gone_out = after_handover begun old_place n next
 
@@ -75,7 +75,8 @@ module _ (w : WorldValue) (c : CampaignValue) (n : ℕ) (u : Unit) (s : ℕ) (is
   abbrev gone_in : CampaignValue
   gone_in = after_handover gone_out s 0 n
 
-  -- structure q with its owner after both handovers
+  -- structure q after unit n went, with its owner after both handovers: of the structure that it left, and of the one
+  -- that it entered
   abbrev owner_behind : ℕ → Structure → Structure
   owner_behind q y = handed_on s 0 n q (handed_on old_place n next q y)
 
@@ -83,18 +84,19 @@ module _ (w : WorldValue) (c : CampaignValue) (n : ℕ) (u : Unit) (s : ℕ) (is
   abbrev pub behind : CampaignValue
   behind = refitted w c n u s is gone_in.structures owner_behind
 
-  -- `with_place` makes the campaign `gone_in`
+  -- putting unit n inside structure s (`with_place`) makes the campaign in which both structures have their owners
+  -- (`gone_in`)
   placed_is : with_place c n u.region s ≡ gone_in
   unfolding with_place
   placed_is = ap (with_place_at c n u.region s) is ∙ ap (λ b. if b then begun else gone_in) (other_number old_place s apart)
 
-  -- the campaign `gone_in` is `behind`, a refitted campaign
+  -- the campaign that the two handovers make (`gone_in`) is `behind`, the same campaign given as a refit
   behind_is : gone_in ≡ behind
   behind_is =
       handed_is gone_out s 0 n ∙ ap (λ (d : CampaignValue). record d { structures = gone_in.structures }) (handed_is begun old_place n next)
       ∙ ap (λ m. record c { units = m; structures = gone_in.structures }) (changed-known (λ (x : Unit). record x { region = u.region; structure = s }) c.units n u is)
 
-  -- `with_place` makes the campaign `behind`
+  -- putting unit n inside structure s (`with_place`) makes the campaign `behind`, which is given as a refit
   pub place_is : with_place c n u.region s ≡ behind
   place_is = placed_is ∙ behind_is
 
@@ -196,6 +198,7 @@ module _ (w : WorldValue) (c : CampaignValue) (n : ℕ) (u : Unit) (s : ℕ) (is
 handed_units : (c : CampaignValue) (k from to : ℕ) → (after_handover c k from to).units ≡ c.units
 handed_units c k from to = by_test (is_owned_by (get c.structures k) from)
   where
+    -- a handover changes no unit, whether structure k gets another owner (`b`) or not
     by_test : (b : Bool) → (if b then with_owner c k to else c).units ≡ c.units
     by_test true = refl
     by_test false = refl
@@ -205,14 +208,17 @@ pub place_stays : (c : CampaignValue) (n r s k : ℕ) → k ≢ n → get (with_
 unfolding with_place
 place_stays c n r s k apart = by_unit (get c.units n)
   where
+    -- unit k stays as it was when unit n is put in region r and structure s, while no structure changes its owner
     one_placed : get (placed c n r s).units k ≡ get c.units k
     one_placed = changed_else (λ (x : Unit). record x { region = r; structure = s }) c.units n k apart (get c.units n)
 
+    -- unit k stays as it was, whether structures keep their owners when unit n is put there (`b`) or not
     by_test : (u : Unit) (b : Bool) → get (if b then placed c n r s else after_handover (after_handover (placed c n r s) u.structure n (heir c u.structure n)) s 0 n).units k ≡ get c.units k
     by_test u true = one_placed
     by_test u false =
         ap (λ m. get m k) (handed_units (after_handover (placed c n r s) u.structure n (heir c u.structure n)) s 0 n ∙ handed_units (placed c n r s) u.structure n (heir c u.structure n)) ∙ one_placed
 
+    -- unit k stays as it was when unit n is put in a region and a structure, whether unit n is there or not
     by_unit : (o : Option Unit) → get (with_place_at c n r s o).units k ≡ get c.units k
     by_unit None = refl
     by_unit (Some u) = by_test u (u.structure == s)

@@ -25,9 +25,13 @@ use Rattle.atl_campaign.proofs.RegionLaws.{same_len}
 
 -- The structure after is the structure before, but for owner and name; the name follows the name rule if it did before.
 pub record IsRelabelled (before after : Structure) : Type 0 where
+  -- the structure's kind stays
   pub kind : after.kind ≡ before.kind
+  -- the structure's region stays
   pub region : after.region ≡ before.region
+  -- how much of the structure is built stays
   pub done : after.done ≡ before.done
+  -- the new name follows the name rule if the old one did
   pub name : IsTrue (name_ok before.name) → IsTrue (name_ok after.name)
 
 -- if what a look-up o found, mapped by f, is x, then o found a value v of which f makes x
@@ -90,11 +94,17 @@ module _ (w : WorldValue) (c : CampaignValue) (n : ℕ) (u : Unit) (s : ℕ) (is
   -- A refit: unit n is inside structure s of its region, which on water is a ship, or inside none (0), and g gives the
   -- structures, each changed in owner and name at most, and with its right owner.
   pub record IsRefit : Type 0 where
+    -- each structure is what g makes of it, and no structure is added
     pub at : (k : ℕ) → get structures k ≡ option_map (g k) (get c.structures k)
+    -- there are as many structures as before
     pub count : len structures ≡ len c.structures
+    -- g changes a structure in owner and name at most
     pub same : Every (λ k y. IsRelabelled y (g k y)) c.structures
+    -- each structure has its right owner in the refitted campaign
     pub owned : Every (λ k y. IsOwned refitted k (g k y)) c.structures
+    -- structure s, if it isn't 0, is there, in the unit's region
     pub inside : s ≢ 0 → (x : Structure) × (get c.structures s ≡ Some x) × (x.region ≡ u.region)
+    -- if the unit's region is water, structure s is a ship
     pub afloat : is_land_at w u.region ≡ false → (x : Structure) × (get c.structures s ≡ Some x) × (is_ship w x ≡ true)
 
   module _ (refit : IsRefit) where

@@ -70,6 +70,7 @@ line_of ts t s (Some x) is there = is_equal t.line (last_line x t.unit ts) there
 one_line : (ts us : List Task) (t o : Task) → ts ≡ us → t.unit ≡ o.unit → are_of_slot (row_of t.order_value.verb).slot (row_of o.order_value.verb).slot ≡ true → stands ts t ≡ true → stands us o ≡ true → t.line ≡ o.line
 one_line ts us t o same unit share one two = by_slots (row_of t.order_value.verb).slot (row_of o.order_value.verb).slot refl refl share
   where
+    -- the orders t and o are on one line, if the slots of their verbs, `a` and `b`, are both there and the same
     by_slots : (a b : Option Slot) → (row_of t.order_value.verb).slot ≡ a → (row_of o.order_value.verb).slot ≡ b → are_of_slot a b ≡ true → t.line ≡ o.line
     by_slots None b first second never = cc
     by_slots (Some s) None first second never = cc
@@ -114,8 +115,11 @@ module _ (w : WorldValue) (is_of : Verb → Bool) (a : Arrangement) (aliases : A
 
   -- order t is in the mailing of its faction and counts there, and its key is `key`
   record IsKept (key : List ℕ) (t : Task) : Type 0 where
+    -- `key` is the key of the order
     keyed : key ≡ key_of a t
+    -- the order is an entry of the mailing of its faction
     there : IsInMailing aliases readings t
+    -- the order counts in its mailing
     kept : Stands t
 
   -- orders that are in their mailings and count there are so under their keys, too (`IsKept`)
@@ -124,7 +128,7 @@ module _ (w : WorldValue) (is_of : Verb → Bool) (a : Arrangement) (aliases : A
   both (t ∷ ts) there kept = (record { keyed = refl; there = there.0; kept = kept.0 }, both ts there.1 kept.1)
 
   module _ (fit : AreFit w readings) where
-    -- two orders that count in their mailings (`IsKept`) and share a slot are one order
+    -- two orders that count in their mailings (`IsKept`), and share a slot, are the same order
     are_one : (key other : List ℕ) (t o : Task) → IsKept key t → IsKept other o → share_slot t o ≡ true → t ≡ o
     are_one key other t o one two share =
         let first = and_parts _ _ share in
@@ -149,6 +153,7 @@ module _ (w : WorldValue) (is_of : Verb → Bool) (a : Arrangement) (aliases : A
     not_below : (k : List ℕ) → is_lt (order k k) ≡ true → ⊥
     not_below k less = by_order (order k k) (nat_list_cmp_total.antisymm k k) less
       where
+        -- the result of a comparison that is its own reverse isn't Less
         by_order : (o : Ordering) → o ≡ ordering_reverse o → is_lt o ≡ true → ⊥
         by_order Less same l = cc
         by_order Equal same l = cc

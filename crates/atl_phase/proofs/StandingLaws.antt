@@ -38,9 +38,11 @@ module _ (lines : Lines) (k u line : ℕ) where
         | false ↦ λ _. two (line_in lines k unit) n
       ] refl
     where
+      -- the greatest of three numbers is the same in either grouping
       three : (a b line n : ℕ) → a ≡ b → max (max a line) n ≡ max b (max line n)
       three a b line n h = omega arith
 
+      -- a further number 0 leaves the greater of two numbers
       two : (a n : ℕ) → max a n ≡ max a (max 0 n)
       two a n = omega arith
 
@@ -54,6 +56,7 @@ module _ (lines : Lines) (k u line : ℕ) where
         | false ↦ λ _. other (u == unit) (line_in lines j unit)
       ] refl
     where
+      -- a line that counts as 0, since it is of another slot, leaves the greater of two lines
       other : (b : Bool) (a : ℕ) → max a n ≡ max a (max (if b && false then line else 0) n)
       other true a = omega arith
       other false a = omega arith
@@ -93,5 +96,6 @@ none_noted lines slot unit n h =
     ap (λ g. max (unwrap_or (get g unit) 0) n) (ap (λ m. group_of m slot) h ∙ ap (λ o. unwrap_or o empty) (get-empty nat_cmp slot))
     ∙ ap (λ o. max (unwrap_or o 0) n) (get-empty nat_cmp unit) ∙ bare n
   where
+    -- the greater of 0 and a number is the number
     bare : (n : ℕ) → max 0 n ≡ n
     bare n = omega arith

@@ -108,6 +108,7 @@ module _ (c : CampaignValue) (k from to : ℕ) where
   pub len-after_handover : len (after_handover c k from to).structures ≡ len c.structures
   len-after_handover = by_test (is_owned_by (get c.structures k) from)
     where
+      -- the number of structures stays, whether structure k gets the owner `to` (`b`) or not
       by_test : (b : Bool) → len (after b).structures ≡ len c.structures
       by_test true = len-changed (owned_by to) c.structures k
       by_test false = refl
@@ -116,6 +117,7 @@ module _ (c : CampaignValue) (k from to : ℕ) where
   pub handed_is : after_handover c k from to ≡ record c { structures = (after_handover c k from to).structures }
   handed_is = by_test (is_owned_by (get c.structures k) from)
     where
+      -- nothing but the structures changes, whether structure k gets the owner `to` (`b`) or not
       by_test : (b : Bool) → after b ≡ record c { structures = (after b).structures }
       by_test true = refl
       by_test false = refl

@@ -42,8 +42,11 @@ use Rattle.atl_phase.proofs.PhaseOrderLaws.{orders_are_in_mailings}
 -- After the phase each unit of a faction without a mailing is there, with its faction and name, no less of any item,
 -- and its men less exactly those who starve. The phase keeps the mailings and takes back no Starved event.
 pub record LeavesUnmailed (meaning : Meaning) (keeps : Frame) : Type 0 where
+  -- the phase keeps the mailings
   pub readings : (w : WorldValue) (c : CampaignValue) (m : MonthValue) → (meaning w c m).1.readings ≡ m.readings
+  -- the events report no fewer men of a unit as starved than before the phase
   pub told : (w : WorldValue) (c : CampaignValue) (m : MonthValue) (n : ℕ) → starved_in m.events n ≤ starved_in (meaning w c m).1.events n
+  -- each unit of a faction without a mailing loses just the men whom the new events report as starved
   pub left : (w : WorldValue) (c : CampaignValue) (m : MonthValue) → keeps w m c (meaning w c m).0 →
       Every (λ n u. get m.readings u.faction ≡ None → IsUnaffected (IsLessBy (starved_in (meaning w c m).1.events n - starved_in m.events n)) (meaning w c m).0 n u) c.units
 
@@ -51,7 +54,9 @@ pub record LeavesUnmailed (meaning : Meaning) (keeps : Frame) : Type 0 where
 -- name, no less of any item, and its men less exactly those who starve. The phase takes back no Starved event, and may
 -- change the mailings.
 pub record ClosesUnmailed (meaning : Meaning) (keeps : Frame) : Type 0 where
+  -- the events report no fewer men of a unit as starved than before the phase
   pub told : (w : WorldValue) (c : CampaignValue) (m : MonthValue) (n : ℕ) → starved_in m.events n ≤ starved_in (meaning w c m).1.events n
+  -- each unit of a faction without a mailing, unless all its men starved, loses just those whom the new events report
   pub left : (w : WorldValue) (c : CampaignValue) (m : MonthValue) → keeps w m c (meaning w c m).0 →
       Every (λ n u. get m.readings u.faction ≡ None → IsLeft (starved_in (meaning w c m).1.events n - starved_in m.events n) (meaning w c m).0 n u) c.units
 
@@ -64,6 +69,7 @@ less_twice x y z u v t l k one two = record {
   items = λ i. omega (arith, one.items i, two.items i);
 }
   where
+    -- a number d that is b less z - y, where b is a less y - x, is a less z - x
     less : (a b d : ℕ) → b ≡ a - (y - x) → d ≡ b - (z - y) → d ≡ a - (z - x)
     less a b d e f = omega (arith, l, k)
 
@@ -107,7 +113,9 @@ module _ {first second : Meaning} {early late : Frame} where
 
 -- The unit has after a change the same faction and exactly as many men as before.
 pub record HasItsMen (before after : Unit) : Type 0 where
+  -- the unit's faction stays
   pub faction : after.faction ≡ before.faction
+  -- the number of the unit's men stays
   pub men : after.holding.men ≡ before.holding.men
 
 -- each unit is there after, and has exactly as many men as before
@@ -134,6 +142,7 @@ pub men_changed : (f : Unit → Unit) → ((u : Unit) → HasItsMen u (f u)) →
 men_changed f stay c d k same n u there =
     record { unit = at_number f c.units k n u; there = ap (λ (m : FinMap nat_cmp Unit). get m n) same ∙ get-changed f c.units k n ∙ ap (option_map (at_number f c.units k n)) there; spared = by_number (n == k) }
   where
+    -- a unit has its men after the change, whether it is unit k, which f changes (`b`), or another
     by_number : (b : Bool) → HasItsMen u (if b then f u else u)
     by_number true = stay u
     by_number false = record { faction = refl; men = refl }
@@ -175,25 +184,31 @@ pub place_men : (c : CampaignValue) (n r s : ℕ) → HaveTheirMen c (with_place
 unfolding with_place
 place_men c n r s = by_unit (get c.units n)
   where
+    -- the campaign in which unit n is in region r and structure s, while no structure has changed its owner
     there : CampaignValue
     there = placed c n r s
 
+    -- all units have their men in the campaign `there`, in which unit n is in its new place
     put : HaveTheirMen c there
     put = men_changed (λ u. record u { region = r; structure = s }) (λ u. record { faction = refl; men = refl }) c there n refl
 
+    -- all units have their men, whether structures keep their owners when unit n goes (`b`) or not
     by_test : (u : Unit) (b : Bool) → HaveTheirMen c (if b then placed c n r s else after_handover (after_handover (placed c n r s) u.structure n (heir c u.structure n)) s 0 n)
     by_test u true = put
     by_test u false =
         let out = after_handover there u.structure n (heir c u.structure n) in
         men_twice c there (after_handover out s 0 n) put (men_twice there out (after_handover out s 0 n) (handed_men there u.structure n (heir c u.structure n)) (handed_men out s 0 n))
 
+    -- all units have their men when unit n is put in a region and a structure, whether unit n is there or not
     by_unit : (o : Option Unit) → HaveTheirMen c (with_place_at c n r s o)
     by_unit None = men_stay c
     by_unit (Some u) = by_test u (u.structure == s)
 
 -- The unit has after a change the same name, and no less of any item than before.
 pub record HasItsItems (before after : Unit) : Type 0 where
+  -- the unit's name stays
   pub name : after.holding.name ≡ before.holding.name
+  -- the unit has no less of any item
   pub items : (i : ℕ) → amount_of before.holding.items i ≤ amount_of after.holding.items i
 
 -- a unit that is no worse off has its name, and no less of any item (`HasItsItems`)
@@ -208,6 +223,7 @@ UnmailedAre spares m before after = Every (λ n u. get m.readings u.faction ≡ 
 whole : (x y : ℕ) (u v : Unit) → y ≡ x → HasItsMen u v → HasItsItems u v → IsLessBy (y - x) u v
 whole x y u v same men items = record { faction = men.faction; name = items.name; men = nobody u.holding.men v.holding.men men.men; items = items.items }
   where
+    -- the men of a unit that keeps its men are those before less y - x, which is 0
     nobody : (a b : ℕ) → b ≡ a → b ≡ a - (y - x)
     nobody a b e = omega (arith, same)
 
@@ -241,6 +257,7 @@ pub told_of_order : (events : List Event) (t : Task) (outcome : Outcome) (n : �
 told_of_order events t outcome n =
     sum_by_push (λ (e : Event). if e.unit == n then men_starved_by e.verb e.outcome else 0) events (event_for t outcome) ∙ by_unit (t.unit == n) (starved_in events n)
   where
+    -- an event that reports nobody as starved adds 0, whether it is of unit n (`b`) or not
     by_unit : (b : Bool) (x : ℕ) → x + (if b then 0 else 0) ≡ x
     by_unit true x = omega arith
     by_unit false x = omega arith
@@ -281,6 +298,7 @@ module _ (step : OrderMeaning) where
   order_told : (w : WorldValue) (p : CampaignValue × MonthValue) (t : Task) (n : ℕ) → starved_in (one_order step w p t).1.events n ≡ starved_in p.1.events n
   order_told w p t n = by_outcome (order_result (step w p.1.aliases t) p.0 t.faction t.unit).1
     where
+      -- an order adds no men who starved to the events, whether it has an outcome `o` or is passed over
       by_outcome : (o : Option Outcome) → starved_in (with_event_of p.1 t o).events n ≡ starved_in p.1.events n
       by_outcome None = refl
       by_outcome (Some outcome) = told_of_order p.1.events t outcome n

@@ -10,19 +10,24 @@ use Rattle.atl_campaign.specs.Campaign.{MarkedCampaign, unit_changed}
 -- Unit n, if it is there, holds what `change` makes of what it held, and nothing else changes.
 -- All that changed is marked, and the same units as before have all their items and days marked at once.
 pub record ChangesHolding (before after : MarkedCampaign) (n : ℕ) (change : HoldingValue → HoldingValue) : Type 0 where
+  -- the unit's holding is what `change` makes of it, and nothing else changes
   pub value : after.value ≡ unit_changed (λ u. record u { holding = change u.holding }) before.value n
+  -- all that changed is marked
   pub marks : MarksChanges before after
+  -- the same units have all their items and days marked at once as before
   pub goods : after.marks.goods ≡ before.marks.goods
 
 -- before and after the same units have all their items and days marked, and the same single items are marked
 pub record MarksNoItems (before after : Marks) : Type 0 where
+  -- the same units have all their items and days marked at once
   pub goods : after.goods ≡ before.goods
+  -- the same single items are marked
   pub items : after.items ≡ before.items
 
 -- before and after the same units have all their items and days marked, and the same single items and skills are marked
 abbrev pub MarksNoGoods : Marks → Marks → Type 0
 MarksNoGoods before after = MarksNoItems before after × (after.skills ≡ before.skills)
 
--- days by skill, with the days of each listed skill set to the listed number, one after another
+-- a map of days by skill in which the days of each listed skill are set to the listed number, one after another
 abbrev pub with_days : FinMap nat_cmp ℕ → List (ℕ × ℕ) → FinMap nat_cmp ℕ
 with_days days list = fold (λ all e. with_amount_of all e.0 e.1) days list

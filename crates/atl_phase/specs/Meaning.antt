@@ -65,21 +65,29 @@ most_moved = 99999999999999
 
 -- two amounts differ by `most` or less
 pub record IsNear (most : ℕ) (before after : ℤ) : Type 0 where
+  -- the amount rises by at most `most`
   pub above : after ≤ℤ (before +ℤ pos most)
+  -- the amount falls by at most `most`
   pub below : before ≤ℤ (after +ℤ pos most)
 
 -- The number of the month last closed, the reports and the set of factions (gone ones too) stay the same.
 pub record IsSameMonth (before after : CampaignValue) : Type 0 where
   pub month : after.month ≡ before.month
   pub reports : after.reports ≡ before.reports
+  -- there are as many factions as before
   pub count : len after.factions ≡ len before.factions
+  -- no faction is added
   pub factions : (n : ℕ) → IsThere after.factions n → IsThere before.factions n
 
 -- After a phase `leaves` is true of the campaign, which is of the same month,
 -- and whose books balance if they did before.
 -- No amount of the books moves further than its bound.
 pub record LeavesWell (leaves : Condition) (moving : BookBound) (w : WorldValue) (before after : CampaignValue) : Type 0 where
+  -- the condition `leaves` is true of the campaign after the phase
   pub leaves_it : leaves w after
+  -- the month's number, the reports and the set of factions stay
   pub same_month : IsSameMonth before after
+  -- books that balanced before still balance
   pub balances : Balances before → Balances after
+  -- no amount of the books moves further than its bound
   pub near : (e : Entry) (t : Thing) → IsNear (moving e t) (amount_in before.books e t) (amount_in after.books e t)

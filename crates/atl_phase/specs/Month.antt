@@ -26,9 +26,13 @@ Aliases = FinMap nat_cmp (FinMap nat_cmp ℕ)
 -- What the phases of a month hand on, as contracts see it: what was read of each faction's mailing, the aliases,
 -- the words of the dice, and the events so far.
 pub record MonthValue : Type 0 where
+  -- what was read of each faction's mailing, by faction
   pub readings : FinMap nat_cmp Reading
+  -- the units that FORM made, by faction and alias
   pub aliases : Aliases
+  -- the words of the dice
   pub words : List ℕ
+  -- the events so far, in the order in which they came
   pub events : List Event
 
 -- ---- the encoding of a month for the logic

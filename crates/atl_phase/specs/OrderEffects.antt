@@ -82,7 +82,9 @@ Affects = Task → ℕ → ℕ → Type 0
 
 -- order t is for unit n, and faction f wrote it; f is meant as the faction of unit n
 pub record IsOwnOrder (t : Task) (n f : ℕ) : Type 0 where
+  -- the order is for unit n
   pub unit : t.unit ≡ n
+  -- faction f wrote the order
   pub faction : t.faction ≡ f
 
 -- a relation of a unit as it was before to the unit as it is after: what stays of the unit
@@ -91,8 +93,11 @@ Unaffected = Unit → Unit → Type 0
 
 -- the unit of this number, which was u before, is there after, and `spares` relates u to what it is then
 pub record IsUnaffected (spares : Unaffected) (after : CampaignValue) (number : ℕ) (u : Unit) : Type 0 where
+  -- the unit as it is after
   pub unit : Unit
+  -- the campaign has this unit under the number
   pub there : get after.units number ≡ Some unit
+  -- `spares` relates the unit before to the unit after
   pub spared : spares u unit
 
 -- each unit that none of these orders concerns is there after, and `spares` relates what it was to what it is then

@@ -95,17 +95,23 @@ task_at mailings p = record {
 
 -- the mailing that an index names is there, and so is the order that it names in this mailing
 pub record IsThere (mailings : List Mailing) (p : OrderIndex) : Type 0 where
+  -- the index of the mailing is that of one of the mailings
   pub mailing : p.mailing < length mailings
+  -- the index in the mailing is that of one of its orders
   pub entry : p.place < length (mailing_at mailings p.mailing).entries
 
 -- each index names an order that is there, and the orders that they name are ts, in this order
 pub record AreAt (mailings : List Mailing) (ts : List Task) (places : List OrderIndex) : Type 0 where
+  -- each index names an order that is there
   pub there : All (IsThere mailings) places
+  -- the orders that the indices name are ts
   pub tasks : map (task_at mailings) places ≡ ts
 
 -- the new indices name the orders that the old ones name, and after them the orders ts
 pub record Adds (mailings : List Mailing) (ts : List Task) (old new : List OrderIndex) : Type 0 where
+  -- the new indices name orders that are there, if the old ones do
   pub there : All (IsThere mailings) old → All (IsThere mailings) new
+  -- the new indices name the orders of the old ones, and then ts
   pub tasks : map (task_at mailings) new ≡ map (task_at mailings) old ++ ts
 
 -- the new indices name the orders that the old ones name, and after them the orders of one mailing that count
@@ -127,5 +133,7 @@ tasks_picked is_of mailings places = filter (has_verb is_of) (map (task_at maili
 -- The invariant of a month: its mailings are sorted by faction, and its gathered indices by unit.
 -- The gathered indices, if there are any, name all orders that count.
 pub record IsSortedMonth {Z : Type 0} (aliases : Aliases) (mailings : List Mailing) (standing : Option (Vec OrderIndex Z)) : Type 0 where
+  -- the mailings are sorted by faction, no two of one faction
   pub sorted : AreByFaction mailings
+  -- the gathered indices, if there are any, name all orders that count, sorted by unit
   pub gathered : IfSome standing (λ places. AreOrderIndices ByUnit aliases mailings places.items)

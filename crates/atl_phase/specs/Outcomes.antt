@@ -11,7 +11,7 @@ abbrev pub first_fault : List (Bool × EventFault) → Option EventFault
 first_fault [] = None
 first_fault ((fits, fault) ∷ more) = if fits then Some fault else first_fault more
 
--- with a fault the campaign as it was, and the fault as the outcome; without one what was done
+-- the result of an order: with a fault the campaign as it was, and the fault as the outcome; without one what was done
 abbrev pub unless : CampaignValue → Option EventFault → CampaignValue × Outcome → CampaignValue × Outcome
 unless c (Some fault) done = (c, Fault (event_fault_number fault))
 unless c None done = done

@@ -20,10 +20,15 @@ use Rattle.atl_phase.specs.declared.phase_order.Arrangement.TheVariants.{ByUnit,
 -- An order of a mailing: its faction, the unit that it is for, its line, its index, and what it says.
 -- The index is the one among the orders of the mailing, from 0 on.
 pub record Task : Type 0 where
+  -- the number of the faction that wrote the order
   pub faction : ℕ
+  -- the number of the unit that the order is for; 0 for an alias under which no unit was made
   pub unit : ℕ
+  -- the line of the order in its mailing
   pub line : ℕ
+  -- the index of the order among those of its mailing, from 0 on
   pub place : ℕ
+  -- what the order says
   pub order_value : OrderValue
 
 -- the order that a `PhaseOrder` of the code is, with the names from the text of its mailing
@@ -107,12 +112,19 @@ orders_by_unit is_of m = values (orders_of is_of ByUnit m.aliases m.readings)
 
 -- order t is an entry of its faction's mailing, at its index, with its unit, its line and what it says
 pub record IsInMailing (aliases : Aliases) (readings : FinMap nat_cmp Reading) (t : Task) : Type 0 where
+  -- what was read of the faction's mailing
   pub reading : Reading
+  -- the entry of the mailing that the order is
   pub entry : EntryValue
+  -- the reading is that of the faction that wrote the order
   pub of_faction : get readings t.faction ≡ Some reading
+  -- the entry has the order's index in the mailing
   pub at_place : slice_get reading.entries t.place ≡ Some entry
+  -- the entry is for the order's unit
   pub for_unit : unit_of aliases t.faction entry.target ≡ t.unit
+  -- the entry is on the order's line
   pub on_line : entry.line ≡ t.line
+  -- the entry says what the order says
   pub says : entry.order_value ≡ t.order_value
 
 -- A law: each order of a phase is an entry of the mailing of its faction.

@@ -14,8 +14,11 @@ use Rattle.atl_phase.specs.Unbooked.{moves_nothing}
 
 -- the entries of the books that a phase may move: those of money, of people and of items
 pub record MovedEntries : Type 0 where
+  -- the entries under which the phase may move money
   pub money : List Entry
+  -- the entries under which the phase may move people
   pub people : List Entry
+  -- the entries under which the phase may move items
   pub items : List Entry
 
 -- no entries, for a phase that moves no amount of the books
@@ -41,9 +44,13 @@ may_move moved e t = is_among e (entries_of moved t)
 
 -- the specification of a phase: its effect, its bound on the books, the entries that it may move, and what it keeps
 pub record PhaseSpec : Type 1 where
+  -- the effect of the phase on campaign and month
   pub meaning : Meaning
+  -- by how much the phase may move each amount of the books
   pub moving : BookBound
+  -- the entries of the books that the phase may move
   pub moved : MovedEntries
+  -- what the phase leaves unchanged
   pub keeps : Frame
 
 -- A phase moves the amounts of its own entries alone, and each by less than 10^14.

@@ -7,8 +7,8 @@ ghost use Rattle.atl_phase.specs.Bounds.{HasRoom};
 
 use atl_campaign::{Campaign, Entry, Thing};
 
-/// Books under an entry that this amount of a thing is taken out of the campaign. It takes no
-/// memory.
+/// Books an amount of a thing as taken out of the campaign, under this entry of the books. It takes
+/// no memory.
 pub fn book_taken(campaign: &mut Campaign, entry: Entry, thing: Thing, amount: u32)
     requires there { thing_index thing < campaign.old.value.books.things }
     requires room { HasRoom amount (amount_in campaign.old.value.books entry thing) }

@@ -23,7 +23,9 @@ pub struct Month {
     mailings: Vec<Mailing>,
     // The unit that FORM made for each alias, by faction and then by alias.
     aliases: Numbered<Numbered<u32>>,
+    // The words of the dice.
     words: Vec<u32>,
+    // The events so far, in the order in which they came.
     events: Vec<Event>,
     // The indices of the orders that count, by unit, line and faction; None until gathered.
     standing: Option<Vec<OrderIndex>>,
@@ -81,7 +83,7 @@ impl Month {
         }
     }
 
-    /// The words of the dice.
+    /// The words of the dice that the month was given.
     pub fn words(&self) -> &[u32]
         ensures { result.now ≡ self.now.words }
     {

@@ -29,8 +29,8 @@ pub(crate) struct OrderIndex {
 }
 
 impl OrderIndex {
-    /// The numbers that the order is sorted by in this arrangement, the first one first; the last
-    /// number is its index in its mailing.
+    /// The numbers that the order is sorted by in this arrangement, from the most to the least
+    /// significant; the last is its index in its mailing.
     fn key(&self, arrangement: Arrangement) -> [usize; 4]
         ensures { result ≡ key_by arrangement self.now }
     {

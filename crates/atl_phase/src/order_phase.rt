@@ -154,14 +154,14 @@ pub fn carry_out_orders<P: OrderPhase>(
     Ok(())
 }
 
-/// A phase whose step doesn't depend on the value of its type:
-/// it carries out orders, and does nothing else.
+/// A phase that carries out its orders one by one, and does nothing else. What it does for an order
+/// (`step`) is the same for each value of its type.
 pub trait PlainPhase: OrderPhase {
     // What an order does for a unit of the faction that wrote it; None where the phase passes the
     // order over.
     ghost makes: { OrderMeaning };
 
-    /// The law that the step of each value of the type is `makes`. Does nothing.
+    /// The law that each value of the type does for an order what `makes` says. Does nothing.
     fn is_plain(&self)
         ensures { Self.step self.now ≡ makes };
 }

@@ -56,7 +56,8 @@ fn order_at<'m>(mailings: &'m [Mailing], placed: &OrderIndex) -> PhaseOrder<'m>
     }
 }
 
-/// Those of the orders which these indices name that have a verb of the phase, in their order.
+/// The orders that some indices name and that have a verb of the phase, in the order of the
+/// indices.
 fn phase_orders_at<'m, P: PhaseVerbs>(
     alloc: Global,
     phase: &P,

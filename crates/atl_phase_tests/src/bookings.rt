@@ -1,5 +1,5 @@
-//! Prints the differences of the books of two campaigns (docs/RULES.md, "Books"),
-//! a line for each entry and thing.
+//! Appends the differences between the books of two campaigns to a text, a line for each entry and
+//! thing. See docs/RULES.md, "Books".
 ghost use Rattle.std.specs.Prelude.{◌≡◌};
 ghost use Rattle.atl_records.specs.Books.{thing_index};
 
@@ -37,7 +37,7 @@ static ENTRIES: [(&str, Entry); ENTRY_COUNT] = [
     ("stocked", Entry::Stocked),
 ];
 
-/// The amount booked of a thing under an entry, or 0 if the books have no such thing; `place` is
+/// The amount booked of a thing under an entry, or 0 if the books have no such thing. `place` is
 /// the thing's index.
 fn booked(campaign: &Campaign, entry: Entry, place: usize, thing: Thing) -> i64
     requires { thing_index thing ≡ place }
@@ -49,7 +49,7 @@ fn booked(campaign: &Campaign, entry: Entry, place: usize, thing: Thing) -> i64
     }
 }
 
-/// Appends a line for each entry under which the amount of a thing changed.
+/// Appends a line for each entry of the books under which the amount of a thing changed.
 fn tell_thing(
     alloc: Global,
     of: &str,

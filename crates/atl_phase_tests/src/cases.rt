@@ -1,5 +1,5 @@
-//! Plays the cases of a file, one after the other,
-//! and compares the result of each with the lines that the file expects.
+//! Plays the cases of a file, one after the other, and compares the result of each with the lines
+//! that the file expects.
 use crate::changes::tell_changes;
 use crate::failed::Failed;
 use crate::months::read_all;
@@ -58,9 +58,8 @@ fn told_of(
     Ok(told_between(alloc, world, &before, &after, &events)?)
 }
 
-/// A file of cases as far as it was read.
-/// It has the campaign and the phases for the next case, the case that is being read, the count of
-/// those played, and a report.
+/// The state of playing a file of cases, line by line: the campaign and the phases for the next
+/// case, the case that is being read, the count of the cases played, and a report.
 struct Player {
     world: World,
     setting: Setting,
@@ -89,8 +88,8 @@ impl Player {
         }
     }
 
-    /// Plays a case, and appends its result to the report if it
-    /// differs from the lines that the file expects.
+    /// Plays a case, and appends its result to the report if it differs from the lines that the
+    /// file expects.
     fn play(&mut self, alloc: Global, case: &Case) -> Result<(), Failed> {
         let told = told_of(alloc, &self.world, &self.setting, self.run, case)?;
         self.played = self.played.wrapping_add(1);
@@ -118,7 +117,7 @@ impl Player {
         Some(())
     }
 
-    /// Adds what a `times` line says, as often as it says, to the campaign of the next cases.
+    /// Adds what a `times` line says to the campaign of the next cases, as often as its count says.
     fn set_times(&mut self, text: &str) -> Option<()> {
         let (count, line) = text.split_once(' ')?;
         self.set(count.parse::<u32>().ok()?, line)
@@ -134,14 +133,14 @@ impl Player {
         }
     }
 
-    /// Plays the last case, and starts an empty campaign for the next ones.
+    /// Plays the last case, and starts an empty campaign for the cases after it.
     fn begin_campaign(&mut self, alloc: Global) -> Result<(), Failed> {
         self.finish(alloc)?;
         self.setting = Setting::new(alloc);
         Ok(())
     }
 
-    /// Plays the last case, and sets which phases the next ones play.
+    /// Plays the last case, and sets which phases the cases after it play.
     fn begin_run(&mut self, alloc: Global, name: &str) -> Result<(), Failed> {
         self.finish(alloc)?;
         self.run = Run::of_name(name).ok_or(Failed("no phases"))?;
@@ -156,7 +155,7 @@ impl Player {
     }
 
     /// Carries out a line of the file: passes over a comment, begins a campaign, a run or a case,
-    /// or adds the line to it.
+    /// or adds the line to the current case or campaign.
     fn read(&mut self, alloc: Global, line: &str) -> Result<(), Failed> {
         if line.is_empty() || line.starts_with("--") {
             Ok(())

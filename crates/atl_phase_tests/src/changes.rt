@@ -1,4 +1,5 @@
-//! Prints the differences between two campaigns, a line for each number or text that changed.
+//! Appends the differences between two campaigns to a text, a line for each number or text that
+//! changed.
 use crate::bookings::tell_books;
 use crate::lines::{number, text};
 use atl_campaign::{Campaign, Faction, Region, Structure, Unit};
@@ -22,7 +23,7 @@ fn numbers_of(unit: Option<&Unit>) -> [i64; 6] {
     }
 }
 
-/// The names of the numbers of `numbers_of`.
+/// The names of a unit's numbers in the result of a case, in the order of `numbers_of`.
 static NUMBERS: [&str; 6] = ["faction", "region", "inside", "men", "money", "guard"];
 
 /// The name of a unit, or an empty text if there is no unit.
@@ -155,7 +156,7 @@ fn structure_numbers(structure: Option<&Structure>) -> [i64; 3] {
     }
 }
 
-/// The names of the numbers of `structure_numbers`.
+/// The names of a structure's numbers in the result of a case, in the order of `structure_numbers`.
 static SIDES: [&str; 3] = ["region", "done", "owner"];
 
 /// The name of a structure and that of its kind; empty texts if there is no structure.
@@ -308,7 +309,7 @@ fn tell_factions(
 
 // ---- the numbers that come next
 
-/// Appends the next numbers of a unit and of a structure, if they changed.
+/// Appends the numbers that the next unit and the next structure get, if they changed.
 fn tell_nexts(
     alloc: Global,
     before: &Campaign,

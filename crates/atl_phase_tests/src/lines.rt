@@ -1,7 +1,8 @@
 //! Appends a line for a number or a text that changed.
 use std::alloc::{AllocError, Global};
 
-/// Appends the line `of what after` for a number, unless it is unchanged.
+/// Appends a line with the new value of a number, such as `unit 3 money 52`, unless the number is
+/// unchanged. The line is `of`, `what` and `after`.
 pub(crate) fn number(
     alloc: Global,
     of: &str,
@@ -17,7 +18,8 @@ pub(crate) fn number(
     told.push_str(line.as_str())
 }
 
-/// Appends the line `of what after` for a text, unless it is unchanged.
+/// Appends a line with the new value of a text, such as `unit 3 name Guards`, unless the text is
+/// unchanged. The line is `of`, `what` and `after`.
 pub(crate) fn text(
     alloc: Global,
     of: &str,

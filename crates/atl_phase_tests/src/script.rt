@@ -3,8 +3,8 @@ use crate::settings::{Built, Had, Setting, Stocked, Stood};
 use atl_world::{World, let_go};
 use std::alloc::{AllocError, Global};
 
-/// A case: its title, the mailings and the words of its month,
-/// and the lines of the expected result.
+/// A case: its title, the mailings and the words of the dice of its month, and the lines of the
+/// expected result.
 pub(crate) struct Case {
     pub title: String,
     pub mailings: Vec<String>,
@@ -58,7 +58,8 @@ fn numbers<const N: usize>(text: &str) -> Option<[i64; N]> {
     Some(all)
 }
 
-/// Reads `FACTION REGION STRUCTURE MEN MONEY`, followed by `guard` if the flag is set.
+/// Reads a unit from `FACTION REGION STRUCTURE MEN MONEY`, followed by `guard` if its guard flag is
+/// set.
 fn unit(text: &str) -> Option<Stood> {
     let (text, guard) = match text.strip_suffix(" guard") {
         Some(front) => (front, true),
@@ -75,7 +76,7 @@ fn unit(text: &str) -> Option<Stood> {
     })
 }
 
-/// Reads `UNIT THING AMOUNT`; the thing is an item or a skill of the world.
+/// Reads what a unit has from `UNIT THING AMOUNT`; the thing is an item or a skill of the world.
 fn had(world: &World, text: &str) -> Option<Had> {
     let (unit, rest) = text.split_once(' ')?;
     let (name, amount) = rest.split_once(' ')?;
@@ -92,7 +93,7 @@ fn had(world: &World, text: &str) -> Option<Had> {
     })
 }
 
-/// Reads `KIND REGION DONE OWNER`; the kind is one of the world.
+/// Reads a structure from `KIND REGION DONE OWNER`; the kind is one of the world.
 fn structure(world: &World, text: &str) -> Option<Built> {
     let (name, rest) = text.split_once(' ')?;
     let [region, done, owner] = numbers::<3>(rest)?;
@@ -104,7 +105,7 @@ fn structure(world: &World, text: &str) -> Option<Built> {
     })
 }
 
-/// Reads `REGION ITEM AMOUNT`; the item is one of the world.
+/// Reads the stock of a region from `REGION ITEM AMOUNT`; the item is one of the world.
 fn stocked(world: &World, text: &str) -> Option<Stocked> {
     let (region, rest) = text.split_once(' ')?;
     let (name, amount) = rest.split_once(' ')?;

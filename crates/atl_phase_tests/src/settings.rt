@@ -81,7 +81,8 @@ impl Setting {
         }
     }
 
-    /// The number of the next unit: after the last one, and at least the field's value.
+    /// The number of the unit that is formed next: one above the last unit's, and at least the
+    /// field `next_unit`.
     fn next_unit(&self) -> i64 {
         (self.units.len() as i64)
             .wrapping_add(1)
@@ -92,16 +93,16 @@ impl Setting {
 /// The names of the factions, in the order of their numbers from 1.
 static FACTIONS: [&str; 2] = ["Avalon", "Bree"];
 
-/// The number of the next faction.
+/// The number of the faction that would join next, after those of `FACTIONS`.
 const NEXT_FACTION: i64 = 3;
 
 /// The id of the campaign's own row.
 const CAMPAIGN_ID: i64 = 1;
 
-/// The format of the campaign's own row.
+/// The number of the tables' format in the campaign's own row: the second.
 const CAMPAIGN_FORMAT: i64 = 2;
 
-/// The number of Joining among the entries of the books.
+/// The number of the entry Joining in the books.
 const JOINING: i64 = 2;
 
 /// The number of money among the things of the books.
@@ -310,7 +311,8 @@ fn book_all(
     Ok(())
 }
 
-/// Replaces the rows of a campaign just founded by those of a setting.
+/// Puts the rows of a setting in place of those of a campaign just founded, and adds to its books
+/// all that the setting has.
 fn fill(
     alloc: Global,
     world: &World,

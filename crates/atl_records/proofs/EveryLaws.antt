@@ -157,18 +157,19 @@ module _ {V : Type 0} where
     abbrev Passing : List (ℕ × V) → ℕ → Type 0
     Passing es n = (v : V) × (find nat_cmp n es ≡ Some v) × (p v ≡ true)
 
-    -- a number under which a sorted list without its first entry has a value that passes has one in the whole list
+    -- if a sorted list without its first entry has under n a value that passes the test, so has the whole list
     behind : (e : ℕ × V) (es : List (ℕ × V)) (n : ℕ) → is_sorted nat_cmp (e ∷ es) ≡ true → Passing es n → Passing (e ∷ es) n
     behind e es n s (v, is, h) = (v, later e es n v s is, h)
 
-    -- each chosen number of a sorted list has a value that passes, if so does each of the list without its first entry
+    -- if each number chosen from the list without its first entry has a value that passes the test, so has each number
+    -- chosen from the whole sorted list
     listed_in : (b : Bool) (e : ℕ × V) (es : List (ℕ × V)) → p e.1 ≡ b → is_sorted nat_cmp (e ∷ es) ≡ true → (d : ℕ) → ((i : ℕ) → i < length (chosen es) → Passing es (get_or (chosen es) i d))
         → (i : ℕ) → i < length (cond b (e.0 ∷ chosen es) (chosen es)) → Passing (e ∷ es) (get_or (cond b (e.0 ∷ chosen es) (chosen es)) i d)
     listed_in true e es t s d rest zero h = (e.1, first e es, t)
     listed_in true e es t s d rest (suc i) h = behind e es (get_or (chosen es) i d) s (rest i (omega arith))
     listed_in false e es t s d rest i h = behind e es (get_or (chosen es) i d) s (rest i h)
 
-    -- each chosen number of a sorted list has a value that passes
+    -- each number chosen from a sorted list has a value in the list that passes the test
     listed : (es : List (ℕ × V)) → is_sorted nat_cmp es ≡ true → (d i : ℕ) → i < length (chosen es) → Passing es (get_or (chosen es) i d)
     listed [] s d i h = absurd (omega arith)
     listed (e ∷ es) s d i h = subst (λ (ns : List ℕ). i < length ns → Passing (e ∷ es) (get_or ns i d)) (sym (chosen-cons p e es)) (listed_in (p e.1) e es refl s d (listed es (and_parts _ _ s).1 d) i) h

@@ -35,7 +35,7 @@ set_amount items i amount j = by_zero (amount == 0) refl
     taken true e = e
     taken false e = refl
 
-    -- amounts are read back, whether the amount set is 0 or not
+    -- the amount under j is read back as `set_amount` says, whether the amount set under i is 0 or not
     by_zero : (b : Bool) → (amount == 0) ≡ b → amount_of (if b then remove items i else insert items i amount) j ≡ cond (eq_by_cmp nat_cmp j i) amount (amount_of items j)
     by_zero true is =
         let none : 0 ≡ amount = grind (arith, nat_tests) in

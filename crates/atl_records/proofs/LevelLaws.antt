@@ -31,8 +31,8 @@ unreached_level_is_above_0 (suc n) men days h = omega arith
 pub added : (sum x rest whole all : ℕ) → whole ≡ x + rest → sum + whole ≡ all → (sum + x) + rest ≡ all
 added sum x rest whole all h e = omega (arith, h, e)
 
--- a sum of at most most_u32 * most_weight * low is, with the x of the next item of a sorted list, at most most_u32 *
--- most_weight * next for some `next` of at most most_items; an item that no world has adds 0
+-- a sum over the items below a number `low`, which is at most most_u32 * most_weight * low, stays within such a bound
+-- (with some `next` of at most most_items in place of `low`) when x is added for the next item of a sorted list
 pub fits_next : (low sum x : ℕ) (e : ℕ × ℕ) (es : List (ℕ × ℕ)) → is_sorted nat_cmp (e ∷ es) ≡ true → low ≤ most_items → sum ≤ (most_u32 * most_weight) * low → low ≤ e.0 → x ≤ (most_u32 * most_weight) → (most_items ≤ e.0 → x ≡ 0)
     → (next : ℕ) × (next ≤ most_items) × (sum + x ≤ (most_u32 * most_weight) * next) × BeginsFrom next es
 fits_next low sum x e es sorted few fits from small far =

@@ -131,6 +131,7 @@ impl fmt::Display for EventFault {
     }
 }
 
+/// Lets a caller handle an event fault as any `Error`; its text is what `Display` writes.
 impl Error for EventFault {}
 
 /// What came of an order, of work without one, or of upkeep: done, a fault, or men that starved.

@@ -22,6 +22,7 @@ pub struct Holding {
     days: Numbered<u32>,
 }
 
+/// Drops the name, the items and the days of a holding.
 impl Drop for Holding {
     fn drop(self) {
         let_go!(self: Holding { name, men, money, guard, items, days });

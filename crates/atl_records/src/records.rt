@@ -19,6 +19,7 @@ pub struct Faction {
     pub gone: bool,
 }
 
+/// Drops the names and the pass text of a faction.
 impl Drop for Faction {
     fn drop(self) {
         let_go!(self: Faction { number, joined_as, name, pass, gone });
@@ -37,6 +38,7 @@ pub struct Unit {
     pub holding: Holding,
 }
 
+/// Drops the holding of a unit.
 impl Drop for Unit {
     fn drop(self) {
         let_go!(self: Unit { faction, region, structure, holding });
@@ -54,6 +56,7 @@ pub struct Region {
     pub stocks: Numbered<u32>,
 }
 
+/// Drops the stocks of a region.
 impl Drop for Region {
     fn drop(self) {
         let_go!(self: Region { peasants, money, stocks });
@@ -106,4 +109,5 @@ impl fmt::Display for JoinFault {
     }
 }
 
+/// Lets a caller handle a refused joining as any `Error`; its text is what `Display` writes.
 impl Error for JoinFault {}

@@ -11,7 +11,8 @@ use Rattle.atl_records.specs.declared.records.Structure.{Structure}
 use Rattle.atl_campaign.specs.KeptLists.{list_of}
 use Rattle.atl_report.specs.Sites.{with_site}
 
--- a region's list and the numbers still to come are together the same, whether n is added to the list or still to come
+-- a region's list, followed by its numbers still to come, is the same with n at the end of the list or first among
+-- those still to come
 by_region : (b : Bool) (o : Option (List ℕ)) (listed rest : List ℕ) (n : ℕ) → (b ≡ true → listed ≡ unwrap_or o [])
     → unwrap_or (cond b (Some (listed ++ (n ∷ []))) o) [] ++ rest ≡ unwrap_or o [] ++ cond b (n ∷ rest) rest
 by_region true o listed rest n h = ap (λ l. (l ++ (n ∷ [])) ++ rest) (h refl) ∙ append_assoc (unwrap_or o []) (n ∷ []) rest
@@ -21,7 +22,8 @@ by_region false o listed rest n h = refl
 same_list : (sites : FinMap nat_cmp (List ℕ)) (q r : ℕ) → (r == q) ≡ true → list_of sites r ≡ list_of sites q
 same_list sites q r h = ap (list_of sites) (is_equal r q h)
 
--- a region's list and its structures still to come are the same before and after one is added
+-- a region's list, followed by the numbers of its structures still to come, is the same before and after the next
+-- structure is added to its list
 pub site_goes_on : (sites : FinMap nat_cmp (List ℕ)) (n : ℕ) (s : Structure) (es : List (ℕ × Structure)) (region : ℕ)
     → list_of (with_site sites s.region n) region ++ numbers_among (λ (t : Structure). t.region == region) es
     ≡ list_of sites region ++ numbers_among (λ (t : Structure). t.region == region) ((n, s) ∷ es)

@@ -60,11 +60,11 @@ side_of c faction u =
 abbrev pub unit_view : CampaignValue → ℕ → ℕ → Unit → UnitView
 unit_view c faction number u = record { number = number; name = u.holding.name; men = u.holding.men; guard = guards u; structure = u.structure; side = side_of c faction u }
 
--- the view of a unit; None where there is no such unit, or the watch's faction doesn't see it
+-- the view that the watching faction has of a unit; None where there is no such unit, or it isn't seen
 abbrev pub seen_unit : WorldValue → CampaignValue → Watch → ℕ → Option Unit → Option UnitView
 seen_unit w c watch number unit = option_and_then (λ u. if is_seen w watch u then Some (unit_view c watch.faction number u) else None) unit
 
--- the views of the units of the watch's region that its faction sees, in the order of their numbers
+-- the views of the units that the watching faction sees in the watched region, in the order of their numbers
 abbrev pub unit_views : WorldValue → CampaignValue → Watch → List UnitView
 unit_views w c watch = filter_map (λ n. seen_unit w c watch n (get c.units n)) (numbers_in watch.region c.units)
 
@@ -82,7 +82,7 @@ shown_owner w c watch s = if is_seen_there w watch (get c.units s.owner) then s.
 abbrev pub structure_view : WorldValue → CampaignValue → Watch → ℕ → Structure → StructureView
 structure_view w c watch number s = record { number = number; kind = s.kind; name = s.name; done = s.done; owner = shown_owner w c watch s }
 
--- the views of all structures of the watch's region, in the order of their numbers
+-- the views of all structures of the watched region, in the order of their numbers
 abbrev pub structure_views : WorldValue → CampaignValue → Watch → List StructureView
 structure_views w c watch = filter_map (λ n. option_map (structure_view w c watch n) (get c.structures n)) (structures_in watch.region c.structures)
 

@@ -12,17 +12,17 @@ use Rattle.atl_report.specs.declared.watch.Watch.{Watch}
 
 -- ---- regions
 
--- whether there is a unit, it is the faction's, and it has men
+-- whether a unit exists, is the given faction's, and has men, so that the faction sees its region
 abbrev pub is_watching : ℕ → Option Unit → Bool
 is_watching faction unit = option_map_or (λ u. u.faction == faction && nat_lt 0 u.holding.men) unit false
 
--- whether the faction sees the region: it has a unit with men there
+-- whether a faction sees a region: it has a unit with men there
 abbrev pub sees_region : CampaignValue → ℕ → ℕ → Bool
 sees_region c faction region = list_any (λ n. is_watching faction (get c.units n)) (numbers_in region c.units)
 
 -- ---- units
 
--- the observation level of a unit of the faction; 0 for another faction's unit, or without a unit
+-- the observation level of a unit, if it is of the given faction; 0 for another faction's unit, or without a unit
 abbrev pub observation_of : WorldValue → ℕ → Option Unit → ℕ
 observation_of w faction unit = option_map_or (λ u. if u.faction == faction then level_in_any u.holding w.rules.observation else 0) unit 0
 
@@ -31,7 +31,7 @@ abbrev pub greatest : List ℕ → ℕ
 greatest [] = 0
 greatest (n ∷ ns) = max n (greatest ns)
 
--- the best observation level of the faction's units in a region
+-- the best observation level of a faction's units in a region
 abbrev pub observation_in : WorldValue → CampaignValue → ℕ → ℕ → ℕ
 observation_in w c faction region = greatest (map (λ n. observation_of w faction (get c.units n)) (numbers_in region c.units))
 
@@ -39,10 +39,11 @@ observation_in w c faction region = greatest (map (λ n. observation_of w factio
 abbrev pub watch_over : WorldValue → CampaignValue → ℕ → ℕ → Watch
 watch_over w c faction region = record { faction = faction; region = region; observation = observation_in w c faction region }
 
--- whether a unit in the watch's region is seen: the faction's own, a guard, or of stealth at most its observation
+-- whether a unit in the watched region is seen: it is the watching faction's own, a guard, or its stealth level is at
+-- most the faction's best observation level there
 abbrev pub is_seen : WorldValue → Watch → Unit → Bool
 is_seen w watch u = u.faction == watch.faction || (guards u || nat_le (level_in_any u.holding w.rules.stealth) watch.observation)
 
--- whether there is a unit, it is in the watch's region, and it is seen
+-- whether a unit exists, is in the watched region, and is seen
 abbrev pub is_seen_there : WorldValue → Watch → Option Unit → Bool
 is_seen_there w watch unit = option_map_or (λ u. u.region == watch.region && is_seen w watch u) unit false

@@ -97,8 +97,8 @@ fn unit_view(
     })
 }
 
-/// The views of the units of the watch's region that its faction sees, in the order of their
-/// numbers.
+/// The views of the units that the watching faction sees in the watched region, in the order of
+/// their numbers.
 fn unit_views(
     alloc: Global,
     world: &World,
@@ -150,7 +150,7 @@ fn structure_view(
     })
 }
 
-/// The views of all structures of the watch's region, in the order of their numbers.
+/// The views of all structures of the watched region, in the order of their numbers.
 fn structure_views(
     alloc: Global,
     world: &World,
@@ -238,7 +238,7 @@ fn region_view(
     })
 }
 
-/// Adds a region's number to those of the regions seen, where the campaign has the region.
+/// Adds a region's number to the set of the regions seen, where the campaign has the region.
 fn see(seen: &mut Numbered<()>, campaign: &Campaign, number: u32) -> Result<(), AllocError>
     ensures { OnOk result (seen.new
         ≡ with_region seen.old number (get campaign.now.value.regions number)) }

@@ -38,7 +38,7 @@ pub fn sites_of(alloc: Global, campaign: &Campaign) -> Result<Sites, AllocError>
     Ok(sites)
 }
 
-/// The numbers of a region's structures, sorted.
+/// The numbers of a region's structures, sorted, from the lists of all regions.
 pub(crate) fn sites_in(sites: &Sites, region: u32) -> &[u32]
     ensures { result.now ≡ list_of sites.now region }
 {

@@ -16,21 +16,21 @@ pub(crate) struct Watch {
     pub(crate) observation: u32,
 }
 
-/// Whether a unit is the faction's and has men.
+/// Whether a unit is a given faction's and has men, so that the faction sees its region.
 pub(crate) fn is_watching(unit: &Unit, faction: u32) -> bool
     ensures { result ≡ is_watching faction (Some unit.now) }
 {
     unit.faction == faction && unit.holding.men() > 0
 }
 
-/// Whether a unit has the guard flag set, and men.
+/// Whether a unit guards: it has the guard flag set, and men.
 pub(crate) fn is_guard(unit: &Unit) -> bool
     ensures { result ≡ guards unit.now }
 {
     unit.holding.guard() && unit.holding.men() > 0
 }
 
-/// The observation level of a unit of the faction; 0 for another faction's unit.
+/// The observation level of a unit, if it is of the given faction; 0 for another faction's unit.
 fn observation_of(world: &World, faction: u32, unit: &Unit) -> u32
     ensures { result ≡ observation_of world.now faction (Some unit.now) }
 {
@@ -41,7 +41,7 @@ fn observation_of(world: &World, faction: u32, unit: &Unit) -> u32
     }
 }
 
-/// The best observation level of the faction's units in a region.
+/// The best observation level of a faction's units in a region.
 fn observation_in(world: &World, campaign: &Campaign, faction: u32, region: u32) -> u32
     ensures { result ≡ observation_in world.now campaign.now.value faction region }
 {
@@ -66,7 +66,7 @@ pub(crate) fn watch_over(world: &World, campaign: &Campaign, faction: u32, regio
     }
 }
 
-/// Whether a unit's stealth level is at most the watch's observation level.
+/// Whether a unit's stealth level is at most the best observation level of the watching faction.
 fn is_identified(world: &World, watch: Watch, unit: &Unit) -> bool
     ensures { result ≡ nat_le (level_in_any unit.now.holding world.now.rules.stealth)
         watch.observation }
@@ -74,15 +74,15 @@ fn is_identified(world: &World, watch: Watch, unit: &Unit) -> bool
     level_in_any(&unit.holding, world.rules().stealth) <= watch.observation
 }
 
-/// Whether a unit in the watch's region is seen: it is the faction's own, guards,
-/// or its stealth level is at most the watch's observation level.
+/// Whether a unit in the watched region is seen: it is the watching faction's own, guards, or its
+/// stealth level is at most the faction's best observation level there.
 pub(crate) fn is_seen(world: &World, watch: Watch, unit: &Unit) -> bool
     ensures { result ≡ is_seen world.now watch unit.now }
 {
     unit.faction == watch.faction || is_guard(unit) || is_identified(world, watch, unit)
 }
 
-/// Whether there is a unit, it is in the watch's region, and it is seen.
+/// Whether a unit exists, is in the watched region, and is seen.
 pub(crate) fn is_seen_there(world: &World, watch: Watch, unit: Option<&Unit>) -> bool
     ensures { result ≡ is_seen_there world.now watch (option_copied unit.entry) }
 {

@@ -21,8 +21,8 @@ use Rattle.atl_service.specs.Step.{step}
 use Rattle.atl_service.specs.Service.{ServiceValue, text_in}
 use Rattle.atl_service.specs.Runs.{Runs, RunsAt, RunsOpen, Accepts, Closes, RunsAll, Follows, FollowsAt, AreClosed, Headline, Interrupted, HeadlineAt}
 
--- what a fault leaves of the tables (`LeavesAfterFault`), if it holds with a count of earlier disk failures, holds with
--- each lower count
+-- if a fault left the tables as it may (`LeavesAfterFault`) by the count `many` of earlier disk failures, it did so by
+-- each lower count `few`
 stops_from : (few many : ℕ) (s : State) (text : List ℕ) (before after : CampaignValue) → few ≤ many → LeavesAfterFault many s text before after → LeavesAfterFault few s text before after
 stops_from few many s text before after h stops = record {
   still = stops.still;
@@ -55,8 +55,8 @@ module _ {S : Type 0} (g : Ghosts S) where
     record { old = f.4.old; held = λ clean. subst (λ t. Keeps (state g f.4.old) t c) (same clean) (f.4.held clean); cause = f.4.cause },
   )
 
-  -- if a command was carried out and the rest of a list follows from the service after it, the answer is that of
-  -- `step`, and the rest follows from the campaign of `step` (`Follows`)
+  -- if a command was carried out, and the later answers are right from the service after it on (`FollowsAt`), its
+  -- answer is that of `step`, and the later answers are right from the campaign of `step` on (`Follows`)
   carried : (old mid new : ServiceValue S) (c : CampaignValue) (x : Command) (a : Answer) (cs : List Command) (rs : List Answer) → (accepts : Accepts g c old x a mid) → (HasCleanDisk (state g new.conn) → HasCleanDisk (state g mid.conn))
       → (state g old.conn).faults ≤ (state g mid.conn).faults → FollowsAt g mid cs rs new mid.campaign
       → ((step old.world c x).1 ≡ a) × Follows g (text_in g old.conn) (state g old.conn).faults old.world (step old.world c x).0 cs rs new × (new.world ≡ old.world)
@@ -89,7 +89,8 @@ module _ {S : Type 0} (g : Ghosts S) where
         ap (λ (e : ServiceValue S). e.world) on.1 ∙ ap (λ (e : ServiceValue S). e.world) closes.same,
       )
 
-  -- if the first command of a list ran in an open service and the rest follows from it, the whole list follows
+  -- if the first command of a list ran in an open service as `run` may (`RunsOpen`), and the later answers are right
+  -- from the service after it on, all answers to the list are right (`FollowsAt`)
   first_open : (old mid new : ServiceValue S) (c : CampaignValue) (x : Command) (a : Answer) (cs : List Command) (rs : List Answer) → RunsOpen g c old x a mid
       → (HasCleanDisk (state g new.conn) → HasCleanDisk (state g mid.conn)) → IsLater (state g old.conn) (state g mid.conn) → HoldsCampaign g old.conn (text_in g old.conn) c → old.campaign ≡ Some c → FollowsAt g mid cs rs new mid.campaign
       → FollowsAt g old (x ∷ cs) (a ∷ rs) new (Some c)
@@ -105,8 +106,8 @@ module _ {S : Type 0} (g : Ghosts S) where
   first_open old mid new c x (Fault Store) cs rs ran was later holds up rest = let k = ended_in_fault old mid new c x Store cs rs ran.0 ran.1 holds later.clean rest in (((λ e. let d = e in cc), k.0, k.1, k.2, k.3), k.4)
   first_open old mid new c x (Fault Closed) cs rs ran was later holds up rest = absurd ran
 
-  -- if the first command of a list ran in a service, open or closed, and the rest follows from it, the whole list
-  -- follows
+  -- if the first command of a list ran in a service, open or closed, as `run` may (`RunsAt`), and the later answers are
+  -- right from the service after it on, all answers to the list are right (`FollowsAt`)
   first_at : (old mid new : ServiceValue S) (x : Command) (a : Answer) (cs : List Command) (rs : List Answer) (o : Option CampaignValue) → old.campaign ≡ o → RunsAt g old x a mid o
       → (HasCleanDisk (state g new.conn) → HasCleanDisk (state g mid.conn)) → IsLater (state g old.conn) (state g mid.conn) → IfSome o (λ c. HoldsCampaign g old.conn (text_in g old.conn) c) → FollowsAt g mid cs rs new mid.campaign
       → FollowsAt g old (x ∷ cs) (a ∷ rs) new o
@@ -115,7 +116,7 @@ module _ {S : Type 0} (g : Ghosts S) where
       let on = subst (FollowsAt g old cs rs new) shut (subst (λ (e : ServiceValue S). FollowsAt g e cs rs new e.campaign) ran.1 rest) in
       ((ran.0, on.0), on.1)
 
-  -- `IsLater` is transitive
+  -- a later state of a later state is a later state of the first (`IsLater` is transitive)
   later_on : (old mid new : State) → IsLater old mid → IsLater mid new → IsLater old new
   later_on old mid new a b = record { clean = λ h. a.clean (b.clean h); counts = omega (arith, a.counts, b.counts); shield = λ s. b.shield (a.shield s) }
 

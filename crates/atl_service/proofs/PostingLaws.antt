@@ -85,13 +85,14 @@ get_posted mail (Mail faction pass text ∷ more) n =
     get_posted (insert mail faction text) more n
     ∙ ap (λ o. last_text n o more) (get-insert nat_cmp_total mail faction text n ∙ ap (λ b. cond b (Some text) (get mail n)) (swapped n faction))
   where
-    -- two numbers are equal by their comparison exactly if they are equal the other way round
+    -- comparing two numbers by `nat_cmp` for equality gives what `==` gives with the two exchanged
     swapped : (a b : ℕ) → eq_by_cmp nat_cmp a b ≡ (b == a)
     swapped a b = sym (unsigned_ties a b) ∙ grind (arith, nat_tests)
 get_posted mail (Close _ _ _ ∷ more) n = get_posted mail more n
 get_posted mail (Report _ _ ∷ more) n = get_posted mail more n
 
--- a faction's earlier mail counts only if the list has no mailing of the faction
+-- a faction's last text among commands, with `before` or else `other` in place of a missing one, is the last text with
+-- `before` in place of a missing one, or else `other`
 last_or : (n : ℕ) (before other : Option (List ℕ)) (sent : List Command) → last_text n (option_or before other) sent ≡ option_or (last_text n before sent) other
 last_or n before other [] = refl
 last_or n before other (Join _ _ _ ∷ more) = last_or n before other more
@@ -104,7 +105,7 @@ last_or n before other (Mail faction pass text ∷ more) = ap (λ o. last_text n
 last_or n before other (Close _ _ _ ∷ more) = last_or n before other more
 last_or n before other (Report _ _ ∷ more) = last_or n before other more
 
--- two lists with the same last text of each faction give the same mail
+-- two lists of commands with the same last text of each faction give the same mail
 same_mail : (mail : FinMap nat_cmp (List ℕ)) (sent others : List Command) → ((n : ℕ) → last_text n None sent ≡ last_text n None others) → posted mail sent ≡ posted mail others
 same_mail mail sent others same = same_map nat_cmp_total nat_cmp-IsAntisymmetric (posted mail sent) (posted mail others) (λ n.
     get_posted mail sent n ∙ last_or n None (get mail n) sent ∙ ap (λ o. option_or o (get mail n)) (same n) ∙ sym (get_posted mail others n ∙ last_or n None (get mail n) others))

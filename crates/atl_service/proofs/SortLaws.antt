@@ -16,7 +16,8 @@ use Rattle.atl_report.proofs.EventLaws.{only_what_is_seen_is_told}
 use Rattle.atl_service.specs.Closing.{reported_with}
 use Rattle.atl_service.specs.Sorting.{events_of, with_event}
 
--- a list with the rest after it stays the same when the first event of the rest moves to the end of the list (if `b`)
+-- a faction's sorted events followed by its events of the rest stay the same when the first event of the rest is moved
+-- to the end of the sorted ones, or isn't the faction's (`b` is false)
 by_faction : (b : Bool) (o : Option (List Event)) (listed rest : List Event) (e : Event) → (b ≡ true → listed ≡ unwrap_or o [])
     → unwrap_or (cond b (Some (listed ++ (e ∷ []))) o) [] ++ rest ≡ unwrap_or o [] ++ cond b (e ∷ rest) rest
 by_faction true o listed rest e h = ap (λ l. (l ++ (e ∷ [])) ++ rest) (h refl) ∙ append_assoc (unwrap_or o []) (e ∷ []) rest
@@ -39,7 +40,8 @@ event_goes_on sorted e es n =
     ∙ ap (λ b. unwrap_or (cond b (Some (events_of sorted e.faction ++ (e ∷ []))) (get sorted n)) [] ++ own_events n es) (key_turned n e.faction)
     ∙ by_faction (e.faction == n) (get sorted n) (events_of sorted e.faction) (own_events n es) e (same_list sorted n e.faction)
 
--- list `n` followed by its unsorted events stays the same when event `i` is added to its faction's list
+-- the list of faction `n` followed by this faction's unsorted events stays the same when event `i` is added to the list
+-- of its own faction
 pub sorted_on : (sorted new : FinMap nat_cmp (List Event)) (events : List Event) (i : ℕ) (d : Event) (whole : List Event) (n : ℕ) → i < length events → new ≡ with_event sorted (get_or events i d)
     → events_of sorted n ++ own_events n (drop i events) ≡ whole → events_of new n ++ own_events n (drop (i + 1) events) ≡ whole
 sorted_on sorted new events i d whole n h is so_far =
@@ -48,7 +50,7 @@ sorted_on sorted new events i d whole n h is so_far =
     ∙ ap (λ es. events_of sorted n ++ own_events n es) (sym (drop_more events i d h))
     ∙ so_far
 
--- before the first event every list is empty
+-- before the first event is sorted, the list of each faction is empty
 pub none_sorted : (m : FinMap nat_cmp (List Event)) → m ≡ empty → (n : ℕ) → events_of m n ≡ []
 none_sorted m h n = ap (λ (m : FinMap nat_cmp (List Event)). events_of m n) h ∙ ap (λ o. unwrap_or o []) (get-empty nat_cmp n)
 

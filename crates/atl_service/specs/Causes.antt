@@ -42,11 +42,12 @@ pub record GivesError {S : Type 0} (g : Ghosts S) (own : Statements) (memory : B
   pub memory_is : is_memory error ≡ memory
   pub given : Gives g own error old new
 
--- The connection is unchanged, or, if the disk is clean, a call of the write ran out of memory.
+-- What the fault Memory means: the connection is unchanged, or, if the disk is clean, a call of the write ran out of
+-- memory.
 abbrev pub LacksMemory : {S : Type 0} → Ghosts S → Statements → Held S → Held S → Type 0
 LacksMemory g own old new = (new ≡ old) ⊎ (HasCleanDisk (state g new) → GivesError g own true old new)
 
--- If the disk is clean, a call of the write gave an error other than out of memory.
+-- What the fault Store means: if the disk is clean, a call of the write gave an error other than out of memory.
 abbrev pub GivesOtherError : {S : Type 0} → Ghosts S → Statements → Held S → Held S → Type 0
 GivesOtherError g own old new = HasCleanDisk (state g new) → GivesError g own false old new
 

@@ -90,7 +90,7 @@ enum MailError {
     Memory,
 }
 
-/// A refusal as the reason why a mailing is not stored.
+/// A refusal becomes the reason why a mailing is not stored.
 impl From<Refusal> for MailError {
     ghost use Rattle.atl_service.specs.declared.answering.MailError.TheVariants.{Refused};
 
@@ -101,7 +101,7 @@ impl From<Refusal> for MailError {
     }
 }
 
-/// A fault of reading a mailing: Memory, or the refusal of the same name.
+/// A fault of reading a mailing becomes the refusal of the same name, or Memory.
 impl From<MailFault> for MailError {
     ghost from_gives = { λ fault unkept. unkept ≡ mail_error fault };
 

@@ -55,6 +55,7 @@ pub enum Command {
     },
 }
 
+/// Drops the name, the texts or the words of a command.
 impl Drop for Command {
     fn drop(self) {
         match self {
@@ -141,6 +142,7 @@ impl fmt::Display for Refusal {
     }
 }
 
+/// Lets a caller handle a refusal as any `Error`; its text is what `Display` writes.
 impl Error for Refusal {}
 
 /// Why a command could not be carried out. While the connection is open its tables are as before; a
@@ -175,6 +177,7 @@ impl fmt::Display for Fault {
     }
 }
 
+/// Lets a caller handle a fault as any `Error`; its text is what `Display` writes.
 impl Error for Fault {}
 
 /// A fault of a write to the store: Memory becomes Memory, and Store becomes Store.
@@ -220,6 +223,7 @@ pub enum Answer {
     Fault(Fault),
 }
 
+/// Drops the faulty lines or the report of an answer.
 impl Drop for Answer {
     fn drop(self) {
         match self {
@@ -283,6 +287,7 @@ impl fmt::Display for Cause {
     }
 }
 
+/// Lets a caller handle a cause as any `Error`; its text is what `Display` writes.
 impl Error for Cause {}
 
 /// A fault of a world text: Memory becomes Memory, and each other one `World` with the fault.
@@ -353,8 +358,8 @@ impl From<AllocError> for Cause {
     }
 }
 
-/// What a refused `found`, `open` or `upgrade` returns: the cause, and the connection with its
-/// tables as they were.
+/// What a refused `found`, `open` or `upgrade` returns: the cause and the connection. On a clean
+/// disk its tables are as they were.
 #[derive(Drop)]
 pub struct Refused<S: Alter> {
     /// The first cause that applies.

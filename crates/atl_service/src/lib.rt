@@ -1,5 +1,5 @@
-//! The commands of a campaign: join, mail, close, report. Carries them out and stores what they
-//! change.
+//! Founds, opens and upgrades campaigns in a database, carries out their commands (join, mail,
+//! close, report), and stores what the commands change.
 #![tactic(auto)]
 
 mod answering;

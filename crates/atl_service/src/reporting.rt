@@ -24,14 +24,16 @@ pub(crate) struct MonthResult {
     pub(crate) events: Vec<Event>,
 }
 
+/// Drops the lists of factions, faulty lines and events.
 impl Drop for MonthResult {
     fn drop(self) {
         let_go!(self: MonthResult { factions, faults, events });
     }
 }
 
-/// Stores a new report for a faction: what it sees, the lines `faults`, and its own of `events`.
-/// The report becomes dirty. If memory runs out, the campaign stays as it is.
+/// Stores a new report for a faction: what it sees, the faulty lines `faults` of its mailing, and
+/// its own events among `events`. The report becomes dirty. If memory runs out, the campaign stays
+/// as it is.
 fn store_report_with(
     alloc: Global,
     world: &World,

@@ -32,6 +32,7 @@ pub struct Service<S: Alter> {
     is_open: bool,
 }
 
+/// Drops the connection, the world and the campaign of a service.
 impl<S: Alter + Drop> Drop for Service<S> {
     fn drop(self) {
         let_go!(self: Service { alloc, conn, world, campaign, is_open });

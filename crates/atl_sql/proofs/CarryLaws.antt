@@ -39,7 +39,7 @@ none_share t target new r (i ∷ indexes) plain = rw (plain i (inl refl)) (none_
 
 -- ---- one of the tables is one of all that are there
 
--- one of the campaign's tables is one of all tables of the schema
+-- one of the campaign's ten tables is among all tables of the schema, whatever others follow
 pub among_all : (tables : List Table) (t : Table) → Has all_tables t → Has (all_tables ++ tables) t
 among_all tables t there = has_left all_tables tables t there
 
@@ -52,7 +52,7 @@ module _ (t : Table) (old new : Database) (has : HasTables old) (ours : Has all_
   abbrev schema : Schema
   schema = all_and has.begins.tables has.begins.indexes
 
-  -- Every table of the schema but `t` has the same rows before and after.
+  -- every table of the schema but `t` has the same rows before and after
   abbrev OthersStay : Type 0
   OthersStay = (u : Table) → Has schema.tables u → u.tree ≢ t.tree → new.trees u.tree ≡ old.trees u.tree
 
@@ -83,11 +83,11 @@ module _ (t : Table) (old new : Database) (has : HasTables old) (ours : Has all_
 
 -- ---- tables carried along by no write, and by two
 
--- `Carries` is reflexive
+-- a database that stays as it is carries everything along (`Carries` is reflexive)
 pub carries_none : (a : Database) → Carries a a
 carries_none a = record { tables = λ t there. there; indexes = λ i there. there; others = λ t there free. refl }
 
--- `Carries` is transitive
+-- two steps that each carry along all that isn't a campaign's do so together (`Carries` is transitive)
 pub carries_then : (a b c : Database) → Carries a b → Carries b c → Carries a c
 carries_then a b c one two = record {
   tables = λ t there. two.tables t (one.tables t there);

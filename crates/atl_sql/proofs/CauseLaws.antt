@@ -16,7 +16,7 @@ use Rattle.atl_sql.specs.Errors.{is_memory}
 use Rattle.atl_sql.specs.Statements.{Statements}
 use Rattle.atl_sql.specs.Causes.{IsGiven, IsBroken, IsRefused, Gives, Leads, IsReached}
 
--- if the disk failed between two states, it failed between the first and any state after the second
+-- if the disk failed between two states, it failed between the first state and any after the second
 more_later : (a b c : ℕ) → b ≤ c → MoreFaults a b → MoreFaults a c
 more_later a b c later more = omega (arith, later, more)
 
@@ -27,7 +27,7 @@ more_before a b c before more = omega (arith, before, more)
 -- ---- one call
 
 module _ (old new : State) where
-  -- The disk failed or the connection was shut (`IsBroken`), or the call was refused with this error.
+  -- an error of a call has a cause: the disk or the connection broke (`IsBroken`), or the call was refused
   abbrev Caused : Error → Type 0
   Caused e = IsBroken old new ⊎ IsRefused e old new
 
@@ -157,7 +157,7 @@ module _ {S : Type 0} (g : Ghosts S) (own : Statements) (e : Error) where
 
 -- ---- of a result
 
--- what is true of an error is true of the equal error of a result
+-- what is true of an error is true of the error of a result that is this error
 pub errs_as : {A E : Type 0} (P : E → Type 0) (r : Result A E) (e : E) → IsErrAnd r (λ f. f ≡ e) → P e → IfErr r P
 errs_as P (Ok a) e told p = tt
 errs_as P (Err f) e told p = subst P (sym told) p

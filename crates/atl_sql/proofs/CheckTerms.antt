@@ -50,7 +50,7 @@ constant below (Unary op a) says = absurd (cc)
 constant below (Binary op a b) says = absurd (cc)
 constant below (Case t a b) says = absurd (cc)
 
--- the default for a node that is missing, which is no part of the term
+-- the default for a node that a list of nodes doesn't have, which is no part of the term "id = 1"
 abbrev past : Op
 past = Literal Null
 
@@ -72,7 +72,7 @@ one_at ops (suc depth) at says = there ops at (Literal one) (λ same. absurd (cc
 
 -- ---- the term and the three nodes
 
--- These nodes are the term "id = 1": a comparison, the column, and the number.
+-- these nodes make the term "id = 1": a comparison, the column `id`, and the number 1
 abbrev Says : List Op → ℕ → ℕ → ℕ → Type 0
 Says ops root a b = (slice_get ops root ≡ Some (Binary equals a b)) × (slice_get ops a ≡ Some (Column 1 0)) × (slice_get ops b ≡ Some (Literal one))
 

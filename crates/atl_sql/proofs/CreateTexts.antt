@@ -27,15 +27,23 @@ use Rattle.atl_sql.proofs.MakingLaws.{extends, schema_of_first}
 use Rattle.atl_sql.proofs.PartLaws.{all_among, tree_of}
 use Rattle.atl_sql.proofs.WriteLaws.{weaker, among_only}
 
--- The text is a CREATE TABLE that turns the schema `before` into `after`, with this table as the last one.
+-- the text is a CREATE TABLE that turns the schema `before` into `after`, with `table` as the last table
 pub record IsCreate (before after : Schema) (table : Table) (text : List ℕ) : Type 0 where
+  -- the text means a CREATE TABLE
   pub command : command_of (understood before text) ≡ CreateTable
+  -- the text is one statement, with nothing after it
   pub whole : statement_of text (understood before text) ≡ text
+  -- the text defines the table, but for its tree
   pub defines : table_defined_by text ≡ Ok (record table { tree = 0 })
+  -- the statement has no RETURNING and doesn't read the time
   pub plain : IsPlain (understood before text)
+  -- the schema with the new table added is `after`
   pub after_is : created before (record table { tree = 0 }) ≡ after
+  -- the next free tree is the table's
   pub tree_is : next_tree before ≡ table.tree
+  -- the new table is the last of the schema `after`
   pub last : after.tables ≡ before.tables ++ table ∷ []
+  -- the schema `after` lacks no table of sequences, which only AUTOINCREMENT needs
   pub uncounted : lacks_sequence after ≡ false
 
 -- running a CREATE TABLE text (`IsCreate`) on a database of the schema `before` adds the table
@@ -57,17 +65,17 @@ place_among part (p ∷ parts) = cond (nat_eq (tree_of part) (tree_of p)) 0 (pla
 abbrev place : Part → ℕ
 place part = place_among part all_parts
 
--- the text of a part makes its table after those of the parts before it
+-- the CREATE text of a part makes the part's table after those of the parts before it (`IsCreate`)
 pub is_made : (part : Part) → IsCreate (schema_of_first (place part)) (schema_of_first (place part + 1)) (table_of part) (creation_of part)
 unfolding understood everything
 is_made Own = record { command = refl; whole = refl; defines = refl; plain = (refl, refl); after_is = refl; tree_is = refl; last = refl; uncounted = refl }
 is_made part = record { command = refl; whole = refl; defines = refl; plain = (refl, refl); after_is = refl; tree_is = refl; last = refl; uncounted = refl }
 
--- the part at index `i` of the list of all parts has the index `i`
+-- the part at index `i` of the list of all parts has `i` as its index
 placed : (i : ℕ) (d : Part) → i < length all_parts → place (get_or all_parts i d) ≡ i
 placed i d small = sym (get_or-map place all_parts i d 0 small) ∙ get_or-range_with_len 0 (length all_parts) i 0 small ∙ zero-add i
 
--- the text of the part at index `i` makes its table after the first `i` tables
+-- the CREATE text of the part at index `i` makes its table after the first `i` tables (`IsCreate`)
 made_at : (i : ℕ) (d : Part) → i < length all_parts → IsCreate (schema_of_first i) (schema_of_first (i + 1)) (table_of (get_or all_parts i d)) (creation_of (get_or all_parts i d))
 made_at i d small =
     let part = get_or all_parts i d in
@@ -75,7 +83,7 @@ made_at i d small =
 
 -- ---- of all, one after another
 
--- The text is that of some part, and makes the schema one table longer.
+-- the text is the CREATE text of some part, and running it makes the schema one table longer
 abbrev pub Makes : Schema → Schema → List ℕ → Type 1
 Makes before after text = Has (map creation_of all_parts) text × ((old new : State) → RunsStatement text [] old new → Extends before after old new)
 
@@ -83,6 +91,7 @@ Makes before after text = Has (map creation_of all_parts) text × ((old new : St
 makes : (before after : Schema) (table : Table) (text : List ℕ) → Has (map creation_of all_parts) text → IsCreate before after table text → Makes before after text
 makes before after table text listed is = (listed, run)
   where
+    -- running the text inside a transaction turns empty tables of `before` into empty tables of `after`
     run : (old new : State) → RunsStatement text [] old new → Extends before after old new
     run old new (inside, count, h) = extends before after table old new inside h.1.mode is.last (λ has. makes_table before after table text is old new count has h.0)
 

@@ -31,28 +31,37 @@ use Rattle.sqlite.proofs.Callers.{one_step}
 use Rattle.atl_sql.specs.Sets.{IsKeyed}
 use Rattle.atl_sql.proofs.ListLaws.{keyed_without, keyed_put, has_map, map_has, AreFound, stays, was_there}
 
--- a step whose result is Ok did not stop with an error
+-- a step whose result is Ok went on, and didn't stop with an error
 pub went : {B E R : Type 0} {b : B} {Stops : E → Type 0} → ((stop : E) × Stops stop × (Ok b ≡ Err stop)) ⊎ R → R
 went (inl stopped) = absurd (let e = stopped.2 in cc)
 went (inr on) = on
 
--- equal results have equal values
+-- two results Ok that are equal have the same value
 pub same_value : {B E : Type 0} {a b : B} → ◌≡◌ {A = Result B E} (Ok a) (Ok b) → a ≡ b
 same_value e = cc
 
--- The rows that pass the test are gone, and no other row and no other table changed.
+-- after an edit the rows that pass the test `p` are gone, and no other row and no other table changed
 pub record Loses (schema : Schema) (table : Table) (p : Row → Bool) (db next : Trees) : Type 0 where
+  -- each row that is left was there, and fails the test
   pub from : (r : Row) → Has (next table.tree) r → Has (db table.tree) r × (p r ≡ false)
+  -- each row that fails the test is left
   pub kept : (r : Row) → Has (db table.tree) r → p r ≡ false → Has (next table.tree) r
+  -- the rowids of the table are different integers
   pub keyed : IsKeyed (next table.tree)
+  -- each other table is as it was
   pub others : (t : Table) → Has schema.tables t → t.tree ≢ table.tree → next t.tree ≡ db t.tree
 
--- The rows that pass the test are gone, the new row is there, and nothing else changed.
+-- after an edit the rows that pass the test `p` are gone, the row `new` is there, and nothing else changed
 pub record Swaps (schema : Schema) (table : Table) (p : Row → Bool) (new : Row) (db next : Trees) : Type 0 where
+  -- the new row is in the table
   pub there : Has (next table.tree) new
+  -- each row of the table is the new one, or was there and fails the test
   pub from : (r : Row) → Has (next table.tree) r → (r ≡ new) ⊎ (Has (db table.tree) r × (p r ≡ false))
+  -- each row that was there and fails the test is still there
   pub kept : (r : Row) → Has (db table.tree) r → p r ≡ false → Has (next table.tree) r
+  -- the rowids of the table are different integers
   pub keyed : IsKeyed (next table.tree)
+  -- each other table is as it was
   pub others : (t : Table) → Has schema.tables t → t.tree ≢ table.tree → next t.tree ≡ db t.tree
 
 module _ (schema : Schema) (table : Table) (unlinked : (olds news : List Row) → works schema Enforced 0 table.tree olds news ≡ []) where
@@ -106,11 +115,11 @@ module _ (schema : Schema) (table : Table) (unlinked : (olds news : List Row) �
           subst IsKeyed (sym rows) (keyed_put (cast_row table new) (db table.tree) keyed (not-true _ (and_parts _ _ done.fresh).0) (and_parts _ _ done.keyed).0),
         )
 
-    -- whether a row conflicts with the new row in a key
+    -- whether a row of the table conflicts with the new row in a key
     abbrev p : Row → Row → Bool
     p new r = conflicts None schema.indexes table new r
 
-    -- removing the rows that conflict with the new row, and putting the new row, replaces them by it (`Swaps`)
+    -- removing the rows that conflict with the new row, and putting the new row, swaps them for it (`Swaps`)
     clears : (new : Row) (db : Trees) (w : Written) (found : List Row) → IsKeyed (db table.tree) → AreConflicts None schema.indexes table (db table.tree) new found
         → Clears task Replace new db found (Ok w) → Swaps schema table (p new) (cast_row table new) db w.trees
     clears new db w [] keyed are h =
@@ -135,19 +144,20 @@ module _ (schema : Schema) (table : Table) (unlinked : (olds news : List Row) �
           others = λ t listed other. put.3 t listed other ∙ lost.others t listed other;
         }
 
-    -- one attempt to put a row by INSERT OR REPLACE replaces the rows with the same key by the row (`Swaps`)
+    -- one attempt to put a row by INSERT OR REPLACE swaps the rows with its keys for the row (`Swaps`)
     pub tries : (new : Row) (db : Trees) (w : Written) → IsKeyed (db table.tree) → Tries task Replace [] new db (Ok w)
         → Swaps schema table (p new) (cast_row table new) db w.trees
     tries new db w keyed (inl refused) = absurd (let e = refused.1 in cc)
     tries new db w keyed (inr check_own_rows) = go check_own_rows.0 check_own_rows.2
       where
+        -- whatever the check of the row's own values says, an attempt that ended with Ok swapped the rows (`Swaps`)
         go : (verdict : Option Refusal) → Judged task Replace [] new db verdict (Ok w) → Swaps schema table (p new) (cast_row table new) db w.trees
         go None h = clears new db w h.0 keyed h.1 h.2
         go (Some why) h = absurd (let e = h in cc)
 
 -- ---- the query of a DELETE, and of a table in the order of its key
 
--- the query of a DELETE: all rows of a tree that pass the filter
+-- the query of a DELETE: the rowids of all rows of a tree that pass the filter
 abbrev pub delete_query : ℕ → List Term → Query
 delete_query tree filter = record {
   from = inner tree end;
@@ -172,15 +182,17 @@ module _ (p : Row → Bool) (f : Row → Env) where
   has_chosen (x ∷ rows) r (inl same) passes = rw (← same, passes) (inl refl)
   has_chosen (x ∷ rows) r (inr later) passes = go (p x) (has_chosen rows r later passes)
     where
+      -- an element that was chosen of the later rows stays, whether or not the first row is chosen
       go : (b : Bool) → Has (flat_map (λ r. cond (p r) (f r ∷ []) []) rows) (f r) → Has (cond b (f x ∷ []) [] ++ flat_map (λ r. cond (p r) (f r ∷ []) []) rows) (f r)
       go true h = inr h
       go false h = h
 
-  -- what a query by the test chooses is of a row that passes the test
+  -- whatever a query by the test chooses is the image of a row that passes the test
   chosen_has : (rows : List Row) (e : Env) → Has (flat_map (λ r. cond (p r) (f r ∷ []) []) rows) e → (r : Row) × Has rows r × (p r ≡ true) × (e ≡ f r)
   chosen_has [] e h = absurd h
   chosen_has (x ∷ rows) e h = go (p x) refl h (chosen_has rows e)
     where
+      -- what is chosen is of the first row, if that passes the test, or of a later row
       go : (b : Bool) → p x ≡ b → Has (cond b (f x ∷ []) [] ++ flat_map (λ r. cond (p r) (f r ∷ []) []) rows) e
           → (Has (flat_map (λ r. cond (p r) (f r ∷ []) []) rows) e → (r : Row) × Has rows r × (p r ≡ true) × (e ≡ f r)) → (r : Row) × Has (x ∷ rows) r × (p r ≡ true) × (e ≡ f r)
       go true is (inl same) more = (x, inl refl, is, same)

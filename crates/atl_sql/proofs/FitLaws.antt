@@ -21,7 +21,7 @@ use Rattle.atl_sql.specs.Tables.{number}
 use Rattle.atl_sql.specs.Shown.{int}
 use Rattle.atl_sql.proofs.Terms.{cast_null, cast_int}
 
--- Each value is of its column's type, so that SQL stores it unchanged.
+-- each value of a row is of its column's type, so that SQL stores it unchanged
 abbrev pub Fits : List Column → Row → Type 0
 Fits [] [] = Unit {0}
 Fits [] (v ∷ vs) = ⊥
@@ -62,27 +62,32 @@ each_column (v ∷ vs) more = ap (λ (l : Row). v ∷ l) (shifted (column (v ∷
 each_behind : (v : Value) (vs more : Row) → map (column (v ∷ (vs ++ more))) (range_with_len 1 (length vs)) ≡ vs
 each_behind v vs more = shifted (column (v ∷ (vs ++ more))) (column (vs ++ more)) (next_column v (vs ++ more)) 0 (length vs) ∙ each_column vs more
 
--- the column after the values is the next value
+-- the column of a row after some values is the value that comes next
 column_behind : (vs : Row) (x : Value) (more : Row) → column (vs ++ x ∷ more) (length vs) ≡ x
 column_behind [] x more = refl
 column_behind (v ∷ vs) x more = column_behind vs x more
 
 -- ---- what the terms make of the parameters, which are a number and so many values
 
--- the terms of the INSERT: the number and the values, from the parameters
+-- the terms of the INSERT of a numbered row: the number and the values, from the parameters
 abbrev pub given_row : ℕ → List Term
 given_row width = col 0 0 ∷ lit Null ∷ map (col 0) (range_with_len 1 width)
 
--- the terms of the UPDATE: the number of the row that is there, and the values from the parameters
+-- the terms of the UPDATE of a numbered row: the number of the row that is there, and the values from the parameters
 abbrev pub changed_row : ℕ → List Term
 changed_row width = col 1 0 ∷ lit Null ∷ map (col 0) (range_with_len 1 width)
 
--- The terms of the INSERT and of the UPDATE make the row of this number and these values.
+-- the terms of the INSERT and of the UPDATE make the row of this number and these values
 pub record MakesRow (t : Table) (width number : ℕ) (values : Row) : Type 0 where
+  -- the terms of the INSERT give the number and the values
   pub source : value_rows ((int number ∷ values) ++ []) (width + 2) (length (given_row width) / (width + 2)) (given_row width) ≡ (int number ∷ Null ∷ values) ∷ []
+  -- the terms of the UPDATE give the number of the row that is there, and the values
   pub changed : (more r : Row) → eval_all (changed_row width) (((int number ∷ values) ++ more) ∷ r ∷ []) ≡ column r 0 ∷ Null ∷ values
+  -- SQL's casts leave the stored row unchanged
   pub casted : cast_row t (int number ∷ Null ∷ values) ≡ int number ∷ Null ∷ values
+  -- SQL shows the stored row as the number and the values
   pub shown : visible t (int number ∷ Null ∷ values) ≡ int number ∷ values
+  -- the column after the number and the values is the rowid of the row to change
   pub aimed : (x : Value) (more : Row) → column ((int number ∷ values) ++ x ∷ more) (width + 1) ≡ x
 
 module _ (tree : ℕ) (name key_name : List ℕ) (columns : List Column) (uniques : List (List ℕ)) where
@@ -118,6 +123,7 @@ module _ (tree : ℕ) (name key_name : List ℕ) (columns : List Column) (unique
         let behind : map (λ k. column its_row (place_of t k)) (range_with_len 1 width) ≡ values = shifted (λ k. column its_row (place_of t k)) (column values) second 0 width ∙ alone in
         ap (λ l. int n ∷ l) (subst (λ w. map (λ k. column its_row (place_of t k)) (range_with_len 1 w) ≡ values) (fits_length columns values fits) behind)
       where
+        -- the stored row's values after the number are shown as the given ones
         second : (k : ℕ) → column its_row (place_of t (k + 1)) ≡ column values k
         second k =
             let apart : nat_eq 0 (k + 1) ≡ false = grind (arith, nat_tests) in

@@ -47,7 +47,7 @@ use Rattle.atl_sql.proofs.UpsertLaws.{Upserted, update_query, clause_on, equal_i
 abbrev pub at_places : List ℕ → Row → Row
 at_places places x = map (column x) places
 
--- The row has integers in these columns.
+-- a row has integers in these columns, given by index
 abbrev pub AreInts : List ℕ → Row → Type 0
 AreInts places x = AllByRecursion (λ p. is_int (column x p) ≡ true) places
 
@@ -72,38 +72,52 @@ agree_same (p ∷ places) x y ints same =
 
 -- ---- the table and its statements
 
--- The columns of index `places` are the key of table `t`: whole numbers, shown first, and the only unique columns.
+-- table `t` has as its key the columns of index `places`: whole numbers, shown first, and the only unique columns
 -- `at` is the table's index among all tables.
 pub record HasKey (t : Table) (at : ℕ) (places : List ℕ) : Type 0 where
+  -- the table is one of the ten
   pub ours : Has all_tables t
+  -- the table has the index `at` among all tables of the schema
   pub place : (more : List Table) → slice_get (all_tables ++ more) at ≡ Some t
+  -- the table's tree is one of the file, not that of a temporary table
   pub plain : (db : Trees) → overlay db [] t.tree ≡ db t.tree
+  -- a row that passes the table's checks has integers in the columns of the key
   pub ints : (schema : Schema) (x : Row) → passes Datatype schema (λ u. []) t x ≡ true → passes NotNull schema (λ u. []) t x ≡ true → AreInts places x
+  -- the first columns that SQL shows of a row are its key
   pub first : (x : Row) → take (length places) (visible t x) ≡ at_places places x
+  -- if a row clashes with none in an index of the table, no row with another rowid has its key
   pub unique : (indexes : List Index) (rows : List Row) (r : Row)
       → list_all (λ i. not (guards i t && clashes i.order i.columns rows r)) (all_indexes ++ indexes) ≡ true
       → list_any (λ y. agree_at places y r && differ (rowid y) (rowid r)) rows ≡ false
+  -- a row conflicts with the new one in this key if the two agree in it, or share values of another index on it
   pub hits : (indexes : List Index) (new x : Row)
       → conflicts (Some places) (all_indexes ++ indexes) t new x ≡ (agree_at places x new || list_any (shares (Some places) t new x) indexes)
 
--- The text is a DELETE of the rows that the filter finds, from the table of this tree and this index in the schema.
+-- the text is a DELETE of the rows that the filter finds, from the table of this tree and this index in the schema
 abbrev pub IsTakeOut : ℕ → ℕ → List ℕ → List Term → Type 0
 IsTakeOut tree at sql filter = (more : List Table) (indexes : List Index) → command_of (understood (all_and more indexes) sql) ≡ Delete at (record { lets = []; body = delete_query tree filter })
 
--- The text is an INSERT of one row of these terms, with an UPDATE of the row that has the key.
+-- the text is an INSERT of one row of these terms, with an UPDATE of the row that has the key
 -- The index `hole` is that of the rowid of that row, which comes after the parameters.
 abbrev pub IsPutUnder : ℕ → ℕ → List ℕ → List ℕ → ℕ → List Term → ℕ → List Term → Type 0
 IsPutUnder tree at places sql width terms hole project = (more : List Table) (indexes : List Index)
     → command_of (understood (all_and more indexes) sql) ≡ InsertOr at Abort (Values terms width) (clause_on places (record { lets = []; body = update_query tree hole project }) ∷ [])
 
--- The terms make a row that shows these values, whether it is inserted or updated, and under whatever rowid.
+-- the terms of an upsert make a row that shows these values, whether it is inserted or updated, and under any rowid
 pub record MakesValues (t : Table) (places : List ℕ) (width : ℕ) (terms : List Term) (hole : ℕ) (project : List Term) (values : Row) : Type 0 where
+  -- the terms of the INSERT give the values, with NULL for a rowid that SQL chooses
   pub source : value_rows (values ++ []) width (length terms / width) terms ≡ (Null ∷ values) ∷ []
+  -- SQL's casts leave the row with NULL as its rowid unchanged
   pub casted : cast_row t (Null ∷ values) ≡ Null ∷ values
+  -- SQL's casts leave the row with any rowid unchanged
   pub again : (n : ℤ) → cast_row t (Int n ∷ values) ≡ Int n ∷ values
+  -- SQL shows the row as the values
   pub shown : (n : ℤ) → visible t (Int n ∷ values) ≡ values
+  -- the row has integers in the columns of the key
   pub ints : (n : ℤ) → AreInts places (Int n ∷ values)
+  -- the column at the index `hole` is the one after the values, which is the rowid of the row to change
   pub aimed : (x : Value) (more : Row) → column (values ++ x ∷ more) hole ≡ x
+  -- the UPDATE of a row with the same key makes a row that shows the values
   pub changed : (more r : Row) → at_places places r ≡ take (length places) values
       → visible t (cast_row t (eval_all project ((values ++ more) ∷ r ∷ []))) ≡ values
 
@@ -123,7 +137,7 @@ module _ (tree : ℕ) (name : List ℕ) (columns : List Column) (places : List �
       key_ints : (x : Row) → Has (db tree) x → AreInts places x
       key_ints x there = key.ints schema x (keeps_at Datatype schema db t x (sound.listed.obeys.rules Datatype) (among_all more t key.ours) there) (keeps_at NotNull schema db t x (sound.listed.obeys.rules NotNull) (among_all more t key.ours) there)
 
-      -- two rows of the table with the same key have the same rowid
+      -- two rows of the table with the same key have the same rowid, so they are one row
       alone : (x r : Row) → Has (db tree) x → Has (db tree) r → take (length places) (visible t x) ≡ take (length places) (visible t r)
           → is_eq (value_cmp (rowid x) (rowid r)) ≡ true
       alone x r one two same =
@@ -137,7 +151,7 @@ module _ (tree : ℕ) (name : List ℕ) (columns : List Column) (places : List �
 
     -- ---- the upsert of a row
 
-    -- inside a transaction, the upsert that ran put its row, and replaced the row with the same key
+    -- inside a transaction, the upsert that ran put its row, in place of the row with the same key
     puts : (sql : List ℕ) (width hole : ℕ) (terms project : List Term) → IsPutUnder tree at places sql width terms hole project → AlwaysPlain sql
         → (values : Row) → MakesValues t places width terms hole project values
         → (old new : State) (count : ℕ) → IsTrue old.in_transaction → ExecutesInside 0 sql values old new (Ok count)
@@ -175,7 +189,7 @@ module _ (tree : ℕ) (name : List ℕ) (columns : List Column) (places : List �
           done_with t old.now new.now has key.ours _ _ (λ did. did) makes,
     )
 
-    -- the upsert that ran put its row, and replaced the row with the same key
+    -- the text of the upsert puts its row, in place of the row with the same key (`DoneBy`)
     pub puts_keyed : (sql : List ℕ) (width hole : ℕ) (terms project : List Term) → IsPutUnder tree at places sql width terms hole project
         → AlwaysPlain sql → (values : Row) → MakesValues t places width terms hole project values → DoneBy sql values (Puts t (length places) values)
     puts_keyed sql width hole terms project means asks values writes = done_by sql values (Puts t (length places) values) (puts sql width hole terms project means asks values writes)
@@ -212,7 +226,7 @@ module _ (tree : ℕ) (name : List ℕ) (columns : List Column) (places : List �
           done_with t old.now new.now has key.ours _ _ (λ did. did) makes,
     )
 
-    -- the DELETE removes the rows whose first columns of the key are the parameters
+    -- the text of the DELETE removes the rows whose first columns of the key are the parameters (`DoneBy`)
     pub drops_keyed : (sql : List ℕ) (filter : List Term) → IsTakeOut tree at sql filter → AlwaysPlain sql → (front : List ℕ)
         → ((x : Row) → AreInts places x → AreInts front x) → ((x : Row) → take (length front) (visible t x) ≡ at_places front x)
         → (k : Row) → AreInts front (Null ∷ k) → at_places front (Null ∷ k) ≡ k

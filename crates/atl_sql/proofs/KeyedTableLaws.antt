@@ -25,13 +25,16 @@ use Rattle.atl_sql.proofs.PartLaws.{listed}
 use Rattle.atl_sql.proofs.StatementLaws.{AlwaysPlain, PutsRow, DropsKey}
 use Rattle.atl_sql.proofs.Terms.{cast_null, cast_int}
 
--- The parts whose key is several numbers.
+-- the three parts whose key is several numbers: those of the tables `has`, `books` and `market`
 data Keyed : Type 0 where
+  -- the items and skills of units, in `has`
   InHas : Keyed
+  -- the amounts of the books, in `books`
   InBooks : Keyed
+  -- the stocks of markets, in `market`
   InMarket : Keyed
 
--- the part of each of the three: `has`, `books` and `market`
+-- the part that has `has`, `books` or `market` as its table
 abbrev part_of : Keyed → Part
 part_of InHas = Goods
 part_of InBooks = Books
@@ -74,7 +77,7 @@ key_is k = record { ours = listed (part_of k); place = λ more. refl; plain = λ
 
 -- ---- what the statements mean
 
--- the terms of the INSERT: a rowid that SQL chooses, and then the values
+-- the terms of the INSERT: a rowid that SQL chooses, and then the values from the parameters
 abbrev given : ℕ → List Term
 given width = lit Null ∷ map (col 0) (range_with_len 0 width)
 
@@ -82,17 +85,23 @@ given width = lit Null ∷ map (col 0) (range_with_len 0 width)
 abbrev taken_over : ℕ → ℕ → List Term
 taken_over key width = map (col 1) (range_with_len 0 (key + 1)) ++ map (col 0) (range_with_len key (width - key))
 
--- the filter of a DELETE: the first columns of the key equal the parameters
+-- the filter of a DELETE: the first `count` columns of the key equal the parameters
 abbrev of_key : ℕ → List Term
 of_key count = map (λ at. op2 (Compare Eq Binary) (col 1 (at + 1)) (col 0 at)) (range_with_len 0 count)
 
--- The three statements of a part: the upsert, the DELETE by the whole key, and the DELETE by its first number.
+-- what the three texts of a part mean: the upsert, the DELETE by the whole key, and the DELETE by its first number
 record Statements (part : Part) : Type 0 where
+  -- the upsert's text means an INSERT of a row, with an UPDATE of the row that has its key
   puts : IsPutUnder (table_of part).tree (place_in part) (table_of part).primary (upsert (table_of part) (key_of part)) (width_of part + 1) (given (width_of part)) (width_of part) (taken_over (key_of part) (width_of part))
+  -- the upsert has no RETURNING and doesn't read the time
   puts_plain : AlwaysPlain (upsert (table_of part) (key_of part))
+  -- the text of the DELETE by the whole key means the DELETE of the rows with this key
   drops : IsTakeOut (table_of part).tree (place_in part) (deletion (table_of part) (key_of part)) (of_key (key_of part))
+  -- the DELETE by the whole key has no RETURNING and doesn't read the time
   drops_plain : AlwaysPlain (deletion (table_of part) (key_of part))
+  -- the text of the DELETE by the key's first number means the DELETE of all rows with this number
   clears : IsTakeOut (table_of part).tree (place_in part) (deletion (table_of part) 1) (of_key 1)
+  -- the DELETE by the key's first number has no RETURNING and doesn't read the time
   clears_plain : AlwaysPlain (deletion (table_of part) 1)
 
 -- the texts for `has`, `books` and `market` mean their upsert and their two DELETEs, whatever other tables follow

@@ -25,13 +25,13 @@ use Rattle.atl_sql.specs.Sets.{IsKeyed}
 
 -- ---- membership in a map
 
--- the image of an element is in the mapped list
+-- the image of an element of a list is in the mapped list
 pub has_map : {X Y : Type 0} (f : X → Y) (xs : List X) (x : X) → Has xs x → Has (map f xs) (f x)
 has_map f [] x h = absurd h
 has_map f (y ∷ xs) x (inl same) = inl (ap f same)
 has_map f (y ∷ xs) x (inr later) = inr (has_map f xs x later)
 
--- an element of the mapped list is the image of one
+-- an element of a mapped list is the image of an element of the list
 pub map_has : {X Y : Type 0} (f : X → Y) (xs : List X) (y : Y) → Has (map f xs) y → (x : X) × Has xs x × (y ≡ f x)
 map_has f [] y h = absurd h
 map_has f (x ∷ xs) y (inl same) = (x, inl refl, same)
@@ -39,10 +39,11 @@ map_has f (x ∷ xs) y (inr later) = let r = map_has f xs y later in (r.0, inr r
 
 -- ---- rowids
 
--- equality by the order of values is symmetric
+-- two values that are equal by the order of values are equal the other way round
 pub eq_sym : (a b : Value) → is_eq (value_cmp a b) ≡ true → is_eq (value_cmp b a) ≡ true
 eq_sym a b h = sym (ap is_eq (value_cmp_total.antisymm a b) ∙ reversed (value_cmp b a)) ∙ h
   where
+    -- reversing an ordering leaves whether it is "equal"
     reversed : (o : Ordering) → is_eq (ordering_reverse o) ≡ is_eq o
     reversed Less = refl
     reversed Equal = refl
@@ -62,7 +63,7 @@ without_keeps [] rows r h apart = h
 without_keeps (id ∷ ids) rows r h apart =
     without_keeps ids (without_rowid id rows) r (has_kept _ rows r h (ap not (apart id (inl refl)))) (λ i there. apart i (inr there))
 
--- what is left after removing rowids has none of them
+-- no row that is left after removing rowids has one of them
 pub without_drops : (ids : List ℤ) (rows : List Row) (r : Row) → Has (without_all rows ids) r → (id : ℤ) → Has ids id → has_rowid id r ≡ false
 without_drops [] rows r h id there = absurd there
 without_drops (i ∷ ids) rows r h id (inl same) =
@@ -72,17 +73,19 @@ without_drops (i ∷ ids) rows r h id (inr later) = without_drops ids (without_r
 
 -- ---- the rows that are found by a test, as their rowids
 
--- These rowids are exactly those of the rows that pass the test.
+-- the rowids in `found` are exactly those of the rows that pass the test `p`
 pub record AreFound (p : Row → Bool) (rows found : List Row) : Type 0 where
+  -- each rowid that was found is that of a row that passes the test
   pub sound : (x : Row) → Has found x → (r : Row) × Has rows r × (p r ≡ true) × (x ≡ rowid r ∷ [])
+  -- the rowid of each row that passes the test was found
   pub complete : (r : Row) → Has rows r → p r ≡ true → Has found (rowid r ∷ [])
 
--- the rowid of a row is an integer, if those of all rows are
+-- the rowid of a row of a table is an integer, if the rowids of all its rows are
 pub is_int_at : (rows : List Row) (r : Row) → AllByRecursion (λ r. is_int (rowid r) ≡ true) rows → Has rows r → rowid r ≡ Int (id_in (rowid r))
 is_int_at rows r ints h = int_is (rowid r) (all_has _ rows r ints h)
 
 module _ (p : Row → Bool) (rows found : List Row) (keyed : IsKeyed rows) (are : AreFound p rows found) where
-  -- a row that fails the test stays when the found rowids are removed
+  -- a row that fails the test stays when the rows with the found rowids are removed
   pub stays : (r : Row) → Has rows r → p r ≡ false → Has (without_all rows (ids_of found)) r
   stays r h fails = without_keeps (ids_of found) rows r h (λ id there.
       let it = map_has (λ r. id_in (rowid r)) found id there in
@@ -94,7 +97,7 @@ module _ (p : Row → Bool) (rows found : List Row) (keyed : IsKeyed rows) (are 
         | inr apart ↦ apart
       ])
 
-  -- a row that is left was there and fails the test
+  -- a row that is left when the rows with the found rowids are removed was there, and fails the test
   pub was_there : (r : Row) → Has (without_all rows (ids_of found)) r → Has rows r × (p r ≡ false)
   was_there r h =
       let was = without_all_has (ids_of found) rows r h in (
@@ -124,12 +127,14 @@ apart_put : (new : Row) (rows : List Row) → IsAscending (λ a b. is_eq (value_
 apart_put new [] apart free = (tt, tt)
 apart_put new (r ∷ rows) apart free = go (value_cmp (rowid r) (rowid new)) refl (apart_put new rows apart.1 (or_parts _ _ free).1)
   where
+    -- no row of the table has the new row's rowid
     untaken : (x : Row) → Has (r ∷ rows) x → is_eq (value_cmp (rowid new) (rowid x)) ≡ false
     untaken x there = elim (cases_Bool (is_eq (value_cmp (rowid new) (rowid x)))) [
       | inl same ↦ absurd (true≢false (sym (some_from (λ r. is_eq (value_cmp (rowid r) (rowid new))) (r ∷ rows) x there (eq_sym _ _ same)) ∙ free))
       | inr other ↦ other
     ]
 
+    -- `put_row` keeps the rowids different, whichever way the first row's rowid compares with the new one
     go : (o : Ordering) → value_cmp (rowid r) (rowid new) ≡ o → IsAscending (λ a b. is_eq (value_cmp (rowid a) (rowid b)) ≡ false) (put_row new rows)
         → IsAscending (λ a b. is_eq (value_cmp (rowid a) (rowid b)) ≡ false) (match_ordering o (r ∷ put_row new rows) (new ∷ rows) (new ∷ r ∷ rows))
     go Less is more = (all-put_row _ new rows (ap is_eq is) apart.0, more)

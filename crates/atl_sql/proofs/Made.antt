@@ -8,26 +8,36 @@ use Rattle.sqlite_schema.specs.declared.schema.Table.{Table}
 use Rattle.atl_sql.specs.Sets.{Set, Is, rows_in}
 use Rattle.atl_sql.specs.Tables.{IsSoundDatabase}
 
--- A statement wrote one table: its rows are the set `S`, and every other table is unchanged.
+-- a statement wrote one table: its rows are now the set `S`, and every other table is unchanged
 -- The database is sound under its schema.
 pub record Makes (schema : Schema) (table : Table) (old new : Database) (S : Set) : Type 0 where
+  -- the schema is this one
   pub schema_is : new.schema ≡ schema
+  -- the rows of the table are the set `S`
   pub rows : Is (rows_in table new.trees) S
+  -- each other table of the schema is as it was
   pub others : (t : Table) → Has schema.tables t → t.tree ≢ table.tree → new.trees t.tree ≡ old.trees t.tree
+  -- the database is sound under its schema
   pub sound : IsSoundDatabase schema new.trees
 
--- A CREATE TABLE inside a transaction added one table without rows.
+-- a CREATE TABLE inside a transaction added one table without rows
 pub record Creates (before after : Schema) (tree : ℕ) (old new : Database) : Type 0 where
+  -- the schema is now `after`
   pub schema_is : new.schema ≡ after
+  -- the new table has no row
   pub empty : new.trees tree ≡ []
+  -- each table of the schema before is as it was
   pub others : (t : Table) → Has before.tables t → new.trees t.tree ≡ old.trees t.tree
+  -- the trees and the schema fit each other (`IsDatabase`)
   pub sound : IsDatabase new
 
--- The database has this schema, and each of its tables is empty.
+-- the database has this schema, and each of its tables is empty
 pub record AreBare (schema : Schema) (db : Database) : Type 0 where
+  -- the database has this schema
   pub schema_is : db.schema ≡ schema
+  -- each table of the schema is empty
   pub empty : (t : Table) → Has schema.tables t → db.trees t.tree ≡ []
 
--- A step inside a transaction, which remains open: empty tables of the first schema become empty tables of the second.
+-- inside a transaction, which remains open, empty tables of the first schema become empty tables of the second
 abbrev pub Extends : Schema → Schema → State → State → Type 0
 Extends before after old new = (new.in_transaction ≡ old.in_transaction) × (AreBare before old.now → AreBare after new.now × IsDatabase new.now)

@@ -26,7 +26,7 @@ use Rattle.atl_sql.proofs.EditLaws.{Swaps, Loses}
 use Rattle.atl_sql.proofs.UpsertLaws.{hits, given, Upserted}
 use Rattle.atl_sql.proofs.StatementLaws.{mode}
 
--- a statement that ran has done what its command means
+-- a statement of one command that ran has done what the command means
 pub did : (schema : Schema) (old new : State) (command : Command) (text : List ℕ) (params : Row) (count : ℕ) → old.now.schema ≡ schema → (w : Writes old new None command text params count)
     → Does old.step_limit mode params (record { schema = schema; trees = old.now.trees }) text None command (Ok (w.tally, new.now))
 did schema old new command text params count has w =
@@ -37,7 +37,7 @@ module _ (schema : Schema) (among : (u : Table) → Has all_tables u → Has sch
   shown_again : (rows : List Row) (r : Row) → Has (map (visible t) rows) r → (x : Row) × Has rows x × (r ≡ visible t x)
   shown_again rows r h = map_has (visible t) rows r h
 
-  -- The test finds exactly those rows of a list that have this key.
+  -- the test finds exactly those rows of a list that have this key
   abbrev pub Tests : (Row → Bool) → Row → List Row → Type 0
   Tests p k rows = (x : Row) → Has rows x → (p x ≡ true → take key (visible t x) ≡ k) × (take key (visible t x) ≡ k → p x ≡ true)
 
@@ -91,7 +91,7 @@ module _ (schema : Schema) (among : (u : Table) → Has all_tables u → Has sch
     listed = subst (λ s. IsSound s new.trees) is base;
   }
 
-  -- swapping the rows of a key for a new row is a write of the table that puts the row
+  -- once the rows of a key are swapped for a new row, the table is the old one with the new row put (`Makes`)
   pub swaps_make : (p : Row → Bool) (n v : Row) (old new : Database) → Swaps schema t p n old.trees new.trees → visible t n ≡ v → Tests p (take key v) (old.trees t.tree)
       → IsSoundDatabase schema old.trees → IsDatabase new → new.schema ≡ schema → Makes schema t old new (put key v (Has (rows_in t old.trees)))
   swaps_make p n v old new swap shows tests sound base is = record {
@@ -101,7 +101,7 @@ module _ (schema : Schema) (among : (u : Table) → Has all_tables u → Has sch
     sound = stays_sound old new sound base is swap.keyed swap.others;
   }
 
-  -- losing the rows of a key is a write of the table that drops the key
+  -- once the rows of a key are gone, the table is the old one without these rows (`Makes`)
   pub loses_make : (p : Row → Bool) (k : Row) (old new : Database) → Loses schema t p old.trees new.trees → Tests p k (old.trees t.tree)
       → IsSoundDatabase schema old.trees → IsDatabase new → new.schema ≡ schema → Makes schema t old new (drop_key key k (Has (rows_in t old.trees)))
   loses_make p k old new lose tests sound base is = record {
@@ -113,15 +113,15 @@ module _ (schema : Schema) (among : (u : Table) → Has all_tables u → Has sch
 
   module _ (unlinked : (olds news : List Row) → works schema Enforced 0 t.tree olds news ≡ []) (limit : Option ℕ) (params : Row) (target : List ℕ) (place : ℕ) (project : List Term)
       (plain : (db : Trees) → overlay db [] t.tree ≡ db t.tree) (new v : Row) (old next : Database) where
-    -- What the row with the key is changed to shows the new values.
+    -- where a row has the key, the UPDATE of the upsert changes it to one that shows the values `v`
     abbrev pub Changes : Type 0
     Changes = (r : Row) → Has (old.trees t.tree) r → take key (visible t r) ≡ take key v → visible t (cast_row t (eval_all project (given schema t unlinked limit params target place project plain new r ∷ r ∷ []))) ≡ v
 
-    -- Two rows of the table with one key have one rowid.
+    -- two rows of the table with the same key have the same rowid, so they are one row
     abbrev pub OneRow : Type 0
     OneRow = (x r : Row) → Has (old.trees t.tree) x → Has (old.trees t.tree) r → take key (visible t x) ≡ take key (visible t r) → is_eq (value_cmp (rowid x) (rowid r)) ≡ true
 
-    -- changing the row that has the key to the new values is a write of the table that puts the new row
+    -- once an upsert has changed the row with the key, the table is the old one with the row `v` put (`Makes`)
     over_make : (r : Row) → Has (old.trees t.tree) r → hits schema t unlinked limit params target place project plain new r ≡ true
         → Swaps schema t (λ x. is_eq (value_cmp (rowid x) (rowid r))) (cast_row t (eval_all project (given schema t unlinked limit params target place project plain new r ∷ r ∷ []))) old.trees next.trees
         → Changes → Tests (hits schema t unlinked limit params target place project plain new) (take key v) (old.trees t.tree) → OneRow
@@ -133,7 +133,7 @@ module _ (schema : Schema) (among : (u : Table) → Has all_tables u → Has sch
           λ e. alone x r k there (e ∙ sym same),
         )) sound base is
 
-    -- an upsert puts the row, whether it inserted a row or updated one
+    -- after an upsert, whether it inserts or updates, the table is the old one with the row `v` put (`Makes`)
     pub upserts_make : Upserted schema t unlinked limit params target place project plain new old.trees next.trees → visible t (cast_row t new) ≡ v → Changes
         → Tests (hits schema t unlinked limit params target place project plain new) (take key v) (old.trees t.tree) → OneRow
         → Has all_tables t → IsSoundDatabase schema old.trees → IsDatabase next → next.schema ≡ schema → Makes schema t old next (put key v (Has (rows_in t old.trees)))
@@ -147,12 +147,12 @@ module _ (schema : Schema) (among : (u : Table) → Has all_tables u → Has sch
     updates_make (inl put_in) r there same changed tests alone listed sound base is = absurd (true≢false (sym ((tests r there).1 same) ∙ put_in.0 r there))
     updates_make (inr over) r there same changed tests alone listed sound base is = over_make over.0 over.1 over.2 over.3 changed tests alone listed sound base is
 
-    -- the trees are sound after an upsert
+    -- an upsert leaves the database sound: the trees obey the schema, and rowids are different integers
     pub upserts_sound : Upserted schema t unlinked limit params target place project plain new old.trees next.trees → IsSoundDatabase schema old.trees → IsDatabase next → next.schema ≡ schema → IsSoundDatabase schema next.trees
     upserts_sound (inl put_in) sound base is = stays_sound old next sound base is put_in.1.keyed put_in.1.others
     upserts_sound (inr over) sound base is = stays_sound old next sound base is over.3.keyed over.3.others
 
-    -- an upsert leaves each other table
+    -- an upsert leaves each other table as it was
     pub upserts_others : Upserted schema t unlinked limit params target place project plain new old.trees next.trees → (u : Table) → Has schema.tables u → u.tree ≢ t.tree → next.trees u.tree ≡ old.trees u.tree
     upserts_others (inl put_in) = put_in.1.others
     upserts_others (inr over) = over.3.others

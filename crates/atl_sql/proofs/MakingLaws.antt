@@ -14,7 +14,7 @@ use Rattle.atl_sql.specs.Tables.{all_indexes, all_tables, no_tables, table_count
 use Rattle.atl_sql.specs.Inside.{Inside, IsBlank}
 use Rattle.atl_sql.specs.Making.{AreEmpty}
 
--- a CREATE TABLE after empty tables leaves empty tables, one more
+-- a CREATE TABLE in a database of empty tables leaves empty tables, one more (`Extends`)
 pub extends : (before after : Schema) (table : Table) (old new : State) → IsTrue old.in_transaction → new.in_transaction ≡ true → after.tables ≡ before.tables ++ table ∷ []
     → (old.now.schema ≡ before → Creates before after table.tree old.now new.now) → Extends before after old new
 extends before after table old new inside mode more makes = (
@@ -35,29 +35,29 @@ extends before after table old new inside mode more makes = (
 
 -- ---- the first tables
 
--- the schema of these first tables and the indexes of their keys
+-- the schema of these first tables and of the indexes of their keys
 abbrev pub with_tables : List Table → Schema
 with_tables tables = record { tables = tables; indexes = take (sum_by (λ t. length t.uniques) tables) all_indexes; views = [] }
 
--- the schema of the first `count` tables
+-- the schema of the first `count` of the ten tables and of the indexes of their keys
 abbrev pub schema_of_first : ℕ → Schema
 schema_of_first count = with_tables (take count all_tables)
 
--- A step inside a transaction, which remains open: from no table to the first `count` tables, all empty.
+-- inside a transaction, which remains open, a database without tables gets the first `count` tables, all empty
 abbrev pub MakesSome : ℕ → State → State → Type 0
 MakesSome count old new = (new.in_transaction ≡ old.in_transaction) × (AreBare no_tables old.now → AreBare (schema_of_first count) new.now × (0 < count → IsDatabase new.now))
 
--- doing nothing makes no table
+-- doing nothing makes the first 0 tables (`MakesSome`)
 pub makes_none : (s : State) → MakesSome 0 s s
 makes_none s = (refl, λ bare. (bare, λ some. absurd (omega (arith, some))))
 
--- making the next table after the first `count` makes the first `count + 1`
+-- making the next table after the first `count` makes the first `count + 1` (`MakesSome`)
 pub makes_more : (count : ℕ) (a b c : State) → MakesSome count a b → Extends (schema_of_first count) (schema_of_first (count + 1)) b c → MakesSome (count + 1) a c
 makes_more count a b c first next = (next.0 ∙ first.0, λ bare. let made = next.1 (first.1 bare).0 in (made.0, λ some. made.1))
 
 -- ---- all ten tables
 
--- the rowids of a table without rows are different integers
+-- in a table without rows all rowids are different integers
 no_rows : IsKeyed []
 no_rows = record { apart = tt; ints = tt }
 

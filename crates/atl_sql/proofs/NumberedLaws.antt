@@ -43,20 +43,27 @@ use Rattle.atl_sql.proofs.Terms.{head_is, by_number, one_number, at_number}
 abbrev has_number : List Term
 has_number = op2 (Compare Eq Binary) (col 1 0) (col 0 0) ∷ []
 
--- Table `t`, of index `at` among all, has rows of a number and `width` values. Its two statements mean,
--- whatever other tables follow: an INSERT of the given row with an UPDATE of the row that has its number,
--- and a DELETE of the row that has the number.
+-- table `t`, of index `at` among all, has rows of a number and `width` values, put and deleted by the number
+-- Its two texts mean, whatever other tables follow: an INSERT of the given row with an UPDATE of the row that has its
+-- number, and a DELETE of the row that has the number.
 pub record IsNumbered (t : Table) (at width : ℕ) : Type 0 where
+  -- the table is one of the ten
   pub ours : Has all_tables t
+  -- the table has the index `at` among all tables of the schema
   pub place : (more : List Table) → slice_get (all_tables ++ more) at ≡ Some t
+  -- the table's tree is one of the file, not that of a temporary table
   pub plain : (db : Trees) → overlay db [] t.tree ≡ db t.tree
+  -- the upsert's text means an INSERT of a row, with an UPDATE of the row that has its number
   pub puts : (more : List Table) (indexes : List Index)
       → command_of (understood (all_and more indexes) (upsert t 1)) ≡ InsertOr at Abort (Values (given_row width) (width + 2)) (clause_on (0 ∷ []) (record { lets = []; body = update_query t.tree (width + 1) (changed_row width) }) ∷ [])
+  -- the upsert has no RETURNING and doesn't read the time
   pub puts_plain : AlwaysPlain (upsert t 1)
+  -- the DELETE's text means the DELETE of the row that has the number
   pub drops : (more : List Table) (indexes : List Index)
       → command_of (understood (all_and more indexes) (deletion t 1)) ≡ Delete at (record { lets = []; body = delete_query t.tree has_number })
+  -- the DELETE has no RETURNING and doesn't read the time
   pub drops_plain : AlwaysPlain (deletion t 1)
-  -- no index makes the number unique
+  -- no index of the ten tables makes the number unique
   pub spared : (new x : Row) → list_any (shares (Some (0 ∷ [])) t new x) all_indexes ≡ false
 
 -- one of the tables of a campaign, whose first column is the row's number
@@ -69,11 +76,11 @@ module _ (tree : ℕ) (name key_name : List ℕ) (columns : List Column) (unique
   abbrev t : Table
   t = table tree name (number key_name ∷ columns) (Some 0) (0 ∷ []) uniques []
 
-  -- the text of the upsert by the number
+  -- the text of the upsert of a row by its number
   abbrev put : List ℕ
   put = upsert t 1
 
-  -- the text of the DELETE by the number
+  -- the text of the DELETE of a row by its number
   abbrev drop : List ℕ
   drop = deletion t 1
 
@@ -99,13 +106,13 @@ module _ (tree : ℕ) (name key_name : List ℕ) (columns : List Column) (unique
           done_with t old.now new.now has is.ours _ _ (λ did. did) makes,
     )
 
-    -- the DELETE removes the row of the number
+    -- the text of the DELETE removes the row of the number (`DropsKey`)
     pub drops_numbered : (n : ℕ) → DropsKey t 1 (int n ∷ [])
     drops_numbered n = done_by drop (int n ∷ []) (Drops t 1 (int n ∷ [])) (drops n)
 
     -- ---- the upsert of a row
 
-    -- inside a transaction, the upsert that ran put its row, and replaced the row with the same number
+    -- inside a transaction, the upsert that ran put its row, in place of the row with the same number
     puts : (n : ℕ) (values : Row) → Fits columns values → (old new : State) (count : ℕ) → IsTrue old.in_transaction
         → ExecutesInside 0 put (int n ∷ values) old new (Ok count) → Inside HasTables (Puts t 1 (int n ∷ values)) old new
     unfolding first_key
@@ -138,6 +145,6 @@ module _ (tree : ℕ) (name key_name : List ℕ) (columns : List Column) (unique
           done_with t old.now new.now has is.ours _ _ (λ did. did) makes,
     )
 
-    -- the upsert that ran put its row, and replaced the row with the same number
+    -- the text of the upsert puts its row, in place of the row with the same number (`PutsRow`)
     pub puts_numbered : (n : ℕ) (values : Row) → Fits columns values → PutsRow t 1 (int n ∷ values)
     puts_numbered n values fits = done_by put (int n ∷ values) (Puts t 1 (int n ∷ values)) (puts n values fits)

@@ -10,7 +10,7 @@ use Rattle.atl_sql.proofs.NumberedLaws.{IsNumbered, puts_numbered, drops_numbere
 use Rattle.atl_sql.proofs.PartLaws.{listed, tree_of}
 use Rattle.atl_sql.proofs.StatementLaws.{PutsRow, DropsKey}
 
--- the index of a part's table among all tables
+-- the index of a part's table among the ten tables
 abbrev pub place_in : Part → ℕ
 place_in part = unwrap_or (position (λ p. nat_eq (tree_of p) (tree_of part)) all_parts) 0
 
@@ -18,7 +18,7 @@ place_in part = unwrap_or (position (λ p. nat_eq (tree_of p) (tree_of part)) al
 abbrev width_of : Part → ℕ
 width_of part = length (drop 1 (table_of part).columns)
 
--- the upsert and the DELETE of a table whose key is the row's number mean an upsert and a DELETE by the number
+-- the upsert and the DELETE of a table whose key is the row's number mean those by the number (`IsNumbered`)
 numbered : (part : Part) → IsNumberedPart part → IsNumbered (table_of part) (place_in part) (width_of part)
 unfolding understood everything
 numbered Own is = absurd is

@@ -38,7 +38,7 @@ use Rattle.atl_sql.proofs.Terms.{cast_null, cast_int, by_number, one_number}
 ours : Has all_tables campaign_table
 ours = listed Own
 
--- the terms of the INSERT: id and format are fixed, the rest are parameters
+-- the terms of the INSERT of a campaign row: id and format are fixed, all other columns are parameters
 abbrev pub own_terms : List Term
 own_terms = lit (Int (pos 1)) ∷ lit Null ∷ lit (Int (pos 2)) ∷ col 0 0 ∷ col 0 1 ∷ col 0 2 ∷ col 0 3 ∷ col 0 4 ∷ col 0 5 ∷ []
 
@@ -50,16 +50,22 @@ src head world = int 1 ∷ Null ∷ int 2 ∷ campaign_row_values head world
 abbrev pub changed_to : List Term → CampaignRowValue → List ℕ → Row → Row
 changed_to project head world r = visible campaign_table (cast_row campaign_table (eval_all project ((campaign_row_values head world ++ rowid r ∷ shown campaign_table (src head world)) ∷ r ∷ [])))
 
--- An upsert of `campaign` inserts the first row, or changes the row that is there by these terms.
+-- an upsert of `campaign` inserts the first row, or changes the row that is there by the terms `project`
 pub record PutsOwn (project : List Term) (head : CampaignRowValue) (world : List ℕ) (old new : Database) : Type 0 where
+  -- without a campaign row, the one of these values and this world text is put
   pub first : rows_in campaign_table old.trees ≡ [] → Puts campaign_table 1 (campaign_row head world) old new
+  -- a campaign row that is there is replaced by the row that the UPDATE makes of it
   pub again : (before after : Row) → take 1 before ≡ int 1 ∷ [] → take 1 after ≡ int 1 ∷ [] → Is (rows_in campaign_table old.trees) (λ r. r ≡ before) → ((r : Row) → visible campaign_table r ≡ before → changed_to project head world r ≡ after) → Puts campaign_table 1 after old new
+  -- the tables of a campaign are there afterwards
   pub tables : HasTables new
+  -- all that isn't a campaign's is carried along
   pub carries : Carries old new
 
--- The text means the upsert whose UPDATE has these terms, whatever other tables follow.
+-- the text means the upsert of `campaign` whose UPDATE has the terms `project`, whatever other tables follow
 pub record MeansOwn (sql : List ℕ) (project : List Term) : Type 1 where
+  -- the text means this INSERT, with this UPDATE of the row that is there
   pub is : (more : List Table) (indexes : List Index) → command_of (understood (all_and more indexes) sql) ≡ InsertOr 0 Abort (Values own_terms 9) (clause_on (0 ∷ []) (record { lets = []; body = update_query campaign_table.tree 6 project }) ∷ [])
+  -- the statement has no RETURNING and doesn't read the time
   pub plain : (more : List Table) (indexes : List Index) → IsPlain (understood (all_and more indexes) sql)
 
 -- a text that means an upsert of the campaign row (`MeansOwn`) inserts or changes the row (`PutsOwn`)

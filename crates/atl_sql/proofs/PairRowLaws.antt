@@ -15,20 +15,20 @@ use Rattle.atl_sql.proofs.KeyLaws.{int_by, cons_is}
 use Rattle.atl_sql.proofs.KeyedRowLaws.{AreInts, MakesValues}
 use Rattle.atl_sql.proofs.Terms.{cast_null, cast_int}
 
--- the indexes, in a stored row, of the two columns of the key
+-- the indexes, in a stored row, of the two columns of the key of such a table
 abbrev pub pair_unique : List ℕ
 pair_unique = 1 ∷ 2 ∷ []
 
--- the terms of the INSERT: a rowid that SQL chooses, the key, and the number
+-- the terms of the INSERT: a rowid that SQL chooses, the two numbers of the key, and the third number
 abbrev pub pair_terms : List Term
 pair_terms = lit Null ∷ col 0 0 ∷ col 0 1 ∷ col 0 2 ∷ []
 
--- the terms of the UPDATE: the row that is there takes over the number
+-- the terms of the UPDATE: the row that is there keeps its key and takes over the third number
 abbrev pub pair_project : List Term
 pair_project = col 1 0 ∷ col 1 1 ∷ col 1 2 ∷ col 0 2 ∷ []
 
 module _ (tree : ℕ) (name first second amount : List ℕ) where
-  -- a table whose rows are a key of two numbers and one number more
+  -- a table, such as `books`, whose rows are a key of two numbers and one number more
   abbrev pub pair_table : Table
   pair_table = table tree name (number first ∷ number second ∷ number amount ∷ []) None pair_unique (pair_unique ∷ []) []
 
@@ -45,7 +45,7 @@ module _ (tree : ℕ) (name first second amount : List ℕ) where
       let p2 = and_parts _ _ p1.1 in
       (int_by a t1.0 (not-true _ p1.0), (int_by b t2.0 (not-true _ p2.0), tt))
 
-  -- the terms of INSERT and UPDATE make the row of these three numbers
+  -- the terms of the upsert make the row of these three numbers (`MakesValues`)
   pub makes_pair : (a b : ℕ) (n : ℤ) → MakesValues pair_table pair_unique 4 pair_terms 3 pair_project (int a ∷ int b ∷ Int n ∷ [])
   makes_pair a b n = record {
     source = refl;

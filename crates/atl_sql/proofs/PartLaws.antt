@@ -8,7 +8,7 @@ use Rattle.sqlite_rules.proofs.ListLemmas.{some_from, test_has}
 use Rattle.atl_sql.specs.Tables.{Part, Own, table_of, all_parts, all_tables}
 use Rattle.atl_sql.proofs.ListLaws.{has_map}
 
--- the tree of a part's table
+-- the number of the tree of a part's table
 abbrev pub tree_of : Part → ℕ
 tree_of part = (table_of part).tree
 
@@ -23,7 +23,7 @@ found_part part = refl
 pub same_part : (p q : Part) → tree_of p ≡ tree_of q → p ≡ q
 same_part p q same = same_Some p q (sym (found_part p) ∙ ap (λ tree. find (λ x. nat_eq (tree_of x) tree) all_parts) same ∙ found_part q)
 
--- an element found by a test is the first one, or is found later
+-- what a search finds in a list is the first element, if that passes the test, or is found among the later ones
 first_or_later : {X : Type 0} (b : Bool) (y x : X) (later : Option X) → cond b (Some y) later ≡ Some x → (x ≡ y) ⊎ (later ≡ Some x)
 first_or_later true y x later is = inl (same_Some x y (sym is))
 first_or_later false y x later is = inr is
@@ -55,6 +55,7 @@ are_apart ps qs = list_all (λ p. not (is_among qs p)) ps
 among : (parts : List Part) (part : Part) → Has parts part → is_among parts part ≡ true
 among parts part there = some_from (λ p. nat_eq (tree_of part) (tree_of p)) parts part there (itself (tree_of part))
   where
+    -- a number equals itself by the test `nat_eq`
     itself : (n : ℕ) → nat_eq n n ≡ true
     itself n = grind (arith, nat_tests)
 
@@ -62,7 +63,7 @@ among parts part there = some_from (λ p. nat_eq (tree_of part) (tree_of p)) par
 pub not_among : (parts : List Part) (part : Part) → is_among parts part ≡ false → ¬ Has parts part
 not_among parts part free there = true≢false (sym (among parts part there) ∙ free)
 
--- if "`b` or `c`" is true, one of them is
+-- if "`b` or `c`" is true, `b` or `c` is true
 one_or_more : (b c : Bool) → (b || c) ≡ true → (b ≡ true) ⊎ (c ≡ true)
 one_or_more true c is = inl refl
 one_or_more false c is = inr is
@@ -75,10 +76,11 @@ among_has (p ∷ parts) part is = elim (one_or_more (nat_eq (tree_of part) (tree
   | inr later ↦ inr (among_has parts part later)
 ]
   where
+    -- two numbers that are equal by the test `nat_eq` are equal
     equal : (a b : ℕ) → nat_eq a b ≡ true → a ≡ b
     equal a b same = grind (arith, nat_tests, same)
 
--- a list that has all parts has each part
+-- a list has each part, if all parts pass the test `is_among` for it
 pub all_among : (parts : List Part) → list_all (is_among parts) all_parts ≡ true → (part : Part) → Has parts part
 all_among parts all part = among_has parts part (test_has (is_among parts) all_parts part all (every_part part))
 

@@ -10,9 +10,11 @@ use Rattle.atl_sql.specs.Tables.{all_tables}
 use Rattle.atl_sql.specs.Inside.{Inside, HasTables, Puts, PutsRows}
 use Rattle.atl_sql.proofs.CarryLaws.{carries_then, carries_none}
 
--- Some rows of a list are put: once the `rest` is put too, all rows are. The other tables are unchanged.
+-- some rows of the list `all` are put: once the rows `rest` are put too, all are; the other tables are unchanged
 pub record Towards (table : Table) (key : ℕ) (rest all : List Row) (old now : Database) : Type 0 where
+  -- putting the rows `rest` now gives the same set as putting all rows into the table as it was
   pub rows : (r : Row) → puts key rest (Has (rows_in table now.trees)) r ↔ puts key all (Has (rows_in table old.trees)) r
+  -- each other table of a campaign is as it was
   pub others : (t : Table) → Has all_tables t → t.tree ≢ table.tree → now.trees t.tree ≡ old.trees t.tree
 
 -- putting rows into equal sets gives equal sets
@@ -23,18 +25,18 @@ puts_same key (new ∷ news) S T same r = puts_same key news (put key new S) (pu
   λ h. elim h [ inl is ↦ inl is | inr was ↦ inr ((same x).1 was.0, was.1) ],
 )) r
 
--- putting two lists joined is putting one and then the other
+-- putting the rows of two lists joined puts those of one and then those of the other
 puts_append : (key : ℕ) (xs ys : List Row) (S : Set) (r : Row) → puts key (xs ++ ys) S r → puts key ys (puts key xs S) r
 puts_append key [] ys S r h = h
 puts_append key (x ∷ xs) ys S r h = puts_append key xs ys (put key x S) r h
 
--- putting one list and then the other is putting both joined
+-- putting the rows of one list and then those of the other puts those of both joined
 append_puts : (key : ℕ) (xs ys : List Row) (S : Set) (r : Row) → puts key ys (puts key xs S) r → puts key (xs ++ ys) S r
 append_puts key [] ys S r h = h
 append_puts key (x ∷ xs) ys S r h = append_puts key xs ys (put key x S) r h
 
 module _ (table : Table) (key : ℕ) where
-  -- putting the first of the rows that are left to put leaves the others to put (`Towards`)
+  -- putting the next rows, those of the list `xs`, leaves the rows `rest` to put (`Towards`)
   towards_rows : (xs rest all : List Row) (old mid new : Database) → Towards table key (xs ++ rest) all old mid → PutsRows table key xs mid new → Towards table key rest all old new
   towards_rows xs rest all old mid new so_far more = record {
     rows = λ r.
@@ -45,11 +47,11 @@ module _ (table : Table) (key : ℕ) where
     others = λ t listed other. more.others t listed other ∙ so_far.others t listed other;
   }
 
-  -- putting one row puts a list of one
+  -- putting one row puts the rows of the list of this row alone (`PutsRows`)
   puts_one : (x : Row) (old new : Database) → Puts table key x old new → PutsRows table key (x ∷ []) old new
   puts_one x old new one = record { rows = one.rows; others = one.others }
 
-  -- inside a transaction, putting the first of the rows that are left to put leaves the others to put (`Towards`)
+  -- inside a transaction, putting the next rows, those of the list `xs`, leaves the rows `rest` to put (`Towards`)
   pub inside_rows : (xs rest all : List Row) (old mid new : State) → Inside HasTables (Towards table key (xs ++ rest) all) old mid → Inside HasTables (PutsRows table key xs) mid new → Inside HasTables (Towards table key rest all) old new
   inside_rows xs rest all old mid new so_far more = (
     more.0 ∙ so_far.0,

@@ -15,9 +15,11 @@ use Rattle.atl_sql.specs.Writes.{Writes, WritesRow, WritesRows}
 use Rattle.atl_sql.proofs.PutsLaws.{Towards, inside_rows, inside_both, none_yet, none_put, one_put, all_put}
 use Rattle.atl_sql.proofs.WriteLaws.{HandsOn, SoFar, begins, goes_on, stops, stops_second, two_steps, weaker, among, among_each}
 
--- Some of the rows are put without an error, and `rest` is still to put.
+-- some rows of the list `all` are put without an error, and the rows `rest` are still to put
 pub record Putting {S : Type 0} (g : Ghosts S) (table : Table) (key : ℕ) (rest all : List Row) (old now : MutBor (Held S)) : Type 0 where
+  -- the steps done were upserts of rows of the list, and once `rest` is put too, all rows are (`Towards`)
   pub so_far : SoFar g (Each (upsert table key) (Has all)) (Inside HasTables (Towards table key rest all)) old now
+  -- the rows that are still to put are rows of the list
   pub left : (row : Row) → Has rest row → Has all row
 
 module _ {S : Type 0} (g : Ghosts S) (table : Table) (key : ℕ) where
@@ -41,11 +43,11 @@ module _ {S : Type 0} (g : Ghosts S) (table : Table) (key : ℕ) where
     first_part : {Does : State → State → Type 0} {A : Type 0} {r : Result A Error} {a b : MutBor (Held S)} → Writes g (Each (upsert table key) (Has xs)) Does r a b → Writes g (Each (upsert table key) (Has (xs ++ ys))) Does r a b
     first_part done = among_each g (upsert table key) (Has xs) (λ row there. (refl, has_left xs ys row there)) done
 
-    -- writing two lists writes both joined
+    -- writing the rows of two lists, one list after the other, writes the rows of both joined (`WritesRows`)
     pub both_written : {A X : Type 0} {x : X} {r : Result A Error} {a b c : MutBor (Held S)} → WritesRows g table key xs (Ok x) a b → WritesRows g table key ys r b c → WritesRows g table key (xs ++ ys) r a c
     both_written one two = two_steps g (inside_both table key xs ys) (first_part one) (among_each g (upsert table key) (Has ys) (λ row there. (refl, has_right xs ys row there)) two)
 
-    -- a failure to write the first list is one to write both
+    -- a failure to write the first list is a failure to write both lists joined (`WritesRows`)
     pub first_failed : {A X : Type 0} {e : Error} {r : Result A Error} {a b : MutBor (Held S)} → WritesRows {A = X} g table key xs (Err e) a b → HandsOn e r → WritesRows g table key (xs ++ ys) r a b
     first_failed one failed = stops g (first_part one) failed
 
@@ -60,7 +62,7 @@ module _ {S : Type 0} (g : Ghosts S) (table : Table) (key : ℕ) where
     next_part : {old now : MutBor (Held S)} {Does : State → State → Type 0} {A : Type 0} {r : Result A Error} {a b : MutBor (Held S)} → Putting g table key was all old now → Writes g (Each (upsert table key) (Has xs)) Does r a b → Writes g (Each (upsert table key) (Has all)) Does r a b
     next_part so_far more = among_each g (upsert table key) (Has xs) (λ row there. (refl, so_far.left row (subst (λ (l : List Row). Has l row) (sym is) (has_left xs rest row there)))) more
 
-    -- putting the next rows without an error leaves the rest to put
+    -- putting the next rows without an error leaves only the later rows to put (`Putting`)
     pub putting_more : {u : Unit {0}} {a b c : MutBor (Held S)} → Putting g table key was all a b → WritesRows g table key xs (Ok u) b c → Putting g table key rest all a c
     putting_more so_far more = record {
       so_far = goes_on g (λ old mid new did next. inside_rows table key xs rest all old mid new (subst (λ (l : List Row). Inside HasTables (Towards table key l all) old mid) is did) next) so_far.so_far (next_part so_far more);

@@ -14,7 +14,7 @@ use Rattle.atl_sql.specs.Reading.{IsAsked, ReadsRows, GivesTable}
 use Rattle.atl_sql.specs.declared.fault.ReadFault.{ReadFault}
 use Rattle.atl_sql.proofs.KeepLaws.{if_ok}
 
--- If the schema begins with the tables of the format, the SELECT shows all rows of its table, in `count` columns.
+-- the SELECT shows all rows of its table, in `count` columns, if the schema begins with the tables of the format
 abbrev pub Reads : Format → List ℕ → (Trees → List Row) → ℕ → Type 1
 Reads f sql in_table count = (old new : State) (rows : List Row) → Shown sql [] old new rows → HasTablesOf f old.now.schema → IsPermutation (in_table old.now.trees) (map (first_columns count) rows)
 

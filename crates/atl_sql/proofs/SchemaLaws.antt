@@ -16,7 +16,7 @@ use Rattle.sqlite_rules.proofs.ListLemmas.{all_has, all_from, has_left, has_eith
 use Rattle.sqlite_trees.proofs.ListLemmas.{all-append}
 use Rattle.atl_sql.specs.Tables.{all_tables, all_indexes, all_trees, IsHarmless, AreTables, AreIndexes, Begins}
 
--- a list with one element, which is `x` by its index, is the list of `x` alone
+-- a list with exactly one element, which is `x`, is the list of `x` alone
 pub only_one : {A : Type 0} (xs : List A) (x d : A) → 1 ≤ length xs → length xs < 2 → d ≡ get_or xs 0 d → d ≡ x → xs ≡ x ∷ []
 only_one [] x d least most is same = absurd (omega (arith, least))
 only_one (y ∷ []) x d least most is same = ap (λ z. z ∷ []) (sym is ∙ same)
@@ -47,7 +47,7 @@ guards_not i (x ∷ tables) none t (inr later) = guards_not i tables (or_parts _
 
 -- ---- the trees of the first tables
 
--- some element of a mapped list passes a test exactly if some element's image does
+-- some element of a mapped list passes a test exactly if the image of some element of the list does
 any_mapped : {A B : Type 0} (f : A → B) (p : B → Bool) (xs : List A) → list_any p (map f xs) ≡ list_any (λ x. p (f x)) xs
 any_mapped f p [] = refl
 any_mapped f p (x ∷ xs) = ap (λ b. p (f x) || b) (any_mapped f p xs)

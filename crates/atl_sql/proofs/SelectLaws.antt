@@ -32,7 +32,7 @@ use Rattle.atl_sql.proofs.ShownLaws.{whole_shown}
 
 -- ---- the formats
 
--- the automatic index of `market` is harmless to the nine tables of the first format
+-- the index that the database makes for `market` makes nothing unique in the nine tables of the first format
 market_harmless : IsHarmless 9 (automatic market_table 0 market_unique 13)
 market_harmless t there = all_has (λ t. guards (automatic market_table 0 market_unique 13) t ≡ false) (take 9 all_tables) t (refl, (refl, (refl, (refl, (refl, (refl, (refl, (refl, (refl, tt))))))))) there
 
@@ -43,7 +43,7 @@ has_first Second schema has = begins_with_fewer 10 4 schema 9 3 (market_table �
 
 -- ---- columns
 
--- the first `count` columns of a stored row, by their index in it, without the rowid
+-- the terms that read the first `count` columns of a table from a stored row
 abbrev first : Table → ℕ → List Term
 first t count = map (λ at. col 1 (place_of t at)) (range_with_len 0 count)
 
@@ -51,7 +51,7 @@ first t count = map (λ at. col 1 (place_of t at)) (range_with_len 0 count)
 abbrev kept_at : Term
 kept_at = col 1 0
 
--- all columns of a table, and after them the rowid, if the key isn't the row's number
+-- the terms of a part's SELECT: all columns of the table, and the rowid after them if the key isn't the row's number
 abbrev columns_of : Part → List Term
 columns_of Goods = first has_table 4 ++ kept_at ∷ []
 columns_of Books = first books_table 3 ++ kept_at ∷ []
@@ -67,16 +67,22 @@ key_of part = 1
 
 -- ---- a SELECT of all rows
 
--- The SELECT of a part means, whatever other tables follow: these columns of all rows, in the order of the key.
+-- the SELECT of a part means, whatever other tables follow: these columns of all rows, in the order of the key
 -- The rows of its listing are just these.
 record IsMeant (part : Part) : Type 0 where
+  -- the text means the query of these columns of all rows, in the order of the key
   command : (more : List Table) (indexes : List Index)
       → command_of (understood (first_and (table_count_in (listing_of part).since) (index_count_in (listing_of part).since) more indexes) (listing_of part).select)
       ≡ Select (record { lets = []; body = all_query (table_of part).tree (columns_of part) (map (λ column. (column, ascending Binary)) (first (table_of part) (key_of part))) }) (listing_of part).names
+  -- the SELECT has no RETURNING and doesn't read the time
   plain : (more : List Table) (indexes : List Index) → IsPlain (understood (first_and (table_count_in (listing_of part).since) (index_count_in (listing_of part).since) more indexes) (listing_of part).select)
+  -- the SELECT doesn't read the list of the schema's own tables
   unlisted : (more : List Table) (indexes : List Index) → reads_listing (first_and (table_count_in (listing_of part).since) (index_count_in (listing_of part).since) more indexes) (listing_of part).select ≡ false
+  -- the table's tree is one of the file, not that of a temporary table
   same : (db : Trees) → overlay db [] (table_of part).tree ≡ db (table_of part).tree
+  -- the rows that the query shows of the table are those of the part's listing
   rows : (db : Trees) → map (λ r. eval_all (columns_of part) ([] ∷ r ∷ [])) (db (table_of part).tree) ≡ (listing_of part).in_table db
+  -- a row that the query shows has just the columns that the listing names
   whole : (r : Row) → first_columns (length (listing_of part).names) (eval_all (columns_of part) ([] ∷ r ∷ [])) ≡ eval_all (columns_of part) ([] ∷ r ∷ [])
 
 -- the SELECT of each part means the columns of all rows, in the order of the key (`IsMeant`)
@@ -97,6 +103,6 @@ reads_part part count same old new rows h has =
     let told : IsPermutation (listing.in_table old.now.trees) (map cut rows) = subst (λ was. IsPermutation was (map cut rows)) (is.rows old.now.trees) (whole_shown shown cut is.whole (old.now.trees (table_of part).tree) rows all) in
     subst (λ n. IsPermutation (listing.in_table old.now.trees) (map (first_columns n) rows)) (sym same) told
 
--- the SELECT of each part is a query that can commit nothing (`IsPlain`)
+-- the SELECT of each part is plain: it has no RETURNING and doesn't read the time (`IsPlain`)
 pub part_plain : (part : Part) (schema : Schema) → HasTablesOf (listing_of part).since schema → IsPlain (understood schema (listing_of part).select)
 part_plain part schema has = subst (λ s. IsPlain (understood s (listing_of part).select)) (sym has.is) ((meant part).plain has.tables has.indexes)

@@ -47,7 +47,7 @@ module _ (old new : State) (inside : IsTrue old.in_transaction) (sql : List ℕ)
 
 -- ---- once the transaction is rolled back
 
--- a count of failures is at least itself
+-- a number of disk failures is at least itself
 pub no_fewer : (faults : ℕ) → faults ≤ faults
 no_fewer faults = omega arith
 
@@ -57,7 +57,7 @@ module _ {S : Type 0} (g : Ghosts S) (sql : List ℕ) (old begun mid end : Held 
   begun_inside : IsTrue (state g begun).in_transaction
   begun_inside = ap (λ (h : Held S). h.in_transaction) begins
 
-  -- BEGIN, the SELECT and the rollback together commit nothing
+  -- after BEGIN, the SELECT and the rollback, a crash leaves only what it could have left before BEGIN
   survived : Survives (state g old) (state g end) (λ _. ⊥)
   survived = survives_begin g old (state g end) _ (subst (λ h. Survives (state g h) (state g end) (λ _. ⊥)) begins (survives_more (state g begun) (state g mid) (state g end) one two))
 
@@ -71,7 +71,7 @@ module _ {S : Type 0} (g : Ghosts S) (sql : List ℕ) (old begun mid end : Held 
         same = λ up. let was = rolled.undone up in let same = kept.committed (rolled.was_open up) in (inl (was.0 ∙ same), was.1 ∙ same);
       }
 
-  -- the SELECT is asked of the tables as they were before BEGIN
+  -- the SELECT after BEGIN is asked of the tables as they were before BEGIN (`IsAsked`)
   select_of : IsAsked (state g old) (state g begun)
   select_of = subst (λ h. IsAsked (state g old) (state g h)) (sym begins) (record { was_open = λ up. up; is_open = λ up. up; same = refl; limit = refl; faults = no_fewer (state g old).faults })
 
@@ -111,6 +111,7 @@ module _ {S : Type 0} (g : Ghosts S) (sql : List ℕ) (old begun mid end : Held 
 not_other : (e : Error) → read_fault e ≡ OtherType → ⊥
 not_other e same = by_memory (is_memory e) (is_failure e) same
   where
+    -- no choice between Memory, Store and Refused is OtherType
     by_memory : (a b : Bool) → cond a Memory (cond b Store Refused) ≡ OtherType → ⊥
     by_memory true b is = cc
     by_memory false true is = cc
@@ -120,7 +121,7 @@ not_other e same = by_memory (is_memory e) (is_failure e) same
 pub never_other : {S : Type 0} (g : Ghosts S) (sql : List ℕ) (old : Held S) (fault : ReadFault) → RefusesToSelect g sql old fault → fault ≡ OtherType → ⊥
 never_other g sql old fault told same = not_other told.2 (sym told.5 ∙ same)
 
--- if Ok has each of two properties, it has both
+-- if the value of a result Ok has each of two properties, it has both
 if_both : {A E : Type 0} (P Q : A → Type 0) (r : Result A E) → IfOk r P → IfOk r Q → IfOk r (λ a. P a × Q a)
 if_both P Q (Ok a) p q = (p, q)
 if_both P Q (Err e) p q = tt

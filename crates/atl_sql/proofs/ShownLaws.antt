@@ -17,6 +17,7 @@ use Rattle.atl_sql.specs.declared.fault.ReadFault.TheVariants.{Memory, OtherType
 pub whole_shown : (shown first : Row → Row) → ((r : Row) → first (shown r) ≡ shown r) → (tree rows : List Row) → IsPermutation (map shown tree) rows → IsPermutation (map shown tree) (map first rows)
 whole_shown shown first whole tree rows same = subst (λ l. IsPermutation l (map first rows)) (kept tree) (IsPermutation-map first _ rows same)
   where
+    -- a cut that leaves each row as SQL shows it leaves all rows of a list so
     kept : (tree : List Row) → map first (map shown tree) ≡ map shown tree
     kept [] = refl
     kept (r ∷ tree) = ap (λ x. x ∷ map first (map shown tree)) (whole r) ∙ ap (λ l. shown r ∷ l) (kept tree)
@@ -56,6 +57,6 @@ mapped_next shown cut all more a rows at row within is more_is same one =
 pub report_typed : (row : Row) (n : ℤ) (text : List ℕ) → column row 0 ≡ Int n → column row 1 ≡ Text text → IsUtf8 text → IsTyped report_forms row
 report_typed row n text first second utf8 = ((n, first), ((text, second, utf8), tt))
 
--- a campaign row has values of its columns' forms, if the world text is UTF-8 and the others are such (`IsTyped`)
+-- a campaign row has values of its columns' forms, if its world text is UTF-8 and the values before it are of theirs
 pub campaign_typed : (row : Row) (text : List ℕ) → IsTyped campaign_row_forms row → column row 7 ≡ Text text → IsUtf8 text → IsTyped campaign_forms row
 campaign_typed row text head last utf8 = (head.0, (head.1.0, (head.1.1.0, (head.1.1.1.0, (head.1.1.1.1.0, (head.1.1.1.1.1.0, (head.1.1.1.1.1.1.0, ((text, last, utf8), tt))))))))

@@ -51,7 +51,7 @@ module _ (schema : Schema) (tree : ℕ) (name : List ℕ) (columns : List Column
   abbrev t : Table
   t = table tree name columns key primary uniques checks
 
-  -- the row that INSERT OR REPLACE makes of the values that are given
+  -- the row that INSERT OR REPLACE stores for the values that are given
   abbrev pub made : Trees → Row → Row
   made db src = with_rowid Chosen (db tree) (cast_row t (mended Replace t src))
 
@@ -64,7 +64,7 @@ module _ (schema : Schema) (tree : ℕ) (name : List ℕ) (columns : List Column
       → Then (Counts (task limit params t) done.0.trees counter done.1) (λ next. Gives (record done.0 { trees = next })) (Ok w) → w.trees ≡ done.0.trees
   counted limit params db done counter w h = let counts = went h in ap (λ (x : Written). x.trees) (same_value counts.2) ∙ same_value counts.1
 
-  -- the end of a statement leaves the trees that it wrote, and the schema
+  -- the end of a statement leaves the trees that the statement wrote, and the schema
   concluded : (limit : Option ℕ) (params : Row) (w : Written) (out : Tally × Database) → Concludes (task limit params t) mode None w (Ok out)
       → (out.1.trees ≡ w.trees) × (out.1.schema ≡ schema)
   concluded limit params w out h =
@@ -72,7 +72,7 @@ module _ (schema : Schema) (tree : ℕ) (name : List ℕ) (columns : List Column
       let shown = went tested.2 in
       (ap (λ (x : Tally × Database). x.1.trees) (same_value shown.2), ap (λ (x : Tally × Database). x.1.schema) (same_value shown.2))
 
-  -- a DELETE that ran removed the rows that pass its filter
+  -- a DELETE that ran removed exactly the rows that pass its filter (`Loses`)
   pub removes : (limit : Option ℕ) (params : Row) (text : List ℕ) (q : Program) (p : Row → Bool) (db : Trees) (out : Tally × Database)
       → IsKeyed (db tree)
       → ((rows : List Row) → Answers (record { schema = schema; trees = db }) q params rows → AreFound p (db tree) rows)
@@ -86,16 +86,16 @@ module _ (schema : Schema) (tree : ℕ) (name : List ℕ) (columns : List Column
 
   -- ---- INSERT .. ON CONFLICT DO UPDATE
 
-  -- the row that the upsert makes of the values that are given
+  -- the row that an upsert would insert for the values that are given
   abbrev pub made_up : Trees → Row → Row
   made_up db src = with_rowid Chosen (db tree) (cast_row t src)
 
   module _ (limit : Option ℕ) (params : Row) (target : List ℕ) (hole : ℕ) (project : List Term) (plain : (db : Trees) → overlay db [] tree ≡ db tree) where
-    -- the program of the UPDATE
+    -- the program of the UPDATE of this upsert
     abbrev q : Program
     q = record { lets = []; body = update_query tree hole project }
 
-    -- The upsert put this row or changed the one with its key.
+    -- an upsert put this row, or changed the row with its key
     abbrev Changed : Row → Trees → Trees → Type 0
     Changed new db next = Upserted schema t unlinked limit params target hole project plain new db next
 
@@ -122,7 +122,7 @@ module _ (schema : Schema) (tree : ℕ) (name : List ℕ) (columns : List Column
         subst (Changed (made_up db src) db) (sym (counted limit params db each.0 counter.0 w each.2))
         (each_upserts src (count_of counter.0) db each.0 keyed aimed (subst (λ l. TriesEach (task limit params t) Abort (clause_on target q ∷ []) l (count_of counter.0) (nothing db) (Ok each.0)) given each.1))
 
-    -- an upsert that ran put its row or changed the one with its key
+    -- an upsert that ran put its row, or changed the row with its key (`Changed`)
     pub upserting : (text : List ℕ) (terms : List Term) (width : ℕ) (src : Row) (db : Trees) (out : Tally × Database) → IsKeyed (db tree)
         → ((r : Row) → Has (db tree) r → column (params ++ rowid r ∷ shown t (made_up db src)) hole ≡ rowid r)
         → value_rows (params ++ []) width (length terms / width) terms ≡ src ∷ []
@@ -136,19 +136,19 @@ module _ (schema : Schema) (tree : ℕ) (name : List ℕ) (columns : List Column
 
 -- ---- statements by their text
 
--- The statement of this text commits nothing by itself, whatever other tables follow.
+-- a statement of this text is plain: without RETURNING, and not reading the time, whatever other tables follow the ten
 abbrev pub AlwaysPlain : List ℕ → Type 0
 AlwaysPlain sql = (more : List Table) (indexes : List Index) → IsPlain (understood (all_and more indexes) sql)
 
--- Inside a transaction the statement of this text with these parameters does `What` to the database.
+-- inside a transaction a statement of this text with these parameters does `What` to the database
 abbrev pub DoneBy : List ℕ → Row → (Database → Database → Type 0) → Type 1
 DoneBy sql values What = (old new : State) (count : ℕ) (params : Row) → IsTrue old.in_transaction → ExecutesInside 0 sql params old new (Ok count) → params ≡ values → Inside HasTables What old new
 
--- Inside a transaction the upsert of a table, whose key is its first `key` columns, puts this row.
+-- inside a transaction the upsert of a table, whose key is its first `key` columns, puts this row
 abbrev pub PutsRow : Table → ℕ → Row → Type 1
 PutsRow t key row = DoneBy (upsert t key) row (Puts t key row)
 
--- Inside a transaction the DELETE by the first `key` columns removes the rows whose first columns are `k`.
+-- inside a transaction the DELETE by the first `key` columns removes the rows whose first columns are `k`
 abbrev pub DropsKey : Table → ℕ → Row → Type 1
 DropsKey t key k = DoneBy (deletion t key) k (Drops t key k)
 

@@ -38,7 +38,7 @@ module _ (sql : List ℕ) (old new : State) (plain : IsPlain (understood old.now
   refused_rests e (inl (inr h)) = record { was_open = h.3.was_open; same = λ up. let back = h.3.undone up in (inl back.0, back.1) }
   refused_rests e (inr h) = rests_unchanged old new (fails_stay h.0 _ e h.0.returning (subst IsPlain h.1.is plain).0 h.2)
 
--- a query on an unchanged connection is asked of the same tables
+-- a query on a connection that a call left unchanged is asked of the same tables as before the call (`IsAsked`)
 asked_unchanged : (old now : State) → IsUnchanged old now → Survives old now (λ _. ⊥) → IsAsked old now
 asked_unchanged old now h survives = record { was_open = λ _. h.0.was_open; is_open = λ _. h.0.is_open; same = h.0.now_is; limit = survives.limit; faults = survives.counts }
 
@@ -64,7 +64,7 @@ rests_both old mid new one two = record {
       );
 }
 
--- `IsAsked` is transitive
+-- a connection with the tables of one that has the tables of `old` has those of `old` (`IsAsked` is transitive)
 asked_then : (old mid new : State) → IsAsked old mid → IsAsked mid new → IsAsked old new
 asked_then old mid new one two = record {
   was_open = λ up. one.was_open (two.was_open up);
@@ -78,7 +78,7 @@ asked_then old mid new one two = record {
 pub commits_nothing : (sql : List ℕ) (old new : State) → IsPlain (understood old.now.schema sql) → Survives old new (CommitsShowing sql [] old) → Survives old new (λ _. ⊥)
 commits_nothing sql old new plain = survives_weaker old new _ _ (λ _ db. never_commits sql [] old db plain)
 
--- `IsUnchanged` is transitive
+-- two calls that each leave the connection unchanged leave it unchanged together (`IsUnchanged` is transitive)
 unchanged_then : (old mid new : State) → IsUnchanged old mid → IsUnchanged mid new → IsUnchanged old new
 unchanged_then old mid new a b = (
   record { was_open = a.0.was_open; is_open = b.0.is_open; now_is = b.0.now_is ∙ a.0.now_is; committed_is = b.0.committed_is ∙ a.0.committed_is; mode = b.0.mode ∙ a.0.mode },
@@ -91,15 +91,18 @@ map_behind : {A B : Type 0} (f : A → B) (xs : List A) (x : A) → map f (xs ++
 map_behind f [] x = refl
 map_behind f (y ∷ xs) x = ap (λ ys. f y ∷ ys) (map_behind f xs x)
 
--- The query is running, has given these rows, and changed nothing.
+-- a query is running, has given the rows `given`, and changed nothing
 pub record IsGiving {S : Type 0} (g : Ghosts S) (sql : List ℕ) (old : Held S) (given : List Row) (now : Held S) : Type 0 where
+  -- the connection is in no transaction
   pub idle : now.in_transaction ≡ false
+  -- a crash leaves only what it could have left before the query
   pub survives : Survives (state g old) (state g now) (λ _. ⊥)
+  -- if the disk is clean, the query has given these rows, and the connection is unchanged
   pub given_so : HasCleanDisk (state g now) → HasGiven g sql [] now given × IsUnchanged (state g old) (state g now)
 
 module _ {S : Type 0} (g : Ghosts S) (sql : List ℕ) (old : Held S) where
   module _ {A : Type 0} (forms : List Form) (shown : A → Row) where
-    -- if the query is refused, the stream returns its fault
+    -- if the query is refused, reading its rows one by one returns the fault of the refusal (`Streams`)
     pub not_begun : {Z : Type 0} (now : Held S) (e : Error) (r : Result (Option (Vec A Z)) ReadFault) → IsPlain (understood old.schema sql) → IsErrAnd r (λ fault. fault ≡ read_fault e) → (HasCleanDisk (state g now) → FailsToQuery sql [] (state g old) (state g now) e)
         → now.in_transaction ≡ false → Survives (state g old) (state g now) (CommitsShowing sql [] (state g old)) → Streams g sql old forms shown r now
     not_begun now e (Ok read) plain told err idle survives = absurd told
@@ -112,7 +115,7 @@ module _ {S : Type 0} (g : Ghosts S) (sql : List ℕ) (old : Held S) where
       idle = idle;
     }
 
-    -- if a query is ended early, the stream may return Ok None (`Streams`)
+    -- if a query is ended early, reading its rows one by one may return Ok None (`Streams`)
     pub given_up : {Z : Type 0} (given : List Row) (now : Held S) → IsGiving g sql old given now → Streams g sql old {Z = Z} forms shown (Ok None) now
     given_up given now giving = record {
       rows = λ _. tt;
@@ -137,7 +140,7 @@ module _ {S : Type 0} (g : Ghosts S) (sql : List ℕ) (old : Held S) where
     same_before clean = (giving.given_so (clean_before clean)).1
 
     module _ {A : Type 0} (forms : List Form) (shown : A → Row) where
-      -- if the next row can't be fetched, the stream returns the fault of the error
+      -- if the next row can't be fetched, reading the rows returns the fault of the error (`Streams`)
       pub not_advanced : {Z : Type 0} (e : Error) (r : Result (Option (Vec A Z)) ReadFault) → IsPlain (understood old.schema sql) → IsErrAnd r (λ fault. fault ≡ read_fault e) → (HasCleanDisk (state g now) → FailsToAdvance g mid now e) → Streams g sql old forms shown r now
       not_advanced e (Ok read) plain told err = absurd told
       not_advanced e (Err fault) plain told err = record {
@@ -152,7 +155,7 @@ module _ {S : Type 0} (g : Ghosts S) (sql : List ℕ) (old : Held S) where
         idle = idle giving.idle;
       }
 
-      -- if no row is left, the stream returns all rows that were given
+      -- if no row is left, reading the rows returns all rows that were given (`Streams`)
       pub ended : {Z : Type 0} (all : Vec A Z) → map shown all.items ≡ map (first_columns (length forms)) given → AreTyped forms given → (HasCleanDisk (state g now) → Advances g mid now None) → (HasCleanDisk (state g now) → IsUnchanged (state g mid) (state g now))
           → Streams g sql old forms shown (Ok (Some all)) now
       ended all read typed done same = record {
@@ -188,7 +191,7 @@ module _ {S : Type 0} (g : Ghosts S) (sql : List ℕ) (old : Held S) where
 -- ---- what was streamed, as rows that are read
 
 module _ {S A Z : Type 0} (g : Ghosts S) (sql : List ℕ) (old : Held S) (forms : List Form) (shown : A → Row) where
-  -- if the stream returns all rows, they are the result of the read (`ReadsRows`)
+  -- if reading the rows one by one gives all of them, they are the result of the read (`ReadsRows`)
   pub streamed : (all : Vec A Z) (new : Held S) → Streams g sql old {Z = Z} forms shown (Ok (Some all)) new → ReadsRows g sql old {Z = Z} forms shown (Ok all) new
   streamed all new streams = record {
     rows = streams.rows;
@@ -200,7 +203,7 @@ module _ {S A Z : Type 0} (g : Ghosts S) (sql : List ℕ) (old : Held S) (forms 
     idle = streams.idle;
   }
 
-  -- if the stream returns a fault, the read returns this fault (`ReadsRows`)
+  -- if reading the rows one by one returns a fault, the read returns this fault (`ReadsRows`)
   pub unstreamed : (fault : ReadFault) (r : Result (Vec A Z) ReadFault) (new : Held S) → Streams g sql old {Z = Z} forms shown (Err fault) new → IsErrAnd r (λ told. told ≡ fault) → ReadsRows g sql old forms shown r new
   unstreamed fault (Ok all) new streams is = absurd is
   unstreamed fault (Err told) new streams is = record {
@@ -213,7 +216,7 @@ module _ {S A Z : Type 0} (g : Ghosts S) (sql : List ℕ) (old : Held S) (forms 
     idle = streams.idle;
   }
 
-  -- if the stream returns None, the result of a read after it is that of a read before it (`ReadsRows`)
+  -- if reading the rows one by one gives None, the result of a read after it is one of a read before it (`ReadsRows`)
   pub read_again : (mid new : Held S) (r : Result (Vec A Z) ReadFault) → Streams g sql old {Z = Z} forms shown (Ok None) mid → ReadsRows g sql mid forms shown r new → ReadsRows g sql old forms shown r new
   read_again mid new r streams reads = record {
     rows = λ clean. if_ok r (λ all told. (told.0, selects clean told.0 told.1, told.2, told.3)) (reads.rows clean);
@@ -225,11 +228,14 @@ module _ {S A Z : Type 0} (g : Ghosts S) (sql : List ℕ) (old : Held S) (forms 
     idle = reads.idle;
   }
     where
+      -- the disk was clean before the second read, if it is clean after it
       before : HasCleanDisk (state g new) → HasCleanDisk (state g mid)
       before clean = omega (arith, reads.survives.clean, clean)
 
+      -- what the SELECT shows after the first read it shows of the tables before it
       selects : HasCleanDisk (state g new) → (rows : List Row) → Selects g sql mid rows → Selects g sql old rows
       selects clean rows told = (told.0, told.1, asked_then (state g old) (state g mid) (state g told.0) (streams.same (before clean)) told.2, told.3)
 
+      -- a refusal of the SELECT after the first read is one of the SELECT before it
       refuses : HasCleanDisk (state g new) → (fault : ReadFault) → RefusesToSelect g sql mid fault → RefusesToSelect g sql old fault
       refuses clean fault told = (told.0, told.1, told.2, asked_then (state g old) (state g mid) (state g told.0) (streams.same (before clean)) told.3, told.4, told.5)

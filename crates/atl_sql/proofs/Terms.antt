@@ -53,6 +53,7 @@ at_number a n integer = (
   λ same. whole _ ∙ ap (λ v. equal Binary v (int n)) (head_is _ _ _ _ same) ∙ is_equal (int n) refl,
 )
   where
+    -- "`b` and true" is `b`
     whole : (b : Bool) → (b && true) ≡ b
     whole true = refl
     whole false = refl

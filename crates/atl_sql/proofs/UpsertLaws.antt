@@ -46,7 +46,7 @@ use Rattle.atl_sql.proofs.EditLaws.{delete_query, Swaps, puts, went, same_value}
 
 -- ---- SQL's = on integers
 
--- a boolean read back from its SQL truth value is itself
+-- a boolean that was made an SQL truth value is read back from it
 truth_again : (b : Bool) → is_true (from_truth (Some b)) ≡ b
 truth_again true = refl
 truth_again false = refl
@@ -88,13 +88,13 @@ equal_is a b p q h = same_ints a b p q (sym (equal_ints a b p q) ∙ h)
 pub is_equal : (a : Value) → is_int a ≡ true → equal Binary a a ≡ true
 is_equal a p = equal_ints a a p p ∙ ap is_eq (tied_itself value_cmp_total a)
 
--- an ordering that is not "different" is "equal"
+-- an ordering that isn't "different" is "equal"
 ne_or_eq : (o : Ordering) → is_ne o ≡ false → is_eq o ≡ true
 ne_or_eq Less h = absurd (true≢false h)
 ne_or_eq Equal h = refl
 ne_or_eq Greater h = absurd (true≢false h)
 
--- integers that don't differ by SQL are equal by the order of values
+-- integers that SQL doesn't find different are equal by the order of values
 pub differ_not : (a b : Value) → is_int a ≡ true → is_int b ≡ true → differ a b ≡ false → is_eq (value_cmp a b) ≡ true
 unfolding binary
 differ_not (Int m) (Int n) p q h = ne_or_eq _ (sym (truth_again _) ∙ h)
@@ -132,6 +132,7 @@ module _ (p : Row → Bool) (f : Row → Env) where
       let rest : chosen rows ≡ [] = none_chosen rows (λ y h. is y (inr h) ∙ miss y h) in
       rw (hit, rest, e) refl
     where
+      -- no later row has the rowid of the first row, which is the one that was asked for
       miss : (y : Row) → Has rows y → is_eq (value_cmp (rowid y) (rowid r)) ≡ false
       miss y h = elim (cases_Bool (is_eq (value_cmp (rowid y) (rowid r)))) [
         | inl same ↦ absurd (true≢false (sym (eq_sym _ _ same) ∙ ap (λ z. is_eq (value_cmp (rowid z) (rowid y))) e ∙ all_has _ rows y apart.0 h))
@@ -140,7 +141,7 @@ module _ (p : Row → Bool) (f : Row → Env) where
   one_chosen (x ∷ rows) apart r (inr h) is =
       rw (is x (inl refl) ∙ all_has _ rows r apart.0 h, one_chosen rows apart.1 r h (λ y k. is y (inr k)))
 
--- the query of the UPDATE answers the row with the rowid alone
+-- the query of the UPDATE has one answer: the row with the given rowid, and the values to set
 pub row_by : (tree place : ℕ) (project : List Term) (db db' : Trees) (given : Row) (rows : List Row) (r : Row) → IsKeyed (db tree) → Has (db tree) r → column given place ≡ rowid r → db' tree ≡ db tree
     → IsAnswer (update_query tree place project) db' given rows → rows ≡ (rowid r ∷ eval_all project (given ∷ r ∷ [])) ∷ []
 row_by tree place project db db' given rows r keyed there aimed same a =
@@ -154,13 +155,14 @@ row_by tree place project db db' given rows r keyed there aimed same a =
     let ordered = one_permutation (output q (f r)) a.ordered (subst (λ k. IsPermutation k a.ordered) kept a.same) in
     a.shown ∙ ap (map (λ (o : Output). o.1)) ordered
   where
+    -- "`b` and true" is `b`
     both_true : (b : Bool) → (b && true) ≡ b
     both_true true = refl
     both_true false = refl
 
 -- ---- the statement
 
--- the ON CONFLICT clause of a key in these columns
+-- the ON CONFLICT clause of an upsert: the key in these columns, and the program of its UPDATE
 abbrev pub clause_on : List ℕ → Program → Upsert
 clause_on target q = record { target = Some target; update = Some q }
 
@@ -170,11 +172,11 @@ module _ (schema : Schema) (t : Table) (unlinked : (olds news : List Row) → wo
   abbrev upsert_task : Task
   upsert_task = record { limit = limit; keys = Enforced; schema = schema; table = t; params = params }
 
-  -- the program of the UPDATE
+  -- the program of the UPDATE of this upsert
   abbrev q : Program
   q = record { lets = []; body = update_query t.tree place project }
 
-  -- whether a row has the key of the new row
+  -- whether a row of the table has the key of the new row
   abbrev pub hits : Row → Row → Bool
   hits new r = conflicts (Some target) schema.indexes t new r
 
@@ -182,7 +184,7 @@ module _ (schema : Schema) (t : Table) (unlinked : (olds news : List Row) → wo
   abbrev pub given : Row → Row → Row
   given new r = params ++ rowid r ∷ shown t new
 
-  -- The row was put, or the row with its key was changed.
+  -- after an upsert the new row was put, or the row with its key was changed
   abbrev pub Upserted : Row → Trees → Trees → Type 0
   Upserted new db next =
       (((r : Row) → Has (db t.tree) r → hits new r ≡ false) × Swaps schema t (hits new) (cast_row t new) db next)
@@ -223,7 +225,7 @@ module _ (schema : Schema) (t : Table) (unlinked : (olds news : List Row) → wo
       let edit = subst (λ l. Edited schema Enforced db (edit_of db t (ids_of l) Given 1 l) (Ok wrote.0)) rows wrote.1 in
       subst (Swaps schema t (λ x. is_eq (value_cmp (rowid x) (rowid r))) (cast_row t (eval_all project (given new r ∷ r ∷ []))) db) (sym trees) (replaced_at r _ db wrote.0 keyed there edit)
 
-  -- an upsert puts its row where no row has the key, and else changes the row that has it
+  -- the clause ON CONFLICT puts the new row where no row has its key, and else changes the row that has it
   met : (new : Row) (db : Trees) (w : Written) (found : List Row) → IsKeyed (db t.tree) → ((r : Row) → Has (db t.tree) r → column (given new r) place ≡ rowid r)
       → AreConflicts (Some target) schema.indexes t (db t.tree) new found → Meets upsert_task (Upserts upsert_task Abort new db []) new db (clause_on target q) found (Ok w) → Upserted new db w.trees
   met new db w [] keyed aimed are h =
@@ -240,6 +242,7 @@ module _ (schema : Schema) (t : Table) (unlinked : (olds news : List Row) → wo
         },
       )
     where
+      -- where no row has the key, an upsert that ended with Ok has put the new row (`Puts`)
       either : (again : List Row) → Clears upsert_task Abort new db again (Ok w) → Puts upsert_task new db (Ok w)
       either [] k = k
       either (y ∷ more) k = k
@@ -253,6 +256,7 @@ module _ (schema : Schema) (t : Table) (unlinked : (olds news : List Row) → wo
   upserts new db w keyed aimed (inl refused) = absurd (let e = refused.1 in cc)
   upserts new db w keyed aimed (inr check_own_rows) = go check_own_rows.0 check_own_rows.2
     where
+      -- whatever the check of the row's own values says, an upsert that ended with Ok put or changed the row
       go : (verdict : Option Refusal) → Judged upsert_task Abort (clause_on target q ∷ []) new db verdict (Ok w) → Upserted new db w.trees
       go None h = met new db w h.0 keyed aimed h.1 h.2
       go (Some why) h = absurd (let e = h in cc)

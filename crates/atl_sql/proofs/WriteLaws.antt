@@ -16,24 +16,24 @@ use Rattle.atl_sql.specs.Statements.{Statements, Only, Each}
 use Rattle.atl_sql.proofs.CauseLaws.{gives, gives_after, gives_among, reached_then, reached_among, errs_as}
 use Rattle.atl_sql.proofs.KeepLaws.{survives_more, keeps_more, on_ok, if_err}
 
--- whatever `OnOk` says of a result is true of one that is an error
+-- `OnOk` holds of a result that is an error, whatever it says
 pub not_ok : {A E : Type 0} (r : Result A E) (P : Type 0) → IsErr r → OnOk r P
 not_ok (Ok a) P failed = absurd cc
 not_ok (Err e) P failed = tt
 
--- The result is this error, handed on.
+-- the result is this error, handed on from a call
 abbrev pub HandsOn : {A : Type 0} → Error → Result A Error → Type 0
 HandsOn e r = IsErr r × IsErrAnd r (λ f. f ≡ e)
 
--- Statements of `own` have done `Does` without an error.
+-- inside a transaction, steps by statements of `own` have done `Does` without an error
 abbrev pub SoFar : {S : Type 0} → Ghosts S → Statements → (State → State → Type 0) → MutBor (Held S) → MutBor (Held S) → Type 0
 SoFar g own Does old new = Writes g own Does {A = Unit {0}} (Ok (tt {0})) old new
 
--- doing nothing commits nothing
+-- where nothing is done, a crash leaves only what it could have left before
 survives_start : (s : State) → Survives s s (λ _. ⊥)
 survives_start s = record { clean = omega arith; shield = λ h. h; counts = omega arith; limit = refl; closes = λ clean up. inl up; crash = λ clean db may. inl may }
 
--- A step that may do anything.
+-- the relation between states of a step that may do anything
 abbrev Any : State → State → Type 0
 Any old new = Unit {0}
 
@@ -41,11 +41,11 @@ module _ {S : Type 0} (g : Ghosts S) where
   -- ---- one statement
 
   module _ (old new : MutBor (Held S)) (sql : List ℕ) (params : Row) (same : new.ghost_name ≡ old.ghost_name) (survives : Survives (state g old.now) (state g new.now) (λ _. ⊥)) where
-    -- Outside a transaction the statement is refused with TransactionState, and nothing changes.
+    -- if the connection is outside a transaction, the statement is refused with TransactionState, and nothing changes
     abbrev Ended : Result ℕ Error → Type 0
     Ended r = (state g old.now).in_transaction ≡ false → (r ≡ Err (SqliteFailure TransactionState)) × (new.now ≡ old.now)
 
-    -- If the disk is clean, the statement ran with this result inside a transaction.
+    -- if the disk is clean, the statement ran with this result inside a transaction
     abbrev Ran : Result ℕ Error → Type 0
     Ran r = HasCleanDisk (state g new.now) → IsTrue (state g old.now).in_transaction → ExecutesInside 0 sql params (state g old.now) (state g new.now) r
 
@@ -88,11 +88,11 @@ module _ {S : Type 0} (g : Ghosts S) where
 
   -- ---- one step after another
 
-  -- a write that does `First` is one that does `Does`, if `Does` follows from `First`
+  -- a write that does `First` is a write that does `Does`, if `Does` follows from `First`
   pub weaker : {own : Statements} {First Does : State → State → Type 0} {A : Type 0} {r : Result A Error} {a b : MutBor (Held S)} → ((old new : State) → First old new → Does old new) → Writes g own First r a b → Writes g own Does r a b
   weaker {r = r} less one = record { same_reference = one.same_reference; does = λ clean. on_ok r (less _ _) (one.does clean); goes_on = one.goes_on; reaches = one.reaches; told = one.told; kept = one.kept; survives = one.survives }
 
-  -- a write by statements of `own` is one by statements of `more`, which has all of them
+  -- a write by statements of `own` is a write by statements of `more`, if `more` has all of them
   pub among : {own more : Statements} {Does : State → State → Type 0} {A : Type 0} {r : Result A Error} {a b : MutBor (Held S)} → ((sql : List ℕ) (params : Row) → own sql params → more sql params) → Writes g own Does r a b → Writes g more Does r a b
   among {own = own} {more = more} {r = r} {a = a} {b = b} within one = record {
     same_reference = one.same_reference;
@@ -104,11 +104,11 @@ module _ {S : Type 0} (g : Ghosts S) where
     survives = one.survives;
   }
 
-  -- a write by one statement is one by statements of `own`, if `own` has this one
+  -- a write by one statement is a write by statements of `own`, if `own` has this one
   pub among_only : {own : Statements} {Does : State → State → Type 0} {A : Type 0} {r : Result A Error} {a b : MutBor (Held S)} (text : List ℕ) (values : Row) → own text values → Writes g (Only text values) Does r a b → Writes g own Does r a b
   among_only {own = own} text values is one = among (λ sql params only. subst (λ s. own s params) (sym only.0) (subst (own text) (sym only.1) is)) one
 
-  -- a write by the statements of one text is one by statements of `own`, if `own` has all of these
+  -- a write by the statements of one text is a write by statements of `own`, if `own` has all of these
   pub among_each : {own : Statements} {Does : State → State → Type 0} {A : Type 0} {r : Result A Error} {a b : MutBor (Held S)} (text : List ℕ) (rows : Set) → ((row : Row) → rows row → own text row) → Writes g (Each text rows) Does r a b → Writes g own Does r a b
   among_each {own = own} text rows are one = among (λ sql params each. subst (λ s. own s params) (sym each.0) (are params each.1)) one
 
@@ -169,6 +169,6 @@ module _ {S : Type 0} (g : Ghosts S) where
   pub goes_on : {own : Statements} {First Second Does : State → State → Type 0} {u : Unit {0}} {a b c : MutBor (Held S)} → ((old mid new : State) → First old mid → Second mid new → Does old new) → SoFar g own First a b → Writes g own Second (Ok u) b c → SoFar g own Does a c
   goes_on both so_far more = two_steps both so_far more
 
-  -- doing nothing is a write, if what is to be done is done already
+  -- doing nothing is a write (`Writes`), if what is to be done is done already
   pub begins : {own : Statements} {Does : State → State → Type 0} {A : Type 0} {a : A} {b : MutBor (Held S)} → ((s : State) → Does s s) → Writes g own Does (Ok a) b b
   begins none = record { same_reference = refl; does = λ _. none _; goes_on = λ _. refl; reaches = λ clean inside. (0, refl); told = λ clean inside. tt; kept = λ _. record { was_open = λ up. up; committed = λ _. refl }; survives = survives_start _ }

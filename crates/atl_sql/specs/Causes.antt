@@ -12,44 +12,47 @@ use Rattle.sqlite.specs.Steps.{FailsToCommit}
 use Rattle.atl_sql.specs.Errors.{is_memory}
 use Rattle.atl_sql.specs.Statements.{Statements}
 
--- one statement of `own` ran inside a transaction, without an error
+-- from one state to the next, one statement of the set `own` ran inside a transaction, without an error
 abbrev pub RunsOne : Statements → State → State → Type 0
 RunsOne own before after = (sql : List ℕ) × (params : Row) × own sql params × (count : ℕ) × ExecutesInside 0 sql params before after (Ok count)
 
--- `count` statements of `own`, one after another, lead from the connection `old` to `new`
+-- `count` statements of the set `own`, run one after another, lead from the connection `old` to `new`
 abbrev pub Leads : {S : Type 0} → Ghosts S → Statements → ℕ → Held S → Held S → Type 0
 Leads g own zero old new = old ≡ new
 Leads {S} g own (suc count) old new = (mid : Held S) × RunsOne own (state g old) (state g mid) × Leads g own count mid new
 
--- some number of statements of `own`, perhaps none, leads from the connection `old` to `new`
+-- some number of statements of the set `own`, perhaps none, leads from the connection `old` to `new`
 abbrev pub IsReached : {S : Type 0} → Ghosts S → Statements → Held S → Held S → Type 0
 IsReached g own old new = (count : ℕ) × Leads g own count old new
 
--- a statement of `own`, or the commit of the transaction, ended with this error
+-- a statement of the set `own`, or the commit of the transaction, ended with this error
 abbrev pub IsGiven : Statements → Error → State → State → Type 0
 IsGiven own e before after = ((sql : List ℕ) × (params : Row) × own sql params × ExecutesInside 0 sql params before after (Err e)) ⊎ (IsTrue before.in_transaction × FailsToCommit before after e)
 
--- the disk failed between the two states, or the connection was shut already in the first
+-- a cause of an error: the disk failed between the two states, or the connection was shut already in the first
 abbrev pub IsBroken : State → State → Type 0
 IsBroken old new = MoreFaults old.faults new.faults ⊎ (old.is_open ≡ false)
 
--- the call was refused: its error is that something is too big, or it changed nothing
+-- a cause of an error: the call was refused, since something is too big, or it changed nothing
 abbrev pub IsRefused : Error → State → State → Type 0
 IsRefused e before after = (e ≡ SqliteFailure TooBig) ⊎ IsUnchanged before after
 
 -- In a transaction on this connection a statement of `own`, or the commit, ended with the error `e`.
 -- An error other than lack of memory has a cause; the database gives none for lack of memory.
 pub record Gives {S : Type 0} (g : Ghosts S) (own : Statements) (e : Error) (old new : Held S) : Type 0 where
-  -- the connection as that call found it, and as it left it
+  -- the connection before the call that gave the error
   pub before : Held S
+  -- the connection after that call
   pub after : Held S
-  -- from the beginning of the transaction to that call, only statements of `own` ran
+  -- from the beginning of the transaction to the call that gave the error, only statements of `own` ran
   pub reached : IsReached g own (record old { in_transaction = true }) before
-  -- nothing was committed before that call
+  -- nothing was committed before the call that gave the error
   pub kept : KeepsCommit (state g old) (state g before)
+  -- that call is a statement of `own`, or the commit, and ended with the error
   pub given : IsGiven own e (state g before) (state g after)
+  -- an error other than lack of memory comes of a broken disk or connection, or of a refusal of that call
   pub cause : is_memory e ≡ false → IsBroken (state g old) (state g new) ⊎ IsRefused e (state g before) (state g after)
 
--- The fault is the one that `fault_of` makes of an error that a transaction of statements of `own` gave (`Gives`).
+-- the fault is the one that `fault_of` makes of an error that a transaction of statements of `own` gave (`Gives`)
 abbrev pub IsFaultOfError : {S F : Type 0} → Ghosts S → Statements → (Error → F) → Held S → Held S → F → Type 0
 IsFaultOfError g own fault_of old new fault = (e : Error) × (fault ≡ fault_of e) × Gives g own e old new

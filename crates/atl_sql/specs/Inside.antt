@@ -12,7 +12,9 @@ use Rattle.atl_sql.specs.Tables.{Part, table_of, no_tables, all_tables, all_tree
 
 -- the schema begins with the tables of a campaign, and the trees list and obey it (`IsSoundDatabase`)
 pub record HasTables (db : Database) : Type 0 where
+  -- the schema begins with the tables of a campaign
   pub begins : HasAll db.schema
+  -- the trees list the schema and obey it, and the rowids in the ten tables are integers, no two alike
   pub sound : IsSoundDatabase db.schema db.trees
 
 -- the database has no table, no index and no view
@@ -21,36 +23,45 @@ IsBlank db = db.schema ≡ no_tables
 
 -- no table and no index is gone, and tables that aren't a campaign's hold what they held
 pub record Carries (old new : Database) : Type 0 where
+  -- each table of the schema before is in the schema after
   pub tables : (t : Table) → Has old.schema.tables t → Has new.schema.tables t
+  -- each index of the schema before is in the schema after
   pub indexes : (i : Index) → Has old.schema.indexes i → Has new.schema.indexes i
+  -- a table whose tree isn't one of the ten tables' holds what it held
   pub others : (t : Table) → Has old.schema.tables t → ¬ Has all_trees t.tree → new.trees t.tree ≡ old.trees t.tree
 
 -- `Does` is done, the tables of a campaign are there afterwards, and all others are carried along (`Carries`)
 pub record Done (Does : Database → Database → Type 0) (old new : Database) : Type 0 where
+  -- `Does` is done
   pub does : Does old new
+  -- the tables of a campaign are there afterwards
   pub tables : HasTables new
+  -- all other tables and indexes are carried along
   pub carries : Carries old new
 
--- `Does` is done to the tables, if they were as `Before` says.
--- The connection is in a transaction exactly if it was in one.
+-- `Does` is done to the tables, if they were as `Before` says; a transaction goes on exactly if there was one
 abbrev pub Inside : (Database → Type 0) → (Database → Database → Type 0) → State → State → Type 0
 Inside Before Does old new = (new.in_transaction ≡ old.in_transaction) × (Before old.now → Done Does old.now new.now)
 
--- `First` is done, and then `Second`
+-- `First` is done to the database, and then `Second`
 abbrev pub Both : (Database → Database → Type 0) → (Database → Database → Type 0) → Database → Database → Type 0
 Both First Second old new = (mid : Database) × First old mid × Second mid new
 
 -- the rows of this table are exactly this set, and each other table of a campaign is as it was
 pub record Alters (table : Table) (S : Set) (old new : Database) : Type 0 where
+  -- the rows of this table are exactly this set
   pub rows : Is (rows_in table new.trees) S
+  -- each other table of a campaign is as it was
   pub others : (t : Table) → Has all_tables t → t.tree ≢ table.tree → new.trees t.tree ≡ old.trees t.tree
 
 -- The rows of each of these parts become what `Becomes` says, and the tables of all other parts are as they were.
 pub record Changes (Becomes : Part → List Row → List Row → Type 0) (parts : List Part) (old new : Database) : Type 0 where
+  -- the rows of each of these parts become what `Becomes` says
   pub done : (part : Part) → Has parts part → Becomes part (rows_in (table_of part) old.trees) (rows_in (table_of part) new.trees)
+  -- the tables of all other parts are as they were
   pub others : (part : Part) → ¬ Has parts part → new.trees (table_of part).tree ≡ old.trees (table_of part).tree
 
--- `Does` is done for each of these parts, one after another
+-- `Does` is done for each part of the list, one after another
 abbrev pub InTurn : (Part → Database → Database → Type 0) → List Part → Database → Database → Type 0
 InTurn Does [] old new = new ≡ old
 InTurn Does (part ∷ parts) old new = (mid : Database) × Does part old mid × InTurn Does parts mid new
@@ -63,23 +74,30 @@ Puts table key row old new = Alters table (put key row (Has (rows_in table old.t
 abbrev pub Drops : Table → ℕ → Row → Database → Database → Type 0
 Drops table key k old new = Alters table (drop_key key k (Has (rows_in table old.trees))) old new
 
--- all these rows are put (`Puts`), one after another
+-- all these rows are put into the table (`Puts`), one after another
 abbrev pub PutsRows : Table → ℕ → List Row → Database → Database → Type 0
 PutsRows table key news old new = Alters table (puts key news (Has (rows_in table old.trees))) old new
 
 -- A transaction that succeeded: `Does` is done, if the tables were as `Before` says, and all is committed.
 -- The connection is open and in no transaction.
 pub record Commits (Before : Database → Type 0) (Does : Database → Database → Type 0) (old new : State) : Type 0 where
+  -- `Does` is done, if the tables were as `Before` says
   pub does : Before old.now → Done Does old.now new.now
+  -- all that the tables hold is committed
   pub committed : new.committed ≡ new.now
+  -- the connection is in no transaction
   pub idle : new.in_transaction ≡ false
+  -- the connection is open
   pub is_open : IsTrue new.is_open
 
 -- A transaction that failed: while the connection is open, its tables are those of the last commit before.
 -- The connection is in no transaction.
 pub record LeavesOff (old new : State) : Type 0 where
+  -- a connection that is open afterwards was open before
   pub was_open : IsTrue new.is_open → IsTrue old.is_open
+  -- while the connection is open, its tables are those of the last commit before, and nothing was committed
   pub undone : IsTrue new.is_open → (new.now ≡ old.committed) × (new.committed ≡ old.committed)
+  -- the connection is in no transaction
   pub idle : new.in_transaction ≡ false
 
 -- what a crash may leave besides what it could have left before: the trees of a database to which `Does` was done,

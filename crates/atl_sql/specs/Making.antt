@@ -9,7 +9,7 @@ use Rattle.sqlite_rules.specs.Lists.{Has}
 use Rattle.atl_sql.specs.Sets.{rows_in}
 use Rattle.atl_sql.specs.Tables.{all_tables}
 
--- none of the ten tables has a row afterwards, whatever there was before
+-- after the step none of the ten tables has a row, whatever there was before
 abbrev pub AreEmpty : Database → Database → Type 0
 AreEmpty old new = (t : Table) → Has all_tables t → rows_in t new.trees ≡ []
 

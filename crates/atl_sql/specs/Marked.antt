@@ -13,18 +13,18 @@ use Rattle.atl_sql.specs.declared.rows.has.ThingKind.TheVariants.{Item, Skill}
 use Rattle.atl_sql.specs.Tables.{Part, Own, Factions, Regions, Units, Goods, Structures, Mail, Reports, Books, Markets}
 use Rattle.atl_sql.specs.Written.{sort_number}
 
--- whether the first column of a row is a number, 0 or more, for which `is_so` holds
+-- whether the first column of a row is a natural number for which `is_so` holds
 abbrev pub begins : (ℕ → Bool) → Row → Bool
 begins is_so (Int (pos n) ∷ row) = is_so n
 begins is_so row = false
 
--- Whether `is_so` holds of the entry and the thing of a row of `books`.
+-- whether `is_so` holds of the entry and the thing of a row of `books`
 -- The entry is given by its index, the first column less 1; the thing by its number, the second column.
 abbrev pub accounts : (ℕ → ℕ → Bool) → Row → Bool
 accounts is_so (Int (pos (suc entry)) ∷ Int (pos thing) ∷ row) = is_so entry thing
 accounts is_so row = false
 
--- whether a row of `has` is of this kind (item or skill) and `is_so` holds of its unit and its thing
+-- whether a row of `has` is of this kind (item or skill) and `is_so` holds of its unit and its item or skill
 abbrev pub of_kind : ThingKind → (ℕ → ℕ → Bool) → Row → Bool
 of_kind sort is_so (Int (pos unit) ∷ Int (pos number) ∷ Int (pos thing) ∷ row) = number == sort_number sort && is_so unit thing
 of_kind sort is_so row = false
@@ -38,7 +38,7 @@ of_stock is_so row = false
 abbrev pub begins_marked : FinSet nat_cmp → Row → Bool
 begins_marked marks r = begins (contains marks) r
 
--- whether this thing of this unit, or this item of this region, is among `things`
+-- whether this item or skill of this unit, or this item of this region, is among the marked `things`
 abbrev pub has_thing : Things → ℕ → ℕ → Bool
 has_thing things unit thing = is_some (get (group_of things unit) thing)
 
@@ -50,7 +50,7 @@ goods_marked marks r = begins_marked marks.goods r || of_kind Item (has_thing ma
 abbrev pub stocks_marked : Marks → Row → Bool
 stocks_marked marks r = begins_marked marks.stocks r || of_stock (has_thing marks.stock_items) r
 
--- Whether the amount of an entry and a thing is marked.
+-- whether the amount of an entry and a thing in the books is marked
 -- The entry is given by its index, which has to be below `entry_count`.
 abbrev pub is_marked_amount : FinSet nat_cmp → ℕ → ℕ → Bool
 is_marked_amount marks entry thing = nat_le (suc entry) entry_count && contains marks (entry_count * thing + entry)

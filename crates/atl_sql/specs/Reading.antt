@@ -20,16 +20,23 @@ use Rattle.atl_sql.specs.declared.fault.ReadFault.TheVariants.{OtherType, Memory
 
 -- Nothing is changed: an open connection was open before, and its tables are as they were or as last committed.
 pub record Rests (old new : State) : Type 0 where
+  -- a connection that is open afterwards was open before
   pub was_open : IsTrue new.is_open → IsTrue old.is_open
+  -- while the connection is open, its tables are as they were or as last committed, and nothing was committed
   pub same : IsTrue new.is_open → ((new.now ≡ old.committed) ⊎ (new.now ≡ old.now)) × (new.committed ≡ old.committed)
 
 -- `before` is the connection as the SELECT finds it: with the tables and the step limit of `old`.
 -- It is open exactly if `old` is, and its disk has failed no less often.
 pub record IsAsked (old before : State) : Type 0 where
+  -- the connection is open only if `old` is
   pub was_open : IsTrue before.is_open → IsTrue old.is_open
+  -- the connection is open if `old` is
   pub is_open : IsTrue old.is_open → IsTrue before.is_open
+  -- the connection has the tables of `old`
   pub same : before.now ≡ old.now
+  -- the connection has the step limit of `old`
   pub limit : before.step_limit ≡ old.step_limit
+  -- the connection's disk has failed at least as often as that of `old`
   pub faults : old.faults ≤ before.faults
 
 module _ {S : Type 0} (g : Ghosts S) (sql : List ℕ) (old : Held S) where
@@ -44,36 +51,49 @@ module _ {S : Type 0} (g : Ghosts S) (sql : List ℕ) (old : Held S) where
   -- The SELECT is asked, whatever the schema is: Ok has the rows that it shows, Err the fault of its refusal.
   -- This is so if the disk is clean. Nothing is changed.
   pub record Asks {Z : Type 0} (result : Result (Vec Row Z) ReadFault) (new : Held S) : Type 0 where
+    -- Ok has the rows that the SELECT shows.
     pub rows : HasCleanDisk (state g new) → IfOk result (λ rows. Selects rows.items)
+    -- Err has the fault of the SELECT's refusal.
     pub refused : HasCleanDisk (state g new) → IfErr result RefusesToSelect
+    -- Nothing is changed (`Rests`).
     pub rests : HasCleanDisk (state g new) → Rests (state g old) (state g new)
-    -- A crash leaves only what it could have left before, and the connection is in no transaction.
+    -- A crash leaves only what it could have left before.
     pub survives : Survives (state g old) (state g new) (λ _. ⊥)
+    -- The connection is in no transaction afterwards.
     pub idle : new.in_transaction ≡ false
 
   -- All rows that the SELECT shows are read, each value in the form of its column, if the disk is clean.
   -- Nothing is changed.
   pub record ReadsRows {A Z : Type 0} (forms : List Form) (shown : A → Row) (result : Result (Vec A Z) ReadFault) (new : Held S) : Type 0 where
-    -- With Ok it has all rows that the SELECT shows, in their order, and each value is of its column's form.
+    -- Ok has all rows that the SELECT shows, in their order, and each value is of its column's form.
     pub rows : HasCleanDisk (state g new) → IfOk result (λ all. (rows : List Row) × Selects rows × (map shown all.items ≡ map (first_columns (length forms)) rows) × AreTyped forms rows)
     -- OtherType is returned only if a value is of another form than its column.
-    -- Another fault but Memory is that of the SELECT's refusal.
     pub other : HasCleanDisk (state g new) → IfErr result (λ fault. fault ≡ OtherType → (rows : List Row) × Selects rows × ¬ AreTyped forms rows)
+    -- A fault other than OtherType and Memory is that of the SELECT's refusal.
     pub refused : HasCleanDisk (state g new) → IfErr result (λ fault. fault ≢ OtherType → fault ≢ Memory → RefusesToSelect fault)
     -- Memory is returned only if the SELECT is refused for lack of memory, or is answered and its rows may lack memory.
     pub memory : HasCleanDisk (state g new) → IfErr result (λ fault. fault ≡ Memory → RefusesToSelect Memory ⊎ ((rows : List Row) × Selects rows))
+    -- Nothing is changed (`Rests`).
     pub rests : HasCleanDisk (state g new) → Rests (state g old) (state g new)
+    -- A crash leaves only what it could have left before.
     pub survives : Survives (state g old) (state g new) (λ _. ⊥)
+    -- The connection is in no transaction afterwards.
     pub idle : new.in_transaction ≡ false
 
   -- The rows of a query are read one by one: Ok has all of them, or None; Err has the fault of the refusal.
   -- When it is None isn't said. Nothing is changed.
   pub record Streams {A Z : Type 0} (forms : List Form) (shown : A → Row) (result : Result (Option (Vec A Z)) ReadFault) (new : Held S) : Type 0 where
+    -- With Ok of a list, it has all rows that the SELECT shows, and each value is of its column's form.
     pub rows : HasCleanDisk (state g new) → IfOk result (λ read. IfSome read (λ all. (rows : List Row) × Selects rows × (map shown all.items ≡ map (first_columns (length forms)) rows) × AreTyped forms rows))
+    -- Err has the fault of the SELECT's refusal.
     pub refused : HasCleanDisk (state g new) → IfErr result RefusesToSelect
+    -- After Ok the connection has the same tables and step limit (`IsAsked`), so the SELECT can be asked again.
     pub same : HasCleanDisk (state g new) → OnOk result (IsAsked (state g old) (state g new))
+    -- Nothing is changed (`Rests`).
     pub rests : HasCleanDisk (state g new) → Rests (state g old) (state g new)
+    -- A crash leaves only what it could have left before.
     pub survives : Survives (state g old) (state g new) (λ _. ⊥)
+    -- The connection is in no transaction afterwards.
     pub idle : new.in_transaction ≡ false
 
 -- the list `new` is `old` and then one element more, read from this row, whose values are of these forms
@@ -93,9 +113,13 @@ rows_with_ids_in table db = map (λ r. visible table r ++ rowid r ∷ []) (db ta
 
 -- how a part is read: the first format that has it, the names of the columns, the SELECT, and the rows that it shows
 pub record PartSelect : Type 0 where
+  -- the first format that has the part
   pub since : Format
+  -- the names of the columns that the SELECT shows
   pub names : List (List ℕ)
+  -- the text of the SELECT
   pub select : List ℕ
+  -- the rows that the SELECT shows, computed from the trees
   pub in_table : Trees → List Row
 
 -- how to read all columns of a table whose key is its first `key` columns

@@ -47,25 +47,25 @@ unit_line n u = unit_row n u.faction u.holding.name u.region u.structure u.holdi
 abbrev pub structure_line : ℕ → Structure → Row
 structure_line n s = structure_row n s.kind s.name s.region s.done s.owner
 
--- the set of the rows that `line` makes, one for each number and value of a map
+-- the rows that `line` makes of the numbers and values of a map, one row for each, as a set
 abbrev pub RowsOf : {V : Type 0} → (ℕ → V → Row) → FinMap nat_cmp V → Row → Type 0
 RowsOf {V} line m r = (n : ℕ) × (v : V) × (get m n ≡ Some v) × (r ≡ line n v)
 
--- the list of the rows that `line` makes, one for each number and value, in their order
+-- the rows that `line` makes of a list of numbers and values, one row for each, as a list in their order
 abbrev pub lines_of : {V : Type 0} → (ℕ → V → Row) → List (ℕ × V) → List Row
 lines_of line entries = map (λ e. line e.0 e.1) entries
 
--- what a holding has of a kind: amounts of items, or days of skills
+-- what a unit's holding has of a kind of goods, by number: amounts of items, or days of skills
 abbrev pub things_of : ThingKind → HoldingValue → FinMap nat_cmp ℕ
 things_of Item held = held.items
 things_of Skill held = held.days
 
--- what a unit has of a kind, and nothing if there is no unit
+-- what a unit has of a kind of goods (items or skills), by number; nothing if there is no unit
 abbrev pub things_under : ThingKind → Option Unit → FinMap nat_cmp ℕ
 things_under Item = items_under
 things_under Skill = days_under
 
--- how much the unit with this number has of a thing, 0 if there is no such unit
+-- how much the unit with this number has of an item or a skill, 0 if there is no such unit
 abbrev pub amount_under : FinMap nat_cmp Unit → ℕ → ThingKind → ℕ → ℕ
 amount_under units n sort thing = amount_of (things_under sort (get units n)) thing
 
@@ -83,7 +83,7 @@ abbrev pub MarketRowsOf : FinMap nat_cmp Region → Row → Type 0
 MarketRowsOf regions r =
     (n : ℕ) × (region : Region) × (get regions n ≡ Some region) × (item : ℕ) × (stock : ℕ) × (get region.stocks item ≡ Some stock) × (stock ≢ 0) × (r ≡ market_row n item stock)
 
--- the set of rows of each part of a campaign, whose campaign row is `own`
+-- the set of rows that each part's table has to hold for a campaign, whose campaign row is `own`
 abbrev pub rows_for : Row → CampaignValue → Part → Set
 rows_for own c Own = λ r. r ≡ own
 rows_for own c Factions = RowsOf faction_line c.factions
@@ -98,8 +98,10 @@ rows_for own c Markets = MarketRowsOf c.regions
 
 -- the ten tables have exactly the rows of the world text and the campaign
 pub record Holds (trees : Trees) (text : List ℕ) (c : CampaignValue) : Type 0 where
+  -- each part's table has exactly the part's rows
   pub rows : (part : Part) → Is (rows_in (table_of part) trees) (rows_for (campaign_line text c) c part)
 
 -- the tables of a format have exactly the rows of the world text and the campaign
 pub record HoldsIn (f : Format) (trees : Trees) (text : List ℕ) (c : CampaignValue) : Type 0 where
+  -- the table of each part that the format has holds exactly the part's rows
   pub rows : (part : Part) → Has (parts_in f) part → Is (rows_in (table_of part) trees) (rows_for (campaign_row_in f (campaign_row_of c) text) c part)

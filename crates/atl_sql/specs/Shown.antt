@@ -30,10 +30,15 @@ flag b = Int (if b then pos 1 else pos 0)
 
 -- the month, the next numbers and the pass text: the campaign row without its id, its format and its world text
 pub record CampaignRowValue : Type 0 where
+  -- the number of the month
   pub month : ℕ
+  -- the number that the next faction gets
   pub next_faction : ℕ
+  -- the number that the next unit gets
   pub next_unit : ℕ
+  -- the number that the next structure gets
   pub next_structure : ℕ
+  -- the bytes of the pass text
   pub pass : List ℕ
 
 -- the campaign row in this format: id 1, the format's number, month, next numbers, pass text, world text

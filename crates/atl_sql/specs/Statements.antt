@@ -31,13 +31,13 @@ abbrev pub equations : ℕ → List (List ℕ) → List (List ℕ)
 equations n [] = []
 equations n (name ∷ more) = (name ++ codes " = " ++ parameter n) ∷ equations (n + 1) more
 
--- the statement that inserts a row, or, if its key is there, sets the other columns of the row that has it
+-- the text of the INSERT of a row that, where its key is there, sets the other columns of the row that has it
 abbrev pub upsert : Table → ℕ → List ℕ
 upsert t key =
     codes "INSERT INTO " ++ t.name ++ codes " (" ++ comma_list (column_names t) ++ codes ") VALUES (" ++ comma_list (map parameter (range_with_len 1 (length t.columns)))
     ++ codes ") ON CONFLICT (" ++ comma_list (take key (column_names t)) ++ codes ") DO UPDATE SET " ++ comma_list (equations (key + 1) (drop key (column_names t)))
 
--- the statement that deletes the rows whose key, the first `key` columns, is given by the parameters
+-- the text of the DELETE of the rows whose key, the first `key` columns, is given by the parameters
 abbrev pub deletion : Table → ℕ → List ℕ
 deletion t key = codes "DELETE FROM " ++ t.name ++ codes " WHERE " ++ separated (codes " AND ") (equations 1 (take key (column_names t)))
 
@@ -53,19 +53,19 @@ selection t key = selection_of (column_names t) t key
 abbrev pub selection_with_ids : Table → ℕ → List ℕ
 selection_with_ids t key = selection_of (column_names t ++ codes "rowid" ∷ []) t key
 
--- the statement that inserts the campaign row, in the second format;
--- if it is there, sets all but its `format` and its `world`
+-- the text of the INSERT of the campaign row, in the second format;
+-- if the row is there, it sets all but `format` and `world`
 abbrev pub campaign_upsert : List ℕ
 campaign_upsert = codes "INSERT INTO campaign (id, format, month, next_faction, next_unit, next_structure, pass, world) VALUES (1, 2, ?1, ?2, ?3, ?4, ?5, ?6) ON CONFLICT (id) DO UPDATE SET month = ?1, next_faction = ?2, next_unit = ?3, next_structure = ?4, pass = ?5"
 
--- the statement that inserts the campaign row, in the second format;
--- if it is there, sets its `format` and its `world` alone
+-- the text of the INSERT of the campaign row, in the second format;
+-- if the row is there, it sets `format` and `world` alone
 abbrev pub upgrading_upsert : List ℕ
 upgrading_upsert = codes "INSERT INTO campaign (id, format, month, next_faction, next_unit, next_structure, pass, world) VALUES (1, 2, ?1, ?2, ?3, ?4, ?5, ?6) ON CONFLICT (id) DO UPDATE SET format = 2, world = ?6"
 
 -- ---- sets of statements
 
--- a set of statements: of texts with the values of their parameters
+-- a set of statements, each a text with the values of its parameters
 abbrev pub Statements : Type 1
 Statements = List ℕ → Row → Type 0
 

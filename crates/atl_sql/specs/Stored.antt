@@ -12,27 +12,31 @@ first_columns count row = map (column row) (range_with_len 0 count)
 
 -- what a column is read as: an integer, a text of UTF-8, the bytes of any text, or the bytes of a blob
 pub data Form : Type 0 where
+  -- an integer
   Number : Form
+  -- a text of UTF-8
   Utf8Text : Form
+  -- the bytes of a text, UTF-8 or not
   TextBytes : Form
+  -- the bytes of a blob
   Bytes : Form
 
--- the value is of this form
+-- a value can be read in this form
 abbrev pub IsOf : Form → Value → Type 0
 IsOf Number v = (n : ℤ) × (v ≡ Int n)
 IsOf Utf8Text v = (t : List ℕ) × (v ≡ Text t) × IsUtf8 t
 IsOf TextBytes v = (t : List ℕ) × (v ≡ Text t)
 IsOf Bytes v = (b : List ℕ) × (v ≡ Blob b)
 
--- each value of the row from the column `at` on is of its column's form
+-- each value of the row from the column `at` on can be read in the form that the list `forms` gives for it, in order
 abbrev pub IsTypedFrom : ℕ → List Form → Row → Type 0
 IsTypedFrom at [] row = ⊤
 IsTypedFrom at (form ∷ forms) row = IsOf form (column row at) × IsTypedFrom (at + 1) forms row
 
--- each value of the row is of its column's form
+-- each value of the row can be read in its column's form
 abbrev pub IsTyped : List Form → Row → Type 0
 IsTyped forms row = IsTypedFrom 0 forms row
 
--- each value of each row is of its column's form
+-- each value of each of the rows can be read in its column's form
 abbrev pub AreTyped : List Form → List Row → Type 0
 AreTyped forms rows = (row : Row) → Has rows row → IsTyped forms row

@@ -48,65 +48,75 @@ market_unique = 1 ∷ 2 ∷ []
 
 -- ---- the tables, each with the number of its tree
 
--- one row, the campaign row: its key is `id`, and its check says `id = 1`
+-- the table `campaign` of one row, the campaign row: its key is `id`, and its check says `id = 1`
 abbrev pub campaign_table : Table
 campaign_table = table 0 (codes "campaign")
     (number (codes "id") ∷ number (codes "format") ∷ number (codes "month") ∷ number (codes "next_faction") ∷ number (codes "next_unit") ∷ number (codes "next_structure") ∷ text (codes "pass") ∷ text (codes "world") ∷ [])
     (Some 0) (0 ∷ []) [] (op2 (Compare Eq Binary) (col 1 0) (lit (Int (pos 1))) ∷ [])
 
--- a row for each faction, gone or not; `joined_as` is unique
+-- the table `faction`: a row for each faction, gone or not; `joined_as` is unique
 abbrev pub faction_table : Table
 faction_table = table 1 (codes "faction")
     (number (codes "number") ∷ text (codes "joined_as") ∷ text (codes "name") ∷ text (codes "pass") ∷ number (codes "gone") ∷ [])
     (Some 0) (0 ∷ []) (faction_unique ∷ []) []
 
--- a row for each region
+-- the table `region`: a row for each region
 abbrev pub region_table : Table
 region_table = table 3 (codes "region") (number (codes "number") ∷ number (codes "peasants") ∷ number (codes "money") ∷ []) (Some 0) (0 ∷ []) [] []
 
--- a row for each unit
+-- the table `unit`: a row for each unit
 abbrev pub unit_table : Table
 unit_table = table 4 (codes "unit")
     (number (codes "number") ∷ number (codes "faction") ∷ text (codes "name") ∷ number (codes "region") ∷ number (codes "structure") ∷ number (codes "men") ∷ number (codes "money") ∷ number (codes "guard") ∷ [])
     (Some 0) (0 ∷ []) [] []
 
--- what units have: a row for each item and each skill of a unit
+-- the table `has` of what units have: a row for each item and each skill of a unit
 abbrev pub has_table : Table
 has_table = table 5 (codes "has") (number (codes "unit") ∷ number (codes "sort") ∷ number (codes "thing") ∷ number (codes "amount") ∷ []) None has_unique (has_unique ∷ []) []
 
--- a row for each structure
+-- the table `structure`: a row for each structure
 abbrev pub structure_table : Table
 structure_table = table 7 (codes "structure")
     (number (codes "number") ∷ number (codes "kind") ∷ text (codes "name") ∷ number (codes "region") ∷ number (codes "done") ∷ number (codes "owner") ∷ [])
     (Some 0) (0 ∷ []) [] []
 
--- a row for each faction that sent a mailing
+-- the table `mail`: a row for each faction that sent a mailing
 abbrev pub mail_table : Table
 mail_table = table 8 (codes "mail") (number (codes "faction") ∷ field (codes "text") Blob ∷ []) (Some 0) (0 ∷ []) [] []
 
--- a row for each faction that has a report
+-- the table `report`: a row for each faction that has a report
 abbrev pub report_table : Table
 report_table = table 9 (codes "report") (number (codes "faction") ∷ text (codes "text") ∷ []) (Some 0) (0 ∷ []) [] []
 
--- a row for each entry and thing with an amount
+-- the table `books`: a row for each entry and thing with an amount
 abbrev pub books_table : Table
 books_table = table 10 (codes "books") (number (codes "entry") ∷ number (codes "thing") ∷ number (codes "amount") ∷ []) None books_unique (books_unique ∷ []) []
 
--- a row for each item of a region that is in stock
+-- the table `market`: a row for each item of a region that is in stock
 abbrev pub market_table : Table
 market_table = table 12 (codes "market") (number (codes "region") ∷ number (codes "item") ∷ number (codes "stock") ∷ []) None market_unique (market_unique ∷ []) []
 
 -- the parts of a campaign, one for each table: `Own` is the campaign row, `Goods` what units have, `Markets` the stocks
 pub data Part : Type 0 where
+  -- the campaign row, in the table `campaign`
   Own : Part
+  -- the factions, in `faction`
   Factions : Part
+  -- the regions, in `region`
   Regions : Part
+  -- the units, in `unit`
   Units : Part
+  -- the items and skills of units, in `has`
   Goods : Part
+  -- the structures, in `structure`
   Structures : Part
+  -- the mailings, in `mail`
   Mail : Part
+  -- the last reports, in `report`
   Reports : Part
+  -- the amounts of the books, in `books`
   Books : Part
+  -- the stocks of markets, in `market`
   Markets : Part
 
 -- the table of a part
@@ -157,7 +167,7 @@ IsNumberedPart Books = ⊥
 IsNumberedPart Markets = ⊥
 IsNumberedPart part = ⊤
 
--- how many columns the key of a part's table has; they are its first ones
+-- how many columns the key of a part's table has; these are its first columns
 abbrev pub key_of : Part → ℕ
 key_of part = length (table_of part).primary
 
@@ -165,7 +175,7 @@ key_of part = length (table_of part).primary
 abbrev pub all_tables : List Table
 all_tables = map table_of all_parts
 
--- the four indexes that the database makes for the keys that are not the row's number, each with its tree
+-- the four indexes that the database makes for the unique keys of the ten tables, each with its tree
 abbrev pub all_indexes : List Index
 all_indexes = automatic faction_table 0 faction_unique 2 ∷ automatic has_table 0 has_unique 6 ∷ automatic books_table 0 books_unique 11 ∷ automatic market_table 0 market_unique 13 ∷ []
 
@@ -177,8 +187,8 @@ first_tables tables indexes = record { tables = take tables all_tables; indexes 
 abbrev pub no_tables : Schema
 no_tables = first_tables 0 0
 
--- The schema of the first `count` of the ten tables and the first `keys` of their indexes, without a view.
--- After these tables come the other `tables`, after these indexes the other `indexes`.
+-- the schema without a view whose tables are the first `count` of the ten and then `tables`, and whose indexes are
+-- the first `keys` of the ten tables' four and then `indexes`
 abbrev pub first_and : ℕ → ℕ → List Table → List Index → Schema
 first_and count keys tables indexes = record { tables = take count all_tables ++ tables; indexes = take keys all_indexes ++ indexes; views = [] }
 
@@ -188,24 +198,35 @@ IsHarmless count i = (t : Table) → Has (take count all_tables) t → guards i 
 
 -- The list `all` is the first `count` of the ten tables and then others, of which none has a foreign key.
 pub record AreTables (count : ℕ) (all : List Table) : Type 0 where
+  -- the tables after the first `count`
   pub others : List Table
+  -- the list is the first `count` of the ten tables, and then the others
   pub is : all ≡ take count all_tables ++ others
+  -- none of the others has a foreign key
   pub free : AllByRecursion (λ t. t.references ≡ []) others
 
 -- The list `all` is the first `keys` of the four indexes, and then others,
 -- none of which makes anything unique in the first `count` of the ten tables.
 pub record AreIndexes (count keys : ℕ) (all : List Index) : Type 0 where
+  -- the indexes after the first `keys`
   pub others : List Index
+  -- the list is the first `keys` of the four indexes, and then the others
   pub is : all ≡ take keys all_indexes ++ others
+  -- none of the others makes anything unique in the first `count` tables
   pub plain : AllByRecursion (IsHarmless count) others
 
 -- The schema is the first `count` tables and `keys` indexes, then tables without a foreign key and indexes that make
 -- nothing unique in the first `count` tables; and there is no view.
 pub record Begins (count keys : ℕ) (schema : Schema) : Type 0 where
+  -- the tables after the first `count`
   pub tables : List Table
+  -- the indexes after the first `keys`
   pub indexes : List Index
+  -- the schema is the first `count` tables and `keys` indexes, and then these tables and indexes
   pub is : schema ≡ first_and count keys tables indexes
+  -- none of the tables after the first `count` has a foreign key
   pub free : AllByRecursion (λ t. t.references ≡ []) tables
+  -- none of the indexes after the first `keys` makes anything unique in the first `count` tables
   pub plain : (i : Index) → Has indexes i → IsHarmless count i
 
 -- ---- the schema of a campaign
@@ -255,5 +276,7 @@ all_trees = map (λ t. t.tree) all_tables
 
 -- The trees list the schema and obey it (`IsSound`). In each of the ten tables the rowids are integers, no two alike.
 pub record IsSoundDatabase (schema : Schema) (db : Trees) : Type 0 where
+  -- in each of the ten tables the rowids are integers, no two alike
   pub keyed : (table : Table) → Has all_tables table → IsKeyed (db table.tree)
+  -- the trees list the schema and obey it
   pub listed : IsSound schema db

@@ -35,15 +35,15 @@ pub record Writes {S : Type 0} (g : Ghosts S) (own : Statements) (Does : State �
 abbrev pub RunsStatement : List ℕ → Row → State → State → Type 0
 RunsStatement sql params old new = IsTrue old.in_transaction × (count : ℕ) × ExecutesInside 0 sql params old new (Ok count)
 
--- A step that puts this row into the table, whose key is its first `key` columns.
+-- A step of a transaction that puts this row into the table, whose key is its first `key` columns.
 abbrev pub WritesRow : {S A : Type 0} → Ghosts S → Table → ℕ → Row → Result A Error → MutBor (Held S) → MutBor (Held S) → Type 0
 WritesRow g table key row result old new = Writes g (Only (upsert table key) row) (Inside HasTables (Puts table key row)) result old new
 
--- A step that deletes the rows whose key, the first `key` columns, is `k`.
+-- A step of a transaction that deletes the rows whose key, the first `key` columns, is `k`.
 abbrev pub TakesOut : {S A : Type 0} → Ghosts S → Table → ℕ → Row → Result A Error → MutBor (Held S) → MutBor (Held S) → Type 0
 TakesOut g table key k result old new = Writes g (Only (deletion table key) k) (Inside HasTables (Drops table key k)) result old new
 
--- A step that puts all these rows, one after another.
+-- A step of a transaction that puts all these rows into the table, one after another.
 abbrev pub WritesRows : {S A : Type 0} → Ghosts S → Table → ℕ → List Row → Result A Error → MutBor (Held S) → MutBor (Held S) → Type 0
 WritesRows g table key rows result old new = Writes g (Each (upsert table key) (Has rows)) (Inside HasTables (PutsRows table key rows)) result old new
 
@@ -51,7 +51,7 @@ WritesRows g table key rows result old new = Writes g (Each (upsert table key) (
 -- `Does` is said only of tables that were as `Before` says.
 -- That the connection was in no transaction is a premise of the calls.
 pub record Transacts {S : Type 0} (g : Ghosts S) (own : Statements) (Before : Database → Type 0) (Does : Database → Database → Type 0) {A : Type 0} (result : Result A Error) (old new : Held S) : Type 0 where
-  -- With Ok the transaction has done `Does` and committed it, if the disk is clean and the tables were as `Before` says.
+  -- With Ok the transaction did `Does` and committed it, if the disk is clean and the tables were as `Before` says.
   pub ok : HasCleanDisk (state g new) → OnOk result (Commits Before Does (state g old) (state g new))
   -- With an error, on a clean disk, the tables are those of the last commit, if the connection is still open.
   pub err : HasCleanDisk (state g new) → OnErr result (LeavesOff (state g old) (state g new))

@@ -8,7 +8,7 @@ use Rattle.atl_sql.specs.declared.rows.has.ThingKind.TheVariants.{Item, Skill}
 use Rattle.atl_sql.specs.declared.rows.books.BooksRow.{BooksRow}
 use Rattle.atl_sql.specs.Shown.{has_row, books_row, CampaignRowValue}
 
--- the month, the next numbers and the pass text of a campaign row that is handed in
+-- the month, the next numbers and the pass text of a campaign row that is handed in to be written
 abbrev pub head_shown : CampaignRow → CampaignRowValue
 head_shown row = record { month = row.month; next_faction = row.next_faction; next_unit = row.next_unit; next_structure = row.next_structure; pass = row.pass.now }
 
@@ -17,10 +17,10 @@ abbrev pub sort_number : ThingKind → ℕ
 sort_number Item = 0
 sort_number Skill = 1
 
--- a row of `has` that is handed in, as SQL shows it
+-- a row of `has` that is handed in to be written, as SQL shows it
 abbrev pub has_shown : HasRow → Row
 has_shown row = has_row row.unit (sort_number row.sort) row.thing row.amount
 
--- a row of `books` that is handed in, as SQL shows it
+-- a row of `books` that is handed in to be written, as SQL shows it
 abbrev pub books_shown : BooksRow → Row
 books_shown row = books_row row.entry row.thing row.amount

@@ -6,7 +6,7 @@ use sqlite::{Error, ErrorCode};
 use std::alloc::{AllocError, AllocFailed};
 use std::fmt;
 
-/// Why the rows of a table are not read. Nothing is changed.
+/// Why the rows of a table could not be read; nothing is changed.
 #[derive(Drop, Clone, Copy, Debug, PartialEq, Eq)]
 pub enum ReadFault {
     /// The disk fails, is full or is damaged, the connection is shut, something is too big, or the
@@ -21,8 +21,9 @@ pub enum ReadFault {
     OtherType,
 }
 
-/// Shows the name of the fault.
+/// Shows a fault of reading by its name, such as `Refused`.
 impl fmt::Display for ReadFault {
+    /// Writes the fault's name.
     fn fmt<W: fmt::Write>(&self, f: &mut fmt::Formatter<W>) -> fmt::Result {
         write!(f, "{self:?}")
     }
@@ -31,7 +32,7 @@ impl fmt::Display for ReadFault {
 /// As an `Error`, a `ReadFault` is shown by its name.
 impl std::error::Error for ReadFault {}
 
-/// The fault `memory` for an error that is lack of memory, else the fault `other`.
+/// Chooses a fault for an error of the database: `memory` for lack of memory, else `other`.
 pub fn by_cause<F: Drop>(error: Error, memory: F, other: F) -> F
     ensures { result ≡ (if is_memory error then memory else other) }
 {
@@ -46,6 +47,7 @@ pub fn by_cause<F: Drop>(error: Error, memory: F, other: F) -> F
 impl From<Error> for ReadFault {
     ghost from_gives = { λ error fault. fault ≡ read_fault error };
 
+    /// The fault of reading for an error of a SELECT: Memory, Store or Refused.
     fn from(error: Error) -> ReadFault {
         match error {
             Error::SqliteFailure(ErrorCode::OutOfMemory) => ReadFault::Memory,
@@ -68,6 +70,7 @@ impl<T: Drop> From<AllocFailed<T>> for ReadFault {
 
     ghost from_gives = { λ _ fault. fault ≡ Memory };
 
+    /// The fault Memory, whatever the value that could not be stored is.
     fn from(_e: AllocFailed<T>) -> ReadFault {
         ReadFault::Memory
     }
@@ -79,6 +82,7 @@ impl From<AllocError> for ReadFault {
 
     ghost from_gives = { λ _ fault. fault ≡ Memory };
 
+    /// The fault Memory.
     fn from(_e: AllocError) -> ReadFault {
         ReadFault::Memory
     }

@@ -1,4 +1,4 @@
-//! Things with one row in a table, by number: how each is put and deleted.
+//! The six tables whose key is a number, such as `faction`: how their rows are put and deleted.
 ghost use Rattle.std.specs.Prelude.{◌≡◌, ◌↔◌, ℕ, [], ◌∷◌, take};
 ghost use Rattle.std.specs.Ordering.{nat_cmp};
 ghost use Rattle.std.specs.Option.{option_copied};
@@ -20,7 +20,8 @@ use atl_campaign::Campaign;
 use atl_world::{Entries, MarkedNumbers};
 use sqlite::{Alter, Error, Transaction, params};
 
-/// A kind of thing with a number, such as factions: each has one row, whose key is the number.
+/// A type, such as `Faction`, each of whose values has a number and one row in a table, with the
+/// number as its key.
 pub trait NumberedRow: Sized {
     // The part that has a row for each thing of the kind.
     ghost part: { Part };
@@ -46,32 +47,33 @@ pub trait NumberedRow: Sized {
     // A row of the part is marked exactly if its number is.
     ghost are_marked: { (m : Marks) (r : SqlRow) → is_marked m part r ≡ begins_marked (marks m) r };
 
-    /// The thing of the kind that has this number in a campaign, if any.
+    /// The value with this number in a campaign, such as a faction; None if there is none.
     fn of(campaign: &Campaign, number: u32) -> Option<&Self>
         ensures { option_copied result ≡ get (values campaign.now.value) number };
 
-    /// The numbers of the kind that are marked in a campaign, in rising order.
+    /// The numbers of the values whose rows are marked in a campaign, in rising order.
     fn marked(campaign: &Campaign) -> MarkedNumbers<'_>
         ensures { Lists (marks campaign.now.marks) result };
 
-    /// The text of the DELETE of the row that has a number.
+    /// The text of the statement that deletes the row with a given number.
     fn removal() -> &'static str
         ensures { result.now ≡ deletion (table_of part) 1 };
 
-    /// Inserts the thing's row, or changes the row that has its number.
+    /// Inserts the value's row under its number, or changes the row that has the number.
     fn put<S: Alter>(&self, tx: &mut Transaction<'_, S>, number: u32) -> Result<(), Error>
         ensures { WritesRow S.Store (table_of part) 1 (line number self.now) result tx.old.conn
             tx.new.conn };
 }
 
-/// A kind of thing that a campaign holds in a map, by number.
+/// A type with numbered rows (`NumberedRow`) whose values a campaign holds in a map, by number.
 pub trait Mapped: NumberedRow {
-    /// All things of the kind that a campaign has, in rising order of their numbers.
+    /// All values of the type that a campaign has, in rising order of their numbers.
     fn all(campaign: &Campaign) -> Entries<'_, Self>
         ensures { result ≡ entries (Self.values campaign.now.value) };
 }
 
-/// Inserts the row of each of these things into its table, or changes the row that has its number.
+/// Inserts the row of each of these numbered values into the values' table, or changes the row that
+/// has its number.
 pub fn put_each<V: NumberedRow + Drop, S: Alter>(
     tx: &mut Transaction<'_, S>,
     values: Entries<'_, V>,
@@ -85,7 +87,7 @@ pub fn put_each<V: NumberedRow + Drop, S: Alter>(
     Ok(())
 }
 
-/// Deletes the row that has the number from the table of the kind `V`, if there is one.
+/// Deletes the row with this number, if there is one, from the table of the type `V`.
 pub fn take_out<V: NumberedRow, S: Alter>(
     tx: &mut Transaction<'_, S>,
     number: u32,

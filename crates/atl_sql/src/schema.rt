@@ -33,7 +33,8 @@ fn are_free(tables: &[Table]) -> bool
     true
 }
 
-/// Whether these are the first `count` tables of a campaign and then tables without a foreign key.
+/// Whether a schema's tables are the first `count` tables of a campaign and then tables without a
+/// foreign key.
 fn are_tables(tables: &[Table], count: usize) -> bool
     requires { count ≤ length all_tables }
     ensures { IsTrue result ↔ (AreTables count tables.now) }

@@ -33,7 +33,8 @@ macro_rules! columns {
 
 // ---- the tables, and of each unique key its indexes in a stored row (0 is the rowid)
 
-/// The table of the campaign row: id 1, format, month, next numbers, pass text and world text.
+/// The table `campaign` of the one campaign row: id 1, format, month, next numbers, pass text and
+/// world text.
 const CAMPAIGN: TableDefinition = TableDefinition {
     text: "CREATE TABLE campaign (id INTEGER NOT NULL PRIMARY KEY CHECK (id = 1), format INTEGER NOT NULL, month INTEGER NOT NULL, next_faction INTEGER NOT NULL, next_unit INTEGER NOT NULL, next_structure INTEGER NOT NULL, pass TEXT NOT NULL, world TEXT NOT NULL) STRICT",
     tree: 0,
@@ -44,7 +45,7 @@ const CAMPAIGN: TableDefinition = TableDefinition {
     ),
 };
 
-/// The factions: a row for each faction, gone or not.
+/// The table `faction`: a row for each faction, gone or not.
 pub(crate) const FACTION: TableDefinition = TableDefinition {
     text: "CREATE TABLE faction (number INTEGER NOT NULL PRIMARY KEY, joined_as TEXT NOT NULL UNIQUE, name TEXT NOT NULL, pass TEXT NOT NULL, gone INTEGER NOT NULL) STRICT",
     tree: 1,
@@ -55,10 +56,10 @@ pub(crate) const FACTION: TableDefinition = TableDefinition {
 /// The unique key of `faction`, by its column's index in a stored row: `joined_as`.
 pub(crate) const FACTION_UNIQUE: [usize; 1] = [2];
 
-/// The tree of the index of the unique key of `faction`.
+/// The number of the file's tree that holds the index of the unique key of `faction`.
 pub(crate) const FACTION_INDEX: u32 = 2;
 
-/// The regions: a row for each region.
+/// The table `region`: a row for each region.
 const REGION: TableDefinition = TableDefinition {
     text: "CREATE TABLE region (number INTEGER NOT NULL PRIMARY KEY, peasants INTEGER NOT NULL, money INTEGER NOT NULL) STRICT",
     tree: 3,
@@ -66,7 +67,7 @@ const REGION: TableDefinition = TableDefinition {
     columns: columns!(Integer: b"number" b"peasants" b"money"),
 };
 
-/// The units: a row for each unit.
+/// The table `unit`: a row for each unit.
 const UNIT: TableDefinition = TableDefinition {
     text: "CREATE TABLE unit (number INTEGER NOT NULL PRIMARY KEY, faction INTEGER NOT NULL, name TEXT NOT NULL, region INTEGER NOT NULL, structure INTEGER NOT NULL, men INTEGER NOT NULL, money INTEGER NOT NULL, guard INTEGER NOT NULL) STRICT",
     tree: 4,
@@ -76,7 +77,7 @@ const UNIT: TableDefinition = TableDefinition {
     ),
 };
 
-/// What units have: a row for each item and each skill of a unit.
+/// The table `has` of what units have: a row for each item and each skill of a unit.
 pub(crate) const HAS: TableDefinition = TableDefinition {
     text: "CREATE TABLE has (unit INTEGER NOT NULL, sort INTEGER NOT NULL, thing INTEGER NOT NULL, amount INTEGER NOT NULL, PRIMARY KEY (unit, sort, thing)) STRICT",
     tree: 5,
@@ -87,10 +88,10 @@ pub(crate) const HAS: TableDefinition = TableDefinition {
 /// The unique key of `has`, by its columns' indexes in a stored row: `unit`, `sort` and `thing`.
 pub(crate) const HAS_UNIQUE: [usize; 3] = [1, 2, 3];
 
-/// The tree of the index of the unique key of `has`.
+/// The number of the file's tree that holds the index of the unique key of `has`.
 pub(crate) const HAS_INDEX: u32 = 6;
 
-/// The structures: a row for each structure.
+/// The table `structure`: a row for each structure.
 const STRUCTURE: TableDefinition = TableDefinition {
     text: "CREATE TABLE structure (number INTEGER NOT NULL PRIMARY KEY, kind INTEGER NOT NULL, name TEXT NOT NULL, region INTEGER NOT NULL, done INTEGER NOT NULL, owner INTEGER NOT NULL) STRICT",
     tree: 7,
@@ -98,7 +99,7 @@ const STRUCTURE: TableDefinition = TableDefinition {
     columns: columns!(Integer: b"number" b"kind"; Text: b"name"; Integer: b"region" b"done" b"owner"),
 };
 
-/// The mailings: a row for each faction that sent one.
+/// The table `mail`: a row for the mailing of each faction that sent one.
 const MAIL: TableDefinition = TableDefinition {
     text: "CREATE TABLE mail (faction INTEGER NOT NULL PRIMARY KEY, text BLOB NOT NULL) STRICT",
     tree: 8,
@@ -106,7 +107,7 @@ const MAIL: TableDefinition = TableDefinition {
     columns: columns!(Integer: b"faction"; Blob: b"text"),
 };
 
-/// The last reports: a row for each faction that has one.
+/// The table `report`: a row for the last report of each faction that has one.
 const REPORT: TableDefinition = TableDefinition {
     text: "CREATE TABLE report (faction INTEGER NOT NULL PRIMARY KEY, text TEXT NOT NULL) STRICT",
     tree: 9,
@@ -114,7 +115,7 @@ const REPORT: TableDefinition = TableDefinition {
     columns: columns!(Integer: b"faction"; Text: b"text"),
 };
 
-/// The books: a row for each entry and thing with an amount.
+/// The table `books`: a row for each entry and thing with an amount.
 pub(crate) const BOOKS: TableDefinition = TableDefinition {
     text: "CREATE TABLE books (entry INTEGER NOT NULL, thing INTEGER NOT NULL, amount INTEGER NOT NULL, PRIMARY KEY (entry, thing)) STRICT",
     tree: 10,
@@ -125,10 +126,10 @@ pub(crate) const BOOKS: TableDefinition = TableDefinition {
 /// The unique key of `books`, by its columns' indexes in a stored row: `entry` and `thing`.
 pub(crate) const BOOKS_UNIQUE: [usize; 2] = [1, 2];
 
-/// The tree of the index of the unique key of `books`.
+/// The number of the file's tree that holds the index of the unique key of `books`.
 pub(crate) const BOOKS_INDEX: u32 = 11;
 
-/// The stocks of markets, a table that the first format doesn't have.
+/// The table `market` of the stocks of markets, which the first format doesn't have.
 pub(crate) const MARKET: TableDefinition = TableDefinition {
     text: "CREATE TABLE market (region INTEGER NOT NULL, item INTEGER NOT NULL, stock INTEGER NOT NULL, PRIMARY KEY (region, item)) STRICT",
     tree: 12,
@@ -139,10 +140,10 @@ pub(crate) const MARKET: TableDefinition = TableDefinition {
 /// The unique key of `market`, by its columns' indexes in a stored row: `region` and `item`.
 pub(crate) const MARKET_UNIQUE: [usize; 2] = [1, 2];
 
-/// The tree of the index of the unique key of `market`.
+/// The number of the file's tree that holds the index of the unique key of `market`.
 pub(crate) const MARKET_INDEX: u32 = 13;
 
-/// The ten tables, in the order in which they are made.
+/// The ten tables of a campaign, in the order in which they are made.
 pub(crate) const ALL: [TableDefinition; 10] = [
     CAMPAIGN, FACTION, REGION, UNIT, HAS, STRUCTURE, MAIL, REPORT, BOOKS, MARKET,
 ];
@@ -161,7 +162,7 @@ pub(crate) const FIRST_INDEXES: usize = 3;
 
 // ---- whether a table of a schema is one of these
 
-/// Whether this is the table `campaign`, which has a check.
+/// Whether a table of a schema is the table `campaign`, with its check `id = 1`.
 fn is_campaign(found: &Table) -> bool
     ensures { IsTrue result ↔ (found.now ≡ campaign_table) }
 {
@@ -171,7 +172,7 @@ fn is_campaign(found: &Table) -> bool
         && is_own_row(&found.checks)
 }
 
-/// Whether this is the table `faction`, in which `joined_as` is unique.
+/// Whether a table of a schema is the table `faction`, in which `joined_as` is unique.
 fn is_faction(found: &Table) -> bool
     ensures { IsTrue result ↔ (found.now ≡ faction_table) }
 {
@@ -181,7 +182,7 @@ fn is_faction(found: &Table) -> bool
         && found.checks.roots.is_empty()
 }
 
-/// Whether this is the table of a campaign at index `place`, from 0, in the order of making.
+/// Whether a table of a schema is the one at index `place` of the ten tables of a campaign.
 fn is_table(found: &Table, place: usize) -> bool
     ensures { IsTrue result ↔ (slice_get all_tables place ≡ Some found.now) }
 {
@@ -200,7 +201,7 @@ fn is_table(found: &Table, place: usize) -> bool
     }
 }
 
-/// Whether the first `count` tables are the first `count` of a campaign.
+/// Whether a schema's first `count` tables are the first `count` of the ten tables of a campaign.
 pub(crate) fn are_first_tables(tables: &[Table], count: usize) -> bool
     requires { count ≤ length tables.now }
     ensures { IsTrue result ↔ (take count tables.now ≡ take count all_tables) }

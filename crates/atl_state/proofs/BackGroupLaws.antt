@@ -69,7 +69,7 @@ module _ {R : Type 0} (none : R → Bool) (row : ℕ → ℕ → R) (m : FinMap 
 -- ---- the amounts of a group
 
 module _ {R : Type 0} (thing amount : R → ℕ) (mine : R → Bool) (m : FinMap nat_cmp ℕ) (listed rows : List R) (same : IsPermutation listed rows) where
-  -- the map k has the row's amount under the row's thing
+  -- a map of amounts has the row's amount under the row's thing
   abbrev IsIn : FinMap nat_cmp ℕ → R → Type 0
   IsIn k r = get k (thing r) ≡ Some (amount r)
 

@@ -81,7 +81,9 @@ module _ (units : FinMap nat_cmp Unit) where
 
   -- the numbers of units, items and skills fit 32 bits, and each amount that a unit has of these is from 1 to most_u32
   pub record AreHad : Type 0 where
+    -- the numbers of units fit 32 bits
     pub numbers : Every (λ n u. n ≤ most_u32) units
+    -- the numbers of a unit's items and skills fit 32 bits, and each amount is from 1 to most_u32
     pub goods : Every (λ n u. (s : ℕ) → s < 2 → Every (λ i a. (i ≤ most_u32) × (1 ≤ a) × (a ≤ most_u32)) (goods_of s u)) units
 
   module _ (had : AreHad) (rows : List StoredHas) (h : IsPermutation (has_rows (entries units)) rows) where
@@ -102,13 +104,15 @@ module _ (units : FinMap nat_cmp Unit) where
     nonzero : (a : ℕ) → 1 ≤ a → is_zero (pos a) ≡ false
     nonzero a l = grind (arith, nat_tests)
 
-    -- equal Some's have equal units
+    -- two units whose Some's are equal are equal
     some_same : (u v : Unit) → Some u ≡ Some v → u ≡ v
     some_same u v e = cc
 
     -- unit k and sort s are unit n and sort `sort`: k is n, and s is `sort`
     record Of (n sort k s : ℕ) : Type 0 where
+      -- the unit k is n
       unit : k ≡ n
+      -- the sort s is `sort`
       kind : s ≡ sort
 
     -- if a row of unit k and sort s is read as of unit n and sort `sort`, k is n and s is `sort`

@@ -37,7 +37,7 @@ region_apart n stocks =
 nonzero : (a : ℕ) → 1 ≤ a → is_zero (pos a) ≡ false
 nonzero a l = grind (arith, nat_tests)
 
--- equal Some's have equal regions
+-- two regions whose Some's are equal are equal
 some_same : (r s : Region) → Some r ≡ Some s → r ≡ s
 some_same r s e = cc
 
@@ -63,7 +63,9 @@ module _ (regions : FinMap nat_cmp Region) where
 
   -- the numbers of regions and of items in stock fit 32 bits, and each listed stock is from 1 to most_u32
   pub record AreStocked : Type 0 where
+    -- the numbers of regions fit 32 bits
     pub numbers : Every (λ n r. n ≤ most_u32) regions
+    -- the numbers of items in stock fit 32 bits, and each listed stock is from 1 to most_u32
     pub stocks : Every (λ n r. Every (λ i a. (i ≤ most_u32) × (1 ≤ a) × (a ≤ most_u32)) r.stocks) regions
 
   module _ (few : AreStocked) (rows : List StoredMarket) (h : IsPermutation (market_rows Second (entries regions)) rows) where

@@ -53,11 +53,17 @@ one_amount books a z none some =
 
 -- a row of `books` is read as an account of the first `things` things, and its amount is not 0
 pub record IsBooked (things : ℕ) (r : StoredBooks) : Type 0 where
+  -- the account, which is an entry and a thing, that the row is read as
   pub account : Account
+  -- the row written for the account and the row's amount is the row
   pub row : books_row account.0 account.1 r.amount ≡ r
+  -- the row's entry is read as that of the account
   pub named : entry_numbered (as_u32 r.entry) ≡ Some account.0
+  -- the row's thing is read as that of the account
   pub numbered : thing_at (as_u32 r.thing) ≡ account.1
+  -- the row's thing is one of the first `things` things
   pub there : as_u32 r.thing < things
+  -- the row's amount is not 0
   pub some : r.amount ≢ pos 0
 
 -- if n is at least 1, and i is n - 1, i + 1 is n

@@ -18,7 +18,7 @@ differ_of (e ∷ es) s h = (
   differ_of es (and_parts _ _ s).1 (λ n k f g is js same. h n k f g (later e es n f s is) (later e es k g s js) same),
 )
 
--- factions with the same joined name have the same number
+-- in a map of factions, those with the same joined name have the same number
 abbrev pub AllDiffer : FinMap nat_cmp Faction → Type 0
 AllDiffer m = Every (λ n f. Every (λ k g. f.joined_as ≡ g.joined_as → n ≡ k) m) m
 

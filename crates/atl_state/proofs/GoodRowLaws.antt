@@ -86,9 +86,13 @@ region_back markets n r few p m stocks =
 
 -- a structure's kind fits 16 bits, and its region, owner and how much is done 32
 pub record StructureFits (s : Structure) : Type 0 where
+  -- the kind fits 16 bits
   pub kind : s.kind ≤ most_u16
+  -- the region's number fits 32 bits
   pub region : s.region ≤ most_u32
+  -- how much is done fits 32 bits
   pub done : s.done ≤ most_u32
+  -- the owner's number fits 32 bits
   pub owner : s.owner ≤ most_u32
 
 -- a structure is read back from its row, if its numbers fit (StructureFits)
@@ -102,10 +106,15 @@ structure_back n s h =
 
 -- a unit's faction, region, structure, men and money fit 32 bits
 pub record UnitFits (u : Unit) : Type 0 where
+  -- the faction's number fits 32 bits
   pub faction : u.faction ≤ most_u32
+  -- the region's number fits 32 bits
   pub region : u.region ≤ most_u32
+  -- the structure's number fits 32 bits
   pub structure : u.structure ≤ most_u32
+  -- the number of men fits 32 bits
   pub men : u.holding.men ≤ most_u32
+  -- the money fits 32 bits
   pub money : u.holding.money ≤ most_u32
 
 -- a unit is read back from its row and its goods, if its numbers fit 32 bits

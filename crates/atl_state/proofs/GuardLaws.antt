@@ -18,7 +18,7 @@ use Rattle.atl_records.proofs.EveryLaws.{none_some, passes-listed}
 
 -- ---- a number that is listed
 
--- the number is in the list
+-- a number is in a list of numbers
 abbrev In : ℕ → List ℕ → Type 0
 In n [] = ⊥
 In n (m ∷ ms) = (n ≡ m) ⊎ In n ms
@@ -59,7 +59,7 @@ module _ {V : Type 0} (p : V → Bool) where
 
 -- ---- the faction that guards a region, its holder
 
--- equal Some's have equal numbers
+-- two numbers whose Some's are equal are equal
 same_value : (x y : ℕ) → Some x ≡ Some y → x ≡ y
 same_value x y e = cc
 
@@ -76,7 +76,7 @@ module _ (faction : ℕ → Option ℕ) where
   like_holder x (m ∷ ms) h n y (inl same) is = (Decides-eqb y x).0 (ap (λ o. agree o (Some x)) (sym (ap faction (sym same) ∙ is)) ∙ (and_parts _ _ h).0)
   like_holder x (m ∷ ms) h n y (inr mine) is = like_holder x ms (and_parts _ _ h).1 n y mine is
 
-  -- any two numbers of the list that have a faction have the same
+  -- any two numbers of a list that have a faction have the same faction
   abbrev Alike : List ℕ → Type 0
   Alike ns = (n k x y : ℕ) → In n ns → In k ns → faction n ≡ Some x → faction k ≡ Some y → x ≡ y
 

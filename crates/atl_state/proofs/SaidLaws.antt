@@ -90,14 +90,23 @@ none_or_below m (suc n) most every there = there_below m (suc n) most every (the
 -- ---- the rules that are needed
 -- rows keep the rules by which they are just the rows of the campaign assembled from them (`campaign_of`)
 pub record RowsKeep (f : Format) (w : WorldValue) (p : Parts) : Type 0 where
+  -- the world keeps the rules of worlds (`IsWorld`)
   pub world : IsWorld w
+  -- rule 1: there is one campaign row, of the format
   pub one : is_one_campaign_row f p.campaign ≡ true
+  -- rule 1: the rows of `market` are such as the format may have
   pub format : are_of_format f p.markets ≡ true
+  -- rule 2: keys differ, and numbers are in their ranges
   pub range : AreRowsInRange w p
+  -- rule 4: all that the campaign read from the rows names exists
   pub known : AreKnown w (campaign_of w p)
+  -- rule 4: each row of `has` is of a unit that exists
   pub held : list_all (is_of_unit (campaign_of w p)) p.has ≡ true
+  -- rule 4: each row of `market` is of a market of the world
   pub stocked : list_all (is_of_market w) p.markets ≡ true
+  -- rule 6: each skill of a unit has days within their bounds
   pub days : AreDays (campaign_of w p)
+  -- rule 11: each row of `books` is of an entry of the format and a thing of the world
   pub booked : list_all (is_booked f w) p.books ≡ true
 
 -- ---- the campaign's own row

@@ -36,7 +36,7 @@ rule_number Guards = 10
 rule_number Books = 11
 rule_number Mail = 12
 
--- the rows p of format f keep a rule, which is about the rows, about the campaign read from them, or about both
+-- the rows p of format f keep rule r, which is about the rows, about the campaign read from them, or about both
 abbrev pub KeepsRule : Format → WorldValue → Parts → Rule → Type 0
 KeepsRule f w p OneRow = IsTrue (is_one_campaign_row f p.campaign) × IsTrue (are_of_format f p.markets)
 KeepsRule f w p Ranges = AreRowsInRange w p
@@ -57,12 +57,16 @@ KeepsRulesBelow f w p n = (r : Rule) → rule_number r < n → KeepsRule f w p r
 
 -- the rows break rule r, and keep all rules before it
 pub record IsFirstBroken (f : Format) (w : WorldValue) (p : Parts) (r : Rule) : Type 0 where
+  -- the rows keep all rules with lower numbers
   pub before : KeepsRulesBelow f w p (rule_number r)
+  -- the rows break the rule
   pub broken : ¬ KeepsRule f w p r
 
--- nothing is in stock, and no amount is booked under the entries of markets
+-- a campaign uses no markets: nothing is in stock, and no amount is booked under the entries of markets
 pub record IsWithoutMarkets (c : CampaignValue) : Type 0 where
+  -- nothing is in stock
   pub stocks : HasNoStocks c
+  -- no amount is booked under the entries of markets
   pub entries : (e : Entry) (t : Thing) → first_entry_count ≤ entry_index e → amount_in c.books e t ≡ pos 0
 
 -- the tables of the format can hold the campaign: the first format if it is `IsWithoutMarkets`, the second always
@@ -72,9 +76,13 @@ Fits Second c = ⊤
 
 -- c is a good campaign that has exactly the rows p, fits the format, and has nothing marked
 pub record IsChecked (f : Format) (w : WorldValue) (p : Parts) (c : MarkedCampaign) : Type 0 where
+  -- the rows are those of the campaign in the format
   pub rows : AreRowsOf f c.value p
+  -- the format can hold the campaign
   pub fits : Fits f c.value
+  -- the campaign is good
   pub good : IsGood w c.value
+  -- nothing of the campaign is marked
   pub marks : c.marks ≡ no_marks
 
 -- what `check_as` may answer: a good campaign with just these rows, the first rule that they break, or Memory

@@ -9,21 +9,22 @@ use Rattle.atl_campaign.specs.Campaign.{CampaignValue}
 use Rattle.atl_campaign.specs.Good.{guards}
 use Rattle.atl_records.specs.Every.{EachOf}
 
--- the owner of structure n is a unit inside it, or 0
+-- structure n has no owner (0), or its owner is a unit inside it
 pub record HasOwnerInside (c : CampaignValue) (n : ℕ) (s : Structure) : Type 0 where
+  -- an owner other than 0 is a unit of the campaign, and inside the structure
   pub owned : s.owner ≢ 0 → (u : Unit) × (get c.units s.owner ≡ Some u) × (u.structure ≡ n)
 
--- the faction of unit n, if the unit is there and guards, else None
+-- the faction of unit n, if the unit exists and guards its region, else None
 abbrev pub guard_of : CampaignValue → ℕ → Option ℕ
 guard_of c n = option_and_then (λ u. if guards u then Some u.faction else None) (get c.units n)
 
--- whether two factions are equal, or one of them is None
+-- whether the factions of two units that may guard don't conflict: they are equal, or one of them is None
 abbrev pub agree : Option ℕ → Option ℕ → Bool
 agree None b = true
 agree (Some x) None = true
 agree (Some x) (Some y) = x == y
 
--- whether all factions that `faction` gives for the listed units are the same one, and `holder`, if that is Some
+-- whether the listed units' factions, where `faction` gives one, are all the same, and are `holder`, if that is Some
 abbrev pub one_holder : (ℕ → Option ℕ) → Option ℕ → List ℕ → Bool
 one_holder faction holder [] = true
 one_holder faction holder (n ∷ ns) = agree (faction n) holder && one_holder faction (option_or holder (faction n)) ns

@@ -58,6 +58,7 @@ pub enum Rule {
     Mail = 12,
 }
 
+/// Gives a rule its number.
 impl Rule {
     /// The rule's number, from 1 to 12.
     pub fn number(self) -> u8
@@ -67,7 +68,7 @@ impl Rule {
     }
 }
 
-/// Why rows are not accepted as those of a good campaign.
+/// Why rows are refused as those of a good campaign: a rule that they break, or lack of memory.
 #[derive(Drop, Clone, Copy, Debug, PartialEq, Eq)]
 pub enum CheckFault {
     /// The first rule that the rows break.
@@ -76,8 +77,9 @@ pub enum CheckFault {
     Memory,
 }
 
-/// `Damaged` with the rule's number, as `Damaged 11`, or `Memory`.
+/// Shows a fault as `Damaged` with the rule's number, such as `Damaged 11`, or as `Memory`.
 impl fmt::Display for CheckFault {
+    /// Writes `Damaged` with the rule's number, or `Memory`.
     fn fmt<W: fmt::Write>(&self, f: &mut fmt::Formatter<W>) -> fmt::Result {
         match self {
             CheckFault::Damaged(rule) => write!(f, "Damaged {}", rule.number()),
@@ -86,6 +88,7 @@ impl fmt::Display for CheckFault {
     }
 }
 
+/// As an `Error`, a `CheckFault` is shown by `Display`.
 impl Error for CheckFault {}
 
 /// Whether rows keep rule 1: one campaign row of the format, and in the first no market rows.
@@ -98,8 +101,8 @@ fn keeps_one_row(format: Format, parts: &Parts) -> bool
         && are_of_format(format, parts.markets.as_slice())
 }
 
-/// Checks rules 1 to 3 on the rows, before a campaign is made of them: Err is the first that they
-/// break, or Memory.
+/// Checks rules 1 to 3 (one campaign row, ranges, names) on the rows, before a campaign is made of
+/// them: Err is the first that they break, or Memory.
 fn check_rows(alloc: Global, world: &World, parts: &Parts, format: Format) -> Result<(), CheckFault>
     ensures { Passes format world.now parts.now 4 result }
 {
@@ -118,7 +121,7 @@ fn check_rows(alloc: Global, world: &World, parts: &Parts, format: Format) -> Re
     }
 }
 
-/// Whether all rows of `has` are of units that are there.
+/// Whether all rows of `has` are of units that the campaign has.
 fn are_of_units(parts: &Parts, campaign: &Campaign) -> bool
     ensures { result ≡ list_all (is_of_unit campaign.now.value) parts.now.has }
 {
@@ -159,8 +162,8 @@ fn are_booked(format: Format, world: &World, parts: &Parts) -> bool
         .all(|row| is_booked(format, world, row))
 }
 
-/// Whether all rows of `has` are of units that are there, and all rows of `market` of markets of
-/// the world.
+/// Whether all rows of `has` are of units that the campaign has, and all rows of `market` of
+/// markets of the world.
 fn are_goods_known(world: &World, parts: &Parts, campaign: &Campaign) -> bool
     ensures { IsTrue result ↔
         (IsTrue (list_all (is_of_unit campaign.now.value) parts.now.has)

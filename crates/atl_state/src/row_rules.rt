@@ -1,4 +1,4 @@
-//! Rules that are checked on rows, before a campaign is made of them.
+//! The rules that are checked on rows, before a campaign is made of them: 1 to 3, and part of 4.
 //! See docs/FORMATS.md, "Rules of the tables".
 mod head;
 mod keys;

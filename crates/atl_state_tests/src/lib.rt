@@ -1,5 +1,5 @@
-//! Tests of atl_records and atl_state: campaigns, what units hold, books, checks of rows, and
-//! marks.
+//! Tests of atl_records, atl_campaign and atl_state: campaigns, what units hold, books, checks of
+//! rows, and marks.
 #![tactic(auto)]
 
 #[cfg(test)]

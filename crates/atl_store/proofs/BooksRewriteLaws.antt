@@ -94,6 +94,7 @@ module _ (marks : FinSet nat_cmp) where
         ap (λ b. b || is_among (range_with_len (from + 1) count) i) later ∙ in_range (from + 1) count i (past from i least apart) (omega (arith, most))
   ]
     where
+      -- a number that is at least `m` and isn't `m` is at least `m + 1`
       past : (m n : ℕ) → m ≤ n → n ≢ m → m + 1 ≤ n
       past m n least apart = grind (arith, least, apart)
 
@@ -110,9 +111,11 @@ module _ (marks : FinSet nat_cmp) where
     | inr past ↦ beyond 0 count e (omega (arith, past)) ∙ sym (uncounted past)
   ]
     where
+      -- an index below the count passes the test of the first `count` indexes
       counted : e < count → nat_le (suc e) count ≡ true
       counted less = grind (arith, nat_tests, less)
 
+      -- an index that isn't below the count fails the test of the first `count` indexes
       uncounted : count ≤ e → nat_le (suc e) count ≡ false
       uncounted past = grind (arith, nat_tests, past)
 
@@ -125,9 +128,11 @@ module _ (marks : FinSet nat_cmp) where
       → of_amounts marks (is_among (map entry_index all_entries)) (is_among (range_with_len 0 things)) r ≡ amount_marked marks r
   all_amounts things few r = accounts_same (λ e t. is_among (map entry_index all_entries) e && (is_among (range_with_len 0 things) t && marked e t)) (is_marked_amount marks) same r
     where
+      -- if an amount's number is below `entry_count * n`, its thing's index is below `n`
       inside : (e t n : ℕ) → entry_count * t + e < entry_count * n → t < n
       inside e t n h = omega (arith, h)
 
+      -- the test for dirty amounts of all entries and things is the test for dirty amounts (`is_marked_amount`)
       same : (e t : ℕ)
           → (is_among (map entry_index all_entries) e && (is_among (range_with_len 0 things) t && marked e t)) ≡ is_marked_amount marks e t
       same e t = elim (cases_Bool (marked e t)) [
@@ -171,6 +176,7 @@ module _ (c : MarkedCampaign) (e : Entry) (t : Thing) where
       let two = and_parts _ _ one.1 in
       ap (λ k. books_key k thing) (next place (entry_index e) (tied place (entry_index e) one.0)) ∙ ap (books_key (entry_index e + 1)) (tied thing (thing_index t) two.0)
     where
+      -- an entry's number in a row is its index plus 1
       next : (a b : ℕ) → a ≡ b → suc a ≡ b + 1
       next a b same = omega (arith, same)
   key_of row is = absurd (true≢false (sym is))

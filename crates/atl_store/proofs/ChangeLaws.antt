@@ -40,10 +40,12 @@ use Rattle.atl_store.proofs.MarketLaws.{stock_had, had_stock}
 all_held : (is_marked : Row → Bool) (After : Row → Type 0) (old new : List Row) → ((r : Row) → is_marked r ≡ false → Has old r ↔ After r) → Is new (rows_after_rewrite is_marked After (Has old)) → Is new After
 all_held is_marked After old new rest now r = (λ there. from (is_marked r) refl ((now r).0 there), λ of. (now r).1 (to (is_marked r) refl of))
   where
+    -- a row that the rewrite puts or keeps is a wanted row
     from : (b : Bool) → is_marked r ≡ b → Chosen b (After r) (Has old r) → After r
     from true is h = h
     from false is h = (rest r is).0 h
 
+    -- a wanted row is one that the rewrite puts or keeps
     to : (b : Bool) → is_marked r ≡ b → After r → Chosen b (After r) (Has old r)
     to true is of = of
     to false is of = (rest r is).1 of
@@ -134,9 +136,11 @@ amount_heads : (marks : FinSet nat_cmp) (e : Entry) (t : Thing) (amount : ℤ) �
 amount_heads marks e t amount =
     ap (λ number. amount_marked marks (books_row number (thing_index t) amount)) (next (entry_index e)) ∙ ap (λ (b : Bool). b && contains marks (amount_number e t)) (there (entry_index e) (entry_small e))
   where
+    -- a number plus 1 is its successor
     next : (n : ℕ) → n + 1 ≡ suc n
     next n = omega arith
 
+    -- an index below the count of entries passes the test for an entry's index
     there : (n : ℕ) → n < entry_count → nat_le (suc n) entry_count ≡ true
     there n small = grind (arith, nat_tests, small)
 
@@ -172,6 +176,7 @@ unmarked_held c old new changes text rest =
 pub covers_unmarked : (c : MarkedCampaign) (db : Trees) (text : List ℕ) (before : CampaignValue) → Covers c.marks before c.value → Holds db text before → HoldsUnmarked db text c
 covers_unmarked c db text before covers held = record { before = campaign_row_of before; campaign = held.rows Own; head = head_held c.marks.row before c.value covers.row; rest = rest }
   where
+    -- in each part's table the clean rows are those of the campaign after
     rest : (part : Part) → HasUnmarked (table_of part) (is_marked c.marks part) (rows_for (campaign_line text c.value) c.value part) db
     rest Own = λ r is. absurd (true≢false is)
     rest Factions = rest_same faction_line c.marks.factions (λ n v. refl) before.factions c.value.factions _ covers.factions (held.rows Factions)

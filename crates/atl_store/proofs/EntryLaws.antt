@@ -42,7 +42,7 @@ module _ {V : Type 0} where
   below_has k (e ∷ es) x below (inl same) = ap (λ (y : ℕ × V). is_lt (nat_cmp k y.0)) same ∙ (and_parts _ _ below).0
   below_has k (e ∷ es) x below (inr later) = below_has k es x (and_parts _ _ below).1 later
 
-  -- what is found under a number is in the list
+  -- a value that a look-up finds in a list of entries is in the list, with its number
   get_has : (es : List (ℕ × V)) (n : ℕ) (v : V) → find nat_cmp n es ≡ Some v → Has es (n, v)
   get_has [] n v got = absurd (nothing_there v got)
   get_has (e ∷ es) n v got = elim (nat_cmp n e.0) as (λ o. nat_cmp n e.0 ≡ o → cond (is_eq o) (Some e.1) (find nat_cmp n es) ≡ Some v → Has (e ∷ es) (n, v)) [
@@ -84,7 +84,7 @@ module _ {V : Type 0} where
 
 -- ---- lists made of lists
 
--- an element of joined lists is in one of them
+-- an element of the joined list is in one of the lists
 pub flat_has : {X Y : Type 0} (f : X → List Y) (xs : List X) (r : Y) → Has (flat_map f xs) r → (x : X) × Has xs x × Has (f x) r
 flat_has f [] r there = absurd there
 flat_has f (x ∷ xs) r there = elim (has_either (f x) (flat_map f xs) r there) [
@@ -92,7 +92,7 @@ flat_has f (x ∷ xs) r there = elim (has_either (f x) (flat_map f xs) r there) 
   | inr more ↦ let found = flat_has f xs r more in (found.0, inr found.1, found.2)
 ]
 
--- an element of one list is in the joined lists
+-- an element of one of the lists is in the joined list
 pub has_flat : {X Y : Type 0} (f : X → List Y) (xs : List X) (x : X) (r : Y) → Has xs x → Has (f x) r → Has (flat_map f xs) r
 has_flat f [] x r there here = absurd there
 has_flat f (y ∷ xs) x r (inl same) here = has_left (f y) (flat_map f xs) r (subst (λ z. Has (f z) r) same here)
@@ -100,7 +100,7 @@ has_flat f (y ∷ xs) x r (inr later) here = has_right (f y) (flat_map f xs) r (
 
 -- ---- rows with different keys, put into an empty table
 
--- putting rows with different keys into a set adds exactly them, if no key was there
+-- putting rows with different keys into a set adds exactly these rows, if none of their keys was there
 pub puts_has : (key : ℕ) (news : List Row) (S : Set) → DifferInKey key news → ((s : Row) → S s → (x : Row) → Has news x → take key s ≢ take key x) → (r : Row) → (puts key news S r → Has news r ⊎ S r) × (Has news r ⊎ S r → puts key news S r)
 puts_has key [] S apart free r = (λ h. inr h, λ h. elim h [ inl none ↦ absurd none | inr was ↦ was ])
 puts_has key (x ∷ xs) S apart free r =
@@ -135,7 +135,7 @@ apart_append key (x ∷ xs) ys one two cross = (
 pub same_number : (m n : ℕ) → ◌≡◌ {A = Row} (int m ∷ []) (int n ∷ []) → m ≡ n
 same_number m n e = cc
 
--- each row made of the entries is a row of the map
+-- each row made of the map's entries is a row of the map
 pub lines_rows : {V : Type 0} (line : ℕ → V → Row) (m : FinMap nat_cmp V) (es : List (ℕ × V)) → es ≡ entries m → (r : Row) → Has (lines_of line es) r → RowsOf line m r
 lines_rows {V} line m es same r there =
     let x = map_has (λ (x : ℕ × V). line x.0 x.1) es r there in

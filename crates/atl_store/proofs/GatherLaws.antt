@@ -26,12 +26,12 @@ use Rattle.atl_sql.proofs.ListLaws.{has_map}
 use Rattle.atl_sql.proofs.PartLaws.{is_among, not_among}
 use Rattle.atl_store.proofs.PartsLaws.{every_part}
 
--- a connection that shows rows of a query is open
+-- a connection on which a query showed rows was open before the query
 shows_open : (old new : State) (sql : List ℕ) (c : _) (row : Row) (rows : List Row) (what : Option Returning) → ShowsRows old new sql c row rows what → IsTrue old.is_open
 shows_open old new sql c row rows None h = h.3.0.was_open
 shows_open old new sql c row rows (Some what) h = h.1.shown.was_open
 
--- a connection that shows rows is open
+-- a connection on which a query without parameters showed rows (`Shown`) was open before the query
 pub shown_open : (sql : List ℕ) (old new : State) (rows : List Row) → Shown sql [] old new rows → IsTrue old.is_open
 unfolding Shown
 shown_open sql old new rows h = shows_open old new sql h.0 _ rows h.0.returning h.2
@@ -98,7 +98,7 @@ module _ {S : Type 0} (g : Ghosts S) where
       let same = stays.same up in
       same.0 ∙ settled (omega (arith, leaves.survives.clean, clean)) (stays.was_open up) ∙ sym same.1
 
-  -- a connection at rest has its tables as they were, if all was committed (`IsSettled`) and the disk was clean
+  -- a connection at rest (`Rests`) has its tables as they were, if all was committed (`IsSettled`) on a clean disk
   rests_stays : (old new : State) → IsSettled old → HasCleanDisk old → Rests old new → Stays old new
   rests_stays old new settled clean rests = record {
     was_open = rests.was_open;
@@ -120,7 +120,7 @@ module _ {S : Type 0} (g : Ghosts S) where
     selects_open : (rows : List Row) → Selects g sql old rows → IsTrue (state g old).is_open
     selects_open rows told = told.2.was_open (shown_open sql _ _ rows told.3)
 
-    -- rows that were read of one table are what the list of its SELECT finds (`Found`)
+    -- the rows that were read of one table are found by the list with this table's SELECT alone (`Found`)
     found_one : {Z : Type 0} (r : Result (Vec A Z) ReadFault) → ReadsRows g sql old forms shown r new → GivesTable g (listing_of part).since (listing_of part).in_table shown r old new → HasCleanDisk (state g new) → IfOk (rows_or_none r) (Found g old this_select (λ all. AreAllRows (state g old).now ((part, map shown all.items) ∷ [])))
     found_one (Ok all) reads gives clean =
         let told = reads.rows clean in
@@ -233,15 +233,15 @@ module _ {S : Type 0} (g : Ghosts S) where
   fails_then old mid first selects Memory (inr answers) = inr (answers_then old mid first selects answers)
 
   module _ (old : Held S) (few more : List (List ℕ × List Form)) (within : (select : List ℕ × List Form) → Has few select → Has more select) where
-    -- if one of the SELECTs `few` is refused, one of `more` is
+    -- if one of the SELECTs `few` is refused, so is one of `more`, which has all of them
     refuses_within : (fault : ReadFault) → RefusesOne g old few fault → RefusesOne g old more fault
     refuses_within fault refused = record { select = refused.select; one = within refused.select refused.one; before = refused.before; leaves = refused.leaves; refused = refused.refused }
 
-    -- if one of the SELECTs `few` is answered, one of `more` is
+    -- if one of the SELECTs `few` is answered, so is one of `more`, which has all of them
     answers_within : AnswersOne g old few → AnswersOne g old more
     answers_within answers = record { select = answers.select; one = within answers.select answers.one; before = answers.before; leaves = answers.leaves; rows = answers.rows; answered = answers.answered }
 
-    -- a fault of reading by the SELECTs `few` is one of reading by `more`
+    -- a fault of reading by the SELECTs `few` is one of reading by `more`, which has all of them
     fails_within : (fault : LoadFault) → FailsToRead g old few fault → FailsToRead g old more fault
     fails_within Store (inl refused) = inl (refuses_within read.Store refused)
     fails_within Store (inr refused) = inr (refuses_within read.Refused refused)
@@ -266,7 +266,7 @@ module _ {S : Type 0} (g : Ghosts S) where
   found_both xs ys P Q old None (Some b) p q = other_within old xs (xs ++ ys) (has_left xs ys) (each_of_both (λ s. (rows : List Row) × SelectShows g old s.0 rows) xs ys p.all (told_of old ys q.0)) p
   found_both xs ys P Q old None None p q = other_within old xs (xs ++ ys) (has_left xs ys) (each_of_both (λ s. (rows : List Row) × SelectShows g old s.0 rows) xs ys p.all q.all) p
 
-  -- what a later stage found was in the tables before the first stage
+  -- what a later stage of the reads found was in the tables before the first stage
   found_behind : {A : Type 0} (old mid new : Held S) → AfterReads g old mid → (selects : List (List ℕ × List Form)) (P Q : A → Type 0) (r : Result (Option A) LoadFault) → ReadsSome g mid selects P r new → (o : Option A) → r ≡ Ok o
       → ((state g mid).now ≡ (state g old).now → (a : A) → P a → Q a) → HasCleanDisk (state g new) → Found g old selects Q o
   found_behind old mid new before selects P Q r reads o was weaker clean =
@@ -278,12 +278,13 @@ module _ {S : Type 0} (g : Ghosts S) where
   reads_as : {A : Type 0} (selects : List (List ℕ × List Form)) (P Q : A → Type 0) (old new : Held S) (r : Result (Option A) LoadFault) → ((a : A) → P a → Q a) → ReadsSome g old selects P r new → ReadsSome g old selects Q r new
   reads_as {A} selects P Q old new r weaker reads = record { was_open = reads.was_open; found = λ clean. found r (reads.found clean); fails = reads.fails; leaves = reads.leaves }
     where
+      -- a result that finds `P` finds `Q`
       found : (r : Result (Option A) LoadFault) → IfOk r (Found g old selects P) → IfOk r (Found g old selects Q)
       found (Ok (Some a)) h = (h.0, weaker a h.1)
       found (Ok None) h = h
       found (Err fault) h = tt
 
-  -- a fault of reading the tables of the first stage is a fault of reading those of both stages
+  -- if the reads of the tables are in two stages, a fault of the first stage is a fault of both together
   pub first_fails : {A B : Type 0} (xs ys : List (List ℕ × List Form)) (P : A → Type 0) (Q : B → Type 0) (old new : Held S) (fault : LoadFault) (one : Result (Option A) LoadFault) (r : Result (Option B) LoadFault)
       → ReadsSome g old xs P one new → one ≡ Err fault → IsErrAnd r (λ told. told ≡ fault) → ReadsSome g old (xs ++ ys) Q r new
   first_fails xs ys P Q old new fault one (Ok o) first was told = absurd told
@@ -297,7 +298,7 @@ module _ {S : Type 0} (g : Ghosts S) where
   -- the second stage begins at `mid`, where the first ended
   module _ {A B : Type 0} (xs ys : List (List ℕ × List Form)) (P : A → Type 0) (Q : B → Type 0) (old mid new : Held S) (one : Result (Option A) LoadFault) (two : Result (Option B) LoadFault)
       (first : ReadsSome g old xs P one mid) (second : ReadsSome g mid ys Q two new) (a : Option A) (was_first : one ≡ Ok a) where
-    -- a fault of reading the tables of the second stage is a fault of reading those of both stages
+    -- if the reads of the tables are in two stages, a fault of the second stage is a fault of both together
     pub second_fails : {C : Type 0} (R : C → Type 0) (fault : LoadFault) (r : Result (Option C) LoadFault) → two ≡ Err fault → IsErrAnd r (λ told. told ≡ fault) → ReadsSome g old (xs ++ ys) R r new
     second_fails R fault (Ok o) was told = absurd told
     second_fails R fault (Err f) was told = record {
@@ -309,7 +310,7 @@ module _ {S : Type 0} (g : Ghosts S) where
       leaves = leaves_then old mid new first.leaves second.leaves;
     }
 
-    -- if both stages have read their tables, the tables of both are read from the start
+    -- if both stages of the reads succeed, they are together one read of the tables of both (`ReadsSome`)
     reads_both : (Q2 : B → Type 0) (b : Option B) → two ≡ Ok b → ((state g mid).now ≡ (state g old).now → (b : B) → Q b → Q2 b) → (o : Option (A × B)) → o ≡ option_zip a b → ReadsSome g old (xs ++ ys) (λ x. P x.0 × Q2 x.1) (Ok o) new
     reads_both Q2 b was weaker o is = record {
       was_open = λ clean. subst (λ r. IfOk r (λ _. IsTrue (state g old).is_open)) was_first (first.was_open (clean_mid clean));
@@ -321,6 +322,7 @@ module _ {S : Type 0} (g : Ghosts S) where
       leaves = leaves_then old mid new first.leaves second.leaves;
     }
       where
+        -- the disk was clean after the first stage, if it is clean after the second
         clean_mid : HasCleanDisk (state g new) → HasCleanDisk (state g mid)
         clean_mid clean = omega (arith, second.leaves.survives.clean, clean)
 
@@ -348,17 +350,20 @@ module _ {S : Type 0} (g : Ghosts S) where
         (λ read there. inr (not_early read.0 (is_there others second_format_parts late read there), none read there));
   }
     where
+      -- each part that was read is in the list of the parts that were read
       is_there : (reads : ReadRows) (parts : List Part) → map (λ read. read.0) reads ≡ parts → (read : Part × List Row) → Has reads read → Has parts read.0
       is_there reads parts same read there = subst (λ l. Has l read.0) same (has_map (λ (read : Part × List Row). read.0) reads read there)
 
+      -- a truth value whose negation is true is false
       no : (b : Bool) → not b ≡ true → b ≡ false
       no true is = absurd (true≢false (sym is))
       no false is = refl
 
+      -- a part that only the second format has is none of the first
       not_early : (part : Part) → Has second_format_parts part → ¬ Has (parts_in First) part
       not_early part there = not_among (parts_in First) part (no (is_among (parts_in First) part) (test_has (λ p. not (is_among (parts_in First) p)) second_format_parts part refl there))
 
-  -- in the first format the rows of some tables are read, and none of the others
+  -- all rows of the first format's tables, and none of the other tables, are what is read of the format (`AreOfFormat`)
   pub reads_first : {A B : Type 0} (selects : List (List ℕ × List Form)) (some : A → ReadRows) (others : B → ReadRows) (old new : Held S) (one : Result (Option A) LoadFault) → ReadsSome g old selects (λ a. AreAllRows (state g old).now (some a)) one new
       → (a : Option A) → one ≡ Ok a → (b : B) → AreNone (others b) → ((a : A) → map (λ read. read.0) (some a) ≡ other_parts First) → map (λ read. read.0) (others b) ≡ second_format_parts
       → (o : Option (A × B)) → o ≡ option_zip a (Some b) → ReadsSome g old selects (λ x. AreOfFormat First (state g old).now (some x.0 ++ others x.1)) (Ok o) new
@@ -372,11 +377,11 @@ module _ {S : Type 0} (g : Ghosts S) where
     leaves = first.leaves;
   }
 
-  -- in the second format the rows of all tables are read
+  -- all rows of all tables are what is read of the second format (`AreOfFormat`)
   pub reads_second : {A : Type 0} (selects : List (List ℕ × List Form)) (rows : A → ReadRows) (old new : Held S) (r : Result (Option A) LoadFault) → ReadsSome g old selects (λ a. AreAllRows (state g old).now (rows a)) r new → ReadsSome g old selects (λ a. AreOfFormat Second (state g old).now (rows a)) r new
   reads_second selects rows old new r reads = reads_as selects _ _ old new r (λ a are. record { each = λ read there. inl (every_part read.0, are read there) }) reads
 
-  -- a fault of reading some tables is the fault of the whole read
+  -- a read that hands on the fault of reading some tables is a read by the same SELECTs (`ReadsSome`)
   pub fails_as : {A B : Type 0} (selects : List (List ℕ × List Form)) (P : A → Type 0) (Q : B → Type 0) (old new : Held S) (fault : LoadFault) (one : Result (Option A) LoadFault) (r : Result (Option B) LoadFault)
       → ReadsSome g old selects P one new → one ≡ Err fault → IsErrAnd r (λ told. told ≡ fault) → ReadsSome g old selects Q r new
   fails_as selects P Q old new fault one (Ok o) first was told = absurd told
@@ -387,12 +392,12 @@ module _ {S : Type 0} (g : Ghosts S) where
     leaves = first.leaves;
   }
 
-  -- a read of the tables of format `f` is one of the tables of an equal format
+  -- a read of the tables of the format `is` is one of the tables of the format `f`, if the formats are equal
   pub reads_by : {A : Type 0} (some others : List (List ℕ × List Form)) (rows : A → ReadRows) (old new : Held S) (r : Result (Option A) LoadFault) (f is : Format) → f ≡ is
       → ReadsSome g old (selects_by is some others) (λ a. AreOfFormat is (state g old).now (rows a)) r new → ReadsSome g old (selects_by f some others) (λ a. AreOfFormat f (state g old).now (rows a)) r new
   reads_by some others rows old new r f is same reads = subst (λ f. ReadsSome g old (selects_by f some others) (λ a. AreOfFormat f (state g old).now (rows a)) r new) (sym same) reads
 
-  -- what a later stage found of a format was in the tables before the first stage
+  -- the rows of a format that a later stage of the reads found were in the tables before the first stage
   pub format_behind : {A : Type 0} (f : Format) (rows : A → ReadRows) (old mid new : Held S) → AfterReads g old mid → (selects : List (List ℕ × List Form)) (r : Result (Option A) LoadFault) → ReadsSome g mid selects (λ a. AreOfFormat f (state g mid).now (rows a)) r new → (o : Option A) → r ≡ Ok o
       → HasCleanDisk (state g new) → Found g old selects (λ a. AreOfFormat f (state g old).now (rows a)) o
   format_behind f rows old mid new before selects r reads o was clean =

@@ -139,7 +139,7 @@ goods_grouped units = record {
 
 -- ---- how much a unit has of a thing
 
--- what the map has of a kind under a unit that is there is what the unit's holding has
+-- the items, or the skills, of a unit that is there (`things_under`) are those that the unit's holding has
 under_unit : (sort : ThingKind) (u : Unit) → things_under sort (Some u) ≡ things_of sort u.holding
 under_unit Item u = refl
 under_unit Skill u = refl
@@ -168,10 +168,12 @@ module _ (units : FinMap nat_cmp Unit) where
   pub of_had : (n : ℕ) (sort : ThingKind) (thing amount : ℕ) → amount ≡ amount_under units n sort thing → amount ≢ 0 → HasRowsOf units (has_row n (sort_number sort) thing amount)
   of_had n sort thing amount is some = there (get units n) refl
     where
+      -- an amount other than 0, which a look-up gives with 0 as its default, was found
       got : (o : Option ℕ) → amount ≡ unwrap_or o 0 → o ≡ Some amount
       got None zero = absurd (some zero)
       got (Some x) same = ap Some (sym same)
 
+      -- the amount's row is there, whatever the look-up of the unit gave; without a unit the amount would be 0
       there : (o : Option Unit) → get units n ≡ o → HasRowsOf units (has_row n (sort_number sort) thing amount)
       there None none = absurd (some (is ∙ amount_none n sort thing none))
       there (Some u) found = (n, u, found, sort, thing, amount, got (get (things_of sort u.holding) thing) (is ∙ amount_some n sort thing u found), some, refl)

@@ -107,7 +107,7 @@ mapped_twice f g h same (x ∷ xs) = ap (λ y. y ∷ map g (map f xs)) (same x) 
 abbrev placed_row : Part → Row → Row
 placed_row part r = visible (table_of part) r ++ rowid r ∷ []
 
--- a row without its rowid is the visible row
+-- a row that is shown with its rowid is, without the rowid, the visible row
 cut_row : (part : Part) (r : Row) → take (width part) (placed_row part r) ≡ visible (table_of part) r
 cut_row Own r = refl
 cut_row part r = refl
@@ -129,7 +129,7 @@ shown_by part = inr (refl, λ db. refl, λ r. refl)
 in_places : (part : Part) → shows_rowids part ≡ true → (db : Trees) → (listing_of part).in_table db ≡ map (placed_row part) (db (table_of part).tree)
 in_places part is = elim (shown_by part) [ inl places ↦ places.1 | inr whole ↦ absurd (true≢false (sym is ∙ whole.0)) ]
 
--- if the key is the row's number, the first column is the rowid
+-- if a part is shown without rowids, the first column of each row is the rowid
 row_number : (part : Part) → shows_rowids part ≡ false → (r : Row) → column (visible (table_of part) r) 0 ≡ rowid r
 row_number part is = elim (shown_by part) [ inl places ↦ absurd (true≢false (sym places.0 ∙ is)) | inr whole ↦ whole.2 ]
 
@@ -176,7 +176,9 @@ module _ (part : Part) (db : Trees) (rows : List Row) where
 
 -- A row that was read with its rowid is shown as its values and after them the rowid.
 pub record IsPlacedAs {A : Type 0} (part : Part) (stored : RowWithId A → Row) (values : A → Row) : Type 0 where
+  -- the first columns of the shown row are the values
   pub values_are : (s : RowWithId A) → take (width part) (stored s) ≡ values s.row
+  -- the column after the values is the rowid
   pub place_is : (s : RowWithId A) → column (stored s) (width part) ≡ Int s.rowid
 
 module _ {A : Type 0} {part : Part} {stored : RowWithId A → Row} {values : A → Row} (is : IsPlacedAs part stored values) (placed : List (RowWithId A)) where
@@ -209,7 +211,9 @@ market_placed = record { values_are = λ s. refl; place_is = λ s. refl }
 
 -- The rows of a part that are to be checked are those that were read, without their rowids, which differ.
 pub record IsMadeAs (p : Parts) (read : Part × List Row) : Type 0 where
+  -- the rows to be checked are those that were read, without their rowids
   pub rows : (text : List ℕ) → rows_read text p read.0 ≡ without_ids read.0 read.1
+  -- if the part is shown with rowids, these are integers, no two alike
   pub apart : shows_rowids read.0 ≡ true → HaveKeys (width read.0) read.1
 
 -- a part that is read without rowids has for the check the rows as they were read (`IsMadeAs`)
@@ -242,6 +246,7 @@ pub lacks_all : {A B : Type 0} {part : Part} {stored : RowWithId A → Row} {val
 lacks_all is has placed reads there fault lacks (Ok b) told = tt
 lacks_all {A} {B} {part} {stored} is has placed reads there fault lacks (Err f) told = subst (FailsWithout (AreAllApart reads)) (sym told) (all fault lacks)
   where
+    -- each fault of testing the rowids of this part is one of testing those of all parts
     all : (fault : LoadFault) → FailsWithout (AreApart placed) fault → FailsWithout (AreAllApart reads) fault
     all Store lacks = λ apart. lacks (placed_apart is placed (apart.each (part, map stored placed) there has))
     all (Damaged rule) lacks = lacks

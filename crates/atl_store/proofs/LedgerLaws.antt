@@ -64,13 +64,13 @@ two_same a b c d same = (cc, cc)
 
 -- ---- indexes within bounds
 
--- an index in a range is within its bounds
+-- an index in a range is within the bounds of the range
 pub range_has : (from count i : ℕ) → Has (range_with_len from count) i → (from ≤ i) × (i < from + count)
 range_has from zero i there = absurd there
 range_has from (suc count) i (inl same) = (omega (arith, same), omega (arith, same))
 range_has from (suc count) i (inr later) = let h = range_has (from + 1) count i later in (omega (arith, h.0), omega (arith, h.1))
 
--- an index within the bounds is in the range
+-- an index within the bounds of a range is in the range
 pub has_range : (from count i : ℕ) → from ≤ i → i < from + count → Has (range_with_len from count) i
 has_range from zero i least most = absurd (omega (arith, least, most))
 has_range from (suc count) i least most = elim (cases_lt from i) [
@@ -88,11 +88,11 @@ within books are e t some = elim (cases_lt (thing_index t) books.things) [
 -- ---- the rows of all amounts
 
 module _ (c : CampaignValue) where
-  -- the row of an entry and a thing
+  -- the row of `books` for an entry and a thing
   abbrev row_at : Entry → Thing → Row
   row_at e t = books_row (entry_index e + 1) (thing_index t) (amount_in c.books e t)
 
-  -- each row of a thing is of one of these entries, under which its amount is not 0
+  -- each row made for a thing and a list of entries is of one of these entries, with an amount that is not 0
   entries_has : (t : Thing) (es : List Entry) (r : Row) → Has (entries_lines c t es) r → (e : Entry) × Has es e × (amount_in c.books e t ≢ pos 0) × (r ≡ row_at e t)
   entries_has t es r there =
       let found = flat_has (λ e. amount_lines c e t) es r there in
@@ -103,7 +103,7 @@ module _ (c : CampaignValue) where
   has_entries : (t : Thing) (es : List Entry) (e : Entry) → Has es e → amount_in c.books e t ≢ pos 0 → Has (entries_lines c t es) (row_at e t)
   has_entries t es e there some = has_flat (λ e. amount_lines c e t) es e (row_at e t) there (has_optional (int_eq (amount_in c.books e t) (pos 0)) (row_at e t) (is_differing (amount_in c.books e t) some))
 
-  -- the rows of a thing have different keys
+  -- the rows made for one thing have different keys, if the entries are sorted by index
   entries_apart : (t : Thing) (es : List Entry) → are_sorted es ≡ true → DifferInKey 2 (entries_lines c t es)
   entries_apart t [] rising = tt
   entries_apart t (e ∷ es) rising =
@@ -117,7 +117,7 @@ module _ (c : CampaignValue) where
 
   -- ---- all things
 
-  -- the rows of all things have different keys
+  -- the rows made for all things of a range have different keys
   things_apart : (from count : ℕ) → DifferInKey 2 (things_lines c (range_with_len from count))
   things_apart from zero = tt
   things_apart from (suc count) =

@@ -81,7 +81,7 @@ nothing_unplaced part = elim (cases_Bool (shows_rowids part)) [
 
 -- ---- the rows, as they were read
 
--- each part of the first format is read under that format's tables
+-- the first format to have a part of the first format (`since`) is the first format
 since_first : (part : Part) → Has (parts_in First) part → (listing_of part).since ≡ First
 since_first part there = all_has (λ p. (listing_of p).since ≡ First) (parts_in First) part (refl, (refl, (refl, (refl, (refl, (refl, (refl, (refl, (refl, tt))))))))) there
 
@@ -90,6 +90,7 @@ has_since : (f : Format) (schema : Schema) → HasTablesOf f schema → (part : 
 has_since First schema has part there = subst (λ since. HasTablesOf since schema) (sym (since_first part there)) has
 has_since Second schema has part there = under (listing_of part).since
   where
+    -- a schema with the tables of the second format has those of each format
     under : (since : Format) → HasTablesOf since schema
     under First = has_first Second schema has
     under Second = has
@@ -199,6 +200,7 @@ module _ (f : Format) {S : Type 0} (g : Ghosts S) where
   pub unread_refuses : (old mid : Held S) → old.in_transaction ≡ false → KeepsOneRow f g old → AfterReads g old mid → (fault : LoadFault) → FailsToRead g mid (other_selects f) fault → RefusesToLoadIn f g old fault
   unread_refuses old mid idle kept first fault fails = refused fault (fails_then g old mid first (other_selects f) fault fails)
     where
+      -- each fault that reading the other tables may return refuses the load
       refused : (fault : LoadFault) → FailsToRead g old (other_selects f) fault → RefusesToLoadIn f g old fault
       refused Store fails = inr (inr (kept, inl fails))
       refused (Damaged rule) fails = absurd fails
@@ -256,6 +258,7 @@ module _ (f : Format) {S : Type 0} (g : Ghosts S) {A : Type 0} (rows : A → Rea
   pub unmade_refuses : old.in_transaction ≡ false → (a : A) → o ≡ Some a → (fault : LoadFault) → FailsWithout (AreAllApart (rows a)) fault → RefusesToLoadIn f g old fault
   unmade_refuses idle a is fault = refused fault
     where
+      -- each fault of testing the rowids refuses the load
       refused : (fault : LoadFault) → FailsWithout (AreAllApart (rows a)) fault → RefusesToLoadIn f g old fault
       refused Store lacks = let all = found (Some a) is in inr (inr (own_kept f g old own w row, inr (all.0, inl (λ made. lacks (all_apart f g old (rows a) all.1 made)))))
       refused (Damaged rule) lacks = absurd lacks

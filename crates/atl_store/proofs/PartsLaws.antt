@@ -75,12 +75,15 @@ by_number : {A V : Type 0} {Q : Type 0} (shown : A → Row) (row : ℕ → V →
     → (rows : List Row) (read : List A) (m : FinMap nat_cmp V) → IsPermutation rows (map shown read) → IsPermutation (rows_by row (entries m)) read → Is rows (RowsOf line m) × (Q → HasKeys rows)
 by_number {A} {V} shown row line same numbered rows read m in_table of_them = (held, λ _. (lines, is, lines_keys line numbered m))
   where
+    -- the campaign's rows for the entries of the map
     lines : List Row
     lines = lines_of line (entries m)
 
+    -- the table's rows are the campaign's rows for the entries, in some order
     is : IsPermutation rows lines
     is = subst (IsPermutation rows) (mapped_twice (λ (e : ℕ × V). row e.0 e.1) shown (λ (e : ℕ × V). line e.0 e.1) (λ e. same e.0 e.1) (entries m)) (rows_made shown rows read (rows_by row (entries m)) in_table of_them)
 
+    -- the table has exactly the map's rows
     held : Is rows (RowsOf line m)
     held r = (
       λ there. let e = map_has (λ (e : ℕ × V). line e.0 e.1) (entries m) r (has_permuted rows lines r is there) in (e.0.0, e.0.1, entry_got m e.0.0 e.0.1 e.1, e.2),
@@ -289,6 +292,7 @@ one_head Second h rows id format is = rw (is, id, format) refl
 no_markets : (f : Format) (p : Parts) → ((text : List ℕ) (part : Part) → ¬ Has (parts_in f) part → rows_read text p part ≡ []) → IsTrue (are_of_format f p.markets)
 no_markets First p none = nothing p.markets (none [] Markets (not_among (parts_in First) Markets refl))
   where
+    -- stocks that show no row are none, as the first format requires
     nothing : (rows : List StoredMarket) → map market_values rows ≡ [] → IsTrue (are_of_format First rows)
     nothing [] is = refl
     nothing (row ∷ rows) is = absurd (let k = is in cc)

@@ -36,7 +36,9 @@ chosen_step false false W M N same = same
 
 -- Some chosen rows are rewritten: once the `rest` is rewritten too, all are. The other tables are unchanged.
 pub record Nearing (table : Table) (Wanted : Set) (rest all : Row → Bool) (old now : Database) : Type 0 where
+  -- once the rows that `rest` chooses are the wanted ones, all that `all` chooses are
   pub rows : (r : Row) → Chosen (rest r) (Wanted r) (Has (rows_in table now.trees) r) ↔ Chosen (all r) (Wanted r) (Has (rows_in table old.trees) r)
+  -- the other tables are unchanged
   pub others : (t : Table) → Has all_tables t → t.tree ≢ table.tree → now.trees t.tree ≡ old.trees t.tree
 
 module _ (table : Table) (Wanted : Set) where
@@ -186,10 +188,12 @@ module _ (p : Row → Bool) (Key New Wanted : Set) (found : (r : Row) → p r �
   in_place : (Were : Type 0) (r : Row) → (New r ⊎ (Were × ¬ Key r)) ↔ Chosen (p r) (Wanted r) Were
   in_place Were r = (ahead, back (p r) refl)
     where
+      -- a new row, or an old row without the key, is wanted if the test finds it, and else old
       ahead : New r ⊎ (Were × ¬ Key r) → Chosen (p r) (Wanted r) Were
       ahead (inl new) = let is = news r new in subst (λ b. Chosen b (Wanted r) Were) (sym (finds r is.0)) is.1
       ahead (inr kept) = subst (λ b. Chosen b (Wanted r) Were) (sym (false_from_ne_true (p r) (λ is. kept.1 (found r is)))) kept.0
 
+      -- a row that is wanted if the test finds it, and else old, is new, or old without the key
       back : (b : Bool) → p r ≡ b → Chosen b (Wanted r) Were → New r ⊎ (Were × ¬ Key r)
       back true is wanted = inl (olds r is wanted)
       back false is was = inr (was, λ key. true≢false (sym (finds r key) ∙ is))

@@ -42,12 +42,12 @@ module _ {V : Type 0} where
   abbrev pub is_listed : List (ℕ × FinMap nat_cmp V) → ℕ → ℕ → Bool
   is_listed es n t = list_any (λ e. is_of e.0 e.1 n t) es
 
-  -- no number is listed for an owner below all that are listed
+  -- no thing is listed for an owner whose number is below those of all owners of the list
   not_listed : (es : List (ℕ × FinMap nat_cmp V)) (n t : ℕ) → below_all nat_cmp n es ≡ true → is_listed es n t ≡ false
   not_listed [] n t below = refl
   not_listed (e ∷ es) n t below = ap (λ b. b && is_some (get e.1 t) || is_listed es n t) (differs n e.0 (and_parts _ _ below).0) ∙ not_listed es n t (and_parts _ _ below).1
 
-  -- a number is listed exactly if the map under its owner has it
+  -- a thing is listed for an owner exactly if the map under the owner has it
   listed_thing : (es : List (ℕ × FinMap nat_cmp V)) (n t : ℕ) → is_sorted nat_cmp es ≡ true → is_listed es n t ≡ is_some (get (unwrap_or (find nat_cmp n es) empty) t)
   listed_thing [] n t sorted = sym (ap is_some (get-empty {X = V} nat_cmp t))
   listed_thing (e ∷ es) n t sorted = elim (cases_Bool (eq_by_cmp nat_cmp n e.0)) [

@@ -92,6 +92,7 @@ module _ {S : Type 0} (g : Ghosts S) (text : List ℕ) (c : CampaignValue) (old 
   tells_more : (e : Error) → create_fault e ≢ create.NotEmpty
   tells_more e = go (is_memory e)
     where
+      -- neither Memory nor Store is NotEmpty
       go : (b : Bool) → cond b create.Memory create.Store ≢ create.NotEmpty
       go true same = absurd cc
       go false same = absurd cc
@@ -106,7 +107,7 @@ pub told_by : {S F A : Type 0} (g : Ghosts S) (own : Statements) (fault_of : Err
 told_by g own fault_of old new e (Ok a) told gave = tt
 told_by g own fault_of old new e (Err f) told gave = (e, told, gave)
 
--- if the connection's schema shows none, no table `campaign` is there
+-- if the schema that a connection shows has no table `campaign`, the connection's schema has none
 pub not_there : {S : Type 0} (g : Ghosts S) (conn : Held S) (schema : Schema) (found : Bool) → schema ≡ (state g conn).now.schema → found ≡ has_campaign schema → found ≡ false → has_campaign conn.schema ≡ false
 not_there g conn schema found shown is none = ap has_campaign (sym shown) ∙ sym is ∙ none
 
@@ -120,11 +121,11 @@ later old new Commits survives = record { clean = λ clean. omega (arith, surviv
 
 -- ---- other tables
 
--- a commit leaves the other tables as they are
+-- a commit leaves the tables that aren't the campaign's as they are (`LeavesOthersAlone`)
 pub commits_spares : (old new : State) (Before : Database → Type 0) (Does : Database → Database → Type 0) → Commits Before Does old new → (HasTables old.now → Before old.now) → LeavesOthersAlone old new
 commits_spares old new Before Does done before up has settled = (done.does (before has)).carries
 
--- a transaction that failed leaves the other tables as they are
+-- a transaction that failed leaves the tables that aren't the campaign's as they are (`LeavesOthersAlone`)
 pub leaves_others : (old new : State) → LeavesOff old new → LeavesOthersAlone old new
 leaves_others old new off up has settled = subst (Carries old.now) (sym ((off.undone up).0 ∙ settled)) (carries_none old.now)
 

@@ -23,7 +23,7 @@ stays_is t S a b same is = subst (λ rows. Is rows S) (sym (same_rows t a b same
 -- ---- one table, and one after another
 
 module _ (Becomes : Part → List Row → List Row → Type 0) where
-  -- a write of one part's table changes that part
+  -- writing one part's table (`Alters`) makes its rows what `Becomes` says, and leaves all other tables (`Changes`)
   pub one_changed : (part : Part) (S : Set) (old new : Database) → Alters (table_of part) S old new → (Is (rows_in (table_of part) new.trees) S → Becomes part (rows_in (table_of part) old.trees) (rows_in (table_of part) new.trees))
       → Changes Becomes (part ∷ []) old new
   one_changed part S old new did becomes = record {
@@ -31,7 +31,7 @@ module _ (Becomes : Part → List Row → List Row → Type 0) where
     others = λ p free. did.others (table_of p) (listed p) (λ same. free (inl (same_part p part same)));
   }
 
-  -- changing some parts and then others changes both
+  -- changing some parts and then others changes both, if no part is in both lists (`Changes`)
   pub both_changed : (ps qs : List Part) → are_apart ps qs ≡ true → (old mid new : Database) → Changes Becomes ps old mid → Changes Becomes qs mid new → Changes Becomes (ps ++ qs) old new
   both_changed ps qs apart old mid new first second = record {
     done = λ p there. elim (has_either ps qs p there) [
@@ -59,7 +59,7 @@ are_distinct (part ∷ parts) = are_apart (part ∷ []) parts && are_distinct pa
 
 -- what rows become, part by part
 module _ {X : Type 0} (Becomes : X → Part → List Row → List Row → Type 0) where
-  -- One step: the rows of one part become what `Becomes` says, for each `X`, and all other tables stay.
+  -- The rows of one part become what `Becomes` says, for each `X`, and all other tables stay.
   abbrev pub Turn : Part → Database → Database → Type 0
   Turn part old new = (x : X) → Changes (Becomes x) (part ∷ []) old new
 

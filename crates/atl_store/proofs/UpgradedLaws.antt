@@ -135,7 +135,7 @@ module _ {S : Type 0} (g : Ghosts S) (text : List ℕ) (old new : Held S) where
 -- ---- the transaction
 
 module _ {S : Type 0} (g : Ghosts S) (text : List ℕ) (old mid new : Held S) (w : WorldValue) (c : MarkedCampaign) (alone : LeavesAlone g old mid) (ready : IsReadyToUpgrade g text old mid w c) where
-  -- The transaction of the upgrade had this result.
+  -- The transaction of the upgrade had the result `r` and left what this result says (`Transacts`).
   abbrev Wrote : {A : Type 0} → Result A Error → Type 0
   Wrote r = Transacts g (OfUpgrade text c.value) IsFirstFormat (WritesUpgrade text c.value) r mid new
 
@@ -166,6 +166,7 @@ module _ {S : Type 0} (g : Ghosts S) (text : List ℕ) (old mid new : Held S) (w
     idle = over;
   }
     where
+      -- the database after the transaction
       new_now : Database
       new_now = (state g new).now
 

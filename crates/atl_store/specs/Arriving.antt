@@ -20,50 +20,66 @@ use Rattle.atl_sql.specs.Shown.{CampaignRowValue, campaign_row, mail_row, report
 use Rattle.atl_store.specs.Lines.{amount_lines}
 use Rattle.atl_sql.specs.Rows.{campaign_line, faction_line, unit_line}
 
--- The campaign has the faction, its report, and the unit of the last number, `next_unit - 1`.
--- The books have money and people among their things.
+-- What a write of a join needs: the campaign has the faction, its report, and the unit of the last number.
+-- This number is `next_unit - 1`. The books have money and people among their things.
 pub record HasArrival (c : CampaignValue) (number : ℕ) : Type 0 where
+  -- there is a number before `next_unit`
   pub next : 1 ≤ c.next_unit
+  -- the things of the books include money and people
   pub things : 2 ≤ c.books.things
+  -- the campaign has the faction
   pub faction : IsSome (get c.factions number)
+  -- the campaign has the unit of the last number
   pub unit : IsSome (get c.units (c.next_unit - 1))
+  -- the campaign has the faction's report
   pub report : IsSome (get c.reports number)
 
 -- the campaign has this faction, this report and this unit, whose number `place` is the last, `next_unit - 1`
 -- The books have money and people among their things.
 pub record IsFound (c : CampaignValue) (number : ℕ) (faction : Faction) (place : ℕ) (unit : Unit) (report : List ℕ) : Type 0 where
+  -- the unit's number is the last
   pub place_is : c.next_unit ≡ place + 1
+  -- the campaign has this faction under its number
   pub faction_is : get c.factions number ≡ Some faction
+  -- the campaign has this unit under its number
   pub unit_is : get c.units place ≡ Some unit
+  -- the campaign has this report of the faction
   pub report_is : get c.reports number ≡ Some report
+  -- the things of the books include money and people
   pub things : 2 ≤ c.books.things
 
--- the set of rows with the row of this amount of the books, or none if it is 0, and every other row as it was
+-- the rows of `books` once one amount is written: its row, or none if it is 0, and the other rows of the set `S`
 abbrev pub settled : CampaignValue → Entry → Thing → Set → Set
 settled c entry thing S r = Has (amount_lines c entry thing) r ⊎ (S r × (take 2 r ≢ books_key (entry_index entry + 1) (thing_index thing)))
 
--- the amount of a thing under an entry has its row, or none if it is 0; all other rows and tables are as they were
+-- one amount of the books is written: it has its row, or none if it is 0; all other rows and tables are as they were
 abbrev pub WritesAmount : CampaignValue → Entry → Thing → Database → Database → Type 0
 WritesAmount c entry thing old new = Alters books_table (settled c entry thing (Has (rows_in books_table old.trees))) old new
 
--- the row replaces the one with its number, or is added, and every other row of the table is as it was
+-- the row is put into the table: it replaces the row with its number, or is added; every other row is as it was
 abbrev pub HasPut : Table → Row → Database → Database → Type 0
 HasPut table row old new = Is (rows_in table new.trees) (put 1 row (Has (rows_in table old.trees)))
 
 -- What a join writes: the campaign row, the faction, its unit, which came last, its report, and what joining booked.
 -- The campaign row keeps this world text, and every other row and table is as it was.
 pub record Enters (faction : ℕ) (after : CampaignValue) (text : List ℕ) (old new : Database) : Type 0 where
+  -- the campaign row is that of the campaign after the join, with this world text
   pub campaign : Is (rows_in campaign_table new.trees) (λ r. r ≡ campaign_line text after)
+  -- the faction's row is put
   pub member : (f : Faction) → get after.factions faction ≡ Some f → HasPut faction_table (faction_line faction f) old new
+  -- the row of the faction's unit, which came last, is put
   pub unit : (place : ℕ) (u : Unit) → after.next_unit ≡ place + 1 → get after.units place ≡ Some u → HasPut unit_table (unit_line place u) old new
+  -- the row of the faction's report is put
   pub report : (report : List ℕ) → get after.reports faction ≡ Some report → HasPut report_table (report_row faction report) old new
+  -- the two amounts under joining, of money and of people, are written
   pub books : Is (rows_in books_table new.trees) (settled after Joining People (settled after Joining Money (Has (rows_in books_table old.trees))))
+  -- the tables of all other parts are as they were
   pub others : (part : Part) → ¬ Has (Own ∷ Factions ∷ Units ∷ Reports ∷ Books ∷ []) part → new.trees (table_of part).tree ≡ old.trees (table_of part).tree
 
--- a join is written (`Enters`), whatever the campaign row said, if the table `campaign` held one such row
+-- if the table `campaign` held one row, a join is written (`Enters`), whatever that row said
 abbrev pub WritesJoin : ℕ → CampaignValue → Database → Database → Type 0
 WritesJoin faction after old new = (before : CampaignRowValue) (text : List ℕ) → Is (rows_in campaign_table old.trees) (λ r. r ≡ campaign_row before text) → Enters faction after text old new
 
--- a mailing replaces an older one of its faction, or is added, and every other row and table is as it was
+-- a mailing is written: it replaces an older one of its faction, or is added; all other rows and tables stay
 abbrev pub WritesMail : ℕ → List ℕ → Database → Database → Type 0
 WritesMail faction mail old new = Puts mail_table 1 (mail_row faction mail) old new

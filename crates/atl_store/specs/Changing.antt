@@ -17,11 +17,11 @@ abbrev pub Chosen : Bool → Type 0 → Type 0 → Type 0
 Chosen true Wanted Were = Wanted
 Chosen false Wanted Were = Were
 
--- the set of the wanted rows, if their key is marked, and of the rows that were there, if it isn't
+-- a table's rows after a rewrite: the wanted rows whose key is marked, and the old rows whose key isn't
 abbrev pub rows_after_rewrite : (Row → Bool) → Set → Set → Set
 rows_after_rewrite is_marked Wanted Were r = Chosen (is_marked r) (Wanted r) (Were r)
 
--- the table's rows with a marked key are those that are wanted, and its other rows are as they were
+-- a table is rewritten: its rows with a marked key are now the wanted ones, and its other rows are as they were
 abbrev pub AreRewritten : Table → (Row → Bool) → Set → Database → Database → Type 0
 AreRewritten table is_marked Wanted old new = Is (rows_in table new.trees) (rows_after_rewrite is_marked Wanted (Has (rows_in table old.trees)))
 
@@ -30,29 +30,34 @@ abbrev pub campaign_row_after : Bool → CampaignValue → CampaignRowValue → 
 campaign_row_after true c before = campaign_row_of c
 campaign_row_after false c before = before
 
--- the campaign row after a write over one that said `before`, with this world text
+-- the campaign row after changes are written: the row before said `before`, and its world text is this one
 abbrev pub own_after : MarkedCampaign → CampaignRowValue → List ℕ → Row
 own_after c before text = campaign_row (campaign_row_after c.marks.row c.value before) text
 
 -- In each table the rows with a marked key become the campaign's, and all others stay.
 -- The campaign row said `before`; it keeps this world text.
 pub record WritesMarked (c : MarkedCampaign) (before : CampaignRowValue) (text : List ℕ) (old new : Database) : Type 0 where
+  -- each part's table is rewritten with the rows of the campaign
   pub rows : (part : Part) → AreRewritten (table_of part) (is_marked c.marks part) (rows_for (own_after c before text) c.value part) old new
 
--- What is marked is written (`WritesMarked`), if the table `campaign` held one row, whatever this row said.
+-- If the table `campaign` held one row, all that is marked is written (`WritesMarked`), whatever that row said.
 abbrev pub WritesChanges : MarkedCampaign → Database → Database → Type 0
 WritesChanges c old new = (before : CampaignRowValue) (text : List ℕ) → Is (rows_in campaign_table old.trees) (λ r. r ≡ campaign_row before text) → WritesMarked c before text old new
 
 -- ---- tables that hold what is not marked of a campaign
 
--- the table's rows with a key that isn't marked are exactly those that are wanted, whatever has a marked key
+-- the table's rows with a key that isn't marked are exactly the wanted ones; any rows may be under marked keys
 abbrev pub HasUnmarked : Table → (Row → Bool) → Set → Trees → Type 0
 HasUnmarked table is_marked Wanted trees = (r : Row) → is_marked r ≡ false → Has (rows_in table trees) r ↔ Wanted r
 
+-- The tables hold what is not marked of a campaign: the rows of all that is not marked are exactly the campaign's.
 -- The campaign row has this world text and, unless it is marked, says what the campaign says.
--- The rows of all that is not marked are exactly the campaign's.
 pub record HoldsUnmarked (trees : Trees) (text : List ℕ) (c : MarkedCampaign) : Type 0 where
+  -- what the row of the table `campaign` says
   pub before : CampaignRowValue
+  -- the table `campaign` has one row, which says `before` and has this world text
   pub campaign : Is (rows_in campaign_table trees) (λ r. r ≡ campaign_row before text)
+  -- unless the campaign row is marked, `before` is what the campaign says
   pub head : campaign_row_after c.marks.row c.value before ≡ campaign_row_of c.value
+  -- in each part's table the rows that aren't marked are the campaign's
   pub rest : (part : Part) → HasUnmarked (table_of part) (is_marked c.marks part) (rows_for (campaign_line text c.value) c.value part) trees

@@ -8,7 +8,7 @@ use Rattle.atl_sql.specs.Tables.{Part, campaign_table}
 use Rattle.atl_sql.specs.Inside.{Changes}
 use Rattle.atl_sql.specs.Rows.{campaign_line, rows_for, Holds}
 
--- if the part's table had no row, it has exactly the campaign's rows afterwards; `own` is the campaign row
+-- one part is filled: if its table had no row, it has exactly the campaign's rows afterwards; `own` is the campaign row
 abbrev pub Fills : CampaignValue → Row → Part → List Row → List Row → Type 0
 Fills c own part before after = before ≡ [] → Is after (rows_for own c part)
 
@@ -24,6 +24,6 @@ FillsPart c part = FillsParts c (part ∷ [])
 abbrev pub FillsWithOwn : List ℕ → CampaignValue → List Part → Database → Database → Type 0
 FillsWithOwn text c parts old new = rows_in campaign_table old.trees ≡ [] → Changes (Fills c (campaign_line text c)) parts old new
 
--- the tables hold the world text and the campaign afterwards, whatever they held before
+-- a founding is written: the tables hold the world text and the campaign, whatever they held before
 abbrev pub WritesFounding : List ℕ → CampaignValue → Database → Database → Type 0
 WritesFounding text c old new = Holds new.trees text c

@@ -77,11 +77,16 @@ only_of [] = None
 only_of (own ∷ []) = Some own
 only_of (own ∷ other ∷ rows) = None
 
--- there is one row, `own`; its id is 1, its format is `f`, and its world text reads as the world `w`
+-- The rows read of `campaign` are one row, `own`, which keeps the first rule.
+-- Its id is 1, its format is `f`, and its world text reads as the world `w`.
 pub record IsOwn (f : Format) (rows : List StoredCampaign) (own : StoredCampaign) (w : WorldValue) : Type 0 where
+  -- `own` is the only row
   pub only : rows ≡ own ∷ []
+  -- the row's id is 1
   pub id : own.head.id ≡ pos 1
+  -- the row's format is `f`
   pub format : own.head.format ≡ pos (format_number f)
+  -- the row's world text reads as the world
   pub world : world_by f (string_bytes own.world) ≡ Ok w
 
 -- a judged result: Ok of a value for which `Is` holds; Damaged by the first rule, where `Nothing` holds; or Memory
@@ -103,17 +108,17 @@ JudgesOwn f rows r = Judges (λ both. IsOwn f rows both.0 both.1) ((own : Stored
 abbrev pub JudgesRows : Format → List Row → Result (StoredCampaign × WorldValue) LoadFault → Type 0
 JudgesRows f rows r = Judges (λ both. AreOwnRow f rows both.0.head (string_bytes both.0.world) both.1) ((h : StoredCampaignRow) (text : List ℕ) (w : WorldValue) → ¬ AreOwnRow f rows h text w) r
 
--- OtherFormat if there is just one row, and of the other format; else the result of `JudgesRows`
+-- the result of judging the rows of `campaign`: OtherFormat if they are one row of the other format, else `JudgesRows`
 abbrev pub JudgesFormat : Format → List Row → Result (StoredCampaign × WorldValue) LoadFault → Type 0
 JudgesFormat f rows r = (IsOther f rows × (r ≡ Err OtherFormat)) ⊎ ((¬ IsOther f rows) × JudgesRows f rows r)
 
 -- ---- the rows of other tables, as they were read
 
--- the rows that were read, of each part that was read
+-- the rows that were read, as a list of parts, each with its rows
 abbrev pub ReadRows : Type 0
 ReadRows = List (Part × List Row)
 
--- these are all rows of the part's table, if the schema begins with the tables of the first format that has it
+-- these are all rows of the part's table, if the schema begins with the tables of the first format that has the part
 abbrev pub AreRows : Database → Part → List Row → Type 0
 AreRows db part rows = HasTablesOf (listing_of part).since db.schema → IsPermutation ((listing_of part).in_table db.trees) rows
 
@@ -123,6 +128,7 @@ AreAllRows db reads = (read : Part × List Row) → Has reads read → AreRows d
 
 -- for each part that was read: all rows of its table (`AreRows`) if the format has the part, else no row
 pub record AreOfFormat (f : Format) (db : Database) (reads : ReadRows) : Type 0 where
+  -- each part that was read has all rows of its table, or no row if the format lacks the part
   pub each : (read : Part × List Row) → Has reads read → (Has (parts_in f) read.0 × AreRows db read.0 read.1) ⊎ ((¬ Has (parts_in f) read.0) × (read.1 ≡ []))
 
 -- no row was read of any part
@@ -142,9 +148,13 @@ module _ {S : Type 0} (g : Ghosts S) (old : Held S) where
   -- The SELECT of `campaign` showed one row, which keeps the first rule (`AreOwnRow`).
   -- If the schema begins with the tables of the first format, this is the only row of the table.
   pub record OwnRead (f : Format) (own : StoredCampaign) (w : WorldValue) : Type 0 where
+    -- the rows that the SELECT showed
     pub rows : List Row
+    -- the SELECT of `campaign` showed `rows`
     pub selects : Selects g (selection campaign_table 1) old rows
+    -- the rows are one row, `own`, which keeps the first rule
     pub row : AreOwnRow f rows own.head (string_bytes own.world) w
+    -- `own` is the only row of the table, if the schema begins with the tables of the first format
     pub table : HasTablesOf First old.schema → IsPermutation (rows_in campaign_table (state g old).now.trees) (campaign_stored own ∷ [])
 
   -- ---- the other tables
@@ -157,11 +167,17 @@ module _ {S : Type 0} (g : Ghosts S) (old : Held S) where
 
   -- one of these SELECTs, asked after other reads, shows some rows
   pub record AnswersOne (selects : List (List ℕ × List Form)) : Type 0 where
+    -- the SELECT that is answered, with the forms of its columns
     pub select : List ℕ × List Form
+    -- the SELECT is one of the list
     pub one : Has selects select
+    -- the connection after the reads that came before this SELECT
     pub before : Held S
+    -- the reads before the SELECT left the tables as they were
     pub leaves : AfterReads g old before
+    -- the rows that the SELECT shows
     pub rows : List Row
+    -- the SELECT shows `rows`
     pub answered : Selects g select.0 before rows
 
   -- Reading these tables may return Store, if a SELECT is refused for another cause than memory, and Memory,
@@ -176,14 +192,18 @@ module _ {S : Type 0} (g : Ghosts S) (old : Held S) where
   -- Reading these tables gives what `Found` says, or a fault (`FailsToRead`), if the disk is clean.
   -- The connection is as after reads: the tables are as they were (`AfterReads`).
   pub record ReadsSome {A : Type 0} (selects : List (List ℕ × List Form)) (P : A → Type 0) (result : Result (Option A) LoadFault) (new : Held S) : Type 0 where
+    -- after Ok, the connection was open before the reads
     pub was_open : HasCleanDisk (state g new) → IfOk result (λ _. IsTrue (state g old).is_open)
+    -- Ok says what the SELECTs found
     pub found : HasCleanDisk (state g new) → IfOk result (Found selects P)
+    -- an error is a fault that the reads may return
     pub fails : HasCleanDisk (state g new) → IfErr result (FailsToRead selects)
+    -- the tables are as they were
     pub leaves : AfterReads g old new
 
   -- ---- the schema
 
-  -- the SELECT of the campaign row is refused; `memory` says whether for lack of memory
+  -- the SELECT of the campaign row, asked again to confirm, is refused; `memory` says whether for lack of memory
   abbrev pub IsRefusedAgain : Bool → Type 0
   IsRefusedAgain memory = (during : Held S) × (e : Error) × FailsToQuery (selection campaign_table 1) [] (state g old) (state g during) e × (is_memory e ≡ memory)
 
@@ -208,23 +228,30 @@ width part = length (table_of part).columns
 
 -- the values of the column at index `at` are integers, no two alike
 pub record HaveKeys (at : ℕ) (rows : List Row) : Type 0 where
+  -- no two of the values are equal
   pub apart : IsDistinct (λ a b. is_eq (value_cmp (column a at) (column b at))) rows
+  -- each of the values is an integer
   pub ints : AllByRecursion (λ r. is_int (column r at) ≡ true) rows
 
 -- in each part that is shown with rowids, the rowids are integers, no two alike
 pub record AreAllApart (reads : ReadRows) : Type 0 where
+  -- the rowids of each part that is shown with rowids are integers, no two alike
   pub each : (read : Part × List Row) → Has reads read → shows_rowids read.0 ≡ true → HaveKeys (width read.0) read.1
 
 -- the rows of a part without the rowids that they are shown with
 abbrev pub without_ids : Part → List Row → List Row
 without_ids part rows = if shows_rowids part then map (take (width part)) rows else rows
 
--- `p` holds the campaign row `head` and the rows that were read of all other parts, without their rowids.
+-- The parts `p` are put together of what was read: the campaign row `head` and all other rows, without their rowids.
 -- No two rows of a part have the same rowid.
 pub record IsMadeOf (head : StoredCampaignRow) (reads : ReadRows) (p : Parts) : Type 0 where
+  -- all parts but the campaign row were read, in their order
   pub parts : map (λ read. read.0) reads ≡ other_parts Second
+  -- `head` is the only campaign row
   pub campaign : p.campaign ≡ head ∷ []
+  -- each part has the rows that were read of it, without their rowids
   pub rows : (text : List ℕ) (read : Part × List Row) → Has reads read → rows_read text p read.0 ≡ without_ids read.0 read.1
+  -- the rowids that were read are integers, and differ in each part
   pub apart : AreAllApart reads
 
 -- ---- all of it
@@ -232,24 +259,39 @@ pub record IsMadeOf (head : StoredCampaignRow) (reads : ReadRows) (p : Parts) : 
 -- All tables were read: the campaign row keeps the first rule, and each value is of its column's form.
 -- If the tables are the format's, they have exactly these rows, with a text of this world, and rowids that differ.
 pub record Gathered (f : Format) {S : Type 0} (g : Ghosts S) (old : Held S) (w : WorldValue) (p : Parts) : Type 0 where
+  -- the SELECT of `campaign` showed one row, which keeps the first rule
   pub one : KeepsOneRow f g old
+  -- the gathered rows keep the first rule
   pub first : KeepsRule f w p OneRow
+  -- the world text of the campaign row
   pub text : List ℕ
+  -- the world text reads as the world
   pub world : world_by f text ≡ Ok w
+  -- in all other tables each value is of its column's form
   pub typed : AllSelectsShowTyped g old (other_selects f)
+  -- if the tables are the format's, they have exactly the rows of `p`
   pub rows : HasTablesOf f old.schema → HaveRows f (state g old).now.trees text p
+  -- if the tables are the format's, the rowids of those without an INTEGER PRIMARY KEY are integers, no two alike
   pub keyed : HasTablesOf f old.schema → (table : Table) → Has (tables_with_rowids f) table → IsKeyed ((state g old).now.trees table.tree)
 
--- the old schema begins with the format's tables, the trees list and obey it (`IsSound`), and `new` is open
+-- After the reads the tables are confirmed as those of the format.
+-- The old schema begins with the format's tables, the trees list and obey it (`IsSound`), and `new` is open.
 pub record IsConfirmed (f : Format) (old new : State) : Type 0 where
+  -- the schema begins with the tables of the format
   pub begins : HasTablesOf f old.now.schema
+  -- the connection is open after the test
   pub is_open : IsTrue new.is_open
+  -- the trees list the schema and obey it
   pub sound : IsSound old.now.schema old.now.trees
 
 -- The campaign `c` is loaded: it is made of rows that were read and keep all rules (`IsChecked`).
 -- If the disk is clean, these are the rows of all tables (`Gathered`), and the schema is confirmed.
 pub record IsLoaded (f : Format) {S : Type 0} (g : Ghosts S) (old new : Held S) (w : WorldValue) (c : MarkedCampaign) : Type 0 where
+  -- the rows that were read, put together
   pub parts : Parts
+  -- the rows that were read are those of all tables, if the disk is clean
   pub gathered : HasCleanDisk (state g new) → Gathered f g old w parts
+  -- the tables are confirmed as those of the format, if the disk is clean
   pub confirmed : HasCleanDisk (state g new) → IsConfirmed f (state g old) (state g new)
+  -- the campaign is made of the rows that were read, which keep all rules
   pub checked : IsChecked f w parts c

@@ -22,19 +22,29 @@ use Rattle.atl_store.specs.declared.fault.CreateFault.TheVariants.{NotEmpty, Sto
 
 -- What a file holds: a campaign's tables, listed in its catalog, with exactly the rows of the text and the campaign.
 pub record Stores (db : Trees) (text : List ℕ) (c : CampaignValue) : Type 0 where
+  -- the schema that the file's catalog lists
   pub schema : Schema
+  -- the schema has all tables of a campaign
   pub begins : HasAll schema
+  -- the trees list the schema and obey it, and the rowids in the ten tables are integers, no two alike
   pub sound : IsSoundDatabase schema db
+  -- the tables hold exactly the rows of the text and the campaign
   pub rows : Holds db text c
 
 -- The connection is open and in no transaction, and its tables hold exactly the rows of the text and the campaign.
 -- All is committed, and a crash leaves just this.
 pub record Keeps (s : State) (text : List ℕ) (c : CampaignValue) : Type 0 where
+  -- the connection is in no transaction
   pub idle : s.in_transaction ≡ false
+  -- the connection is open
   pub is_open : IsTrue s.is_open
+  -- nothing is uncommitted
   pub settled : s.committed ≡ s.now
+  -- the database has the tables of a campaign
   pub tables : HasTables s.now
+  -- the tables hold exactly the rows of the text and the campaign
   pub rows : Holds s.now.trees text c
+  -- a crash leaves a file that stores just this campaign
   pub crash : (db : Trees) → s.may_leave db → Stores db text c
 
 -- If the disk is clean so far, the connection keeps this world text and this campaign (`Keeps`).
@@ -46,15 +56,21 @@ HoldsCampaign g conn text c = HasCleanDisk (state g conn) → Keeps (state g con
 -- It is shut only if the disk failed again. A crash leaves the campaign `before` or `after`, never a part.
 -- `faults` counts the failures of the disk before the call.
 pub record LeavesAfterFault (faults : ℕ) (s : State) (text : List ℕ) (before after : CampaignValue) : Type 0 where
+  -- while the connection is open it keeps the campaign before
   pub still : IsTrue s.is_open → Keeps s text before
+  -- the connection is open, or the disk failed again
   pub shuts : IsTrue s.is_open ⊎ MoreFaults faults s.faults
+  -- a crash leaves a file that stores the campaign before or the one after
   pub crash : (db : Trees) → s.may_leave db → Stores db text before ⊎ Stores db text after
 
 -- The same connection later: a disk that is clean now was clean before, and no failure of it is forgotten.
 -- A connection whose reads are tested (shielded) stays so.
 pub record IsLater (old new : State) : Type 0 where
+  -- a disk that is clean now was clean before
   pub clean : HasCleanDisk new → HasCleanDisk old
+  -- no failure of the disk is forgotten
   pub counts : old.faults ≤ new.faults
+  -- a connection whose reads are tested stays so
   pub shield : old.IsShielded → new.IsShielded
 
 -- No table or index is gone, and tables that aren't the campaign's hold what they held.
@@ -67,7 +83,9 @@ LeavesOthersAlone old new = IsTrue new.is_open → HasTables old.now → old.com
 -- Nothing is changed: while the connection is open, its tables, its last commit and its transaction are as they were.
 -- Only a new failure of the disk shuts it.
 pub record ChangesNothing (old new : State) : Type 0 where
+  -- while the connection is open its tables, its last commit and its transaction are as they were
   pub same : IsTrue new.is_open → (new.now ≡ old.now) × (new.committed ≡ old.committed) × (new.in_transaction ≡ old.in_transaction)
+  -- an open connection stays open, unless the disk failed again
   pub shuts : IsTrue old.is_open → IsTrue new.is_open ⊎ MoreFaults old.faults new.faults
 
 -- a crash leaves what it could have left before, or a file that stores this campaign
@@ -77,25 +95,33 @@ MayFound old text c new = (db : Trees) → new.may_leave db → old.may_leave db
 -- With Ok of `create` there was no table `campaign`, and the connection holds the campaign, if the disk is clean.
 -- It is in no transaction.
 pub record Creates {S : Type 0} (g : Ghosts S) (text : List ℕ) (c : CampaignValue) (old new : Held S) : Type 0 where
+  -- there was no table `campaign`
   pub fresh : has_campaign old.schema ≡ false
+  -- the connection is in no transaction
   pub idle : new.in_transaction ≡ false
+  -- the connection holds the campaign
   pub tables : HoldsCampaign g new text c
 
--- There was no table `campaign`, and nothing is changed, if the disk is clean.
+-- What Store and Memory of `create` leave: there was no table `campaign`, and nothing is changed, if the disk is clean.
 -- A crash leaves what it could have left before, or the campaign.
 pub record FailsToCreate {S : Type 0} (g : Ghosts S) (text : List ℕ) (c : CampaignValue) (old new : Held S) : Type 0 where
+  -- there was no table `campaign`
   pub fresh : has_campaign old.schema ≡ false
+  -- nothing is changed
   pub tables : HasCleanDisk (state g new) → ChangesNothing (state g old) (state g new)
+  -- a crash leaves what it could have left before, or the campaign
   pub crash : HasCleanDisk (state g new) → MayFound (state g old) text c (state g new)
 
 -- the database has no table, index or view, and the connection is in no transaction
 abbrev pub IsReadyToCreate : State → Type 0
 IsReadyToCreate s = IsBlank s.now × (s.in_transaction ≡ false)
 
--- The database was ready for `create`, and a statement of it, or its commit, gave an error.
+-- `create` broke off: the database was ready for it, and one of its statements, or its commit, gave an error.
 -- The fault is that of the error, if the disk is clean.
 pub record BreaksOffCreation {S : Type 0} (g : Ghosts S) (text : List ℕ) (c : CampaignValue) (old new : Held S) (fault : CreateFault) : Type 0 where
+  -- the database was ready for `create`
   pub ready : IsReadyToCreate (state g old)
+  -- the fault is that of an error of a statement of `create`, or of its commit
   pub told : HasCleanDisk (state g new) → IsFaultOfError g (OfFounding text c) create_fault old new fault
 
 -- When `create` may return each fault.

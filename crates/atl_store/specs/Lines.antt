@@ -32,18 +32,22 @@ groups_of lines entries = flat_map (λ e. lines e.0 e.1) entries
 -- `lines` gives the rows of each value of the map: they begin with its number and differ in their key.
 -- The rows of all values together are those that are wanted.
 pub record AreGroups {V : Type 0} (lines : ℕ → V → List Row) (key : ℕ) (values : FinMap nat_cmp V) (Wanted : Set) : Type 0 where
+  -- the rows of a value begin with its number
   pub numbered : (n : ℕ) (v : V) (r : Row) → Has (lines n v) r → take 1 r ≡ int n ∷ []
+  -- the rows of a value differ in their key
   pub apart : (n : ℕ) (v : V) → DifferInKey key (lines n v)
+  -- the rows of each value of the map are wanted
   pub wanted : (n : ℕ) (v : V) → get values n ≡ Some v → (r : Row) → Has (lines n v) r → Wanted r
+  -- each wanted row is a row of a value of the map
   pub lined : (r : Row) → Wanted r → (n : ℕ) × (v : V) × (get values n ≡ Some v) × Has (lines n v) r
 
 -- ---- amounts of things
 
--- the row of one thing, or none if its amount is 0
+-- the rows for the amount of one thing: its one row, or none if the amount is 0
 abbrev pub thing_rows : (ℕ → ℕ → Row) → ℕ → ℕ → List Row
 thing_rows row thing amount = if amount == 0 then [] else row thing amount ∷ []
 
--- one row for each thing whose amount isn't 0
+-- the rows for a list of things with their amounts: one row for each amount that isn't 0
 abbrev pub amount_rows : (ℕ → ℕ → Row) → List (ℕ × ℕ) → List Row
 amount_rows row amounts = flat_map (λ e. thing_rows row e.0 e.1) amounts
 
@@ -61,7 +65,7 @@ goods_lines unit held = kind_lines unit Item (entries held.items) ++ kind_lines 
 abbrev pub unit_lines : ℕ → Unit → List Row
 unit_lines n unit = goods_lines n unit.holding
 
--- the rows of `has` for all units, one unit after another
+-- the rows of `has` for the items and skills of all units, one unit after another
 abbrev pub all_goods_lines : List (ℕ × Unit) → List Row
 all_goods_lines units = groups_of unit_lines units
 
@@ -71,7 +75,7 @@ all_goods_lines units = groups_of unit_lines units
 abbrev pub region_lines : ℕ → Region → List Row
 region_lines n region = amount_rows (market_row n) (entries region.stocks)
 
--- the rows of `market` for all regions, one region after another
+-- the rows of `market` for the stocks of all regions, one region after another
 abbrev pub all_stocks_lines : List (ℕ × Region) → List Row
 all_stocks_lines regions = groups_of region_lines regions
 

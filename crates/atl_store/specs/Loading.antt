@@ -78,17 +78,25 @@ rows_read text p Markets = map market_values p.markets
 -- The tables of a format have exactly these rows, each as often as it is here.
 -- There is no row here of a part that the format doesn't have.
 pub record HaveRows (f : Format) (db : Trees) (text : List ℕ) (p : Parts) : Type 0 where
+  -- the table of each part of the format has exactly the rows of this part
   pub rows : (part : Part) → Has (parts_in f) part → IsPermutation (rows_in (table_of part) db) (rows_read text p part)
+  -- there is no row here of a part that the format lacks
   pub none : (part : Part) → ¬ Has (parts_in f) part → rows_read text p part ≡ []
 
 -- ---- the first rule
 
--- There is one row; its id is 1, its format is `f`, and its world text is UTF-8 and reads as the world `w`.
+-- The rows that SQL shows of `campaign` keep the first rule: there is one row, its id is 1, and its format is `f`.
+-- Its world text is UTF-8 and reads as the world `w`.
 pub record AreOwnRow (f : Format) (rows : List Row) (h : StoredCampaignRow) (text : List ℕ) (w : WorldValue) : Type 0 where
+  -- there is one row, whose first columns show `h` and the text
   pub is : map (first_columns (length campaign_forms)) rows ≡ own_stored text h ∷ []
+  -- the row's id is 1
   pub id : h.id ≡ pos 1
+  -- the row's format is `f`
   pub format : h.format ≡ pos (format_number f)
+  -- the world text is UTF-8
   pub utf8 : IsUtf8 text
+  -- the world text reads as the world
   pub world : world_by f text ≡ Ok w
 
 -- the other one of the two formats
@@ -96,7 +104,7 @@ abbrev pub other_format : Format → Format
 other_format First = Second
 other_format Second = First
 
--- there is just one row, and its format is the other one, whatever else the row says
+-- `campaign` has just one row, and its format is the other one, whatever else the row says
 abbrev pub IsOther : Format → List Row → Type 0
 IsOther f rows = (row : Row) × (rows ≡ row ∷ []) × (column row 1 ≡ int (format_number (other_format f)))
 
@@ -133,22 +141,31 @@ tables_with_rowids f = map table_of (filter shows_rowids (parts_in f))
 
 -- if the connection is open it was open before, and its tables and its last commit are as they were
 pub record Stays (old new : State) : Type 0 where
+  -- a connection that is open was open before
   pub was_open : IsTrue new.is_open → IsTrue old.is_open
+  -- while the connection is open its tables and its last commit are as they were
   pub same : IsTrue new.is_open → (new.now ≡ old.now) × (new.committed ≡ old.committed)
 
 -- The connection after reads: it is in no transaction, and its tables are as they were, if the disk is clean (`Stays`).
 -- A crash leaves only what it could have left before.
 pub record AfterReads {S : Type 0} (g : Ghosts S) (old new : Held S) : Type 0 where
+  -- the tables are as they were, if the disk is clean
   pub stays : HasCleanDisk (state g new) → Stays (state g old) (state g new)
+  -- a crash leaves only what it could have left before
   pub survives : Survives (state g old) (state g new) (λ _. ⊥)
+  -- the connection is in no transaction
   pub idle : new.in_transaction ≡ false
 
 module _ {S : Type 0} (g : Ghosts S) (old : Held S) where
   -- the SELECT, asked of the tables of `old`, shows these rows
   pub record SelectShows (sql : List ℕ) (rows : List Row) : Type 0 where
+    -- a connection on which the SELECT is asked
     pub before : Held S
+    -- the connection once the SELECT is answered
     pub during : Held S
+    -- the SELECT is asked of the tables of `old`
     pub same : (state g before).now ≡ (state g old).now
+    -- the SELECT shows the rows
     pub shown : Shown sql [] (state g before) (state g during) rows
 
   module _ (selects : List (List ℕ × List Form)) where
@@ -162,36 +179,56 @@ module _ {S : Type 0} (g : Ghosts S) (old : Held S) where
 
     -- each of these SELECTs shows some rows, and in those of one of them a value is of another form than its column
     pub record HasOtherType : Type 0 where
+      -- each of the SELECTs shows some rows
       pub all : AllSelectsShow
+      -- a SELECT, with the forms of its columns
       pub select : List ℕ × List Form
+      -- the SELECT is one of the list
       pub one : Has selects select
+      -- the rows that the SELECT shows
       pub rows : List Row
+      -- the SELECT shows `rows`
       pub told : SelectShows select.0 rows
+      -- a value that the SELECT shows is of another form than its column
       pub other : ¬ AreTyped select.1 rows
 
     -- one of these SELECTs, asked after other reads, is refused, and this is the fault of its error
     pub record RefusesOne (fault : ReadFault) : Type 0 where
+      -- the SELECT that is refused, with the forms of its columns
       pub select : List ℕ × List Form
+      -- the SELECT is one of the list
       pub one : Has selects select
+      -- the connection after the reads that came before this SELECT
       pub before : Held S
+      -- the reads left the tables as they were
       pub leaves : AfterReads g old before
+      -- the SELECT is refused with this fault
       pub refused : RefusesToSelect g select.0 before fault
 
   -- ---- the disk and the memory
 
   -- the disk failed while the tables were read
   pub record FailedMeanwhile : Type 0 where
+    -- the connection after some reads
     pub after : Held S
+    -- the reads left the tables as they were
     pub leaves : AfterReads g old after
+    -- the disk failed during the reads
     pub failed : MoreFaults (state g old).faults (state g after).faults
 
   -- the SELECT of the campaign row, asked again after other reads, is refused; `memory` says whether for lack of memory
   pub record RefusesAgain (memory : Bool) : Type 0 where
+    -- the connection after the reads that came before this SELECT
     pub before : Held S
+    -- the reads left the tables as they were
     pub leaves : AfterReads g old before
+    -- the connection once the SELECT is refused
     pub during : Held S
+    -- the error of the SELECT
     pub error : Error
+    -- the SELECT of the campaign row ends with this error
     pub refused : FailsToQuery (selection campaign_table 1) [] (state g before) (state g during) error
+    -- the error is lack of memory exactly if `memory` is true
     pub memory_is : is_memory error ≡ memory
 
   -- When Memory may be returned: in no transaction, if the SELECT of the campaign row lacks memory or is answered.
@@ -202,37 +239,56 @@ module _ {S : Type 0} (g : Ghosts S) (old : Held S) where
 -- ---- by format
 
 module _ (f : Format) {S : Type 0} (g : Ghosts S) (old : Held S) where
-  -- The schema begins with the tables of the format, and in those without an INTEGER PRIMARY KEY
-  -- the rowids are integers, no two alike.
+  -- The tables are made as the format has them: the schema begins with its tables, and in those without
+  -- an INTEGER PRIMARY KEY the rowids are integers, no two alike.
   pub record AreMade : Type 0 where
+    -- the schema begins with the tables of the format
     pub begins : HasTablesOf f old.schema
+    -- the rowids of each table without an INTEGER PRIMARY KEY are integers, no two alike
     pub keyed : (table : Table) → Has (tables_with_rowids f) table → IsKeyed ((state g old).now.trees table.tree)
 
   -- The tables are made as the format has them (`AreMade`), and `rule` is the first rule that their rows break.
   -- The world text reads as a world.
   pub record BreaksRule (rule : Rule) : Type 0 where
+    -- the tables are made as the format has them
     pub made : AreMade
+    -- the world of the world text
     pub world : WorldValue
+    -- the world text in the campaign row
     pub text : List ℕ
+    -- the world text reads as the world
     pub is_world : world_by f text ≡ Ok world
+    -- the rows of all tables
     pub parts : Parts
+    -- the tables have exactly the rows of `parts`
     pub rows : HaveRows f (state g old).now.trees text parts
+    -- `rule` is the first rule that the rows of the tables break
     pub first : IsFirstBroken f world parts rule
 
   -- The SELECT of `campaign` shows one row, which keeps the first rule (`AreOwnRow`).
   pub record KeepsOneRow : Type 0 where
+    -- the rows that the SELECT shows
     pub rows : List Row
+    -- the SELECT of `campaign` shows `rows`
     pub selects : Selects g (selection campaign_table 1) old rows
+    -- the campaign row, without its world text
     pub head : StoredCampaignRow
+    -- the world text
     pub text : List ℕ
+    -- the world of the world text
     pub world : WorldValue
+    -- the rows that are shown are one row, which keeps the first rule
     pub own : AreOwnRow f rows head text world
 
   -- The SELECT of `campaign` shows rows that break the first rule and aren't one row of the other format.
   pub record BreaksOneRow : Type 0 where
+    -- the rows that the SELECT shows
     pub rows : List Row
+    -- the SELECT of `campaign` shows `rows`
     pub selects : Selects g (selection campaign_table 1) old rows
+    -- the rows that are shown break the first rule
     pub broken : (h : StoredCampaignRow) (text : List ℕ) (w : WorldValue) → ¬ AreOwnRow f rows h text w
+    -- the rows that are shown aren't one row of the other format
     pub of_format : ¬ IsOther f rows
 
   -- When Damaged may be returned with each rule: it is the first rule that the rows break.
@@ -284,21 +340,33 @@ module _ (f : Format) {S : Type 0} (g : Ghosts S) (old : Held S) where
 -- The connection is open and in no transaction.
 -- The trees list and obey the schema, and the rowids of each table are integers, no two alike.
 pub record StandsIn (f : Format) (s : State) (text : List ℕ) (c : CampaignValue) : Type 0 where
+  -- the connection is in no transaction
   pub idle : s.in_transaction ≡ false
+  -- the connection is open
   pub is_open : IsTrue s.is_open
+  -- nothing is uncommitted
   pub settled : s.committed ≡ s.now
+  -- the schema begins with the tables of the format
   pub begins : HasTablesOf f s.now.schema
+  -- the trees list the schema and obey it
   pub listed : IsSound s.now.schema s.now.trees
+  -- in each table of the format the rowids are integers, no two alike
   pub keyed : (table : Table) → Has (map table_of (parts_in f)) table → IsKeyed (s.now.trees table.tree)
+  -- the tables of the format hold exactly the rows of the text and the campaign
   pub rows : HoldsIn f s.now.trees text c
 
 -- If the disk is clean, Ok says: the tables of the format hold the campaign and a text of the world.
 -- The campaign is good, and in the first format without markets (`Fits`); nothing of it is marked.
 pub record LoadsIn (f : Format) {S : Type 0} (g : Ghosts S) (old new : Held S) (w : WorldValue) (c : MarkedCampaign) : Type 0 where
+  -- the world text that the tables hold reads as the world
   pub world : HasCleanDisk (state g new) → world_by f (world_text (state g new)) ≡ Ok w
+  -- the tables of the format hold the campaign, with their world text (`StandsIn`)
   pub stands : HasCleanDisk (state g new) → StandsIn f (state g new) (world_text (state g new)) c.value
+  -- in the first format the campaign uses no markets
   pub fits : Fits f c.value
+  -- the campaign is good
   pub good : IsGood w c.value
+  -- nothing of the campaign is marked
   pub unmarked : c.marks ≡ no_marks
 
 -- ---- loading in the second format
@@ -315,14 +383,21 @@ module _ {S : Type 0} (g : Ghosts S) (old : Held S) where
   -- If the disk is clean, Ok of `load` says: the connection keeps the campaign and a text of the world.
   -- The campaign is good, and nothing of it is marked.
   pub record Loads (new : Held S) (w : WorldValue) (c : MarkedCampaign) : Type 0 where
+    -- the world text that the tables hold reads as the world
     pub world : HasCleanDisk (state g new) → world_of (world_text (state g new)) ≡ Ok w
+    -- the connection keeps the campaign, with the world text of its tables
     pub tables : HoldsCampaign g new (world_text (state g new)) c.value
+    -- the campaign is good
     pub good : IsGood w c.value
+    -- nothing of the campaign is marked
     pub unmarked : c.marks ≡ no_marks
 
   -- Whatever is answered, nothing is changed (`ChangesNothing`), if the disk is clean.
   -- A crash leaves only what it could have left before, and the connection is in a transaction if it was in one.
   pub record LeavesAlone (new : Held S) : Type 0 where
+    -- nothing is changed, if the disk is clean
     pub spares : HasCleanDisk (state g new) → ChangesNothing (state g old) (state g new)
+    -- a crash leaves only what it could have left before
     pub survives : Survives (state g old) (state g new) (λ _. ⊥)
+    -- the connection is in a transaction exactly if it was in one
     pub mode : new.in_transaction ≡ old.in_transaction

@@ -19,7 +19,9 @@ use Rattle.atl_sql.specs.Tables.{Part, Markets, all_parts, books_table, creation
 
 -- the statement that writes an amount of the books: puts the amount's row, or deletes the row if the amount is 0
 pub data OfAmount (c : CampaignValue) (entry : Entry) (thing : Thing) : List ℕ → Row → Type 0 where
+  -- an amount other than 0: its row is put
   puts_amount : amount_in c.books entry thing ≢ pos 0 → OfAmount c entry thing (upsert books_table 2) (books_row (entry_index entry + 1) (thing_index thing) (amount_in c.books entry thing))
+  -- an amount of 0: the row with its key is deleted
   drops_amount : amount_in c.books entry thing ≡ pos 0 → OfAmount c entry thing (deletion books_table 2) (books_key (entry_index entry + 1) (thing_index thing))
 
 -- the row is one of this part's rows, whatever the campaign row is; so it is never the campaign row itself
@@ -32,37 +34,53 @@ HasNoRow c part key = (length key ≡ key_of part) × ((own row : Row) → rows_
 
 -- the statements that put a row of the campaign into the table of its part
 pub data OfRow (c : CampaignValue) : List ℕ → Row → Type 0 where
+  -- the row of the part is put
   puts_row : (part : Part) {row : Row} → IsRowOf c part row → OfRow c (upsert (table_of part) (key_of part)) row
 
 -- ---- the statements of each write
 
 -- the statements of a founding: they make the tables, and put the campaign row and the rows of the campaign
 pub data OfFounding (text : List ℕ) (c : CampaignValue) : List ℕ → Row → Type 0 where
+  -- a statement that makes the tables
   founds_tables : {sql : List ℕ} {params : Row} → Creations sql params → OfFounding text c sql params
+  -- the campaign row is put, with the world text
   founds_head : OfFounding text c campaign_upsert (campaign_row_values (campaign_row_of c) text)
+  -- another row of the campaign is put
   founds_row : {sql : List ℕ} {params : Row} → OfRow c sql params → OfFounding text c sql params
 
 -- The statements of a change: put the campaign row or another row of the campaign, or delete rows.
 -- Deleted is a key that no row of its part has, or all rows of one number in `has` or `market`.
 pub data OfChange (c : CampaignValue) : List ℕ → Row → Type 0 where
+  -- the campaign row is put; a row that is there keeps its world text
   changes_head : OfChange c campaign_upsert (campaign_row_values (campaign_row_of c) [])
+  -- another row of the campaign is put
   changes_row : {sql : List ℕ} {params : Row} → OfRow c sql params → OfChange c sql params
+  -- the row with a key that no row of the part has is deleted
   drops_row : (part : Part) {key : Row} → HasNoRow c part key → OfChange c (deletion (table_of part) (key_of part)) key
+  -- all rows of one number are deleted from `has` or `market`
   drops_group : (part : Part) {n : ℕ} → IsGroupedPart part → OfChange c (deletion (table_of part) 1) (int n ∷ [])
 
 -- the statements of an upgrade: make the table `market`, and set the format and the world text of the campaign row
 pub data OfUpgrade (text : List ℕ) (c : CampaignValue) : List ℕ → Row → Type 0 where
+  -- the table `market` is made
   upgrades_tables : OfUpgrade text c (creation_of Markets) []
+  -- the campaign row gets the second format and the new world text
   upgrades_head : OfUpgrade text c upgrading_upsert (campaign_row_values (campaign_row_of c) text)
 
 -- The statements of a join: put the campaign row, the faction, its unit, its report, and two amounts of the books.
 -- The unit is the one that came last; the amounts are those of money and people under joining.
 pub data OfJoining (faction : ℕ) (c : CampaignValue) : List ℕ → Row → Type 0 where
+  -- the campaign row is put; a row that is there keeps its world text
   joins_head : OfJoining faction c campaign_upsert (campaign_row_values (campaign_row_of c) [])
+  -- the faction's row is put
   joins_faction : {f : Faction} → get c.factions faction ≡ Some f → OfJoining faction c (upsert faction_table 1) (faction_line faction f)
+  -- the row of the faction's unit, which came last, is put
   joins_unit : {place : ℕ} {u : Unit} → c.next_unit ≡ place + 1 → get c.units place ≡ Some u → OfJoining faction c (upsert unit_table 1) (unit_line place u)
+  -- the row of the faction's report is put
   joins_report : {text : List ℕ} → get c.reports faction ≡ Some text → OfJoining faction c (upsert report_table 1) (report_row faction text)
+  -- the money booked under joining is written
   joins_money : {sql : List ℕ} {params : Row} → OfAmount c Joining Money sql params → OfJoining faction c sql params
+  -- the people booked under joining are written
   joins_people : {sql : List ℕ} {params : Row} → OfAmount c Joining People sql params → OfJoining faction c sql params
 
 -- the one statement of a mailing: it puts the faction's mail

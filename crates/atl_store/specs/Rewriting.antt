@@ -21,7 +21,7 @@ use Rattle.atl_sql.specs.Rows.{RowsOf, HasRowsOf, BooksRowsOf, MarketRowsOf, row
 use Rattle.atl_sql.specs.Marked.{begins, accounts, of_kind, of_stock, begins_marked, goods_marked, stocks_marked, amount_marked, is_marked}
 use Rattle.atl_store.specs.Changing.{rows_after_rewrite, own_after}
 
--- the table's rows with a chosen key become those that are wanted; its other rows and all other tables are as they were
+-- one table is rewritten: its rows with a chosen key become the wanted ones; its other rows and all other tables stay
 abbrev pub Rewrites : Table → (Row → Bool) → Set → Database → Database → Type 0
 Rewrites table is_chosen Wanted old new = Alters table (rows_after_rewrite is_chosen Wanted (Has (rows_in table old.trees))) old new
 
@@ -35,22 +35,24 @@ is_number n k = eq_by_cmp nat_cmp k n
 abbrev pub is_among : List ℕ → ℕ → Bool
 is_among ns k = list_any (eq_by_cmp nat_cmp k) ns
 
--- whether a row of `books` is of a marked amount, and `entries` holds of its entry's index and `things` of its thing
+-- whether a row of `books` is of a marked amount whose entry, by its index, passes `entries`, and its thing `things`
 abbrev pub of_amounts : FinSet nat_cmp → (ℕ → Bool) → (ℕ → Bool) → Row → Bool
 of_amounts marks entries things r = accounts (λ entry thing. entries entry && (things thing && contains marks (entry_count * thing + entry))) r
 
--- whether the unit or region `n` and the thing `t` are this owner and this thing
+-- whether a pair of numbers, a unit or region `n` and a thing `t`, is this owner and this thing
 abbrev pub is_thing : (owner thing : ℕ) → ℕ → ℕ → Bool
 is_thing owner thing n t = is_number owner n && is_number thing t
 
--- whether `n` is this unit or region, and `t` one of these things
+-- whether a pair of numbers, a unit or region `n` and a thing `t`, is this owner and one of these things
 abbrev pub is_of : {V : Type 0} → (owner : ℕ) → FinMap nat_cmp V → ℕ → ℕ → Bool
 is_of owner things n t = is_number owner n && is_some (get things t)
 
 -- `finds` tests rows by two of their numbers: by "`f` or `g`" it finds what it finds by `f` and what it finds by `g`.
 -- By a test that is always false it finds nothing.
 pub record FindsByNumbers (finds : (ℕ → ℕ → Bool) → Row → Bool) : Type 0 where
+  -- the test "`f` or `g`" finds a row exactly if `f` or `g` finds it
   pub either : (f g : ℕ → ℕ → Bool) (r : Row) → finds (λ n t. f n t || g n t) r ≡ (finds f r || finds g r)
+  -- the test that is always false finds no row
   pub none : (r : Row) → finds (λ n t. false) r ≡ false
 
 -- the row of one number becomes the campaign's, or is deleted if the campaign has no such row
@@ -61,11 +63,11 @@ RewritesNumber table line values n old new = Rewrites table (begins (is_number n
 abbrev pub RewritesMarked : {V : Type 0} → Table → (ℕ → V → Row) → FinMap nat_cmp V → FinSet nat_cmp → Database → Database → Type 0
 RewritesMarked table line values marks old new = Rewrites table (begins_marked marks) (RowsOf line values) old new
 
--- the rows whose key begins with this number become those that are wanted
+-- the rows of one unit or region, whose key begins with its number, become the wanted ones
 abbrev pub RewritesGroup : Table → Set → ℕ → Database → Database → Type 0
 RewritesGroup table Wanted n old new = Rewrites table (begins (is_number n)) Wanted old new
 
--- the rows whose key begins with a marked number become those that are wanted
+-- the rows of all marked units or regions, whose key begins with a marked number, become the wanted ones
 abbrev pub RewritesGroups : Table → Set → FinSet nat_cmp → Database → Database → Type 0
 RewritesGroups table Wanted marks old new = Rewrites table (begins_marked marks) Wanted old new
 
@@ -81,7 +83,7 @@ RewritesStocks c old new = Rewrites market_table (stocks_marked c.marks) (Market
 abbrev pub RewritesThings : CampaignValue → ThingKind → (ℕ → ℕ → Bool) → Database → Database → Type 0
 RewritesThings c sort things old new = Rewrites has_table (of_kind sort things) (HasRowsOf c.units) old new
 
--- the single things of a kind that are marked, by unit
+-- the items, or the skills, that are marked one by one, by unit
 abbrev pub marked_things : Marks → ThingKind → Things
 marked_things marks Item = marks.items
 marked_things marks Skill = marks.skills

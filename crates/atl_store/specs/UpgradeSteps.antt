@@ -1,4 +1,4 @@
--- Which database is of the first format; and, for proofs and private functions, what the transaction of an upgrade does.
+-- Which database is of the first format; for proofs and private functions, what the transaction of an upgrade does.
 use Rattle.std.specs.Prelude.{◌≡◌, [], List, ℕ, map}
 use Rattle.sqlite.specs.Effect.{Database}
 use Rattle.sqlite.specs.Table.{Table}
@@ -14,13 +14,18 @@ use Rattle.atl_sql.specs.Tables.{IsJustOld, market_table, parts_in, table_of}
 -- The database has exactly the tables of the first format, and its trees list and obey the schema.
 -- The rowids of each table are integers, no two alike.
 pub record IsFirstFormat (db : Database) : Type 0 where
+  -- the schema is exactly the tables and indexes of the first format
   pub just : IsJustOld db.schema
+  -- in each table of the first format the rowids are integers, no two alike
   pub keyed : (table : Table) → Has (map table_of (parts_in First)) table → IsKeyed (db.trees table.tree)
+  -- the trees list the schema and obey it
   pub listed : IsSound db.schema db.trees
 
 -- the table `market` has no row, and each table of the first format is as it was
 pub record AddsMarkets (old new : Database) : Type 0 where
+  -- the table `market` has no row
   pub empty : new.trees market_table.tree ≡ []
+  -- each table of the first format is as it was
   pub others : (table : Table) → Has (map table_of (parts_in First)) table → new.trees table.tree ≡ old.trees table.tree
 
 -- If the tables held a campaign without stocks in the first format, they hold it in the second, with this text.

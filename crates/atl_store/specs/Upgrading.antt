@@ -25,15 +25,21 @@ use Rattle.atl_sql.specs.Tables.{HasTablesOf, IsJustOld}
 
 -- the tables hold this campaign, which is good, in the first format, with a text of this world
 pub record HoldsOld (s : State) (w : WorldValue) (c : CampaignValue) : Type 0 where
+  -- the world text of the tables
   pub text : List ℕ
+  -- the world text of the tables reads as the world
   pub world : old_world_of text ≡ Ok w
+  -- the tables of the first format hold exactly the rows of the text and the campaign
   pub rows : HoldsIn First s.now.trees text c
+  -- the campaign is good
   pub good : IsGood w c
 
 -- The new text is of the world `w`, and the tables hold the campaign in the first format.
 -- Their text is of `w` without markets (`HoldsOld`).
 pub record Matches (s : State) (text : List ℕ) (w : WorldValue) (c : CampaignValue) : Type 0 where
+  -- the new text reads as the world `w`
   pub world : world_of text ≡ Ok w
+  -- the tables hold the campaign in the first format, with a text of `w` without markets
   pub was : HoldsOld s (without_markets w) c
 
 -- a crash leaves what it could have left before, or the upgraded campaign with the new text
@@ -44,32 +50,52 @@ module _ {S : Type 0} (g : Ghosts S) (text : List ℕ) (old new : Held S) where
   -- If the disk is clean, Ok of `upgrade` says: the connection keeps the first format's campaign, with the new text.
   -- The connection is in no transaction; the campaign is good, nothing is in stock, and nothing is marked.
   pub record Upgrades (w : WorldValue) (c : MarkedCampaign) : Type 0 where
+    -- the new text reads as the world `w`
     pub world : world_of text ≡ Ok w
+    -- the tables held the campaign in the first format, with a text of `w` without markets
     pub was : HasCleanDisk (state g new) → HoldsOld (state g old) (without_markets w) c.value
+    -- nothing is in stock
     pub bare : HasNoStocks c.value
+    -- the connection keeps the campaign, with the new text
     pub tables : HoldsCampaign g new text c.value
+    -- the campaign is good
     pub good : IsGood w c.value
+    -- nothing of the campaign is marked
     pub unmarked : c.marks ≡ no_marks
+    -- the connection is in no transaction
     pub idle : new.in_transaction ≡ false
 
-  -- A statement of the transaction, or its commit, gave an error, on the connection as the reads left it.
+  -- The upgrade broke off: its reads changed nothing, and then a statement of its transaction, or the commit, failed.
   -- `memory` says whether the error is lack of memory.
   pub record BreaksOffUpgrade (memory : Bool) : Type 0 where
+    -- the world of the new text
     pub world : WorldValue
+    -- the campaign that the tables hold
     pub campaign : CampaignValue
+    -- the campaign that the tables hold matches the new text
     pub matches : Matches (state g old) text world campaign
+    -- the connection after the reads, before the transaction
     pub before : Held S
+    -- the reads changed nothing
     pub alone : LeavesAlone g old before
+    -- the error that ended the transaction
     pub error : Error
+    -- the error is lack of memory exactly if `memory` is true
     pub memory_is : is_memory error ≡ memory
+    -- a statement of the upgrade, or its commit, gave the error
     pub given : Gives g (OfUpgrade text campaign) error before new
 
   -- the campaign matches the new text (`Matches`), but there are more tables or indexes than those of the first format
   pub record HasMore : Type 0 where
+    -- the world of the new text
     pub world : WorldValue
+    -- the campaign that the tables hold
     pub campaign : CampaignValue
+    -- the campaign that the tables hold matches the new text
     pub matches : Matches (state g old) text world campaign
+    -- the schema begins with the tables of the first format
     pub begins : HasTablesOf First old.schema
+    -- the schema has more than the tables and indexes of the first format
     pub more : ¬ IsJustOld old.schema
 
   -- the tables hold a good campaign in the first format
@@ -78,11 +104,17 @@ module _ {S : Type 0} (g : Ghosts S) (text : List ℕ) (old new : Held S) where
 
   -- the new text is of a world that differs from that of the campaign in more than its markets
   pub record HasOtherWorld : Type 0 where
+    -- the world of the new text
     pub world : WorldValue
+    -- the world of the text that the tables hold
     pub before : WorldValue
+    -- the campaign that the tables hold
     pub campaign : CampaignValue
+    -- the tables hold the campaign in the first format, with a text of the world before
     pub was : HoldsOld (state g old) before campaign
+    -- the new text reads as `world`
     pub is : world_of text ≡ Ok world
+    -- `world` without markets is not the world before
     pub differs : without_markets world ≢ before
 
   -- When a check before the transaction may return each fault. Memory may also come from reading the new text.
@@ -106,15 +138,22 @@ module _ {S : Type 0} (g : Ghosts S) (text : List ℕ) (old new : Held S) where
   -- While the connection is open its tables are as they were.
   -- A crash leaves what it could have left before, or the upgraded campaign.
   pub record RefusesToUpgrade (fault : UpgradeFault) : Type 0 where
+    -- a check failed and nothing is changed, or the transaction broke off with this fault
     pub cause : HasCleanDisk (state g new) → (FailsCheck fault × LeavesAlone g old new) ⊎ FailsInTransaction fault
+    -- while the connection is open its tables are as they were
     pub spares : HasCleanDisk (state g new) → ChangesNothing (state g old) (state g new)
+    -- a crash leaves what it could have left before, or the upgraded campaign
     pub crash : HasCleanDisk (state g new) → MayUpgrade (state g old) text (state g new)
 
 -- ---- For proofs and for private functions.
 
 -- the campaign is loaded in the first format, and the new text's world differs from the campaign's in markets alone
 pub record IsReadyToUpgrade {S : Type 0} (g : Ghosts S) (text : List ℕ) (old mid : Held S) (w : WorldValue) (c : MarkedCampaign) : Type 0 where
+  -- the new text reads as the world `w`
   pub world : world_of text ≡ Ok w
+  -- the world of the text that the tables hold
   pub before : WorldValue
+  -- the campaign is loaded in the first format, with the world before
   pub loads : LoadsIn First g old mid before c
+  -- the two worlds differ in markets alone
   pub same : without_markets w ≡ without_markets before

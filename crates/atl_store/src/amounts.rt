@@ -8,7 +8,8 @@ ghost use Rattle.atl_sql.specs.Writes.{WritesRow, WritesRows};
 use atl_world::Entries;
 use sqlite::{Alter, Error, Transaction};
 
-/// An owner of amounts of things; each amount that is not 0 has a row of a table.
+/// An owner, a unit or a region, whose amounts of things are written as rows of one table. Each
+/// amount that is not 0 has a row.
 pub(crate) trait AmountWriter: Copy {
     // The table that has the amounts' rows.
     ghost table: { Table };

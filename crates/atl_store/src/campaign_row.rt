@@ -14,7 +14,8 @@ use atl_campaign::Campaign;
 use atl_sql::rows::campaign::{CampaignRow, put_campaign, put_upgraded};
 use sqlite::{Alter, Error, Transaction};
 
-/// The month, the next numbers and the pass text of a campaign, for its campaign row.
+/// What the campaign row has of a campaign: the month, the numbers of the next faction, unit and
+/// structure, and the moderator's pass text.
 fn own_row(campaign: &Campaign) -> CampaignRow<'_>
     ensures { head_shown result ≡ campaign_row_of campaign.now.value }
 {

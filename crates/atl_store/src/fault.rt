@@ -11,8 +11,8 @@ use sqlite_trees::error::StoreError;
 use std::alloc::AllocError;
 use std::fmt;
 
-/// Why nothing was written. While the connection is open the tables are as they were; a crash
-/// leaves them so, or written.
+/// Why a write of a join, a mailing or changes failed. While the connection is open the tables are
+/// as they were; a crash leaves them so, or written.
 #[derive(Drop, Clone, Copy, Debug, PartialEq, Eq)]
 pub enum WriteFault {
     /// The database refuses for another cause than memory.
@@ -50,7 +50,7 @@ pub enum StoreFault {
     Memory,
 }
 
-/// Why no campaign of a format is loaded. Nothing is changed.
+/// Why no campaign is loaded in one of the two formats. Nothing is changed.
 #[derive(Drop, Clone, Copy, Debug, PartialEq, Eq)]
 pub enum LoadFault {
     /// The database refuses for another cause than memory, is in a transaction, or has tables that
@@ -280,6 +280,7 @@ impl From<WorldFault> for UpgradeFault {
     }
 }
 
+/// Numbers the faults of `load`; callers know them by these numbers.
 impl StoreFault {
     /// The fault's number, from 1; `Memory` has none.
     pub fn number(self) -> Option<u8>
@@ -295,6 +296,7 @@ impl StoreFault {
     }
 }
 
+/// Numbers the faults of `upgrade`; callers know them by these numbers.
 impl UpgradeFault {
     /// The fault's number, from 1; `Memory` has none.
     pub fn number(&self) -> Option<u8>

@@ -18,14 +18,14 @@ use atl_sql::rows::has::{HasRow, ThingKind, drop_goods, put_has};
 use atl_world::MarkedNumbers;
 use sqlite::{Alter, Error, Transaction};
 
-/// A unit and a kind (items or skills), as the owner of the amounts that are written.
+/// The items, or the skills, of one unit as amounts to write, by the unit's number and the kind.
 #[derive(Clone, Copy)]
 struct UnitThings {
     unit: u32,
     sort: ThingKind,
 }
 
-/// An amount of an item, or days of a skill, has a row of `has`, by unit, kind and thing.
+/// Writes amounts of a unit's items, or days of its skills, into `has`, by unit, kind and thing.
 impl AmountWriter for UnitThings {
     ghost table = { has_table };
 
@@ -85,7 +85,7 @@ pub(crate) fn put_all_goods<S: Alter>(
     Ok(())
 }
 
-/// The rows of `has` that belong to a unit, by the unit's number.
+/// Rewrites all items and skills of a unit: its rows of `has`, whose key begins with its number.
 impl Grouped for Unit {
     ghost part = { Goods };
 

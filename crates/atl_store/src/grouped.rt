@@ -1,4 +1,4 @@
-//! Things with several rows in a table: to rewrite a thing, its rows are deleted and put again.
+//! Rewrites all rows that a unit or a region has in a table: they are deleted and put again.
 ghost use Rattle.std.specs.Prelude.{◌≡◌, ℕ, suc, List, [], ◌∷◌};
 ghost use Rattle.std.specs.Ordering.{nat_cmp};
 ghost use Rattle.std.specs.FinSet.{FinSet};
@@ -20,7 +20,8 @@ use atl_sql::numbered_rows::NumberedRow;
 use atl_world::MarkedNumbers;
 use sqlite::{Alter, Error, Transaction};
 
-/// A thing with its own row, and with rows of another table whose key begins with its number.
+/// A unit or a region: it has its own row and, in another table, rows whose key begins with its
+/// number, for its items and skills, or for its stocks.
 pub(crate) trait Grouped: NumberedRow {
     // The part whose table has the rows.
     ghost part: { Part };
@@ -46,11 +47,13 @@ pub(crate) trait Grouped: NumberedRow {
     // Each wanted row is a row of the part.
     ghost are_rows: { (own : SqlRow) (c : CampaignValue) (r : SqlRow) → wanted c r → rows_for own c part r };
 
-    /// The numbers whose rows are marked in a campaign, in rising order.
+    /// The numbers of the units, or regions, whose rows of the other table are all marked, in
+    /// rising order.
     fn marked_groups(campaign: &Campaign) -> MarkedNumbers<'_>
         ensures { Lists (marks campaign.now.marks) result };
 
-    /// Inserts the thing's rows of the other table, or changes the rows with the same keys.
+    /// Inserts the rows that this unit or region has in the other table, or changes the rows with
+    /// the same keys.
     fn put_rows<S: Alter>(&self, tx: &mut Transaction<'_, S>, number: u32) -> Result<(), Error>
         ensures { WritesRows S.Store (table_of part) (suc more) (lines number self.now) result
             tx.old.conn tx.new.conn };
@@ -61,8 +64,8 @@ pub(crate) trait Grouped: NumberedRow {
             tx.new.conn };
 }
 
-/// Deletes the rows whose key begins with a number, and puts those of the thing that has the
-/// number, if there is one.
+/// Rewrites the rows of one number: deletes all whose key begins with the number, and puts those of
+/// the unit or region that has the number, if there is one.
 fn rewrite_group<V: Grouped + Drop, S: Alter>(
     tx: &mut Transaction<'_, S>,
     campaign: &Campaign,
@@ -81,8 +84,8 @@ fn rewrite_group<V: Grouped + Drop, S: Alter>(
     }
 }
 
-/// Deletes the rows whose key begins with a marked number, and puts those of the things that have
-/// such numbers.
+/// Rewrites the rows of all marked numbers: deletes those whose key begins with such a number, and
+/// puts those of the units or regions that have such numbers.
 pub(crate) fn rewrite_marked_groups<V: Grouped + Drop, S: Alter>(
     tx: &mut Transaction<'_, S>,
     campaign: &Campaign,

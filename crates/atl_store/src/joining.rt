@@ -52,7 +52,7 @@ fn arrival_of(campaign: &Campaign, number: u32) -> Arrival<'_>
     }
 }
 
-/// Puts the campaign row, and the rows of the faction and of its unit.
+/// Puts the campaign row, and the rows of the faction that joined and of its unit.
 fn put_newcomer<S: Alter>(
     tx: &mut Transaction<'_, S>,
     campaign: &Campaign,

@@ -43,7 +43,8 @@ fn gather<S: Alter>(
     Ok((world, parts))
 }
 
-/// Reads, confirms and checks the campaign of a connection that is in no transaction, in a format.
+/// Loads the campaign in a format, over a connection that is in no transaction: reads the tables,
+/// tests the schema, and checks the rows.
 fn load_idle<S: Alter>(
     alloc: Global,
     conn: &mut Connection<S>,

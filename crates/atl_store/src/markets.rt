@@ -18,13 +18,13 @@ use atl_sql::rows::market::{drop_stock, drop_stocks, put_stock};
 use atl_world::{Entries, MarkedNumbers, Numbered};
 use sqlite::{Alter, Error, Transaction};
 
-/// A region, by its number, as the owner of the stocks that are written.
+/// The stocks of one region as amounts to write, by the region's number.
 #[derive(Clone, Copy)]
 struct RegionMarkets {
     region: u32,
 }
 
-/// The stock of an item has a row of `market`, whose key is the region and the item.
+/// Writes stocks of a region into `market`, whose key is the region and the item.
 impl AmountWriter for RegionMarkets {
     ghost table = { market_table };
 
@@ -69,7 +69,7 @@ pub(crate) fn put_all_stocks<S: Alter>(
     Ok(())
 }
 
-/// The rows of `market` that belong to a region, by the region's number.
+/// Rewrites all stocks of a region: its rows of `market`, whose key begins with its number.
 impl Grouped for Region {
     ghost part = { Markets };
 
@@ -107,7 +107,7 @@ impl Grouped for Region {
 #[derive(Clone, Copy)]
 struct SingleStocks;
 
-/// A stock that is marked alone has a row of `market`, by its region and item.
+/// Rewrites stocks that are marked alone: each has a row of `market`, by its region and item.
 impl SingleAmounts for SingleStocks {
     ghost table = { market_table };
 

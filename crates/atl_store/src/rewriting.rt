@@ -1,4 +1,5 @@
-//! Rewrites things with one row in a table, by number: each is put, or deleted.
+//! Writes marked things that have one row each, under a number: the row is put, or deleted if the
+//! thing is gone.
 ghost use Rattle.atl_sql.specs.Tables.{table_of};
 ghost use Rattle.atl_store.specs.OwnStatements.{OfChange};
 ghost use Rattle.atl_sql.specs.Writes.{Writes};

@@ -1,4 +1,4 @@
-//! The single items and skills of units, whose rows are written one by one.
+//! Writes the single items and skills of units that are marked, row by row.
 ghost use Rattle.std.specs.Prelude.{◌≡◌};
 ghost use Rattle.atl_sql.specs.Rows.{HasRowsOf, amount_under};
 ghost use Rattle.atl_store.specs.OwnStatements.{OfChange};
@@ -52,7 +52,8 @@ fn rewrite_thing<S: Alter>(
     put_has(tx, &row)
 }
 
-/// An item, or a skill, that is marked alone has a row of `has`, by its unit and its number.
+/// Rewrites items, or skills, that are marked alone: each has a row of `has`, by its unit, its kind
+/// and its number.
 impl SingleAmounts for ThingKind {
     ghost table = { has_table };
 

@@ -69,7 +69,7 @@ pub(crate) trait WrittenPart {
             tx.new.conn };
 }
 
-/// The parts of `X`, and then those of `Y`.
+/// Writes the parts of `X`, and then those of `Y`.
 impl<X: WrittenPart, Y: WrittenPart> WrittenPart for (X, Y) {
     ghost parts = { X.parts ++ Y.parts };
 
@@ -86,7 +86,7 @@ impl<X: WrittenPart, Y: WrittenPart> WrittenPart for (X, Y) {
     }
 }
 
-/// The things of a kind `V`, which the campaign holds in a map, each with a row under its number.
+/// Writes the things of a kind `V`, which the campaign holds in a map: one row under each number.
 impl<V: Mapped + Drop> WrittenPart for Numbered<V> {
     ghost parts = { V.NumberedRow.part ∷ [] };
 
@@ -101,7 +101,7 @@ impl<V: Mapped + Drop> WrittenPart for Numbered<V> {
     }
 }
 
-/// The table `books` has the amounts of the books.
+/// Writes the amounts of the books into the table `books`.
 impl WrittenPart for Ledger {
     ghost parts = { Books ∷ [] };
 
@@ -116,7 +116,7 @@ impl WrittenPart for Ledger {
     }
 }
 
-/// The table `market` has the stocks of all regions.
+/// Writes the stocks of all regions into the table `market`.
 impl WrittenPart for Stocks {
     ghost parts = { Markets ∷ [] };
 
@@ -131,7 +131,7 @@ impl WrittenPart for Stocks {
     }
 }
 
-/// The table `unit` has a row for each unit.
+/// Writes one row for each unit into the table `unit`.
 impl WrittenPart for UnitRows {
     ghost parts = { Units ∷ [] };
 
@@ -146,7 +146,7 @@ impl WrittenPart for UnitRows {
     }
 }
 
-/// The table `has` has the items and skills of all units.
+/// Writes the items and skills of all units into the table `has`.
 impl WrittenPart for UnitGoods {
     ghost parts = { Goods ∷ [] };
 

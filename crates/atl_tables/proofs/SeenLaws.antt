@@ -10,7 +10,7 @@ use Rattle.std.specs.declared.string.String.{String}
 use Rattle.atl_world.specs.Names.{same_name}
 use Rattle.atl_tables.specs.SeenNames.{has_name, HasNames}
 
--- a law of truth values: true if b is true, else `there`, is "there or b"
+-- the truth value that is true if b is, and else `there`, is "`there` or b"
 or_of : (b there : Bool) → cond b true there ≡ (there || b)
 or_of true true = refl
 or_of true false = refl
@@ -24,12 +24,12 @@ unfolding same_name
 has_more seen grown lowered name put same other =
     rw same at (btree_set_updates_text (string_bytes lowered) seen grown true put (map to_ascii_lowercase other)) ∙ or_of (same_name name other) (has_name seen other)
 
--- a law of truth values: if `new` is "not there", and is false, `there` is true
+-- if `new` is the negation of `there`, and is false, `there` is true
 there_before : (new there : Bool) → new ≡ not there → new ≡ false → there ≡ true
 there_before new true said h = refl
 there_before new false said h = sym h ∙ said
 
--- a law of truth values: if `new` is "not there", and is true, `there` is false
+-- if `new` is the negation of `there`, and is true, `there` is false
 not_before : (new there : Bool) → new ≡ not there → new ≡ true → there ≡ false
 not_before new true said h = sym h ∙ said
 not_before new false said h = refl

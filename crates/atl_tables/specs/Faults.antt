@@ -3,7 +3,7 @@ use Rattle.std.specs.Prelude.{◌≡◌, List, [], ◌∷◌, Option, Some, None
 use Rattle.atl_tables.specs.declared.fault.WorldFault.{WorldFault}
 use Rattle.atl_tables.specs.declared.fault.WorldFault.TheVariants.{Memory}
 
--- conditions, in the order in which their faults count: None for one that holds, and the fault of one that is broken
+-- a list of conditions in the order in which faults count: None for one that holds, its fault for one that is broken
 abbrev pub Conditions : Type 0
 Conditions = List (Option WorldFault)
 

@@ -7,7 +7,9 @@ use Rattle.atl_tables.specs.Keys.{Key, number_at, name_at, text_at, flag_at, num
 
 -- what reading a table gives: the conditions on its keys in order, and the value if they hold
 pub record Says (A : Type 0) : Type 0 where
+  -- the conditions on the keys, in order
   pub conditions : Conditions
+  -- the value that the table gives; with defaults where keys have a fault
   pub value : A
 
 -- a way to read a table: from its path and its members, the conditions on its keys and its value

@@ -18,7 +18,7 @@ use Rattle.atl_world.specs.declared.world.Market.{Market}
 abbrev pub price_at : Key ℕ
 price_at = number_at 1 most_price (codes "price")
 
--- the key `pays` of a market, from 1 to most_price: what it pays a unit for one item
+-- the key `pays` of a market, from 1 to most_price: what the market pays a unit for one item
 abbrev pub pays_at : Key ℕ
 pays_at = number_at 1 most_price (codes "pays")
 

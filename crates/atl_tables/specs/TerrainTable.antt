@@ -13,7 +13,7 @@ use Rattle.atl_tables.specs.declared.terrain_table.Economy.{Economy}
 use Rattle.atl_tables.specs.declared.terrain_table.TerrainDraft.{TerrainDraft}
 use Rattle.atl_world.specs.declared.world.Terrain.{Terrain}
 
--- the keys for what work in a region pays, for how many men, and for the most money and peasants that a region grows to
+-- the keys for the wage, the work places, and the most money and peasants that a region grows to
 unfoldable pub economy_at : Table Economy
 economy_at = do
   wage ← number_key 1 most_price (codes "wage")

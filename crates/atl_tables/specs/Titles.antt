@@ -34,7 +34,7 @@ item_number all name = number_of (λ d. d.name) all.items name
 abbrev pub skill_number : WorldDraft → List ℕ → Option ℕ
 skill_number all name = number_of (λ s. s.name) all.skills name
 
--- the condition that a name has a number (Some), else the fault UnknownName at the path p
+-- the condition that a name was found, given its number (Some) or None; else the fault UnknownName at the path p
 abbrev pub known : List ℕ → Option ℕ → Option WorldFault
 known p None = Some (UnknownName p)
 known p (Some n) = None

@@ -106,7 +106,7 @@ names_differ all =
     ++ (each duplicate_output_keys 0 all.terrains
     ++ each duplicate_market_items 0 all.regions))
 
--- the conditions that each name that refers to a thing is the name of one
+-- the conditions that each name by which a table refers to a terrain, an item or a skill is the name of one
 unfoldable pub names_are_known : WorldDraft → Conditions
 names_are_known all =
     rules_known all

@@ -11,7 +11,7 @@ pub(crate) trait HasNumber: Drop {
     // The number under which the value is stored.
     ghost place_of: { Self → ℕ };
 
-    /// The number under which the value is stored.
+    /// The value's own number, under which a map stores the value.
     fn place(&self) -> u32
         ensures { result ≡ place_of self.now };
 }

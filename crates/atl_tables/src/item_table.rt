@@ -32,6 +32,7 @@ pub struct Recipe {
     pub raw_count: u32,
 }
 
+/// Drops the names of the skill and of the raw item.
 impl Drop for Recipe {
     fn drop(self) {
         let_go!(self: Recipe { skill, level, raw, raw_count });
@@ -50,6 +51,7 @@ pub struct ItemDraft {
     pub making: Recipe,
 }
 
+/// Drops the item's name and what making one takes.
 impl Drop for ItemDraft {
     fn drop(self) {
         let_go!(self: ItemDraft { name, weight, carry, making });
@@ -113,8 +115,8 @@ impl Titled for ItemDraft {
     }
 }
 
-/// The number of the first item with a name, `None` if no item has it or the first is the i-th
-/// item.
+/// The number of the first item with a name, `None` if no item has it, or if it is the i-th item:
+/// an item isn't made of itself.
 #[tactic(auto, unfolding(crate::specs::Titles::number_of))]
 fn other_item(items: &[ItemDraft], i: usize, name: &Text) -> Option<u16>
     requires { length items.now ≤ most_numbered }

@@ -27,6 +27,7 @@ pub struct Building {
     pub level: u32,
 }
 
+/// Drops the names of the material and of the skill.
 impl Drop for Building {
     fn drop(self) {
         let_go!(self: Building { material, size, skill, level });
@@ -57,6 +58,7 @@ pub struct KindDraft {
     pub purpose: Purpose,
 }
 
+/// Drops the kind's name, what building one takes, and what it is good for.
 impl Drop for KindDraft {
     fn drop(self) {
         let_go!(self: KindDraft { name, ship, building, purpose });

@@ -36,6 +36,7 @@ pub struct MarketDraft {
     pub restock: u32,
 }
 
+/// Drops the path of the market's table and the name of its item.
 impl Drop for MarketDraft {
     fn drop(self) {
         let_go!(self: MarketDraft { place, item, price, pays, limit, restock });

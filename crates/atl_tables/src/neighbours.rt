@@ -26,7 +26,7 @@ fn region_next_to(regions: &Numbered<RegionPlan>, number: u32, side: Direction) 
     }
 }
 
-/// Whether a region number is given (`Some`) and equals another one.
+/// Whether `other` is given (`Some`) and equals the region number `number`.
 fn is_number(number: u32, other: Option<u32>) -> bool
     ensures { result ≡ is_number number other }
 {

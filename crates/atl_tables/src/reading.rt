@@ -137,7 +137,7 @@ fn names_differ(alloc: Global, all: &WorldDraft) -> Result<(), WorldFault>
 }
 
 /// The parts of the world that the tables describe, except its skills, with names looked up, else
-/// the fault UnknownName at the first name that nothing has.
+/// the fault UnknownName at the first name that refers to nothing.
 #[tactic(auto, unfolding(crate::specs::World::names_are_known))]
 fn resolve(alloc: Global, all: &WorldDraft) -> Result<WorldParts, WorldFault>
     requires { IsWorldDraft all.now }

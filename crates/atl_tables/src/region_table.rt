@@ -33,6 +33,7 @@ pub struct RegionBasics {
     pub money: u32,
 }
 
+/// Drops the names of the region and of its terrain.
 impl Drop for RegionBasics {
     fn drop(self) {
         let_go!(self: RegionBasics { number, name, terrain, peasants, money });
@@ -69,6 +70,7 @@ pub struct RegionDraft {
     pub markets: Sequence<MarketDraft>,
 }
 
+/// Drops the region's basics, its sides and its markets.
 impl Drop for RegionDraft {
     fn drop(self) {
         let_go!(self: RegionDraft { place, sides, markets });

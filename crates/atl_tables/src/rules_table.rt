@@ -34,7 +34,7 @@ pub struct Prices {
 /// The rules on recruits, births and income of peasants in a month.
 #[derive(Drop)]
 pub struct PeasantRules {
-    /// Of this many peasants one can be recruited in a month, from 1 to `MOST_FRACTION`.
+    /// The number of peasants of whom one can be recruited in a month, from 1 to `MOST_FRACTION`.
     pub recruit_fraction: u32,
     /// The most births, in percent of the peasants, at most `MOST_GROWTH`.
     pub growth: u32,
@@ -63,6 +63,7 @@ pub struct SkillNames {
     pub sailing: Option<Text>,
 }
 
+/// Drops the names of the three skills.
 impl Drop for SkillNames {
     fn drop(self) {
         let_go!(self: SkillNames { observation, stealth, sailing });

@@ -43,6 +43,7 @@ pub struct TerrainDraft {
     pub output: Sequence<Output>,
 }
 
+/// Drops the terrain's name, its economy and its output.
 impl Drop for TerrainDraft {
     fn drop(self) {
         let_go!(self: TerrainDraft { name, land, economy, output });
@@ -136,8 +137,8 @@ impl Draft for TerrainDraft {
     }
 }
 
-/// Checks that no two keys of a terrain's output are equal, else gives the fault TwoNames at the
-/// second.
+/// Checks that no two keys of a terrain's output are equal, ignoring ASCII case, else gives the
+/// fault TwoNames at the second.
 impl HasUniqueNames for TerrainDraft {
     ghost no_twins = { duplicate_output_keys };
 

@@ -105,8 +105,8 @@ pub(crate) fn number_of<T: Titled>(items: &[T], name: &Text) -> Option<u16>
     None
 }
 
-/// The number of the thing that the name under a key refers to, else the fault UnknownName at the
-/// key's path.
+/// The number (the index) of the element that the name under a key refers to, else the fault
+/// UnknownName at the key's path.
 pub(crate) fn known<T: Titled>(
     alloc: Global,
     items: &[T],
@@ -127,8 +127,8 @@ pub(crate) fn known<T: Titled>(
     }
 }
 
-/// The number of the thing that the name under a key refers to, `None` without a name, else the
-/// fault UnknownName at the key's path.
+/// The number (the index) of the element that the name under a key refers to, `None` without a
+/// name, else the fault UnknownName at the key's path.
 pub(crate) fn known_number_or_none<T: Titled>(
     alloc: Global,
     items: &[T],

@@ -45,6 +45,7 @@ impl WorldDraft {
     }
 }
 
+/// Drops all tables of the file.
 impl Drop for WorldDraft {
     fn drop(self) {
         let_go!(self: WorldDraft { rules, terrains, items, skills, kinds, regions });
@@ -68,7 +69,7 @@ pub(crate) trait Draft: Drop {
     ghost is_sound: { WorldDraft → ℕ → Self.Record → Type 0 };
 
     /// The record of the i-th table of its array, with numbers in place of names, else the fault
-    /// UnknownName at the first name that no thing has. `Memory` may come at any point.
+    /// UnknownName at the first name that refers to nothing. `Memory` may come at any point.
     fn resolve(&self, alloc: Global, all: &WorldDraft, i: usize) -> Result<Self::Record, WorldFault>
         requires all { IsWorldDraft all.now }
         requires draft { is_draft self.now }
@@ -77,8 +78,8 @@ pub(crate) trait Draft: Drop {
         ensures sound { IfOk result (λ x. is_sound all.now i x) };
 }
 
-/// The records of all tables of an array, else the fault UnknownName at the first name that no
-/// thing has.
+/// The records of all tables of an array, else the fault UnknownName at the first name that refers
+/// to nothing.
 pub(crate) fn resolve_all<D: Draft>(
     alloc: Global,
     all: &WorldDraft,

@@ -134,11 +134,11 @@ apart_remove s t n h = record {
 
 -- ---- marks in two sets
 
--- a set that is no larger than its room, and no recent ones, are marks in two sets (`AreMarks`)
+-- a set that is no larger than its room, together with no recent marks, is a set of marks kept in two sets (`AreMarks`)
 pub none_recent : (s : Numbers) (room recent : ℕ) → set.len s ≤ room → AreMarks (record { numbers = s; room = room }) (record { numbers = set.empty; room = recent })
 none_recent s room recent h = record { apart = apart_empty s; fits = let none : set.len {R = nat_cmp} set.empty ≡ 0 = set.len-empty nat_cmp in omega (arith, none, h) }
 
--- the empty set with any room, and no recent ones, are marks in two sets (`AreMarks`)
+-- the empty set with any room, together with no recent marks, is a set of marks kept in two sets (`AreMarks`)
 pub no_marks : (room recent : ℕ) → AreMarks (record { numbers = set.empty; room = room }) (record { numbers = set.empty; room = recent })
 no_marks room recent = none_recent set.empty room recent (let none : set.len {R = nat_cmp} set.empty ≡ 0 = set.len-empty nat_cmp in omega (arith, none))
 

@@ -35,7 +35,7 @@ module _ {V : Type 0} where
   begins_same n e [] h l = tt
   begins_same n e (f ∷ es) h l = omega (arith, l, below e.0 f.0 (and_parts _ _ (and_parts _ _ h).0).0)
 
-  -- the first of any entries has a number that is at least 0
+  -- the first of some entries, if there is one, has a number that is at least 0
   pub begins_zero : (es : List (ℕ × V)) → BeginsFrom 0 es
   begins_zero [] = tt
   begins_zero (e ∷ es) = omega arith

@@ -26,7 +26,7 @@ IsRising xs = IsStrictlySortedBy nat_cmp xs
 abbrev merged : List ℕ → List ℕ → List ℕ
 merged xs ys = sorted_merge nat_cmp true xs ys
 
--- x ∷ xs merged with a list, where `on` merges xs with a list
+-- the merge of x ∷ xs with a list, where `on` gives the merge of xs with any list
 abbrev step : ℕ → List ℕ → (List ℕ → List ℕ) → List ℕ → List ℕ
 step x xs on ys = merge_step nat_cmp true x xs on ys
 
@@ -48,7 +48,7 @@ module _ (n : ℕ) where
   abbrev has : List ℕ → Bool
   has xs = list_any (eq_by_cmp nat_cmp n) xs
 
-  -- n is in a merge of x ∷ xs exactly if it is in one of the two lists
+  -- n is in the merge of x ∷ xs and a second list exactly if it is in one of the two, given that this is so for xs
   has-step : (x : ℕ) (xs : List ℕ) (on : List ℕ → List ℕ) → ((ys : List ℕ) → has (on ys) ≡ (has xs || has ys)) → (ys : List ℕ) → has (step x xs on ys) ≡ (has (x ∷ xs) || has ys)
   has-step x xs on h [] = sym (nothing_more (has (x ∷ xs)))
   has-step x xs on h (y ∷ ys) = by_rank (λ zs. has zs ≡ (has (x ∷ xs) || has (y ∷ ys))) (nat_cmp x y) _ _ _
@@ -70,7 +70,8 @@ from_list-merged xs ys = same _ _ (λ n.
 -- ---- two merged lists are sorted
 
 module _ (P : ℕ → Type 0) where
-  -- what holds of all numbers of x ∷ xs and of a list holds of all of their merge
+  -- if P holds of all numbers of x ∷ xs and of a second list, it holds of all numbers of their merge, given that this
+  -- is so for xs
   all-step : (x : ℕ) (xs : List ℕ) (on : List ℕ → List ℕ) → P x → AllByRecursion P xs → ((ys : List ℕ) → AllByRecursion P ys → AllByRecursion P (on ys)) → (ys : List ℕ) → AllByRecursion P ys → AllByRecursion P (step x xs on ys)
   all-step x xs on p a h [] b = (p, a)
   all-step x xs on p a h (y ∷ ys) b = by_rank (AllByRecursion P) (nat_cmp x y) _ _ _ (λ _. (p, h (y ∷ ys) b)) (λ _. (p, h ys b.1)) (λ _. (b.0, all-step x xs on p a h ys b.1))
@@ -89,7 +90,7 @@ above_lower : (x y : ℕ) (ys : List ℕ) → nat_cmp x y ≡ Less → Above y y
 above_lower x y [] l a = tt
 above_lower x y (z ∷ ys) l a = (nat_cmp_total.trans x y z l a.0, above_lower x y ys l a.1)
 
--- if xs merged with any sorted list is sorted, then x ∷ xs merged with a sorted list is sorted
+-- if x ∷ xs is sorted, and xs merged with any sorted list is sorted, x ∷ xs merged with a sorted list is sorted
 rising-step : (x : ℕ) (xs : List ℕ) → IsRising (x ∷ xs) → ((ys : List ℕ) → IsRising ys → IsRising (merged xs ys)) → (ys : List ℕ) → IsRising ys → IsRising (merged (x ∷ xs) ys)
 unfolding IsStrictlySortedBy
 rising-step x xs s h [] t = s
@@ -136,7 +137,7 @@ all_longer Equal ts xs ys zs us vs ws a b c = b
 all_longer Greater ts xs ys zs us vs ws a b c = c
 
 module _ (n : ℕ) where
-  -- if n at the end of xs stays at the end of each merge with lesser numbers, so does n at the end of x ∷ xs
+  -- n at the end of x ∷ xs is at the end of its merge with lesser numbers, given that this is so for n at the end of xs
   own_last-step : (x : ℕ) (xs : List ℕ) (on more : List ℕ → List ℕ) → ((ys : List ℕ) → Under ys n → more ys ≡ on ys ++ n ∷ []) → (ys : List ℕ) → Under ys n → step x (xs ++ n ∷ []) more ys ≡ step x xs on ys ++ n ∷ []
   own_last-step x xs on more h [] u = refl
   own_last-step x xs on more h (y ∷ ys) u = all_longer (nat_cmp x y) (n ∷ []) _ _ _ _ _ _ (ap (λ zs. x ∷ zs) (h (y ∷ ys) u)) (ap (λ zs. x ∷ zs) (h ys u.1)) (ap (λ zs. y ∷ zs) (own_last-step x xs on more h ys u.1))
@@ -153,7 +154,7 @@ module _ (n : ℕ) where
   own_last [] ys u = own_last-only ys u
   own_last (x ∷ xs) ys u = own_last-step x xs (merged xs) (merged (xs ++ n ∷ [])) (own_last xs) ys u
 
-  -- if n at the end of a second list stays last in each merge with xs, it stays last in each with x ∷ xs, for x below n
+  -- n at the end of a second list is at the end of its merge with x ∷ xs, for x below n, given that this is so for xs
   other_last-step : (x : ℕ) (xs : List ℕ) (on : List ℕ → List ℕ) → nat_cmp x n ≡ Less → on [] ≡ xs → ((ys : List ℕ) → on (ys ++ n ∷ []) ≡ on ys ++ n ∷ []) → (ys : List ℕ) → step x xs on (ys ++ n ∷ []) ≡ step x xs on ys ++ n ∷ []
   other_last-step x xs on l e h [] =
       ap (λ k. match_ordering k (x ∷ on (n ∷ [])) (x ∷ on []) (n ∷ x ∷ xs)) l ∙ ap (λ zs. x ∷ zs) (h [] ∙ ap (λ zs. zs ++ n ∷ []) e)

@@ -65,7 +65,7 @@ both_hold : (a b : Bool) → a ≡ false → b ≡ true → (not a && b) ≡ tru
 both_hold true b e h = absurd (false≢true (sym e))
 both_hold false b e h = h
 
--- m ≤ n holds, if it holds with one less of m where a is true and of n where b is; a implies b, and b implies 1 ≤ n
+-- if a implies b, b implies 1 ≤ n, and m (less 1 if a is true) is at most n (less 1 if b is true), then m ≤ n
 less_step : (a b : Bool) (m n : ℕ) → (a ≡ true → b ≡ true) → (b ≡ true → 1 ≤ n) → cond a (m - 1) m ≤ cond b (n - 1) n → m ≤ n
 less_step true true m n f g h = let l : 1 ≤ n = g refl in omega arith
 less_step true false m n f g h = absurd (false≢true (f refl))

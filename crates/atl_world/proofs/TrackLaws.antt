@@ -21,7 +21,7 @@ either : (a b : Bool) → b ≡ true → (a || b) ≡ true
 either true b h = refl
 either false b h = h
 
--- P holds of the test whether q is n, if P holds of true where q is n, and P holds of false
+-- P holds of the test whether q is n, if P holds of true where q is n, and if P holds of false
 at : (n q : ℕ) (P : Bool → Type 0) → (q ≡ n → P true) → P false → P (eq_by_cmp nat_cmp q n)
 at n q P here other = elim (eq_by_cmp nat_cmp q n) as (λ b. eq_by_cmp nat_cmp q n ≡ b → P b) [ true ↦ λ e. here (same_key q n e) | false ↦ λ _. other ] refl
 
@@ -76,7 +76,8 @@ module _ {V : Type 0} where
   abbrev Room : FinMap nat_cmp V → set.FinSet nat_cmp → ℕ → Type 0
   Room v m r = set.len (held v m) ≤ r
 
-  -- if there is room for the numbers with a value or a mark, there is room for any that are all among them
+  -- room for one map and its marks is enough for another map and its marks, if each number with a value or a mark in
+  -- the other has one in the first
   fewer : (v w : FinMap nat_cmp V) (m n : set.FinSet nat_cmp) (r : ℕ) → ((q : ℕ) → (set.contains n q || is_some (get w q)) ≡ true → (set.contains m q || is_some (get v q)) ≡ true) → Room v m r → Room w n r
   fewer v w m n r h room = let l = len-within (held w n) (held v m) (λ q e. contains-held v m q ∙ h q (sym (contains-held w n q) ∙ e)) in omega (arith, l, room)
 

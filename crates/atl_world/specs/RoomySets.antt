@@ -14,7 +14,7 @@ pub record RoomySet : Type 0 where
 abbrev pub roomy_set_code : Coded RoomySet
 roomy_set_code = code_by (set.FinSet nat_cmp × ℕ) (coded× (set.code coded_ℕ) coded_ℕ) (λ m. (m.numbers, m.room)) (λ p. record { numbers = p.0; room = p.1 }) (λ _. refl)
 
--- the numbers that have a value in a map, or a mark, or both
+-- the set of the numbers that have a value in a map, or a mark, or both
 abbrev pub held : {V : Type 0} → FinMap nat_cmp V → set.FinSet nat_cmp → set.FinSet nat_cmp
 held values marks = set.union marks (set.from_list (keys values))
 

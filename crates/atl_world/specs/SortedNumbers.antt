@@ -15,11 +15,11 @@ pub record BelongsAt (xs : List ℕ) (n : ℕ) (i : ℕ) : Type 0 where
   pub before : (k : ℕ) → k < i → slice_index xs k < n
   pub behind : (k : ℕ) → i ≤ k → k < length xs → n < slice_index xs k
 
--- two sets are apart: no number is in both
+-- two sets have no number in common
 pub record AreApart (s t : set.FinSet nat_cmp) : Type 0 where
   pub apart : (n : ℕ) → set.contains s n ≡ true → set.contains t n ≡ false
 
--- the marks are kept in two sets: no number is in both, and the first has room for the numbers of both
+-- the marks of `Marks` are kept in two sets: no number is in both, and the first set has room for the numbers of both
 pub record AreMarks (numbers recent : RoomySet) : Type 0 where
   pub apart : AreApart numbers.numbers recent.numbers
   pub fits : set.len numbers.numbers + set.len recent.numbers ≤ numbers.room

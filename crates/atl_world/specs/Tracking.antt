@@ -14,7 +14,7 @@ abbrev pub marked_with : {V : Type 0} → set.FinSet nat_cmp → ℕ → Option 
 marked_with marks n None = marks
 marked_with marks n (Some v) = set.insert marks n
 
--- a list has exactly the numbers of a set, in ascending order
+-- a list has exactly the numbers of a set of marks, in ascending order
 pub record Lists (marks : set.FinSet nat_cmp) (numbers : List ℕ) : Type 0 where
   pub rising : IsStrictlySortedBy nat_cmp numbers
   pub all : set.from_list numbers ≡ marks
@@ -33,7 +33,7 @@ module _ {V : Type 0} where
   abbrev pub without_value : MarkedMapValue V → ℕ → MarkedMapValue V
   without_value c n = without_value_at c n (map.get c.values n)
 
-  -- the map without any values, and the numbers of those that it had marked
+  -- the map with all values taken out, and the number of each of them marked
   abbrev pub without_values : MarkedMapValue V → MarkedMapValue V
   without_values c = record { values = map.empty; marks = set.union c.marks (set.from_list (map.keys c.values)) }
 

@@ -75,6 +75,7 @@ fn index_named<T: Titled>(things: &[T], word: &[u8], quoted: bool) -> Option<usi
         .position(|thing| is_named(thing.title().as_bytes(), word, quoted))
 }
 
+/// Looks up the number of what a word of an order names.
 impl World {
     /// The number of the item that a word names, ignoring ASCII case, `None` if there is none. In a
     /// word without quotes `_` is a space. It takes no memory.

@@ -21,6 +21,7 @@ pub struct MarkedMap<V> {
     marks: Marks,
 }
 
+/// Drops the values and the marks.
 impl<V: Drop> Drop for MarkedMap<V> {
     fn drop(self) {
         let_go!(self: MarkedMap { values, marks });
@@ -42,6 +43,7 @@ impl<V> Model for MarkedMap<V> {
     ghost invariant = { λ a. HasRoomForMarks a.values a.marks };
 }
 
+/// Makes a map with marks, reads and changes its values, and sets, clears and lists its marks.
 impl<V: Drop> MarkedMap<V> {
     ghost use Rattle.std.specs.Option.{option_copied_mut};
     ghost use Rattle.std.specs.Borrow.{sem};

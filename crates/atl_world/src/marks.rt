@@ -26,6 +26,7 @@ pub struct Marks {
     recent: SortedNumbers,
 }
 
+/// Drops both lists of marked numbers.
 impl Drop for Marks {
     fn drop(self) {
         let_go!(self: Marks { numbers, recent });
@@ -48,6 +49,7 @@ impl Model for Marks {
     ghost invariant = { λ a. AreMarks a.numbers a.recent };
 }
 
+/// Makes a set of marks with its room, and sets, clears, counts and lists the marks.
 impl Marks {
     /// The empty set, without room. It takes no memory.
     pub fn new(alloc: Global) -> Marks

@@ -23,6 +23,7 @@ impl<V> Model for Numbered<V> {
     ghost view = { λ a. map.from_entries a.entries.entries };
 }
 
+/// Makes a map, and reads and changes its values by their numbers.
 impl<V: Drop> Numbered<V> {
     ghost use Rattle.std.specs.Option.{option_copied_mut};
     ghost use Rattle.std.specs.Borrow.{sem};
@@ -93,6 +94,7 @@ impl<V: Drop> Numbered<V> {
     }
 }
 
+/// Reaches the values of a map of maps by two numbers, that of the inner map and that of the value.
 impl<V: Drop> Numbered<Numbered<V>> {
     ghost use Rattle.atl_world.specs.Groups.{group_of};
 
@@ -131,7 +133,7 @@ impl<V: Drop> Numbered<Numbered<V>> {
     }
 }
 
-/// An iterator over the numbers of a map with their values, in ascending order.
+/// An iterator over the numbers of a `Numbered` with their values, in ascending order.
 #[derive(Drop)]
 pub struct Entries<'a, V> {
     inner: btree_map::Iter<'a, u32, V>,

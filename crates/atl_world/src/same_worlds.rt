@@ -101,6 +101,7 @@ fn are_same_regions(plans: &Numbered<RegionPlan>, others: &Numbered<RegionPlan>)
     rest.next().is_none()
 }
 
+/// Compares a world with another one.
 impl World {
     /// Whether two worlds are equal once the markets of their regions are left out.
     pub fn differs_in_markets_alone(&self, other: &World) -> bool

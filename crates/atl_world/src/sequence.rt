@@ -22,6 +22,7 @@ impl<T> Model for Sequence<T> {
     ghost view = { λ a. a.items.items };
 }
 
+/// Makes a list, adds values at its end, and gives them as a slice or a vector.
 impl<T: Drop> Sequence<T> {
     /// The empty list, which takes no memory.
     pub fn new(alloc: Global) -> Self

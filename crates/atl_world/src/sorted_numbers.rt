@@ -37,6 +37,7 @@ impl Model for SortedNumbers {
     ghost invariant = { λ a. IsStrictlySortedBy nat_cmp a.numbers.items };
 }
 
+/// Makes a list with its room, and adds, merges, removes and looks up numbers.
 impl SortedNumbers {
     /// The empty list, without room. It takes no memory.
     pub fn new(alloc: Global) -> SortedNumbers
@@ -206,7 +207,7 @@ fn is_last_above(numbers: &[u32], count: usize, other: u32) -> bool
 
 /// Merges the first `own` numbers of a list with all of another one, into the first list, whose
 /// length is that of both together. Both are sorted, and no number is in both. The largest is put
-/// first, so each number is moved once.
+/// first, so each number is moved at most once.
 fn merge(numbers: &mut [u32], own: usize, others: &[u32])
     requires size { length numbers.old ≡ own + length others.now }
     requires rising { IsStrictlySortedBy nat_cmp (take own numbers.old) }

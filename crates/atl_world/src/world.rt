@@ -61,6 +61,7 @@ pub struct Terrain {
     pub output: Sequence<u32>,
 }
 
+/// Drops the name and the output of the terrain.
 impl Drop for Terrain {
     fn drop(self) {
         let_go!(self: Terrain { name, land, wage, places, money_limit, peasant_limit, output });
@@ -161,12 +162,14 @@ pub struct RegionPlan {
     pub markets: Numbered<Market>,
 }
 
+/// Drops the name and the markets of the region.
 impl Drop for RegionPlan {
     fn drop(self) {
         let_go!(self: RegionPlan { number, name, terrain, peasants, money, north, south, east, west, markets });
     }
 }
 
+/// Looks up the neighbours of a region.
 impl RegionPlan {
     ghost use Rattle.atl_world.specs.Worlds.{beside};
 
@@ -199,6 +202,7 @@ pub struct World {
     land: Sequence<u32>,
 }
 
+/// Drops all parts of the world.
 impl Drop for World {
     fn drop(self) {
         let_go!(self: World { rules, terrains, items, skills, kinds, regions, land });
@@ -222,6 +226,7 @@ impl Model for World {
         × (a.land ≡ land_of (world_of_parts a.rules a.terrains a.items a.skills a.kinds a.regions)) };
 }
 
+/// Makes a world of its parts, and gives the parts.
 impl World {
     ghost use Rattle.atl_world.specs.Worlds.{IsWorld, land_of, world_of_parts};
 

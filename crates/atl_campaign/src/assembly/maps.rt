@@ -18,7 +18,7 @@ use atl_records::{Faction, Region, Structure};
 use atl_world::{MarkedMap, Numbered, Sequence, Text};
 use std::alloc::{AllocError, Global};
 
-/// The factions of rows whose names and pass texts keep their rules, by number.
+/// The factions that rows of `faction` say, by number. Names and pass texts keep their rules.
 pub(crate) fn factions_of(
     alloc: Global,
     rows: &[StoredFaction],
@@ -35,7 +35,7 @@ pub(crate) fn factions_of(
     Ok(factions)
 }
 
-/// The regions of rows by number, with nothing in stock.
+/// The regions that rows of `region` say, by number, with nothing in stock.
 fn bare_regions(alloc: Global, rows: &[StoredRegion]) -> Result<Numbered<Region>, AllocError>
     ensures { IfOk result (λ regions. regions
         ≡ by_number (λ r. as_u32 r.number) bare_region rows.now) }
@@ -47,7 +47,7 @@ fn bare_regions(alloc: Global, rows: &[StoredRegion]) -> Result<Numbered<Region>
     Ok(regions)
 }
 
-/// The regions of rows by number, with the stocks that the rows of `market` give to them.
+/// The regions that rows of `region` say, by number, with the stocks that rows of `market` say.
 pub(crate) fn regions_of(
     alloc: Global,
     rows: &[StoredRegion],
@@ -61,7 +61,7 @@ pub(crate) fn regions_of(
     Ok(regions)
 }
 
-/// The structures of rows whose names keep the name rule, by number.
+/// The structures that rows of `structure` say, by number. Names keep the name rule.
 pub(crate) fn structures_of(
     alloc: Global,
     rows: &[StoredStructure],
@@ -78,7 +78,7 @@ pub(crate) fn structures_of(
     Ok(structures)
 }
 
-/// The mail of rows, by the factions' numbers.
+/// The mail that rows of `mail` say, by the factions' numbers.
 pub(crate) fn mail_of(
     alloc: Global,
     rows: &[StoredMail],
@@ -94,7 +94,7 @@ pub(crate) fn mail_of(
     Ok(mail)
 }
 
-/// The reports of rows, by the factions' numbers.
+/// The reports that rows of `report` say, by the factions' numbers.
 pub(crate) fn reports_of(alloc: Global, rows: &[StoredReport]) -> Result<Numbered<Text>, AllocError>
     ensures { IfOk result (λ reports. reports
         ≡ by_number (λ r. as_u32 r.faction) (λ r. r.text) rows.now) }
@@ -116,7 +116,8 @@ pub(crate) struct CampaignMaps {
     pub(crate) reports: MarkedMap<Text>,
 }
 
-/// The factions of rows, with nothing marked; names and pass texts keep their rules.
+/// The factions that rows of `faction` say, by number, with nothing marked. Names and pass texts
+/// keep their rules.
 fn marked_map_of_factions(
     alloc: Global,
     rows: &[StoredFaction],
@@ -129,7 +130,7 @@ fn marked_map_of_factions(
     MarkedMap::of(alloc, factions)
 }
 
-/// The regions of rows with their stocks, and nothing marked.
+/// The regions that rows of `region` and `market` say, with their stocks, and nothing marked.
 fn unmarked_regions(
     alloc: Global,
     rows: &[StoredRegion],
@@ -142,7 +143,8 @@ fn unmarked_regions(
     Regions::of(alloc, regions)
 }
 
-/// The structures of rows, with nothing marked; their names keep the name rule.
+/// The structures that rows of `structure` say, by number, with nothing marked. Names keep the name
+/// rule.
 fn marked_map_of_structures(
     alloc: Global,
     rows: &[StoredStructure],
@@ -155,7 +157,7 @@ fn marked_map_of_structures(
     MarkedMap::of(alloc, structures)
 }
 
-/// The mail of rows, with nothing marked.
+/// The mail that rows of `mail` say, by the factions' numbers, with nothing marked.
 fn marked_map_of_mail(
     alloc: Global,
     rows: &[StoredMail],
@@ -167,7 +169,7 @@ fn marked_map_of_mail(
     MarkedMap::of(alloc, mail)
 }
 
-/// The reports of rows, with nothing marked.
+/// The reports that rows of `report` say, by the factions' numbers, with nothing marked.
 fn marked_map_of_reports(
     alloc: Global,
     rows: &[StoredReport],

@@ -39,7 +39,7 @@ fn bare_unit(alloc: Global, row: &StoredUnit) -> Result<Unit, AllocError>
     })
 }
 
-/// The units of rows by number, without items and days of study.
+/// The units that rows of `unit` say, by number, without items and days of study.
 fn bare_units(alloc: Global, rows: &[StoredUnit]) -> Result<Arena<Unit>, AllocError>
     requires named { list_all (λ r. name_ok r.name) rows.now ≡ true }
     requires range { list_all unit_in_range rows.now ≡ true }
@@ -53,8 +53,8 @@ fn bare_units(alloc: Global, rows: &[StoredUnit]) -> Result<Arena<Unit>, AllocEr
     Ok(units)
 }
 
-/// The units of rows by number, with what the rows of `has` give to them. Names keep the name rule,
-/// and numbers are in their ranges.
+/// The units that rows of `unit` say, by number, with the items and days of study that rows of
+/// `has` say. Names keep the name rule, and numbers are in their ranges.
 pub(crate) fn units_of(
     alloc: Global,
     rows: &[StoredUnit],
@@ -71,8 +71,8 @@ pub(crate) fn units_of(
     Ok(units)
 }
 
-/// The units of rows with their items and days of study, and nothing marked. Names keep the name
-/// rule, and numbers are in their ranges.
+/// The units that rows of `unit` and `has` say, with items and days of study, and nothing marked.
+/// Names keep the name rule, and numbers are in their ranges.
 pub(crate) fn roster_of(alloc: Global, parts: &Parts) -> Result<Units, AllocError>
     requires named { list_all (λ r. name_ok r.name) parts.now.units ≡ true }
     requires range { list_all unit_in_range parts.now.units ≡ true }

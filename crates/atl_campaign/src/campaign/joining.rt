@@ -157,7 +157,8 @@ impl Campaign {
     }
 
     /// Adds a faction with its unit under the next numbers, books what they bring, and returns both
-    /// numbers. There must be room for both. AllocError without memory, and then nothing changes.
+    /// numbers. The next unit number must be at most LAST_UNIT. AllocError without memory, and then
+    /// nothing changes.
     fn enroll(
         &mut self,
         world: &World,

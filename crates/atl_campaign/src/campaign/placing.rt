@@ -42,7 +42,7 @@ impl Campaign {
         first_other(self.inside(structure), leaving)
     }
 
-    /// Whether a structure is there, and its owner is this unit, or nobody for 0.
+    /// Whether there is such a structure, and this unit owns it; for 0, whether nobody owns it.
     fn is_owned_by(&self, structure: u32, unit: u32) -> bool
         ensures { result ≡ is_owned_by (map.get self.now.value.structures structure) unit }
     {

@@ -13,7 +13,7 @@ pub(crate) fn assert_number(rt: &impl Abort, told: u32, wanted: u32) {
     assert_eq!(rt; told, wanted);
 }
 
-/// Asserts that serving a request ended with a fault.
+/// Asserts that serving a request ended with the wanted fault.
 pub(crate) fn assert_fault(rt: &impl Abort, told: Result<u16, HttpFault>, wanted: HttpFault) {
     assert_eq!(rt; told.err(), Some(wanted));
 }

@@ -24,7 +24,7 @@ static JOINING_WORDS: [(u64, u32, u32); 6] = [
     (u64::MAX, u32::MAX, 726_911_579),
 ];
 
-/// Asserts the first words of a month.
+/// Asserts the first words of the dice for a seed and a month.
 fn assert_words(
     rt: &impl Abort,
     alloc: Global,
@@ -37,7 +37,7 @@ fn assert_words(
     Ok(())
 }
 
-/// Asserts the word for each join.
+/// Asserts for each row (a seed, a faction's number, a word) the word of the dice for the join.
 fn assert_join_words(rt: &impl Abort, rows: &[(u64, u32, u32)]) {
     for (seed, faction, word) in rows.iter() {
         let dice = Dice { seed: *seed };

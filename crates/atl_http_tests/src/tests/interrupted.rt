@@ -58,8 +58,8 @@ fn reads_within_the_bound(rt: HostRuntime) -> Result<(), Fail> {
     are_read(&rt, rt.alloc())
 }
 
-/// Asserts each row of `TOO_MANY_READS`. No command is run: the faction that joins next is the
-/// first.
+/// Asserts for each row of `TOO_MANY_READS` that 1,000,000 reads end in ReadFault. No command is
+/// run: the faction that joins next is the first.
 fn are_too_many(rt: &impl Abort, alloc: Global, service: &mut impl Served) {
     for (piece, interruptions) in TOO_MANY_READS.iter() {
         let mut reader = Pieces::of(JOIN.as_bytes(), *piece);

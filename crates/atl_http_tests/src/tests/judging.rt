@@ -20,7 +20,7 @@ static BYTES: [(&str, &str); 5] = [
     ("GET /nowhere HTTP/1.0\r\n\r\nmore", "NoRoute"),
 ];
 
-/// The name of a verdict.
+/// The name of a verdict, as `BYTES` has it: `more`, `asks`, or the name of the problem.
 fn name_of(verdict: &Verdict) -> &'static str {
     match verdict {
         Verdict::More => "more",
@@ -29,7 +29,7 @@ fn name_of(verdict: &Verdict) -> &'static str {
     }
 }
 
-/// Asserts the verdict on some bytes.
+/// Asserts that `verdict_on` gives some bytes the verdict of this name.
 fn assert_verdict(
     rt: &impl Abort,
     alloc: Global,
@@ -50,7 +50,7 @@ fn bytes_are_judged(rt: HostRuntime) -> Result<(), AllocError> {
     Ok(())
 }
 
-/// Asserts nothing: the clause of this law is proved.
+/// Calls the law `pieces_do_not_matter` once and asserts nothing: its clause is proved.
 #[test]
 fn states_that_pieces_do_not_matter() {
     pieces_do_not_matter();

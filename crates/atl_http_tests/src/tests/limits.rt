@@ -6,7 +6,7 @@ use sqlite::MemStore;
 use std::alloc::Global;
 use std::test::Fail;
 
-/// SQL that makes the last month closed and the last unit number given.
+/// SQL that sets a campaign to its limits: the last month is closed, and the last unit number used.
 const LIMITS: &str = "UPDATE campaign SET month = 9999, next_unit = 1000000000";
 
 /// A join and a closing that are refused at the limits, with their replies.

@@ -38,7 +38,8 @@ fn reply_of(status: u16, written: &[u8]) -> &str {
     }
 }
 
-/// The reply, or the name of the fault; `a part` if there was a fault after bytes were written.
+/// How serving a request ended, as text: the reply, or the name of the fault; `a part` if there was
+/// a fault after bytes were written.
 pub(crate) fn told(served: Result<u16, HttpFault>, written: &[u8]) -> &str {
     match served {
         Ok(status) => reply_of(status, written),

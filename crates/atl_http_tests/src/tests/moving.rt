@@ -37,7 +37,7 @@ fn cut_and_whole(rt: &impl Abort, alloc: Global, service: &mut impl Served) -> R
     Ok(())
 }
 
-/// How many bytes each read gives, and in how many reads the request is whole.
+/// How many bytes each read of a join gives, and after how many such reads the join is whole.
 static BY_PIECES: [(usize, usize); 3] = [(1, JOIN.len()), (8, 11), (JOIN.len(), 1)];
 
 /// Asserts that a read that fails before the request is whole runs no command, whichever read it

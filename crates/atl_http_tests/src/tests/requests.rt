@@ -47,17 +47,17 @@ const NO_LENGTH: &str =
 pub(crate) const TOO_LONG: &str =
     "HTTP/1.1 413 Payload Too Large\r\nContent-Type: application/json\r\nContent-Length: 34\r\nConnection: close\r\n\r\n{\"error\":\"BodyTooLong\",\"number\":0}";
 
-/// The reply to a request without one pass text.
+/// The reply to a request without exactly one pass text.
 const NO_PASS: &str =
     "HTTP/1.1 400 Bad Request\r\nContent-Type: application/json\r\nContent-Length: 29\r\nConnection: close\r\n\r\n{\"error\":\"NoPass\",\"number\":0}";
 
-/// The reply to a body that isn't the object wanted.
+/// The reply to a join whose body isn't a JSON object with both texts, `name` and `pass`.
 pub(crate) const BAD_JSON: &str =
     "HTTP/1.1 400 Bad Request\r\nContent-Type: application/json\r\nContent-Length: 30\r\nConnection: close\r\n\r\n{\"error\":\"BadJson\",\"number\":0}";
 
-/// A faction joins, its name is taken from then on, and its report is answered. An empty Host
-/// counts as one, HTTP/1.0 may have two, and for a GET neither Content-Length nor Transfer-Encoding
-/// counts.
+/// Requests and their replies: a faction joins, its name is taken from then on, and its report is
+/// answered. An empty Host counts as one, HTTP/1.0 may have two, and for a GET neither
+/// Content-Length nor Transfer-Encoding counts.
 static JOINING: [Case; 6] = [
     (JOIN, JOINED),
     (
@@ -85,7 +85,8 @@ fn joining(rt: HostRuntime) -> Result<(), Fail> {
     plays(&rt, rt.alloc(), &JOINING)
 }
 
-/// A faction joins and sends orders, a month is closed, and a second closing of it is refused.
+/// Requests and their replies: a faction joins and sends orders, a month is closed, and a second
+/// closing of it is refused.
 static A_MONTH: [Case; 4] = [
     (JOIN, JOINED),
     (
@@ -108,7 +109,8 @@ fn a_month(rt: HostRuntime) -> Result<(), Fail> {
     plays(&rt, rt.alloc(), &A_MONTH)
 }
 
-/// A faction joins, quits by its orders, and is refused further orders after the month.
+/// Requests and their replies: a faction joins, quits by its orders, and is refused further orders
+/// after the month.
 static QUITTING: [Case; 4] = [
     (JOIN, JOINED),
     (
@@ -131,7 +133,7 @@ fn quitting(rt: HostRuntime) -> Result<(), Fail> {
     plays(&rt, rt.alloc(), &QUITTING)
 }
 
-/// Refused joins, reports, closings and mailings.
+/// Requests with their replies: joins, reports, closings and mailings, all but one join refused.
 static REFUSALS: [Case; 9] = [
     (
         "POST /join HTTP/1.1\r\nHost: x\r\nContent-Length: 24\r\n\r\n{\"name\":\" x\",\"pass\":\"p\"}",
@@ -174,7 +176,8 @@ fn refusals(rt: HostRuntime) -> Result<(), Fail> {
     plays(&rt, rt.alloc(), &REFUSALS)
 }
 
-/// Refused heads, some with a wrong number of Host fields, and one that is cut short.
+/// Heads of requests with their replies: refused ones, some with a wrong number of Host fields, and
+/// one that is cut short.
 static HEADS: [Case; 6] = [
     ("\u{1}", BAD_REQUEST),
     ("GET /report/1 HTTP/2.0\r\n\r\n", BAD_REQUEST),
@@ -196,7 +199,7 @@ fn heads(rt: HostRuntime) -> Result<(), Fail> {
     plays(&rt, rt.alloc(), &HEADS)
 }
 
-/// Paths without a route, and methods that a route doesn't have.
+/// Requests with their replies: paths without a route, and methods that a route doesn't have.
 static ROUTES: [Case; 13] = [
     ("GET / HTTP/1.0\r\n\r\n", NO_ROUTE),
     ("GET /report/1234567890 HTTP/1.0\r\n\r\n", NO_ROUTE),
@@ -219,8 +222,8 @@ fn routes(rt: HostRuntime) -> Result<(), Fail> {
     plays(&rt, rt.alloc(), &ROUTES)
 }
 
-/// Bodies without a good length or with two, requests without exactly one pass text, and three
-/// bodies that don't arrive.
+/// Requests with their replies: bodies without a good length or with two, no or several pass texts,
+/// and three bodies that don't arrive.
 static LENGTHS: [Case; 14] = [
     ("POST /join HTTP/1.0\r\n\r\n", NO_LENGTH),
     (
@@ -281,8 +284,8 @@ fn lengths(rt: HostRuntime) -> Result<(), Fail> {
     plays(&rt, rt.alloc(), &LENGTHS)
 }
 
-/// Bodies of a join that are no object with both texts, and one that is. Of equal keys the last
-/// counts, and bytes after the body don't.
+/// Joins with their replies: bodies that are no object with both texts, and one that is. Of equal
+/// keys the last counts, and bytes after the body don't.
 static BODIES: [Case; 9] = [
     ("POST /join HTTP/1.0\r\nContent-Length: 0\r\n\r\n", BAD_JSON),
     (
@@ -325,8 +328,9 @@ fn bodies(rt: HostRuntime) -> Result<(), Fail> {
     plays(&rt, rt.alloc(), &BODIES)
 }
 
-/// Bodies with both texts and a value that can't be read: nested 128 deep, beyond all numbers, or
-/// half a character. One nested 127 deep is read, and empty lines may come before a head.
+/// Joins with their replies: bodies with both texts and a value that can't be read, as it is nested
+/// 128 deep, beyond all numbers, or half a character. One nested 127 deep is read, and empty lines
+/// may come before a head.
 static VALUES: [Case; 4] = [
     (
         "POST /join HTTP/1.0\r\nContent-Length: 291\r\n\r\n{\"name\":\"Avalon\",\"pass\":\"pw\",\"more\":[[[[[[[[[[[[[[[[[[[[[[[[[[[[[[[[[[[[[[[[[[[[[[[[[[[[[[[[[[[[[[[[[[[[[[[[[[[[[[[[[[[[[[[[[[[[[[[[[[[[[[[[[[[[[[[[[[[[[[[[[[[[[[[]]]]]]]]]]]]]]]]]]]]]]]]]]]]]]]]]]]]]]]]]]]]]]]]]]]]]]]]]]]]]]]]]]]]]]]]]]]]]]]]]]]]]]]]]]]]]]]]]]]]]]]]]]]]]]]]]]]]]]]]]]]]]]]}",

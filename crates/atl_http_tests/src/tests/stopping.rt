@@ -1,5 +1,5 @@
-//! Tests of a disk that stops while a faction joins: the fault is answered once, and from then on
-//! that the service is closed.
+//! Tests of a disk that stops while a faction joins: the join is answered with the fault Store, and
+//! each later request with Closed.
 use super::making::{Case, assert_replies};
 use super::requests::{JOIN, REPORT};
 use atl_service::found;

@@ -31,7 +31,8 @@ enum Step {
 /// A call, how many values the map has after it, and which numbers are marked after it.
 type Row = (Step, usize, &'static [u32]);
 
-/// Calls by which numbers get marked, on the map of 1, 20 and 30.
+/// Calls on the map of 1, 20 and 30 by which numbers get marked, each with the count of values and
+/// the marked numbers after it.
 static CHANGES: [Row; 12] = [
     (Step::Remove(2), 3, &[]),
     (Step::Change(2, 5), 3, &[]),
@@ -47,8 +48,8 @@ static CHANGES: [Row; 12] = [
     (Step::TakeOut(8), 4, &[1, 4, 5, 20, 30]),
 ];
 
-/// Calls by which marks are set and cleared, also those of numbers without a value, on the map of
-/// 1, 20 and 30.
+/// Calls on the map of 1, 20 and 30 by which marks are set and cleared, also those of numbers
+/// without a value, each with the count of values and the marked numbers after it.
 static MARKS: [Row; 13] = [
     (Step::Remove(20), 2, &[20]),
     (Step::Unmark, 2, &[]),

@@ -34,8 +34,8 @@ Exits: none.
 * Unit 1 \"Unit 1\": 1 men, 1002 money.
 ";
 
-/// What the tables hold after month 1. The money is 2,502 (500 founded, 1,000 joined, 1,000 of
-/// income, 12 of wages, 10 spent on upkeep), and the people are 1,001.
+/// SELECTs and what they return after month 1. The money is 2,502 (500 founded, 1,000 joined, 1,000
+/// of income, 12 of wages, 10 spent on upkeep), and the people are 1,001.
 pub(crate) const AFTER_MONTH_ONE: [(&str, Option<i64>); 12] = [
     (MONTH, Some(1)),
     (NEXT, Some(200002)),
@@ -96,7 +96,8 @@ fn a_month_is_closed(rt: HostRuntime) -> Result<(), Fail> {
     plays_course(&rt, rt.alloc(), &FIRST_MONTHS[0])
 }
 
-/// Closing a month reports a faulty line of a mailing, carries out its good order, and removes it.
+/// Closing a month reports a faulty line of a mailing, carries out the mailing's good order, and
+/// removes the mailing.
 #[test]
 fn a_faulty_line_is_told_and_the_mail_is_gone(rt: HostRuntime) -> Result<(), Fail> {
     plays_course(&rt, rt.alloc(), &FIRST_MONTHS[1])
@@ -119,7 +120,7 @@ fn a_refused_closing_changes_nothing(rt: HostRuntime) -> Result<(), Fail> {
     refuses(&rt, rt.alloc(), EVERY_TABLE, &REFUSED)
 }
 
-/// What the tables hold after two months in which nobody had joined.
+/// SELECTs and what they return after two months in which nobody had joined.
 static AFTER_NOBODY: [(&str, Option<i64>); 5] = [
     (MONTH, Some(2)),
     (FACTIONS, Some(0)),
@@ -158,8 +159,8 @@ static STARVED: [Step; 6] = [
     Step::Told(Asked::Report(1, "pw"), AFTER_STARVING),
 ];
 
-/// What the tables hold after the faction starved and a second month: the faction but no unit and
-/// no mail. The unit's number isn't given again.
+/// SELECTs and what they return after the faction starved and a second month: there is the faction,
+/// but no unit and no mail. The unit's number isn't given again.
 static AFTER_ALL_STARVED: [(&str, Option<i64>); 6] = [
     (MONTH, Some(2)),
     (NEXT, Some(200002)),

@@ -65,7 +65,7 @@ static TWO_JOIN: [Step; 3] = [
     Step::Told(Asked::Report(2, "pb"), SECOND_REPORT),
 ];
 
-/// What the tables hold after two factions have joined.
+/// SELECTs and what they return after two factions have joined.
 static AFTER_TWO: [(&str, Option<i64>); 3] = [
     (NEXT, Some(300003)),
     (FACTIONS, Some(2)),
@@ -84,7 +84,7 @@ static FAR_JOINS: [Step; 2] = [
     Step::Told(Asked::Report(1, "pw"), FAR_REPORT),
 ];
 
-/// What the tables hold after a faction joined in the second land region.
+/// SELECTs and what they return after a faction joined in the second land region.
 static AFTER_FAR: [(&str, Option<i64>); 2] = [(FACTIONS, Some(1)), (UNITS, Some(1))];
 
 /// A faction that joins with the dice word 1 begins in the second land region.
@@ -112,7 +112,7 @@ const CLUB: [Step; 12] = [
     Step::Told(Asked::Report(1, "no"), "wrong pass"),
 ];
 
-/// What the tables hold after `CLUB`: one faction has joined and sent its second mailing.
+/// SELECTs and what they return after `CLUB`: one faction has joined and sent its second mailing.
 const AFTER_CLUB: [(&str, Option<i64>); 8] = [
     (NEXT, Some(200002)),
     (FACTIONS, Some(1)),
@@ -140,7 +140,8 @@ fn runs_all(rt: &impl Abort, service: &mut impl Served, commands: &[Command], st
     }
 }
 
-/// Commands to run as one list, with their answers, and what the tables hold afterwards.
+/// Steps whose commands are run as one list, with the wanted answers, and SELECTs with what they
+/// return afterwards.
 struct AtOnce {
     steps: &'static [Step],
     after: &'static [(&'static str, Option<i64>)],
@@ -170,7 +171,7 @@ const A_MONTH: [Step; 4] = [
     Step::Told(Asked::Report(1, "pw"), AFTER_WORK),
 ];
 
-/// The lists that are run as a whole.
+/// Lists of commands that are run as a whole, with the wanted answers and the tables afterwards.
 static LISTS: [AtOnce; 2] = [
     AtOnce {
         steps: &CLUB,

@@ -38,10 +38,11 @@ const TWO_MONTHS: [Step; 5] = [
     Step::Closed(MONTH_TWO, 2),
 ];
 
-/// What the tables hold after both months. Of 1,000 money unit 1 has 1,002 after its first month,
-/// in which it works for 12 and pays 10. It pays 170, takes 10 in tax, works and pays 10 again, and
-/// gets the 100 of unit 2, which is swept: 944. Unit 3 recruits for 50, works and pays 10: 22. The
-/// region has 500, gets 1,000 and, of a peasant less, 999, and gives the tax. The people are 1,001.
+/// SELECTs and what they return after both months. Of 1,000 money unit 1 has 1,002 after its first
+/// month, in which it works for 12 and pays 10. It pays 170, takes 10 in tax, works and pays 10
+/// again, and gets the 100 of unit 2, which is swept: 944. Unit 3 recruits for 50, works and pays
+/// 10: 22. The region has 500, gets 1,000 and, of a peasant less, 999, and gives the tax. The
+/// people are 1,001.
 const AFTER_BOTH: [(&str, Option<i64>); 8] = [
     (MONTH, Some(2)),
     (NEXT, Some(200004)),
@@ -71,12 +72,12 @@ const MONTH_OF_TWO: [Step; 4] = [
     Step::Closed(Asked::Close(1, "gm", &[0, 0, 0, 0]), 1),
 ];
 
-/// What the tables hold after `MONTH_OF_TWO`. Unit 13 is formed and stays, 14 is formed and swept,
-/// and 11 starves and is swept. The units had 904 money and Cork's 1,000. They take 30 in tax, pay
-/// 50 for a recruit and 40 for a study, and earn 48, 24, 250, 20 and 12; of 63 men all but the one
-/// who starves cost 10 each, and for him 4 are paid. The regions have 650, give the tax and get a
-/// coin for each of 1,299 peasants. With 3 of 21 wood a boat is begun, and the 4 men who are taught
-/// get 240 days beside the 1,440 that were there. The people are 1,361.
+/// SELECTs and what they return after `MONTH_OF_TWO`. Unit 13 is formed and stays, 14 is formed and
+/// swept, and 11 starves and is swept. The units had 904 money and Cork's 1,000. They take 30 in
+/// tax, pay 50 for a recruit and 40 for a study, and earn 48, 24, 250, 20 and 12; of 63 men all but
+/// the one who starves cost 10 each, and for him 4 are paid. The regions have 650, give the tax and
+/// get a coin for each of 1,299 peasants. With 3 of 21 wood a boat is begun, and the 4 men who are
+/// taught get 240 days beside the 1,440 that were there. The people are 1,361.
 const AFTER_MONTH_OF_TWO: [(&str, Option<i64>); 12] = [
     (MONTH, Some(1)),
     (NEXT, Some(400015)),

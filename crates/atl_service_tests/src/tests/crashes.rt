@@ -23,14 +23,15 @@ struct Plan {
     stages: Vec<String>,
 }
 
+/// Drops the commands and the rows of a plan.
 impl Drop for Plan {
     fn drop(self) {
         let_go!(self: Plan { course, commands, stages });
     }
 }
 
-/// The campaign in memory before the commands of a course; its rows are appended to `stages` after
-/// each write.
+/// The service of a campaign in memory before the commands of a course; the campaign's rows are
+/// appended to `stages` after each write.
 fn set_up(
     alloc: Global,
     course: &Course,
@@ -110,7 +111,8 @@ fn run_each(rt: &impl Abort, service: &mut impl Served, commands: &[Command]) ->
     done
 }
 
-/// The service, or its connection if the disk stopped; asserts that the cause is Store.
+/// The service that was founded or opened, or the connection if the disk stopped; asserts that the
+/// cause is then Store.
 fn served<S: Alter>(
     rt: &impl Abort,
     tried: Result<Service<S>, Refused<S>>,
@@ -124,8 +126,8 @@ fn served<S: Alter>(
     }
 }
 
-/// Runs the commands after `writings` writes; the result is how many writes were done, and the
-/// connection.
+/// Runs the commands of a plan after `writings` earlier writes; the result is how many writes were
+/// done, and the connection.
 fn runs<S: Alter>(
     rt: &impl Abort,
     service: Service<S>,

@@ -142,7 +142,7 @@ const JOINING_PEOPLE: &str = "SELECT sum(amount) FROM books WHERE entry = 2 AND 
 /// Avalon joins.
 static AVALON_JOINS: [Step; 1] = [Step::Told(AVALON, "joined")];
 
-/// What the tables hold after a faction joined without money: no money is booked under Joining.
+/// SELECTs and what they return after a faction joined without money: none is booked under Joining.
 static AFTER_NO_MONEY: [(&str, Option<i64>); 3] = [
     (JOINING_MONEY, Some(0)),
     (JOINING_PEOPLE, Some(1)),

@@ -123,7 +123,7 @@ fn doubled(conn: &mut Connection<MemStore>, sql: &str, last: i64) -> Result<(), 
     Ok(())
 }
 
-/// Fills a campaign by hand, as a row says.
+/// Fills a campaign by the SQL of a `Filled`.
 fn fill(conn: &mut Connection<MemStore>, filled: &Filled) -> Result<(), Fail> {
     if let Some((sql, last)) = filled.more {
         doubled(conn, sql, last)?;
@@ -131,7 +131,7 @@ fn fill(conn: &mut Connection<MemStore>, filled: &Filled) -> Result<(), Fail> {
     conn.change(filled.then)
 }
 
-/// Asserts the answer to the join, and what the tables hold afterwards.
+/// Runs the join in a filled campaign, and asserts its answer and what the tables hold afterwards.
 fn answers(
     rt: &impl Abort,
     alloc: Global,
@@ -151,7 +151,7 @@ fn is_filled(rt: &impl Abort, alloc: Global, filled: &Filled) -> Result<(), Fail
     answers(rt, alloc, conn, filled)
 }
 
-/// Asserts each row of `FILLED`.
+/// Fills each campaign of `FILLED`, and asserts the answer to the join in it.
 fn are_filled(rt: &impl Abort, alloc: Global) -> Result<(), Fail> {
     for filled in FILLED.iter() {
         is_filled(rt, alloc, filled)?;

@@ -13,14 +13,14 @@ pub(crate) const FAULTY: &str =
 /// A mailing that forms a unit, with three orders.
 const FORMS: &str = "#ATLANTIS 1\nUNIT 1\nFORM 1\nRECRUIT 2\nEND\nPAY NEW 1 100\n#END\n";
 
-/// A mailing with a faulty line is stored whole.
+/// Avalon joins, and sends a mailing with a faulty line, which is stored whole.
 static ONE_FAULTY: [Step; 3] = [
     Step::Told(AVALON, "joined"),
     Step::Mailed(Asked::Mail(1, "pw", FAULTY), 1, &[(5, 2)]),
     Step::Keeps(Some(FAULTY)),
 ];
 
-/// What the tables hold after one mailing.
+/// SELECTs and what they return after one mailing.
 static AFTER_ONE: [(&str, Option<i64>); 1] = [(MAILINGS, Some(1))];
 
 /// A mailing with a faulty line is stored whole, and the answer has the line's fault.
@@ -37,7 +37,7 @@ static TWO_SENT: [Step; 4] = [
     Step::Keeps(Some(FORMS)),
 ];
 
-/// What the tables hold after the second mailing.
+/// SELECTs and what they return after the second mailing.
 static AFTER_TWO: [(&str, Option<i64>); 2] = [(MAILINGS, Some(1)), (MAIL_BYTES, Some(59))];
 
 /// A faction's second mailing replaces its first.
@@ -71,7 +71,7 @@ static LIMITS: [Step; 4] = [
     Step::Told(Asked::LongMail("pw", 65_525), "mailed"),
 ];
 
-/// What the tables hold after the long mailing.
+/// SELECTs and what they return after the mailing of 65,536 bytes.
 static AFTER_LONG: [(&str, Option<i64>); 2] = [(MAILINGS, Some(1)), (MAIL_BYTES, Some(65_536))];
 
 /// A mailing of 65,536 bytes is stored, and one of 65,537 is refused.

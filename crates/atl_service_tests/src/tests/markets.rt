@@ -67,14 +67,14 @@ static STOCKED_ONCE: [Step; 3] = [
     Step::Closed(MONTH_ONE, 1),
 ];
 
-/// What the tables hold after the month that stocks the market.
+/// SELECTs and what they return after the month that stocks the market.
 static AFTER_STOCKING: [(&str, Option<i64>); 3] = [
     (FORMAT, Some(2)),
     (STOCKED, Some(1)),
     (STOCK, Some(20)),
 ];
 
-/// What the tables hold before the first month: no stock.
+/// SELECTs and what they return before the first month: nothing is in stock.
 static NOBODY_THERE: [(&str, Option<i64>); 2] = [(STOCKED, Some(0)), (STOCK, None)];
 
 /// A market is empty before the first month, and stocked after it.
@@ -97,7 +97,7 @@ static TRADES: [Step; 9] = [
     Step::Told(Asked::Report(1, "pw"), AFTER_SELLING),
 ];
 
-/// What the tables hold after the three months.
+/// SELECTs and what they return after the three months of `TRADES`.
 static AFTER_TRADES: [(&str, Option<i64>); 6] = [
     (MONTH, Some(3)),
     (MONEY, Some(985)),

@@ -95,7 +95,7 @@ pub(crate) fn assert_rows(
     Ok(())
 }
 
-/// The service of a world just founded, or of what the database holds.
+/// The service of a campaign that is founded of a world, or, without a world, opened.
 fn served<S: Alter + Drop>(
     alloc: Global,
     conn: Connection<S>,

@@ -39,7 +39,7 @@ static NOBODY_COMES: [Step; 5] = [
     Step::Numbers(2, 3, 1),
 ];
 
-/// What the tables hold after the month in which the formed unit is swept.
+/// SELECTs and what they return after the month in which the formed unit is swept.
 static AFTER_NOBODY_CAME: [(&str, Option<i64>); 4] = [
     (NEXT, Some(200003)),
     (UNITS, Some(1)),
@@ -96,7 +96,7 @@ static IT_QUITS: [Step; 6] = [
     Step::Books(BOOKS_AFTER_QUITTING),
 ];
 
-/// What the tables hold after the month in which the faction quits.
+/// SELECTs and what they return after the month in which the faction quits.
 static AFTER_IT_QUIT: [(&str, Option<i64>); 4] = [
     (MONTH, Some(1)),
     (FACTIONS, Some(1)),

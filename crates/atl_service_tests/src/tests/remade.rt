@@ -7,11 +7,11 @@ use sqlite_disk::{Disk, Files, Memory};
 use std::alloc::Global;
 use std::test::Fail;
 
-/// The length of the file in bytes.
+/// The length, in bytes, of the file that sqlite3 wrote.
 const LENGTH: usize = 11776;
 
-/// The bytes of the file that aren't 0, each run with its offset. It holds the small world, with
-/// Avalon and its mailing.
+/// The file that sqlite3 wrote, as runs of bytes with their offsets; all other bytes are 0. It has
+/// the small world, with Avalon and its mailing.
 static PIECES: [(usize, &[u8]); 28] = [
     (
         0,
@@ -114,7 +114,7 @@ fn put<D: Disk>(disk: &mut D, place: usize, piece: &[u8]) -> Result<(), Fail> {
     }
 }
 
-/// Writes the whole file to a disk.
+/// Writes the whole file of `PIECES` to a disk.
 fn fill<D: Disk>(disk: &mut D) -> Result<(), Fail> {
     put(disk, LENGTH - 1, &[0])?;
     for (place, piece) in PIECES.iter() {
@@ -123,17 +123,17 @@ fn fill<D: Disk>(disk: &mut D) -> Result<(), Fail> {
     Ok(())
 }
 
-/// The file, with an empty log.
+/// The file that sqlite3 wrote, in memory, with an empty log.
 fn remade(alloc: Global) -> Result<Files<Memory>, Fail> {
     let mut files = new_files(alloc);
     fill(&mut files.db)?;
     Ok(files)
 }
 
-/// Asserts that the file has Avalon and its unit.
+/// Asserts that the campaign has Avalon and its unit.
 const AVALON_IS_THERE: [Step; 1] = [Step::Numbers(2, 2, 1)];
 
-/// The campaign is opened, played on, and opened once more.
+/// Sessions in which the campaign of the file is opened, played on, and opened once more.
 static GOES_ON: [Session; 3] = [
     Session {
         world: None,

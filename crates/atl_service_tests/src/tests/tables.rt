@@ -63,7 +63,7 @@ pub(crate) const STOCKED: &str = "SELECT count(*) FROM market";
 /// Sums all stocks.
 pub(crate) const STOCK: &str = "SELECT sum(stock) FROM market";
 
-/// Asserts what each SELECT returns.
+/// Asserts what each of these SELECTs returns.
 pub(crate) fn assert_tables(
     rt: &impl Abort,
     tables: &mut impl Tables,
@@ -74,7 +74,7 @@ pub(crate) fn assert_tables(
     }
 }
 
-/// What the tables hold after Avalon has joined the small world.
+/// SELECTs and what they return after Avalon has joined the small world.
 pub(crate) static AFTER_JOINING: [(&str, Option<i64>); 8] = [
     (NEXT, Some(200002)),
     (FACTIONS, Some(1)),

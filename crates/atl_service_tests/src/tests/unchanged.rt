@@ -22,7 +22,7 @@ UPDATE faction SET gone = 1 WHERE number = 2;
 INSERT INTO books VALUES (8, 0, -1000), (11, 1, -1), (16, 2, 30);
 UPDATE campaign SET next_unit = 1000000000, next_structure = 2";
 
-/// Selects a SELECT of all rows for each table.
+/// A query that returns, for each table of the database, a SELECT of all its rows.
 const QUERIES: &str = "SELECT 'SELECT * FROM ' || name FROM sqlite_schema WHERE type = 'table'";
 
 /// Appends to `text` the SELECT that `query` holds, and all rows that it gives.

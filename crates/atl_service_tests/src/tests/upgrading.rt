@@ -146,7 +146,7 @@ const BUYS_NOTHING: [Step; 4] = [
     Step::Told(Asked::Report(1, "pw"), AFTER_BUYING),
 ];
 
-/// What the tables hold after the month in which nothing is bought.
+/// SELECTs and what they return after the month in which nothing is bought.
 const AFTER_NOTHING: [(&str, Option<i64>); 3] = [
     (FORMAT, Some(2)),
     (STOCKED, Some(1)),
@@ -209,7 +209,7 @@ const SELLS_THREE: [Step; 4] = [
     Step::Books(BOOKS_AFTER_SELLING),
 ];
 
-/// What the tables hold after the month in which 3 wood are sold.
+/// SELECTs and what they return after the month in which 3 wood are sold.
 const AFTER_THREE: [(&str, Option<i64>); 2] = [(STOCKED, Some(1)), (STOCK, Some(23))];
 
 /// A story with mail from before the upgrade.
@@ -232,7 +232,8 @@ fn early_mail_is_carried_out(rt: HostRuntime) -> Result<(), Fail> {
     is_upgraded(&rt, rt.alloc(), &WITH_EARLY_MAIL)
 }
 
-/// SQL statements on an old file, and why it is then neither opened nor upgraded.
+/// SQL statements on a file of the first format, why it then isn't opened, and why it then isn't
+/// upgraded.
 static REFUSED: [(&str, &str, &str); 8] = [
     ("UPDATE campaign SET month = 10000", "old format", "damaged"),
     ("UPDATE campaign SET world = 'x'", "old format", "damaged"),

@@ -166,7 +166,7 @@ const MONTH_OF_ORDERS: [Step; 6] = [
     Step::Books(BOOKED),
 ];
 
-/// What the tables hold after the month of ten units.
+/// SELECTs and what they return after the month of ten units.
 const BEHIND: [(&str, Option<i64>); 4] = [
     (MONTH, Some(1)),
     (NEXT, Some(300012)),

@@ -13,7 +13,7 @@ use atl_world::Format;
 use sqlite::{Alter, Error, Row, Transaction, params};
 use std::alloc::Global;
 
-/// A row of `books`: what is booked of a thing under an entry, which is not 0.
+/// A row of `books`: the amount, other than 0, that is booked of a thing under an entry.
 #[derive(Clone, Copy, Debug)]
 pub struct BooksRow {
     /// The number of the entry, from 1 to 16.
@@ -57,6 +57,7 @@ impl Stored for RowWithId<StoredBooks> {
 
     ghost shown = { books_stored };
 
+    /// Parses a row of `books` and its rowid; an error if a value is no integer.
     fn from_row(_alloc: Global, row: &Row) -> Result<RowWithId<StoredBooks>, Error> {
         let (entry, thing) = two_integers(row, 0)?;
         let (amount, rowid) = two_integers(row, 2)?;
@@ -69,12 +70,13 @@ impl Stored for RowWithId<StoredBooks> {
     }
 }
 
-/// Reads `books`, with the rowids, in the order of entry and thing.
+/// Makes `books` a table that can be read, with the rowids, in the order of entry and thing.
 impl HasSelect for RowWithId<StoredBooks> {
     ghost part = { Books };
 
     ghost columns = { refl };
 
+    /// The first format, and the SELECT of all rows of `books` with their rowids.
     fn select_of() -> (Format, &'static str) {
         (
             Format::First,

@@ -1,4 +1,4 @@
-//! The row of the table `campaign`, which is the campaign row.
+//! The table `campaign`, whose one row is the campaign row: how it is put and read.
 ghost use Rattle.std.specs.Prelude.{◌≡◌, false, not, IsTrue, IfOk, IfErr, refl};
 ghost use Rattle.atl_sql.specs.Errors.{is_memory};
 ghost use Rattle.atl_sql.specs.Stored.{first_columns, IsTyped};
@@ -99,11 +99,13 @@ pub struct StoredCampaign {
 
 /// Drops the columns of the row and its world text in one call.
 impl Drop for StoredCampaign {
+    /// Drops the columns of the row and its world text.
     fn drop(self) {
         let StoredCampaign { head: _, world: _ } = self;
     }
 }
 
+/// A stored campaign row can be taken apart: its columns, without its world text.
 impl StoredCampaign {
     /// All columns of the row but the world text, which is dropped.
     pub fn into_campaign_row(self) -> StoredCampaignRow
@@ -140,6 +142,7 @@ impl Stored for StoredCampaign {
 
     ghost shown = { campaign_stored };
 
+    /// Parses a row of `campaign`; an error if a value is of another type, or if memory runs out.
     fn from_row(alloc: Global, row: &Row) -> Result<StoredCampaign, Error> {
         let head = head(alloc, row)?;
         let world = utf8_text(row, 7)?;
@@ -147,7 +150,7 @@ impl Stored for StoredCampaign {
     }
 }
 
-/// The SELECT of all rows of `campaign`.
+/// The SELECT of all columns of all rows of `campaign`, in the order of `id`.
 const ALL: &str =
     "SELECT id, format, month, next_faction, next_unit, next_structure, pass, world FROM campaign ORDER BY id";
 
@@ -160,12 +163,13 @@ pub fn select_campaign<S: Alter>(conn: &mut Connection<S>) -> Result<Vec<Row>, R
     select(conn, ALL)
 }
 
-/// Reads `campaign` in the order of `id`.
+/// Makes `campaign` a table that can be read, in the order of `id`.
 impl HasSelect for StoredCampaign {
     ghost part = { Own };
 
     ghost columns = { refl };
 
+    /// The first format, and the SELECT of all rows of `campaign`.
     fn select_of() -> (Format, &'static str) {
         (Format::First, ALL)
     }

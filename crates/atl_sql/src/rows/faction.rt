@@ -14,7 +14,7 @@ use atl_world::{Entries, Format, MarkedNumbers};
 use sqlite::{Alter, Error, Row, Transaction, params};
 use std::alloc::Global;
 
-/// A faction's row has its number, `joined_as`, `name`, `pass` and `gone`.
+/// What makes a faction one row of `faction`: its number, `joined_as`, `name`, `pass` and `gone`.
 impl NumberedRow for Faction {
     ghost part = { Factions };
 
@@ -32,10 +32,12 @@ impl NumberedRow for Faction {
 
     ghost are_marked = { λ m r. refl };
 
+    /// The faction with this number, gone or not; None if the campaign has none.
     fn of(campaign: &Campaign, number: u32) -> Option<&Faction> {
         campaign.faction(number)
     }
 
+    /// The numbers of the factions whose rows are marked, in rising order.
     fn marked(campaign: &Campaign) -> MarkedNumbers<'_> {
         campaign.marked_factions()
     }
@@ -61,19 +63,21 @@ impl NumberedRow for Faction {
     }
 }
 
-/// All factions of a campaign, gone or not.
+/// Lets a campaign's factions, gone or not, be listed by number.
 impl Mapped for Faction {
+    /// All factions of a campaign, gone or not, in rising order of their numbers.
     fn all(campaign: &Campaign) -> Entries<'_, Faction> {
         campaign.factions()
     }
 }
 
-/// Reads the names and the pass text as bytes, the number and `gone` as integers.
+/// Reads a row of `faction`: names and pass text as bytes, the number and `gone` as integers.
 impl Stored for StoredFaction {
     ghost forms = { faction_forms };
 
     ghost shown = { faction_stored };
 
+    /// Parses a row of `faction`; an error if a value is of another type, or if memory runs out.
     fn from_row(alloc: Global, row: &Row) -> Result<StoredFaction, Error> {
         let number = integer(row, 0)?;
         let gone = integer(row, 4)?;
@@ -90,12 +94,13 @@ impl Stored for StoredFaction {
     }
 }
 
-/// Reads `faction` in the order of the numbers.
+/// Makes `faction` a table that can be read, in the order of the factions' numbers.
 impl HasSelect for StoredFaction {
     ghost part = { Factions };
 
     ghost columns = { refl };
 
+    /// The first format, and the SELECT of all rows of `faction`.
     fn select_of() -> (Format, &'static str) {
         (
             Format::First,

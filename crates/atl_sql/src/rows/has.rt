@@ -1,4 +1,4 @@
-//! The rows of the table `has`: in each an amount of an item, or days of a skill, of a unit.
+//! The rows of the table `has`: each has an amount of an item, or days of a skill, of one unit.
 ghost use Rattle.std.specs.Prelude.{◌≡◌, [], ◌∷◌, refl};
 ghost use Rattle.atl_sql.specs.Tables.{Goods, has_table};
 ghost use Rattle.atl_sql.specs.Shown.{int, has_key, has_stored, has_forms};
@@ -13,7 +13,7 @@ use atl_world::Format;
 use sqlite::{Alter, Error, Row, Transaction, params};
 use std::alloc::Global;
 
-/// The kind of a row of `has`: an amount of an item, or days of a skill.
+/// What a row of `has` is about: an item, with an amount, or a skill, with days.
 #[derive(Clone, Copy, Debug, PartialEq, Eq)]
 pub enum ThingKind {
     /// An amount of an item.
@@ -22,6 +22,7 @@ pub enum ThingKind {
     Skill,
 }
 
+/// How a kind of goods (item or skill) is written in the column `sort`.
 impl ThingKind {
     /// The kind's number in the column `sort`: 0 for an item, 1 for a skill.
     pub(crate) fn number(self) -> u32
@@ -90,6 +91,7 @@ impl Stored for RowWithId<StoredHas> {
 
     ghost shown = { has_stored };
 
+    /// Parses a row of `has` and its rowid; an error if a value is no integer.
     fn from_row(_alloc: Global, row: &Row) -> Result<RowWithId<StoredHas>, Error> {
         let (unit, sort) = two_integers(row, 0)?;
         let (thing, amount, rowid) = three_integers(row, 2)?;
@@ -103,12 +105,13 @@ impl Stored for RowWithId<StoredHas> {
     }
 }
 
-/// Reads `has`, with the rowids, in the order of unit, sort and thing.
+/// Makes `has` a table that can be read, with the rowids, in the order of unit, sort and thing.
 impl HasSelect for RowWithId<StoredHas> {
     ghost part = { Goods };
 
     ghost columns = { refl };
 
+    /// The first format, and the SELECT of all rows of `has` with their rowids.
     fn select_of() -> (Format, &'static str) {
         (
             Format::First,

@@ -30,7 +30,8 @@ pub fn put_mail<S: Alter>(
     )
 }
 
-/// The row of a mailing has the number of its faction, and its text byte for byte.
+/// What makes the text of a mailing one row of `mail`: its faction's number, and the text byte for
+/// byte.
 impl NumberedRow for Sequence<u8> {
     ghost part = { Mail };
 
@@ -48,10 +49,12 @@ impl NumberedRow for Sequence<u8> {
 
     ghost are_marked = { λ m r. refl };
 
+    /// The mailing of the faction with this number; None if it sent none.
     fn of(campaign: &Campaign, number: u32) -> Option<&Sequence<u8>> {
         campaign.mail_of(number)
     }
 
+    /// The numbers of the factions whose rows of `mail` are marked, in rising order.
     fn marked(campaign: &Campaign) -> MarkedNumbers<'_> {
         campaign.marked_mail()
     }
@@ -61,25 +64,27 @@ impl NumberedRow for Sequence<u8> {
         "DELETE FROM mail WHERE faction = ?1"
     }
 
-    /// Inserts the text into `mail` under a faction's number, or replaces the one that is there.
+    /// Inserts the mailing into `mail` under a faction's number, or replaces the one there.
     fn put<S: Alter>(&self, tx: &mut Transaction<'_, S>, number: u32) -> Result<(), Error> {
         put_mail(tx, number, self.as_slice())
     }
 }
 
-/// All mailings of a campaign, by the numbers of their factions.
+/// Lets a campaign's mailings be listed by the numbers of their factions.
 impl Mapped for Sequence<u8> {
+    /// All mailings of a campaign, in rising order of their factions' numbers.
     fn all(campaign: &Campaign) -> Entries<'_, Sequence<u8>> {
         campaign.mail()
     }
 }
 
-/// Reads the faction's number as an integer, and the text as the bytes of a blob.
+/// Reads a row of `mail`: the faction's number as an integer, and the text as the bytes of a blob.
 impl Stored for StoredMail {
     ghost forms = { mail_forms };
 
     ghost shown = { mail_stored };
 
+    /// Parses a row of `mail`; an error if a value is of another type, or if memory runs out.
     fn from_row(_alloc: Global, row: &Row) -> Result<StoredMail, Error> {
         let faction = integer(row, 0)?;
         let text = bytes(row, 1)?;
@@ -87,12 +92,13 @@ impl Stored for StoredMail {
     }
 }
 
-/// Reads `mail` in the order of the factions' numbers.
+/// Makes `mail` a table that can be read, in the order of the factions' numbers.
 impl HasSelect for StoredMail {
     ghost part = { Mail };
 
     ghost columns = { refl };
 
+    /// The first format, and the SELECT of all rows of `mail`.
     fn select_of() -> (Format, &'static str) {
         (
             Format::First,

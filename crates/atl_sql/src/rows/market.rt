@@ -1,4 +1,4 @@
-//! The rows of the table `market`: the stock of an item of a region in each row.
+//! The rows of the table `market`: each has the stock of one item in a region's market.
 ghost use Rattle.std.specs.Prelude.{[], ◌∷◌, refl};
 ghost use Rattle.atl_sql.specs.Tables.{Markets, market_table};
 ghost use Rattle.atl_sql.specs.Shown.{int, market_key, market_row, market_stored, market_forms};
@@ -58,6 +58,7 @@ impl Stored for RowWithId<StoredMarket> {
 
     ghost shown = { market_stored };
 
+    /// Parses a row of `market` and its rowid; an error if a value is no integer.
     fn from_row(_alloc: Global, row: &Row) -> Result<RowWithId<StoredMarket>, Error> {
         let (region, item) = two_integers(row, 0)?;
         let (stock, rowid) = two_integers(row, 2)?;
@@ -70,12 +71,14 @@ impl Stored for RowWithId<StoredMarket> {
     }
 }
 
-/// Reads `market`, with the rowids, in the order of region and item; the second format has it.
+/// Makes `market` a table that can be read, with the rowids, in the order of region and item; the
+/// first format doesn't have it.
 impl HasSelect for RowWithId<StoredMarket> {
     ghost part = { Markets };
 
     ghost columns = { refl };
 
+    /// The second format, and the SELECT of all rows of `market` with their rowids.
     fn select_of() -> (Format, &'static str) {
         (
             Format::Second,

@@ -14,7 +14,7 @@ use atl_world::{Entries, Format, MarkedNumbers};
 use sqlite::{Alter, Error, Row, Transaction, params};
 use std::alloc::Global;
 
-/// A region's row has its number, peasants and money.
+/// What makes a region one row of `region`: its number, peasants and money.
 impl NumberedRow for Region {
     ghost part = { Regions };
 
@@ -32,10 +32,12 @@ impl NumberedRow for Region {
 
     ghost are_marked = { λ m r. refl };
 
+    /// The region with this number; None if the campaign has none.
     fn of(campaign: &Campaign, number: u32) -> Option<&Region> {
         campaign.region(number)
     }
 
+    /// The numbers of the regions whose rows are marked, in rising order.
     fn marked(campaign: &Campaign) -> MarkedNumbers<'_> {
         campaign.marked_regions()
     }
@@ -55,8 +57,9 @@ impl NumberedRow for Region {
     }
 }
 
-/// All regions of a campaign.
+/// Lets a campaign's regions be listed by number.
 impl Mapped for Region {
+    /// All regions of a campaign, in rising order of their numbers.
     fn all(campaign: &Campaign) -> Entries<'_, Region> {
         campaign.regions()
     }
@@ -68,6 +71,7 @@ impl Stored for StoredRegion {
 
     ghost shown = { region_stored };
 
+    /// Parses a row of `region`; an error if a value is no integer.
     fn from_row(_alloc: Global, row: &Row) -> Result<StoredRegion, Error> {
         let (number, peasants, money) = three_integers(row, 0)?;
         Ok(StoredRegion {
@@ -78,12 +82,13 @@ impl Stored for StoredRegion {
     }
 }
 
-/// Reads `region` in the order of the numbers.
+/// Makes `region` a table that can be read, in the order of the regions' numbers.
 impl HasSelect for StoredRegion {
     ghost part = { Regions };
 
     ghost columns = { refl };
 
+    /// The first format, and the SELECT of all rows of `region`.
     fn select_of() -> (Format, &'static str) {
         (
             Format::First,

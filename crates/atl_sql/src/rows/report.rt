@@ -13,7 +13,7 @@ use atl_world::{Entries, Format, MarkedNumbers, Text};
 use sqlite::{Alter, Error, Row, Transaction, params};
 use std::alloc::Global;
 
-/// The row of a report has the number of its faction, and its text.
+/// What makes the text of a report one row of `report`: its faction's number, and the text.
 impl NumberedRow for Text {
     ghost part = { Reports };
 
@@ -31,10 +31,12 @@ impl NumberedRow for Text {
 
     ghost are_marked = { λ m r. refl };
 
+    /// The last report of the faction with this number; None if it has none.
     fn of(campaign: &Campaign, number: u32) -> Option<&Text> {
         campaign.report(number)
     }
 
+    /// The numbers of the factions whose rows of `report` are marked, in rising order.
     fn marked(campaign: &Campaign) -> MarkedNumbers<'_> {
         campaign.marked_reports()
     }
@@ -44,7 +46,7 @@ impl NumberedRow for Text {
         "DELETE FROM report WHERE faction = ?1"
     }
 
-    /// Inserts the text into `report` under a faction's number, or replaces the one that is there.
+    /// Inserts the report into `report` under a faction's number, or replaces the one there.
     fn put<S: Alter>(&self, tx: &mut Transaction<'_, S>, number: u32) -> Result<(), Error> {
         run(
             tx,
@@ -54,19 +56,21 @@ impl NumberedRow for Text {
     }
 }
 
-/// All reports of a campaign, by the numbers of their factions.
+/// Lets a campaign's reports be listed by the numbers of their factions.
 impl Mapped for Text {
+    /// All reports of a campaign, in rising order of their factions' numbers.
     fn all(campaign: &Campaign) -> Entries<'_, Text> {
         campaign.reports()
     }
 }
 
-/// Reads the faction's number as an integer, and the report as UTF-8.
+/// Reads a row of `report`: the faction's number as an integer, and the text as UTF-8.
 impl Stored for StoredReport {
     ghost forms = { report_forms };
 
     ghost shown = { report_stored };
 
+    /// Parses a row of `report`; an error if a value is of another type, or if memory runs out.
     fn from_row(_alloc: Global, row: &Row) -> Result<StoredReport, Error> {
         let faction = integer(row, 0)?;
         let text = utf8_text(row, 1)?;
@@ -77,12 +81,13 @@ impl Stored for StoredReport {
     }
 }
 
-/// Reads `report` in the order of the factions' numbers.
+/// Makes `report` a table that can be read, in the order of the factions' numbers.
 impl HasSelect for StoredReport {
     ghost part = { Reports };
 
     ghost columns = { refl };
 
+    /// The first format, and the SELECT of all rows of `report`.
     fn select_of() -> (Format, &'static str) {
         (
             Format::First,

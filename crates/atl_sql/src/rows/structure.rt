@@ -14,7 +14,8 @@ use atl_world::{Entries, Format, MarkedNumbers};
 use sqlite::{Alter, Error, Row, Transaction, params};
 use std::alloc::Global;
 
-/// A structure's row has its number, kind, name, region, how much is done of it, and its owner.
+/// What makes a structure one row of `structure`: its number, kind, name and region, how much of it
+/// is done, and its owner.
 impl NumberedRow for Structure {
     ghost part = { Structures };
 
@@ -32,10 +33,12 @@ impl NumberedRow for Structure {
 
     ghost are_marked = { λ m r. refl };
 
+    /// The structure with this number; None if the campaign has none.
     fn of(campaign: &Campaign, number: u32) -> Option<&Structure> {
         campaign.structure(number)
     }
 
+    /// The numbers of the structures whose rows are marked, in rising order.
     fn marked(campaign: &Campaign) -> MarkedNumbers<'_> {
         campaign.marked_structures()
     }
@@ -62,19 +65,21 @@ impl NumberedRow for Structure {
     }
 }
 
-/// All structures of a campaign.
+/// Lets a campaign's structures be listed by number.
 impl Mapped for Structure {
+    /// All structures of a campaign, in rising order of their numbers.
     fn all(campaign: &Campaign) -> Entries<'_, Structure> {
         campaign.structures()
     }
 }
 
-/// Reads the name as bytes, and the other columns of a row of `structure` as integers.
+/// Reads a row of `structure`: the name as bytes, and the other columns as integers.
 impl Stored for StoredStructure {
     ghost forms = { structure_forms };
 
     ghost shown = { structure_stored };
 
+    /// Parses a row of `structure`; an error if a value is of another type, or if memory runs out.
     fn from_row(alloc: Global, row: &Row) -> Result<StoredStructure, Error> {
         let (number, kind) = two_integers(row, 0)?;
         let (region, done, owner) = three_integers(row, 3)?;
@@ -89,12 +94,13 @@ impl Stored for StoredStructure {
     }
 }
 
-/// Reads `structure` in the order of the numbers.
+/// Makes `structure` a table that can be read, in the order of the structures' numbers.
 impl HasSelect for StoredStructure {
     ghost part = { Structures };
 
     ghost columns = { refl };
 
+    /// The first format, and the SELECT of all rows of `structure`.
     fn select_of() -> (Format, &'static str) {
         (
             Format::First,

@@ -15,7 +15,8 @@ use atl_world::{Format, MarkedNumbers};
 use sqlite::{Alter, Error, Row, Transaction, params};
 use std::alloc::Global;
 
-/// A unit's row has its number, faction, name, region, structure, men, money and guard flag.
+/// What makes a unit one row of `unit`: its number, faction, name, region, structure, men, money
+/// and guard flag.
 impl NumberedRow for Unit {
     ghost part = { Units };
 
@@ -33,10 +34,12 @@ impl NumberedRow for Unit {
 
     ghost are_marked = { λ m r. refl };
 
+    /// The unit with this number; None if the campaign has none.
     fn of(campaign: &Campaign, number: u32) -> Option<&Unit> {
         campaign.unit(number)
     }
 
+    /// The numbers of the units whose rows are marked, in rising order.
     fn marked(campaign: &Campaign) -> MarkedNumbers<'_> {
         campaign.marked_rows()
     }
@@ -79,12 +82,13 @@ pub fn put_units<S: Alter>(
     Ok(())
 }
 
-/// Reads the name as bytes, and the other columns of a row of `unit` as integers.
+/// Reads a row of `unit`: the name as bytes, and the other columns as integers.
 impl Stored for StoredUnit {
     ghost forms = { unit_forms };
 
     ghost shown = { unit_stored };
 
+    /// Parses a row of `unit`; an error if a value is of another type, or if memory runs out.
     fn from_row(alloc: Global, row: &Row) -> Result<StoredUnit, Error> {
         let (number, faction) = two_integers(row, 0)?;
         let (region, structure) = two_integers(row, 3)?;
@@ -102,12 +106,13 @@ impl Stored for StoredUnit {
     }
 }
 
-/// Reads `unit` in the order of the numbers.
+/// Makes `unit` a table that can be read, in the order of the units' numbers.
 impl HasSelect for StoredUnit {
     ghost part = { Units };
 
     ghost columns = { refl };
 
+    /// The first format, and the SELECT of all rows of `unit`.
     fn select_of() -> (Format, &'static str) {
         (
             Format::First,

@@ -1,4 +1,4 @@
-//! Compares the columns of a table with names and kinds.
+//! Compares the columns of a table of a schema with the names and kinds that they should have.
 ghost use Rattle.std.specs.Prelude.{◌≡◌, map, ◌↔◌, IsTrue};
 ghost use Rattle.atl_sql.specs.Sets.{field};
 

@@ -1,4 +1,4 @@
-//! Compares the indexes of a schema with those of the tables' keys, and tests all others.
+//! Compares the indexes of a schema with those of the campaign's unique keys, and tests all others.
 ghost use Rattle.std.specs.Prelude.{◌≡◌, ◌==◌, ◌≤◌, ◌++◌, true, codes, length, slice_get, take, ◌↔◌, IsTrue};
 ghost use Rattle.std.specs.List.{AllByRecursion, list_any};
 ghost use Rattle.std.specs.Fmt.{decimal};
@@ -12,7 +12,7 @@ use crate::tables::{
 };
 use sqlite_schema::schema::Index;
 
-/// Whether this is a unique index of this name, tree, table and columns, which all ascend by bytes.
+/// Whether an index is unique and has this name, tree, table and columns, all ascending by bytes.
 fn is_index(found: &Index, name: &[u8], tree: u32, table: u32, columns: &[usize]) -> bool
     ensures { IsTrue result ↔
         (found.now ≡ record {
@@ -32,7 +32,7 @@ fn is_index(found: &Index, name: &[u8], tree: u32, table: u32, columns: &[usize]
         && found.is_unique
 }
 
-/// Whether this is the index that the database makes for the only unique key of a table.
+/// Whether an index is the one that the database makes for the only unique key of a table.
 fn is_index_of(
     found: &Index,
     made: &TableDefinition,
@@ -55,8 +55,8 @@ fn is_index_of(
     is_index(found, name, tree, made.tree, columns)
 }
 
-/// Whether this is number `place`, from 0, of the four indexes that the database makes for unique
-/// keys, in the order of the tables.
+/// Whether an index is the one at index `place` of the four that the database makes for the unique
+/// keys of the ten tables, in the order of the tables.
 fn is_key_index(found: &Index, place: usize) -> bool
     ensures { IsTrue result ↔ (slice_get all_indexes place ≡ Some found.now) }
 {
@@ -93,8 +93,8 @@ fn is_key_index(found: &Index, place: usize) -> bool
     }
 }
 
-/// Whether the first `count` indexes are the first `count` of the four that the database makes for
-/// unique keys.
+/// Whether a schema's first `count` indexes are the first `count` of the four that the database
+/// makes for the unique keys of the ten tables.
 fn are_first_indexes(indexes: &[Index], count: usize) -> bool
     requires { count ≤ length indexes.now }
     ensures { IsTrue result ↔ (take count indexes.now ≡ take count all_indexes) }
@@ -107,14 +107,14 @@ fn are_first_indexes(indexes: &[Index], count: usize) -> bool
     true
 }
 
-/// Whether the tree is that of one of these tables.
+/// Whether a tree, given by its number, is that of one of these tables.
 fn is_among(tree: u32, tables: &[TableDefinition]) -> bool
     ensures { result ≡ list_any (λ t. tree == t.tree) tables.now }
 {
     tables.iter().any(|table| tree == table.tree)
 }
 
-/// Whether the tree is that of one of the first `count` tables of a campaign.
+/// Whether a tree, given by its number, is that of one of the first `count` tables of a campaign.
 fn is_ours(tree: u32, count: usize) -> bool
     requires { count ≤ length all_tables }
     ensures { result ≡ list_any (λ t. tree == t.tree) (take count all_tables) }
@@ -143,8 +143,8 @@ fn are_harmless(indexes: &[Index], count: usize) -> bool
     true
 }
 
-/// Whether these are the first `keys` indexes of a campaign, and then indexes that make nothing
-/// unique in the first `tables` tables.
+/// Whether a schema's indexes are the first `keys` ones of a campaign, and then indexes that make
+/// nothing unique in the first `tables` tables.
 pub(crate) fn are_indexes(indexes: &[Index], tables: usize, keys: usize) -> bool
     requires tables { tables ≤ length all_tables }
     requires keys { keys ≤ length all_indexes }

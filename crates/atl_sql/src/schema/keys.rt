@@ -1,4 +1,5 @@
-//! Compares the keys of a table with the wanted ones: the row's number, or several columns.
+//! Compares the keys of a table of a schema with those of a campaign's table: the row's number, or
+//! several columns.
 ghost use Rattle.std.specs.Prelude.{◌≡◌, [], ◌∷◌, Some, None, ◌↔◌, IsTrue};
 ghost use Rattle.sqlite_value.specs.Keys.{plain};
 
@@ -6,10 +7,10 @@ use sqlite_items::Items;
 use sqlite_schema::schema::Table;
 use sqlite_value::keys::Order;
 
-/// The index of the column that is the row's number, among the columns of a table that has one.
+/// The index, among a table's columns, of the column that is the row's number.
 const NUMBER_COLUMN: usize = 0;
 
-/// The index of the row's number in a stored row. The columns have the indexes from 1 on.
+/// The index of the row's number in a stored row, whose columns have the indexes from 1 on.
 const ROW_NUMBER: usize = 0;
 
 /// Whether the table's key is its first column, which is the row's number (INTEGER PRIMARY KEY).
@@ -34,14 +35,15 @@ pub(crate) fn has_no_unique(found: &Table) -> bool
     found.uniques.is_empty() && found.orders.is_empty()
 }
 
-/// Whether all columns of an index ascend, by their bytes.
+/// Whether a sort order has all columns ascending, compared by their bytes.
 pub(crate) fn is_plain(order: &Order) -> bool
     ensures { IsTrue result ↔ (order.now ≡ plain) }
 {
     order.digits == 0
 }
 
-/// Whether the list has exactly one key, with the columns at these indexes of a stored row.
+/// Whether the list of a table's unique keys has exactly one, with the columns at these indexes of
+/// a stored row.
 fn is_one_key(keys: &[Items<usize>], places: &[usize]) -> bool
     ensures { IsTrue result ↔ (keys.now ≡ places.now ∷ []) }
 {
@@ -51,7 +53,8 @@ fn is_one_key(keys: &[Items<usize>], places: &[usize]) -> bool
     }
 }
 
-/// Whether the list has exactly one sort order, in which all columns ascend by their bytes.
+/// Whether the list of the sort orders of a table's unique keys has exactly one, in which all
+/// columns ascend by their bytes.
 fn is_one_order(orders: &[Order]) -> bool
     ensures { IsTrue result ↔ (orders.now ≡ plain ∷ []) }
 {

@@ -1,4 +1,5 @@
-//! Compares a table with a definition, in what the tables of a campaign have in common.
+//! Compares a table of a schema with the definition of a campaign's table: its tree, name, columns
+//! and keys.
 ghost use Rattle.std.specs.Prelude.{◌≡◌, [], ◌∷◌, map, Some, None, false, ◌↔◌, IsTrue};
 ghost use Rattle.atl_sql.specs.Sets.{field, table};
 
@@ -7,7 +8,7 @@ use crate::schema::keys::{has_no_unique, is_numbered, is_under, is_unique};
 use crate::tables::TableDefinition;
 use sqlite_schema::schema::{Stamps, Table};
 
-/// Whether no default of the table reads the time.
+/// Whether no column of the table has a default that reads the time.
 fn is_unstamped(stamps: &Stamps) -> bool
     ensures { IsTrue result ↔ (stamps.now ≡ record { places = []; terms = []; formats = [] }) }
 {
@@ -30,7 +31,7 @@ fn is_without_more(found: &Table) -> bool
         && !found.is_counted
 }
 
-/// Whether tree, name and columns are as defined, and the table has nothing else but keys and
+/// Whether tree, name and columns are as defined, and the table has nothing more than keys and
 /// checks.
 pub(crate) fn is_strict(found: &Table, made: &TableDefinition) -> bool
     ensures { IsTrue result ↔
@@ -44,7 +45,7 @@ pub(crate) fn is_strict(found: &Table, made: &TableDefinition) -> bool
         && is_without_more(found)
 }
 
-/// Whether tree, name and columns are as defined, and the table has nothing else but keys, so no
+/// Whether tree, name and columns are as defined, and the table has nothing more than keys, so no
 /// check.
 fn is_unchecked(found: &Table, made: &TableDefinition) -> bool
     ensures { IsTrue result ↔

@@ -1,4 +1,4 @@
-//! The rule that there is one campaign row of a given format, and no rows unknown to that format.
+//! Rule 1: there is one campaign row of a given format, and no rows unknown to that format.
 ghost use Rattle.std.specs.Prelude.{◌≡◌};
 ghost use Rattle.atl_campaign.specs.RowRules.{is_one_campaign_row, are_of_format};
 

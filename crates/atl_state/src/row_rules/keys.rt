@@ -1,4 +1,4 @@
-//! The rule that no two rows of a table have the same key.
+//! The part of rule 2 that no two rows of a table have the same key.
 ghost use Rattle.std.specs.Prelude.{◌≡◌, IfOk, map, true, ◌↔◌, IsTrue};
 ghost use Rattle.std.specs.List.{IsDistinct};
 ghost use Rattle.std.specs.List.Sorted.{IsStrictlySortedBy};
@@ -26,6 +26,7 @@ trait Keyed {
 impl Keyed for StoredFaction {
     ghost key_of = { faction_key };
 
+    /// The row's number, and two zeros.
     fn key(&self) -> (i64, i64, i64) {
         (self.number, 0, 0)
     }
@@ -35,6 +36,7 @@ impl Keyed for StoredFaction {
 impl Keyed for StoredRegion {
     ghost key_of = { region_key };
 
+    /// The row's number, and two zeros.
     fn key(&self) -> (i64, i64, i64) {
         (self.number, 0, 0)
     }
@@ -44,6 +46,7 @@ impl Keyed for StoredRegion {
 impl Keyed for StoredUnit {
     ghost key_of = { unit_key };
 
+    /// The row's number, and two zeros.
     fn key(&self) -> (i64, i64, i64) {
         (self.number, 0, 0)
     }
@@ -53,6 +56,7 @@ impl Keyed for StoredUnit {
 impl Keyed for StoredHas {
     ghost key_of = { has_key };
 
+    /// The row's unit, sort and thing.
     fn key(&self) -> (i64, i64, i64) {
         (self.unit, self.sort, self.thing)
     }
@@ -62,6 +66,7 @@ impl Keyed for StoredHas {
 impl Keyed for StoredStructure {
     ghost key_of = { structure_key };
 
+    /// The row's number, and two zeros.
     fn key(&self) -> (i64, i64, i64) {
         (self.number, 0, 0)
     }
@@ -71,6 +76,7 @@ impl Keyed for StoredStructure {
 impl Keyed for StoredMail {
     ghost key_of = { mail_key };
 
+    /// The faction's number, and two zeros.
     fn key(&self) -> (i64, i64, i64) {
         (self.faction, 0, 0)
     }
@@ -80,6 +86,7 @@ impl Keyed for StoredMail {
 impl Keyed for StoredReport {
     ghost key_of = { report_key };
 
+    /// The faction's number, and two zeros.
     fn key(&self) -> (i64, i64, i64) {
         (self.faction, 0, 0)
     }
@@ -89,6 +96,7 @@ impl Keyed for StoredReport {
 impl Keyed for StoredBooks {
     ghost key_of = { books_key };
 
+    /// The row's entry and thing, and a zero.
     fn key(&self) -> (i64, i64, i64) {
         (self.entry, self.thing, 0)
     }
@@ -98,6 +106,7 @@ impl Keyed for StoredBooks {
 impl Keyed for StoredMarket {
     ghost key_of = { market_key };
 
+    /// The row's region and item, and a zero.
     fn key(&self) -> (i64, i64, i64) {
         (self.region, self.item, 0)
     }
@@ -114,7 +123,7 @@ fn keys_of<R: Keyed>(alloc: Global, rows: &[R]) -> Result<Vec<(i64, i64, i64)>, 
     Ok(keys)
 }
 
-/// Whether each value is above the one before it.
+/// Whether the values rise: each is above the one before it.
 fn are_sorted<K: Ord + Drop>(keys: &[K]) -> bool
     ensures { result ≡ true → IsStrictlySortedBy K.cmp keys.now }
 {
@@ -152,7 +161,7 @@ fn have_keys<R: Keyed>(alloc: Global, rows: &[R]) -> Result<bool, AllocError>
     are_distinct(alloc, &keys)
 }
 
-/// Whether no two rows of a table have the same key, in each table but `campaign`.
+/// Whether in each table but `campaign` no two rows have the same key.
 pub(super) fn are_keyed(alloc: Global, parts: &Parts) -> Result<bool, AllocError>
     ensures { IfOk result (λ yes. IsTrue yes ↔ (AreKeyed parts.now)) }
 {

@@ -1,4 +1,4 @@
-//! The rule that rows of `market` are of markets of the world.
+//! The part of rule 4 that each row of `market` is of a market of the world.
 ghost use Rattle.std.specs.Prelude.{◌≡◌};
 ghost use Rattle.std.specs.List.{list_all};
 ghost use Rattle.std.specs.Option.{option_copied};
@@ -10,7 +10,7 @@ use atl_campaign::as_u32;
 use atl_campaign::parts::StoredMarket;
 use atl_world::{Market, World};
 
-/// The market of the world for the region and item of a row, where there is one.
+/// The market of the world for the region and item of a row of `market`; None if there is none.
 pub(super) fn market_of<'w>(world: &'w World, row: &StoredMarket) -> Option<&'w Market>
     ensures { option_copied result
         ≡ market_of world.now (as_u32 row.now.region) (as_u32 row.now.item) }

@@ -1,4 +1,4 @@
-//! Checks the names and pass texts of rows. See docs/RULES.md, "Names and pass texts".
+//! Rule 3: the names and pass texts of rows. See docs/RULES.md, "Names and pass texts".
 ghost use Rattle.std.specs.Prelude.{◌≡◌, IfOk, length, map, ◌↔◌, IsTrue};
 ghost use Rattle.std.specs.List.{list_all};
 ghost use Rattle.atl_world.specs.Names.{name_ok};
@@ -10,8 +10,8 @@ use atl_campaign::parts::{Parts, StoredFaction, StoredStructure, StoredUnit};
 use atl_world::{name_ok, pass_ok};
 use std::alloc::{AllocError, Global};
 
-/// Whether the joined name, the shown name and the pass text of a row of `faction` keep their
-/// rules.
+/// Whether the joined name, the shown name and the pass text of a row of `faction` are such as the
+/// rules of names and of pass texts allow.
 fn faction_named(row: &StoredFaction) -> bool
     ensures { result ≡ faction_named row.now }
 {
@@ -20,28 +20,28 @@ fn faction_named(row: &StoredFaction) -> bool
         && pass_ok(row.pass.as_slice())
 }
 
-/// Whether the names and pass texts of all factions keep their rules.
+/// Whether the names and pass texts of all rows of `faction` are allowed.
 fn factions_named(rows: &[StoredFaction]) -> bool
     ensures { result ≡ list_all faction_named rows.now }
 {
     rows.iter().all(|row| faction_named(row))
 }
 
-/// Whether the names of all units keep the name rule.
+/// Whether the names of all rows of `unit` are allowed by the rule of names.
 fn units_named(rows: &[StoredUnit]) -> bool
     ensures { result ≡ list_all (λ r. name_ok r.name) rows.now }
 {
     rows.iter().all(|row| name_ok(row.name.as_slice()))
 }
 
-/// Whether the names of all structures keep the name rule.
+/// Whether the names of all rows of `structure` are allowed by the rule of names.
 fn structures_named(rows: &[StoredStructure]) -> bool
     ensures { result ≡ list_all (λ r. name_ok r.name) rows.now }
 {
     rows.iter().all(|row| name_ok(row.name.as_slice()))
 }
 
-/// Whether each name and each pass text of the rows keeps its rule.
+/// Whether all names and pass texts of a campaign's rows are allowed.
 fn are_named(parts: &Parts) -> bool
     requires { length parts.now.campaign ≡ 1 }
     ensures { result ≡ are_named parts.now }

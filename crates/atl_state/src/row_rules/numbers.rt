@@ -1,15 +1,15 @@
-//! Checks the ranges of the numbers of rows.
+//! Comparisons of a row's number with the bounds of its range.
 ghost use Rattle.std.specs.Prelude.{◌≡◌};
 ghost use Rattle.atl_campaign.specs.RowRules.{is_from, is_within};
 
-/// Whether a number is from low to high.
+/// Whether a row's number is at least `low` and at most `high`.
 pub(super) fn is_from(low: u32, high: u32, number: i64) -> bool
     ensures { result ≡ is_from low high number }
 {
     i64::from(low) <= number && number <= i64::from(high)
 }
 
-/// Whether a number, without its sign, is at most `bound`.
+/// Whether a row's number, without its sign, is at most `bound`.
 pub(super) fn is_within(bound: u128, number: i64) -> bool
     ensures { result ≡ is_within bound number }
 {

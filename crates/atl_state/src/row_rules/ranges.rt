@@ -1,4 +1,4 @@
-//! The rule on ranges: keys that differ, numbers in their ranges, and not too many rows.
+//! Rule 2: keys that differ, numbers in their ranges, and not too many rows.
 ghost use Rattle.std.specs.Prelude.{◌≡◌, IfOk, length, ◌↔◌, IsTrue};
 ghost use Rattle.std.specs.List.{list_all};
 ghost use Rattle.atl_campaign.specs.RowRules.{campaign_row_in_range, faction_in_range, region_in_range, unit_in_range, has_in_range, structure_in_range, books_bound, books_in_range, market_in_range, are_few, people_in_range, numbers_in_range, AreRowsInRange};
@@ -90,35 +90,35 @@ fn market_in_range(world: &World, row: &StoredMarket) -> bool
     is_from(1, limit, row.stock)
 }
 
-/// Whether each row of `faction` is in its ranges.
+/// Whether the number and the flag `gone` of each row of `faction` are in their ranges.
 fn factions_in_range(rows: &[StoredFaction]) -> bool
     ensures { result ≡ list_all faction_in_range rows.now }
 {
     rows.iter().all(|row| faction_in_range(row))
 }
 
-/// Whether each row of `region` is in its ranges.
+/// Whether peasants and money of each row of `region` are in their ranges.
 fn regions_in_range(rows: &[StoredRegion]) -> bool
     ensures { result ≡ list_all region_in_range rows.now }
 {
     rows.iter().all(|row| region_in_range(row))
 }
 
-/// Whether each row of `unit` is in its ranges.
+/// Whether number, men, money and guard flag of each row of `unit` are in their ranges.
 fn units_in_range(rows: &[StoredUnit]) -> bool
     ensures { result ≡ list_all unit_in_range rows.now }
 {
     rows.iter().all(|row| unit_in_range(row))
 }
 
-/// Whether each row of `has` is in its ranges.
+/// Whether the sort of each row of `has` is 0 or 1, and the amount of each item in its range.
 fn all_has_in_range(rows: &[StoredHas]) -> bool
     ensures { result ≡ list_all has_in_range rows.now }
 {
     rows.iter().all(|row| has_in_range(row))
 }
 
-/// Whether each row of `structure` is in its ranges.
+/// Whether the number of each row of `structure`, and how much of it is done, are in their ranges.
 fn structures_in_range(world: &World, rows: &[StoredStructure]) -> bool
     ensures { result ≡ list_all (structure_in_range world.now) rows.now }
 {
@@ -150,7 +150,7 @@ fn are_few(parts: &Parts) -> bool
         && parts.structures.len() <= MOST_STRUCTURES as usize
 }
 
-/// Whether each row of factions, regions, units and what they have is in its ranges.
+/// Whether each row of `faction`, `region`, `unit` and `has` is in its ranges.
 fn people_in_range(parts: &Parts) -> bool
     ensures { result ≡ people_in_range parts.now }
 {

@@ -1,4 +1,4 @@
-//! The rule that the books balance: what is booked is what units and regions hold.
+//! The part of rule 11 that the books balance: what is booked is what units and regions hold.
 ghost use Rattle.std.specs.Prelude.{◌≡◌, ◌<◌, ℕ, length, pos, ◌↔◌, IsTrue};
 ghost use Rattle.atl_world.specs.Worlds.{IsWorld};
 ghost use Rattle.atl_records.specs.Books.{booked, thing_index, AreBooks};
@@ -12,7 +12,7 @@ use atl_campaign::Campaign;
 use atl_records::Thing;
 use atl_world::World;
 
-/// Whether the total of a thing equals the sum booked of it under all entries.
+/// Whether the total of a thing over all units and regions equals the sum booked of it.
 fn is_balanced(campaign: &Campaign, thing: Thing) -> bool
     requires few { IsCountable campaign.now.value }
     requires there { thing_index thing < campaign.now.value.books.things }

@@ -1,4 +1,4 @@
-//! The rule for days of study. See docs/RULES.md, "Levels and loads".
+//! Rule 6: days of study. See docs/RULES.md, "Levels and loads".
 ghost use Rattle.std.specs.Prelude.{◌≤◌, ◌*◌, ◌↔◌, IsTrue};
 ghost use Rattle.atl_records.specs.Every.{Every};
 ghost use Rattle.atl_campaign.specs.Good.{AreDays};

@@ -1,4 +1,4 @@
-//! The rule that a faction is gone exactly when it has no unit.
+//! Rule 7: a faction is gone exactly when it has no unit.
 ghost use Rattle.std.specs.Prelude.{◌≡◌, true, [], ◌↔◌, IsTrue};
 ghost use Rattle.atl_campaign.specs.Good.{GoneHaveNone, UnitlessAreGone};
 ghost use Rattle.atl_campaign.specs.Campaign.{numbers_of};

@@ -1,4 +1,4 @@
-//! The rule that at most one faction guards a region.
+//! Rule 10: at most one faction guards a region.
 ghost use Rattle.std.specs.Prelude.{◌≡◌, None, ◌↔◌, IsTrue};
 ghost use Rattle.atl_state.specs.Deciding.{agree, guard_of, one_holder};
 ghost use Rattle.atl_records.specs.Every.{Every, IsThere};
@@ -7,7 +7,7 @@ ghost use Rattle.atl_campaign.specs.Campaign.{numbers_in};
 
 use atl_campaign::Campaign;
 
-/// The faction of a unit, if the unit is there and guards; else None.
+/// The faction of the unit with this number, if the unit guards its region; else None.
 fn guard_of(campaign: &Campaign, number: u32) -> Option<u32>
     ensures { result ≡ guard_of campaign.now.value number }
 {
@@ -17,7 +17,7 @@ fn guard_of(campaign: &Campaign, number: u32) -> Option<u32>
     }
 }
 
-/// Whether two factions are equal, or one of them is None.
+/// Whether the factions of two units that may guard don't conflict: they are equal, or one is None.
 fn agree(one: Option<u32>, other: Option<u32>) -> bool
     ensures { result ≡ agree one other }
 {
@@ -27,7 +27,7 @@ fn agree(one: Option<u32>, other: Option<u32>) -> bool
     }
 }
 
-/// Whether all guards of a region are of one faction.
+/// Whether all units that guard a region are of one faction.
 fn has_one_holder(campaign: &Campaign, region: u32) -> bool
     ensures { result ≡ one_holder (guard_of campaign.now.value) None
         (numbers_in region campaign.now.value.units) }

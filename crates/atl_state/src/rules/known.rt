@@ -1,4 +1,4 @@
-//! The rule that everything that is named by number exists.
+//! Rule 4 on a campaign: everything that it names by number exists.
 ghost use Rattle.std.specs.Prelude.{◌≡◌, ◌≢◌, ◌<◌, ◌↔◌, ℕ, IsSome, Some, length, IsTrue};
 ghost use Rattle.std.specs.FinMap as map;
 ghost use Rattle.atl_world.specs.ByNumber.{market_of};
@@ -10,7 +10,7 @@ use atl_campaign::Campaign;
 use atl_records::{Holding, Region, Structure, Unit};
 use atl_world::{Entries, World};
 
-/// Whether a faction has this number, gone or not.
+/// Whether a faction of the campaign, gone or not, has this number.
 fn is_faction(campaign: &Campaign, number: u32) -> bool
     ensures { IsTrue result ↔ (IsThere campaign.now.value.factions number) }
 {
@@ -77,7 +77,7 @@ fn has_market(world: &World, region: u32, item: u32) -> bool
     }
 }
 
-/// Whether a region has stocks of its markets alone.
+/// Whether the world has a market in a region for each item that is in stock there.
 fn is_of_markets(world: &World, number: u32, region: &Region) -> bool
     ensures { IsTrue result ↔ (AreOfMarkets world.now number region.now.stocks) }
 {
@@ -87,7 +87,7 @@ fn is_of_markets(world: &World, number: u32, region: &Region) -> bool
         .all(|(item, _)| has_market(world, number, item))
 }
 
-/// Whether all stocks are of markets of their regions.
+/// Whether the world has a market for each item that is in stock in a region of the campaign.
 fn are_of_markets(world: &World, campaign: &Campaign) -> bool
     ensures { IsTrue result ↔
         (Every (λ n r. AreOfMarkets world.now n r.stocks) campaign.now.value.regions) }
@@ -97,7 +97,7 @@ fn are_of_markets(world: &World, campaign: &Campaign) -> bool
         .all(|(number, region)| is_of_markets(world, number, region))
 }
 
-/// Whether the regions are exactly the world's, and all stocks are of their markets.
+/// Whether the campaign's regions are exactly the world's, and their stocks are of their markets.
 fn are_stocks_known(world: &World, campaign: &Campaign) -> bool
     ensures { IsTrue result ↔
         (((n : ℕ) → IsThere campaign.now.value.regions n ↔ IsThere world.now.regions n)
@@ -106,14 +106,14 @@ fn are_stocks_known(world: &World, campaign: &Campaign) -> bool
     are_regions_known(world, campaign) && are_of_markets(world, campaign)
 }
 
-/// Whether the numbers of all given entries are below `count`.
+/// Whether the numbers of all given items or skills are below `count`.
 fn are_below(mut entries: Entries<'_, u32>, count: usize) -> bool
     ensures { IsTrue result ↔ (EachOf (λ n amount. n < count) entries.entry) }
 {
     entries.all(|(number, _)| (number as usize) < count)
 }
 
-/// Whether the items and skills listed of a unit are the world's.
+/// Whether the world has each item and each skill that is listed of a unit.
 fn holds_known(world: &World, holding: &Holding) -> bool
     ensures { IsTrue result ↔
         (Every (λ i amount. i < length world.now.items) holding.now.items
@@ -123,7 +123,7 @@ fn holds_known(world: &World, holding: &Holding) -> bool
         && are_below(holding.days(), world.skills().len())
 }
 
-/// Whether a unit is inside no structure (0), or inside one that is there and in its region.
+/// Whether a unit is inside no structure (0), or inside one that exists in the unit's region.
 fn is_inside_here(campaign: &Campaign, unit: &Unit) -> bool
     ensures { IsTrue result ↔
         (unit.now.structure ≢ 0
@@ -140,7 +140,7 @@ fn is_inside_here(campaign: &Campaign, unit: &Unit) -> bool
     }
 }
 
-/// Whether a unit's faction and region are there.
+/// Whether a unit's faction and region exist.
 fn is_somewhere(campaign: &Campaign, unit: &Unit) -> bool
     ensures { IsTrue result ↔
         (IsThere campaign.now.value.factions unit.now.faction
@@ -149,7 +149,7 @@ fn is_somewhere(campaign: &Campaign, unit: &Unit) -> bool
     is_faction(campaign, unit.faction) && is_region(campaign, unit.region)
 }
 
-/// Whether a unit's structure is 0 or one of its region, and its items and skills are the world's.
+/// Whether the world has a unit's items and skills, and its structure is 0 or one of its region.
 fn has_known_goods(world: &World, campaign: &Campaign, unit: &Unit) -> bool
     ensures { IsTrue result ↔
         ((unit.now.structure ≢ 0
@@ -162,16 +162,16 @@ fn has_known_goods(world: &World, campaign: &Campaign, unit: &Unit) -> bool
     is_inside_here(campaign, unit) && holds_known(world, &unit.holding)
 }
 
-/// Whether a unit's faction, region, items and skills are there, and its structure is 0 or one of
-/// its region.
+/// Whether a unit's faction, region, items and skills exist, and its structure is 0 or one of its
+/// region.
 fn is_placed(world: &World, campaign: &Campaign, unit: &Unit) -> bool
     ensures { IsTrue result ↔ (IsPlaced world.now campaign.now.value unit.now) }
 {
     is_somewhere(campaign, unit) && has_known_goods(world, campaign, unit)
 }
 
-/// Whether each unit's faction, region, items and skills are there, and its structure is 0 or one
-/// of its region.
+/// Whether each unit's faction, region, items and skills exist, and its structure is 0 or one of
+/// its region.
 fn are_placed(world: &World, campaign: &Campaign) -> bool
     ensures { IsTrue result ↔
         (Every (λ n u. IsPlaced world.now campaign.now.value u) campaign.now.value.units) }
@@ -181,7 +181,7 @@ fn are_placed(world: &World, campaign: &Campaign) -> bool
         .all(|(_, unit)| is_placed(world, campaign, unit))
 }
 
-/// Whether a structure's kind and region are there.
+/// Whether a structure's kind and region exist.
 fn is_standing(world: &World, campaign: &Campaign, structure: &Structure) -> bool
     ensures { IsTrue result ↔
         ((structure.now.kind < length world.now.kinds)
@@ -190,7 +190,7 @@ fn is_standing(world: &World, campaign: &Campaign, structure: &Structure) -> boo
     usize::from(structure.kind) < world.kinds().len() && is_region(campaign, structure.region)
 }
 
-/// Whether a structure's owner is nobody (0), or a unit that is there.
+/// Whether a structure's owner is nobody (0), or a unit that exists.
 fn is_owner_there(campaign: &Campaign, structure: &Structure) -> bool
     ensures { IsTrue result ↔
         (structure.now.owner ≢ 0 → IsThere campaign.now.value.units structure.now.owner) }
@@ -198,14 +198,14 @@ fn is_owner_there(campaign: &Campaign, structure: &Structure) -> bool
     structure.owner == 0 || is_unit(campaign, structure.owner)
 }
 
-/// Whether a structure's kind and region are there, and its owner is nobody or an existing unit.
+/// Whether a structure's kind and region exist, and its owner is nobody or an existing unit.
 fn is_built(world: &World, campaign: &Campaign, structure: &Structure) -> bool
     ensures { IsTrue result ↔ (IsBuilt world.now campaign.now.value structure.now) }
 {
     is_standing(world, campaign, structure) && is_owner_there(campaign, structure)
 }
 
-/// Whether each structure's kind and region are there, and its owner is nobody or an existing unit.
+/// Whether each structure's kind and region exist, and its owner is nobody or an existing unit.
 fn are_built(world: &World, campaign: &Campaign) -> bool
     ensures { IsTrue result ↔
         (Every (λ n s. IsBuilt world.now campaign.now.value s) campaign.now.value.structures) }
@@ -215,7 +215,7 @@ fn are_built(world: &World, campaign: &Campaign) -> bool
         .all(|(_, structure)| is_built(world, campaign, structure))
 }
 
-/// Whether all mail is of factions that are there.
+/// Whether all mail is of factions that exist.
 fn are_mail_known(campaign: &Campaign) -> bool
     ensures { IsTrue result ↔
         (Every (λ n text. IsThere campaign.now.value.factions n) campaign.now.value.mail) }
@@ -225,7 +225,7 @@ fn are_mail_known(campaign: &Campaign) -> bool
         .all(|(number, _)| is_faction(campaign, number))
 }
 
-/// Whether all reports are of factions that are there.
+/// Whether all reports are of factions that exist.
 fn are_reports_known(campaign: &Campaign) -> bool
     ensures { IsTrue result ↔
         (Every (λ n text. IsThere campaign.now.value.factions n) campaign.now.value.reports) }
@@ -235,7 +235,8 @@ fn are_reports_known(campaign: &Campaign) -> bool
         .all(|(number, _)| is_faction(campaign, number))
 }
 
-/// Whether the regions are the world's, and all that stocks, units and structures name exists.
+/// Whether the campaign's regions are the world's, and all that stocks, units and structures name
+/// exists.
 fn are_things_known(world: &World, campaign: &Campaign) -> bool
     ensures { IsTrue result ↔
         ((((n : ℕ) → IsThere campaign.now.value.regions n ↔ IsThere world.now.regions n)
@@ -246,7 +247,7 @@ fn are_things_known(world: &World, campaign: &Campaign) -> bool
     are_stocks_known(world, campaign) && (are_placed(world, campaign) && are_built(world, campaign))
 }
 
-/// Whether the factions of mail and reports are there.
+/// Whether all mail and all reports are of factions that exist.
 fn are_posts_known(campaign: &Campaign) -> bool
     ensures { IsTrue result ↔ (ArePosted campaign.now.value) }
 {

@@ -1,4 +1,5 @@
-//! The rule that mail is of factions that aren't gone, and has the right length and header.
+//! The part of rule 12 on mail: it is of factions that aren't gone, and of the right length and
+//! header.
 ghost use Rattle.std.specs.Prelude.{◌↔◌, IsTrue};
 ghost use Rattle.atl_orders.specs.Mailing.{IsMailingOf};
 ghost use Rattle.atl_campaign.specs.Good.{IsActive, IsMail};
@@ -7,7 +8,7 @@ use atl_campaign::Campaign;
 use atl_orders::is_mailing_of;
 use atl_world::Sequence;
 
-/// Whether a faction is there, and not gone.
+/// Whether a faction of the campaign has this number and is not gone.
 fn is_active(campaign: &Campaign, number: u32) -> bool
     ensures { IsTrue result ↔ (IsActive campaign.now.value number) }
 {
@@ -17,7 +18,7 @@ fn is_active(campaign: &Campaign, number: u32) -> bool
     }
 }
 
-/// Whether a text is a mailing of this faction, and the faction is there and not gone.
+/// Whether a text is a mailing of this faction, and the faction exists and is not gone.
 fn is_kept(campaign: &Campaign, number: u32, text: &Sequence<u8>) -> bool
     ensures { IsTrue result ↔ (IsMailingOf number text.now × IsActive campaign.now.value number) }
 {

@@ -1,4 +1,4 @@
-//! The rule for the numbers that factions, structures and units get next.
+//! Rule 5: the numbers that factions, structures and units get next.
 ghost use Rattle.std.specs.Prelude.{◌≡◌, ◌≤◌, ◌<◌, ◌+◌, ℕ, None, ◌↔◌, IsTrue};
 ghost use Rattle.std.specs.FinMap as map;
 ghost use Rattle.atl_records.specs.Every.{EachOf};
@@ -7,14 +7,14 @@ ghost use Rattle.atl_campaign.specs.Good.{AreNumbered, IsNumbered};
 use atl_campaign::Campaign;
 use atl_world::Entries;
 
-/// Whether the numbers of all given entries are at least `least` and below `next`.
+/// Whether the numbers of all given factions, or structures, are at least `least` and below `next`.
 fn are_between<V>(mut entries: Entries<'_, V>, least: u32, next: u32) -> bool
     ensures { IsTrue result ↔ (EachOf (λ n v. (least ≤ n) × (n < next)) entries.entry) }
 {
     entries.all(|(number, _)| least <= number && number < next)
 }
 
-/// Whether `next` is one more than `count`.
+/// Whether a next number is one more than a count.
 fn is_next_above(next: u32, count: usize) -> bool
     ensures { IsTrue result ↔ (next ≡ count + 1) }
 {

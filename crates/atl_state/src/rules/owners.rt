@@ -1,4 +1,4 @@
-//! The rule for owners of structures. See docs/RULES.md, "Owners".
+//! Rule 8: the owners of structures. See docs/RULES.md, "Owners".
 ghost use Rattle.std.specs.Prelude.{◌≡◌, ◌≢◌, Some, ◌↔◌, IsTrue};
 ghost use Rattle.std.specs.FinMap as map;
 ghost use Rattle.atl_records.specs.declared.records.Structure as builds;
@@ -9,7 +9,7 @@ ghost use Rattle.atl_campaign.specs.Good.{AreOwned};
 use atl_campaign::Campaign;
 use atl_records::{Structure, Unit};
 
-/// Whether a structure's owner is nobody, or a unit inside.
+/// Whether a structure's owner is nobody, or a unit inside the structure.
 fn is_owner_inside(campaign: &Campaign, number: u32, structure: &Structure) -> bool
     ensures { IsTrue result ↔ (HasOwnerInside campaign.now.value number structure.now) }
 {
@@ -22,7 +22,7 @@ fn is_owner_inside(campaign: &Campaign, number: u32, structure: &Structure) -> b
     }
 }
 
-/// Whether each structure's owner is nobody, or a unit inside.
+/// Whether each structure's owner is nobody, or a unit inside the structure.
 fn are_owners_inside(campaign: &Campaign) -> bool
     ensures { IsTrue result ↔
         (Every (HasOwnerInside campaign.now.value) campaign.now.value.structures) }
@@ -30,7 +30,7 @@ fn are_owners_inside(campaign: &Campaign) -> bool
     campaign.structures().all(|(number, structure)| is_owner_inside(campaign, number, structure))
 }
 
-/// Whether a unit is inside no structure that is there, or inside one that has an owner.
+/// Whether the structure that a unit is inside, if it is inside one, has an owner.
 fn is_with_owner(campaign: &Campaign, unit: &Unit) -> bool
     ensures { IsTrue result ↔
         ((s : builds.Structure) → map.get campaign.now.value.structures unit.now.structure ≡ Some s
@@ -54,8 +54,8 @@ fn are_with_owners(campaign: &Campaign) -> bool
         .all(|(_, unit)| is_with_owner(campaign, unit))
 }
 
-/// Whether each structure is owned by a unit inside, or by nobody where none is inside. It takes no
-/// memory.
+/// Whether each structure is owned by a unit inside it, or by nobody where none is inside. It takes
+/// no memory.
 pub(crate) fn are_owned(campaign: &Campaign) -> bool
     ensures { IsTrue result ↔ (AreOwned campaign.now.value) }
 {

@@ -1,4 +1,4 @@
-//! The rule that units on water are inside ships, and structures on water are complete ships.
+//! Rule 9: units on water are inside ships, and structures on water are complete ships.
 ghost use Rattle.std.specs.Prelude.{◌≡◌, false, true, ◌↔◌, IsTrue};
 ghost use Rattle.atl_records.specs.Every.{Every};
 ghost use Rattle.atl_campaign.specs.Good.{AreAfloat, IsAboard, is_ship};

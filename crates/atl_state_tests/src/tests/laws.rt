@@ -2,7 +2,7 @@
 //! clause is proved.
 use atl_campaign::good_campaigns_are_early;
 
-/// Asserts nothing: the clause of the law is proved.
+/// Calls the law `good_campaigns_are_early` and asserts nothing: its clause is proved.
 #[test]
 fn states_that_good_campaigns_are_early() {
     good_campaigns_are_early();

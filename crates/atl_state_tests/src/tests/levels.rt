@@ -35,7 +35,7 @@ static LEVELS: [(u32, u32, u32); 22] = [
     (4_294_967_295, 4_294_967_295, 0),
 ];
 
-/// Tests the level at the bounds of days and men.
+/// Tests that `level` gives the wanted level for each row of `LEVELS`.
 #[test]
 fn levels_at_their_bounds(rt: HostRuntime) {
     for (row, (days, men, wanted)) in LEVELS.iter().enumerate() {
@@ -43,7 +43,8 @@ fn levels_at_their_bounds(rt: HostRuntime) {
     }
 }
 
-/// A unit's men, wood and carts, and its wanted weight of goods, load, and what it carries.
+/// A row of `LOADS`: a unit's men, wood and carts, and the wanted weight of its goods, its wanted
+/// weight in all (`load`), and the weight that it can carry.
 struct Load {
     men: u32,
     wood: u32,
@@ -123,14 +124,14 @@ fn takes(holding: &mut Holding, row: &Load) -> Result<(), Fail> {
     Ok(())
 }
 
-/// Asserts the weights of a holding; `place` is the index of the row.
+/// Asserts the three weights of a holding that a row of `LOADS` wants; `place` is the row's index.
 fn weighs(rt: &impl Abort, world: &World, place: usize, holding: &Holding, row: &Load) {
     assert_row(rt, place, goods(world, holding), row.goods);
     assert_row(rt, place, load(world, holding), row.load);
     assert_row(rt, place, carry(world, holding), row.carry);
 }
 
-/// Asserts the weights of a unit for each row of `LOADS`.
+/// Asserts the three wanted weights for each row of `LOADS`.
 fn weighs_all(rt: &impl Abort, alloc: Global, world: &World) -> Result<(), Fail> {
     let mut holding = one_man(alloc)?;
     for (place, row) in LOADS.iter().enumerate() {
@@ -140,7 +141,7 @@ fn weighs_all(rt: &impl Abort, alloc: Global, world: &World) -> Result<(), Fail>
     Ok(())
 }
 
-/// Tests what goods weigh, what units weigh, and what they can carry.
+/// Tests that goods and units weigh, and units can carry, what the rows of `LOADS` say.
 #[test]
 fn goods_loads_and_carriage(rt: HostRuntime) -> Result<(), Fail> {
     let world = read_world(rt.alloc(), ISLE)?;

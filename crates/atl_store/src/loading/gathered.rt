@@ -19,7 +19,7 @@ use atl_world::{Format, Sequence};
 use sqlite::{Alter, Connection};
 use std::alloc::{AllocError, Global};
 
-/// All rows of one table, or of several, one table after another.
+/// The rows of one table, or of several, which are read whole, one table after another.
 /// All are read before a value of another type is reported, so another fault comes first.
 pub(crate) trait AllRows: Drop + Sized {
     // The parts that the tables are of.
@@ -49,7 +49,8 @@ pub(crate) trait AllRows: Drop + Sized {
     ghost of_parts: { (all : Self) → map (λ read. read.0) (rows all) ≡ parts };
 }
 
-/// What reading a table gives: its rows, None for a value of another type, or the fault of loading.
+/// Turns the result of reading one table into its rows, None if a value is of another type than its
+/// column, or the fault of loading.
 fn kept<T: Drop>(rows: Result<Vec<T>, ReadFault>) -> Result<Option<Vec<T>>, LoadFault>
     ensures { result ≡ rows_or_none rows }
 {
@@ -61,7 +62,7 @@ fn kept<T: Drop>(rows: Result<Vec<T>, ReadFault>) -> Result<Option<Vec<T>>, Load
     }
 }
 
-/// All rows of one table, as its SELECT shows them.
+/// Reads all rows of one table, by its SELECT.
 impl<A: HasSelect> AllRows for Vec<A> {
     ghost parts = { A.HasSelect.part ∷ [] };
 
@@ -85,7 +86,7 @@ impl<A: HasSelect> AllRows for Vec<A> {
     }
 }
 
-/// All rows of the tables of `X`, and then of those of `Y`.
+/// Reads all rows of the tables of `X`, and then of those of `Y`.
 impl<X: AllRows, Y: AllRows> AllRows for (X, Y) {
     ghost parts = { X.AllRows.parts ++ Y.AllRows.parts };
 
@@ -177,8 +178,8 @@ fn check_apart(are_apart: bool) -> Result<(), LoadFault>
     }
 }
 
-/// The rows without their rowids; the fault Store if two of them have the same rowid, or Memory if
-/// memory runs out.
+/// The rows of a table without their rowids; the fault Store if two of them have the same rowid, or
+/// Memory if memory runs out.
 pub(crate) fn rows_apart<T: Drop>(
     alloc: Global,
     placed: Vec<RowWithId<T>>,

@@ -42,7 +42,7 @@ fn only(mut rows: Vec<StoredCampaign>) -> Option<StoredCampaign>
     if rows.is_empty() { last } else { None }
 }
 
-/// Whether the row has the id 1 and this format.
+/// Whether a row of `campaign` has the id 1 and this format.
 fn is_own(head: &StoredCampaignRow, format: Format) -> bool
     ensures { IsTrue result ↔
         ((head.now.id ≡ pos 1) × (head.now.format ≡ pos (format_number format))) }
@@ -50,7 +50,7 @@ fn is_own(head: &StoredCampaignRow, format: Format) -> bool
     head.id == 1 && head.format == i64::from(format.number())
 }
 
-/// The world that a world text of this format describes, or why the text is none.
+/// The world that a world text of this format describes, or why the text describes none.
 fn world_by(alloc: Global, text: &str, format: Format) -> Result<World, WorldFault>
     ensures { Reads (λ w. w) result (world_by format text.now) }
 {

@@ -14,6 +14,7 @@ pub(crate) struct Game {
     pub kept: String,
 }
 
+/// Drops the campaign and the kept text.
 impl Drop for Game {
     fn drop(self) {
         let_go!(self: Game { campaign, kept });

@@ -2,7 +2,7 @@
 //! clause is proved.
 use atl_store::one_database_holds_one_campaign;
 
-/// Asserts nothing: the clause of the law is proved.
+/// Calls the law `one_database_holds_one_campaign` and asserts nothing: its clause is proved.
 #[test]
 fn states_that_one_database_holds_one_campaign() {
     one_database_holds_one_campaign();

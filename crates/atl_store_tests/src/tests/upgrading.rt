@@ -124,8 +124,8 @@ static CASES: [Case; 18] = [
     ),
 ];
 
-/// The steps after the upgrade: if it was done, a load that is Done; otherwise the tables are the
-/// same as before, and `load` answers as before.
+/// The lines of a script after an upgrade: if the upgrade was done, a load that is Done; otherwise
+/// the tables are the same as before, and `load` answers as before.
 fn rest_of(alloc: Global, load: &str, upgrade: &str) -> Result<String, Fail> {
     if upgrade == "Done" {
         Ok(String::from_str(alloc, "load")?)

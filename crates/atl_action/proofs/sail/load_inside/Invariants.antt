@@ -6,6 +6,8 @@ use Rattle.atl_campaign.specs.Campaign.{numbers_inside}
 use Rattle.atl_action.specs.Sail.{sum_inside}
 use Rattle.atl_action.proofs.sail.load_inside.Given as goal
 
+-- the sum so far and the loads of the units left are the loads of all units inside; the sum is at most 2^64 - 1 for
+-- each unit so far
 abbrev pub invariant-loop-number : goal.invariant-loop-number
 invariant-loop-number l = record {
   rest : l.sum + sum_by (λ n. option_map_or (λ u. load_of l.world u.holding) (get l.campaign.value.units n) 0) (drop l.number-index (numbers_inside l.structure l.campaign.value.units)) ≡ sum_inside (load_of l.world) l.campaign.value l.structure;

@@ -5,6 +5,7 @@ use Rattle.atl_campaign.proofs.CoverLaws.{marks-trans}
 use Rattle.atl_action.specs.Sail.{with_unit_aboard}
 use Rattle.atl_action.proofs.sail.take_all.Goals as goal
 
+-- the loop's invariant still holds after one more unit went along
 pub loop-unit-preserved : goal.loop-unit-preserved
 loop-unit-preserved c =
     let one = with_unit_aboard c.args.ship c.args.to in

@@ -16,6 +16,7 @@ use Rattle.atl_action.proofs.teach.teach_all.Goals as goal
 nobody_yet : amount_of empty ≡ (λ n. 0)
 nobody_yet = fun_ext (λ n. ap (λ (o : Option ℕ). unwrap_or o 0) (get-empty nat_cmp n))
 
+-- the loop's invariant holds at first, where nobody was taught and there are no events
 pub loop-order-init : goal.loop-order-init
 loop-order-init c =
     let step = teach_order c.args.campaign.now.value c.args.learning.now in
@@ -24,6 +25,7 @@ loop-order-init c =
     ap (λ t. fold (λ p o. step p (task_of o)) (t, with_events m c.new-events.result.items) xs) (ap amount_of c.new-taught.ensures ∙ nobody_yet)
     ∙ ap (λ es. fold (λ p o. step p (task_of o)) ((λ n. 0), with_events m es) xs) c.new-events.ensures.items
 
+-- the loop's invariant still holds after one more order of TEACH
 pub loop-order-preserved : goal.loop-order-preserved
 loop-order-preserved c =
     let step = teach_order c.args.campaign.now.value c.args.learning.now in
@@ -31,6 +33,7 @@ loop-order-preserved c =
     let one = λ (p : TaughtMen × MonthValue) (x : PhaseOrder). step p (task_of x) in
     fold_behind one c.deref-order-items.result.now c.loop-order.order-index c.order-item.result before c.loop-order-test.true (c.in_ok-teach_one.ensures ∙ ap (one before) c.order-item.is) c.loop-order.invariant
 
+-- after the loop the men taught and the month are those that `after_lessons` gives
 pub returns-clause-meaning : goal.returns-clause-meaning
 unfolding after_lessons
 returns-clause-meaning c =

@@ -4,9 +4,11 @@ use Rattle.atl_http.specs.Heads.{ComesTo, IsShortBy}
 use Rattle.atl_http.proofs.IoLaws as laws
 use Rattle.atl_http.proofs.io.receive_in.Goals as goal
 
+-- with fewer than `lacking` further bytes the request isn't whole (`IsShortBy`)
 pub progress_if_due-requires : goal.progress_if_due-requires
 progress_if_due-requires g c = laws.short_still c.deref.result.now c.loop-outcome.seen.items c.loop-outcome.lacking c.deref.ensures.value c.loop-outcome.invariant.short
 
+-- the loop's invariant still holds after one more read
 pub loop-outcome-preserved : goal.loop-outcome-preserved
 loop-outcome-preserved g c =
     let lacks : ComesTo c.loop-outcome.seen.items (Lacks c.in-Lacks.count) = laws.lacks c.deref.result.now c.loop-outcome.seen.items c.in_ok-outcome.field-0 c.in-Lacks.count c.deref.ensures.value c.in-Lacks.is c.in_ok-outcome.ensures in
@@ -19,6 +21,7 @@ loop-outcome-preserved g c =
       goes_on = c.in-Ok.ensures.ends.1;
     }
 
+-- if a read ends in a fault, the bytes read so far are those that `Receives` allows
 pub returns-in-Err-clause-receives : goal.returns-in-Err-clause-receives
 returns-in-Err-clause-receives g c =
     let lacks : ComesTo c.loop-outcome.seen.items (Lacks c.in-Lacks.count) = laws.lacks c.deref.result.now c.loop-outcome.seen.items c.in_ok-outcome.field-0 c.in-Lacks.count c.deref.ensures.value c.in-Lacks.is c.in_ok-outcome.ensures in

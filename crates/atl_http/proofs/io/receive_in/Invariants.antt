@@ -4,6 +4,8 @@ use Rattle.atl_http.specs.Heads.{IsReadSoFar, IsShortBy, most_at_once}
 use Rattle.atl_http.specs.Calls.{most_reads, GoesOn}
 use Rattle.atl_http.proofs.io.receive_in.Given as goal
 
+-- `seen` is what was read, no read was done too many, and the request isn't whole with fewer than `lacking` further
+-- bytes; the reads are within their limit, and the last one gave a piece or was interrupted
 abbrev pub invariant-loop-outcome : goal.invariant-loop-outcome
 invariant-loop-outcome g l = record {
   consumed : Consumes (g.R.Read.remaining l.fn.reader) (g.R.Read.remaining l.reader) l.seen.items;
@@ -14,5 +16,6 @@ invariant-loop-outcome g l = record {
   goes_on : GoesOn l.reads.last;
 }
 
+-- how many further reads are allowed, which falls with each turn of the loop
 abbrev pub decreases-loop-outcome : goal.decreases-loop-outcome
 decreases-loop-outcome g l = most_reads - l.reads.count

@@ -3,6 +3,7 @@ use Rattle.std.specs.Io.KnownBytes.{Appends}
 use Rattle.atl_http.specs.Calls.{most_interrupted}
 use Rattle.atl_http.proofs.io.send.Given as goal
 
+-- the first `sent` bytes were written, and fewer than `most_interrupted` writes were interrupted
 abbrev pub invariant-loop-sent : goal.invariant-loop-sent
 invariant-loop-sent g l = record {
   within : l.sent ≤ length l.bytes;
@@ -10,5 +11,6 @@ invariant-loop-sent g l = record {
   written : Appends (g.W.Write.contents l.fn.writer) (g.W.Write.contents l.writer) (take l.sent l.bytes);
 }
 
+-- how many bytes are left, plus how many further writes may be interrupted, which falls with each turn of the loop
 abbrev pub decreases-loop-sent : goal.decreases-loop-sent
 decreases-loop-sent g l = (length l.bytes - l.sent) + (most_interrupted - l.writes.interrupted)

@@ -2,9 +2,11 @@ use Rattle.atl_http.proofs.ListeningLaws as laws
 use Rattle.atl_http.proofs.listening.serve_each.Goals as goal
 use Rattle.atl_http.proofs.listening.serve_each.Goals.{in-Ok+in-Ok-serve_stream, in-Err}
 
+-- if serving a connection ends in a fault, this fault and the service are those that `ServesEach` allows
 pub returns-in-Err-serve_stream : goal.returns-in-Err-serve_stream
 returns-in-Err-serve_stream g c = laws.ended g.S.Store c.args.dice c.loop.counter c.args.count c.args.service.now c.loop.service c.serve_stream.new.service c.in-Err-serve_stream.fault c.loop-test.true c.loop.invariant c.in-Err-serve_stream.ensures
 
+-- the loop's invariant still holds after one more connection, served or aborted by its peer
 pub loop-preserved : goal.loop-preserved
 loop-preserved g c =
     elim c.match-accept.branch [

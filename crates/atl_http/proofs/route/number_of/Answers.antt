@@ -7,6 +7,7 @@ use Rattle.atl_orders.proofs.WordLaws.{one_digit_more}
 use Rattle.atl_http.proofs.DigitLaws.{digit_more}
 use Rattle.atl_http.proofs.route.number_of.Goals as goal
 
+-- the loop's invariant still holds after one more digit
 pub loop-byte-preserved : goal.loop-byte-preserved
 loop-byte-preserved c =
     let bytes = c.args.bytes.now in

@@ -2,6 +2,7 @@ use Rattle.atl_campaign.proofs.CoverLaws.{marks-faction}
 use Rattle.atl_phase.proofs.MarkLaws.{marks_by}
 use Rattle.atl_instant.proofs.name.name_faction.Goals as goal
 
+-- the change of the faction's name is marked
 pub returns-clause-marks : goal.returns-clause-marks
 returns-clause-marks c =
     let set = c.set_faction_name in

@@ -4,6 +4,7 @@ use Rattle.atl_campaign.proofs.LeavingLaws.{marks-structure, owned_by}
 use Rattle.atl_phase.proofs.MarkLaws.{marks_by}
 use Rattle.atl_instant.proofs.place.give_to.Goals as goal
 
+-- the change of the structure's owner is marked
 pub returns-clause-marks : goal.returns-clause-marks
 returns-clause-marks c =
     let old = c.args.campaign.now in

@@ -7,9 +7,11 @@ use Rattle.atl_instant.specs.Quit.{with_item_loss}
 use Rattle.atl_instant.proofs.QuitLaws.{gone_marks, known_ahead, next_room, rest_room, room_ahead}
 use Rattle.atl_instant.proofs.quit.book_items.Goals as goal
 
+-- the books have room for the loss of the next item
 pub book_loss-requires-clause-room : goal.book_loss-requires-clause-room
 book_loss-requires-clause-room c = next_room c.args.items.now c.loop-item.item-index c.loop-item.campaign.value c.loop-item-test.true c.loop-item.invariant.room
 
+-- the invariant of the loop over the items holds after one more item is booked
 pub loop-item-preserved : goal.loop-item-preserved
 loop-item-preserved c =
     let w = c.args.world.now in

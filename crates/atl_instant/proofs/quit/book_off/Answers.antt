@@ -7,16 +7,19 @@ use Rattle.atl_instant.specs.Quit.{with_loss}
 use Rattle.atl_instant.proofs.QuitLaws.{first_room, gone_marks, rest_room}
 use Rattle.atl_instant.proofs.quit.book_off.Goals as goal
 
+-- the books have room for the loss of the men
 pub book_loss-requires-clause-room : goal.book_loss-requires-clause-room
 book_loss-requires-clause-room c =
     first_room People c.args.men (both_move (moves_only c.args.money Lost Money) (moving_items c.args.items.now)) c.args.campaign.now.value c.requires.room
 
+-- the books, with the men booked, have room for the loss of the money
 pub book_loss-requires-2-clause-room : goal.book_loss-requires-2-clause-room
 book_loss-requires-2-clause-room c =
     let before = c.args.campaign.now.value in
     let rest = both_move (moves_only c.args.money Lost Money) (moving_items c.args.items.now) in
     rw c.book_loss.ensures.what (first_room Money c.args.money (moving_items c.args.items.now) (with_loss before People c.args.men) (rest_room People c.args.men rest before c.requires.room))
 
+-- the books, with men and money booked, have room for the loss of the items
 pub book_items-requires-clause-room : goal.book_items-requires-clause-room
 book_items-requires-clause-room c =
     let before = c.args.campaign.now.value in
@@ -26,6 +29,7 @@ book_items-requires-clause-room c =
     (rest_room Money c.args.money (moving_items c.args.items.now) between
     (rest_room People c.args.men rest before c.requires.room))
 
+-- all that changes when men, money and items are booked is marked
 pub returns-clause-marks : goal.returns-clause-marks
 returns-clause-marks c =
     let one = c.book_loss.new.campaign in

@@ -5,12 +5,14 @@ use Rattle.atl_records.proofs.EveryLaws.{each-from_every}
 use Rattle.atl_instant.proofs.TransferLaws.{days_within}
 use Rattle.atl_instant.proofs.transfer.days_raised.Goals as goal
 
+-- the invariant of the loop over the sender's skills holds before the first one
 pub loop-skill-init : goal.loop-skill-init
 loop-skill-init c =
     let h = c.args.sender.now in
     let all : c.into_iter-skill-iterator.result ≡ entries h.days = search rules in
     (tt, tt, rw all (each-from_every (λ s days. (1 ≤ days) × (days ≤ most_days * h.men)) h.days c.requires.sent), search rules)
 
+-- the receiver's days and those that come fit 32 bits together
 pub overflow_add-days_of : goal.overflow_add-days_of
 overflow_add-days_of c =
     let (next, finite, each, whole) = c.loop-skill.invariant in

@@ -12,6 +12,7 @@ use Rattle.atl_instant.proofs.DaysLaws.{fewer_is, more_is}
 use Rattle.atl_instant.proofs.TransferLaws.{sent_is}
 use Rattle.atl_instant.proofs.transfer.send.Goals as goal
 
+-- the campaign after the men went is that of the definition (`after_transfer`), and all changes are marked
 pub returns : goal.returns
 returns c =
     let before = c.args.campaign.now in

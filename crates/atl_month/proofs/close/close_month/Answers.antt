@@ -10,23 +10,29 @@ use Rattle.atl_month.proofs.MoveLaws.{phases_little}
 use Rattle.atl_month.proofs.UnmailedMonthLaws.{unmailed_left}
 use Rattle.atl_month.proofs.close.close_month.Goals as goal
 
+-- the campaign is good again with the month counted and the mail removed
 pub returns-clause-good : goal.returns-clause-good
 returns-clause-good c = finished_good c.args.world.now c.args.campaign.value c.in_ok-campaign.campaign.value phases_moving phases_little c.requires.month c.in_ok-campaign.ensures.leaves c.requires.good
 
+-- the number of the month last closed, the reports and the set of factions stay (`IsSameMonth`)
 pub returns-clause-same : goal.returns-clause-same
 returns-clause-same c = c.in_ok-campaign.ensures.leaves.same_month
 
+-- each faction of the campaign is still there
 pub returns-clause-factions : goal.returns-clause-factions
 returns-clause-factions c = factions_stay c.args.world.now c.args.campaign.value c.in_ok-campaign.campaign.value c.in_ok-campaign.ensures.leaves
 
+-- no amount of the books moves further than its bound for a month
 pub returns-clause-books : goal.returns-clause-books
 returns-clause-books c = books_near c.args.world.now c.args.campaign.value c.in_ok-campaign.campaign.value c.in_ok-campaign.ensures.leaves
 
+-- the month keeps what its phases keep (`month_keeps`)
 pub returns-clause-keeps : goal.returns-clause-keeps
 returns-clause-keeps c =
     let is : c.new-month.result ≡ new_month (by_faction (map reading_of c.args.mailings.items)) c.args.words.now = search rules in
     subst (λ (m : MonthValue). month_keeps c.args.world.now m c.args.campaign.value c.in_ok-campaign.campaign.value) is c.in_ok-campaign.ensures.keeps
 
+-- the mailings that the phases get can be read with the world
 pub run_phases-requires-clause-read : goal.run_phases-requires-clause-read
 run_phases-requires-clause-read c =
     let ms = c.args.mailings.items in
@@ -34,12 +40,14 @@ run_phases-requires-clause-read c =
     let is : by_faction (map reading_of ms) ≡ c.new-month.result.readings = search rules in
     subst (AreFit w) is (read_fit w ms (recursion_from_All (IsReadWith w) ms c.requires.read))
 
+-- the campaign and the events are those of the definition of a month (`month_of`)
 pub returns-clause-definition : goal.returns-clause-definition
 returns-clause-definition c =
     let is : c.new-month.result ≡ new_month (by_faction (map reading_of c.args.mailings.items)) c.args.words.now = search rules in
     month_is c.args.world.now c.args.campaign.value c.in_ok-campaign.campaign.value c.new-month.result c.in_ok-campaign.month (by_faction (map reading_of c.args.mailings.items)) c.args.words.now c.into_events.result.items
     c.in_ok-campaign.ensures.meaning is c.into_events.ensures
 
+-- units of factions without a mailing are left as `UnmailedAreLeft` says
 pub returns-clause-unmailed : goal.returns-clause-unmailed
 returns-clause-unmailed c =
     unmailed_left c.args.world.now c.args.campaign.value c.in_ok-campaign.campaign.value c.args.mailings.items c.args.words.now c.into_events.result.items (returns-clause-definition c) (returns-clause-keeps c)

@@ -10,6 +10,7 @@ use Rattle.atl_month.specs.Sweep.{receives}
 use Rattle.atl_month.proofs.ReceiverLaws.{all_noted, noted_goes_on, nothing_noted}
 use Rattle.atl_month.proofs.receivers.receivers_of.Goals as goal
 
+-- the invariant of the loop over units holds before the first one
 pub loop-number-init : goal.loop-number-init
 loop-number-init c =
     let what = c.args.campaign.now.value in
@@ -20,6 +21,7 @@ loop-number-init c =
       rw is (each-from_every (λ n u. 1 ≤ n) what.units c.requires),
     )
 
+-- the invariant of the loop over units holds after one more unit was noted
 pub loop-number-preserved : goal.loop-number-preserved
 loop-number-preserved c =
     let (_, _, rest, low) = c.loop-number.invariant in
@@ -35,6 +37,7 @@ loop-number-preserved c =
       least.1,
     )
 
+-- after the loop the map has the receivers of the campaign (`AreReceivers`)
 pub returns : goal.returns
 returns c =
     let (_, _, rest, low) = c.loop-number.invariant in

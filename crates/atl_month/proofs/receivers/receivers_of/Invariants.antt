@@ -6,6 +6,8 @@ use Rattle.atl_month.specs.Receivers.{or_if_zero, receiver_in}
 use Rattle.atl_month.specs.Sweep.{receiver, receives}
 use Rattle.atl_month.proofs.receivers.receivers_of.Given as goal
 
+-- before each unit, for each region and faction: the receiver in the map, else the first among the units still to come,
+-- is that of the campaign
 abbrev pub invariant-loop-number : goal.invariant-loop-number
 invariant-loop-number l =
     (goal.iterator-loop-number).can_next l.number-iterator ×

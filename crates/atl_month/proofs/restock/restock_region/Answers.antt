@@ -12,9 +12,11 @@ use Rattle.atl_month.specs.Restock.{after_market_restock, after_restock, stocks_
 use Rattle.atl_month.proofs.RestockLaws.{IsMarketOf, markets_are, markets_there, none_of, one_leaves_well, room_behind_market, room_for_market, stocking, stocks_little}
 use Rattle.atl_month.proofs.restock.restock_region.Goals as goal
 
+-- restocking a region that the world doesn't have changes nothing
 pub returns-in-None-clause-what : goal.returns-in-None-clause-what
 returns-in-None-clause-what c = sym (none_of c.args.world.now c.region.ensures.world c.args.region c.args.campaign.now.value (sym c.in-None.ensures.value))
 
+-- the invariant of the loop over markets holds before the first one
 pub loop-item-init : goal.loop-item-init
 loop-item-init c =
     let w = c.args.world.now in
@@ -35,11 +37,13 @@ loop-item-init c =
       marks = marks-refl before;
     }
 
+-- the books have room for the new goods of the next market
 pub restock_market-requires-clause-room : goal.restock_market-requires-clause-room
 restock_market-requires-clause-room c =
     room_for_market (c.in-Some-2.item, c.in-Some-2.market.now) c.next.new.self c.loop-item.campaign.value
     (subst (λ (es : List (ℕ × Market)). HaveRoom (stocking es) c.loop-item.campaign.value) c.in-Some-2.ensures.steps c.loop-item.invariant.room)
 
+-- the invariant of the loop over markets holds after one more got its new goods
 pub loop-item-preserved : goal.loop-item-preserved
 loop-item-preserved c =
     let w = c.args.world.now in

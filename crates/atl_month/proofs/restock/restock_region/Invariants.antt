@@ -9,6 +9,8 @@ use Rattle.atl_month.specs.Restock.{after_market_restock, after_restock, markets
 use Rattle.atl_month.proofs.RestockLaws.{IsMarketOf, stocking}
 use Rattle.atl_month.proofs.restock.restock_region.Given as goal
 
+-- before each market: restocking those still to come makes what restocking all makes; the campaign is steady, its books
+-- have room, and all changes are marked
 abbrev pub invariant-loop-item : goal.invariant-loop-item
 invariant-loop-item l = record {
   can_next : (goal.iterator-loop-item).can_next l.item-iterator;

@@ -11,6 +11,7 @@ use Rattle.atl_month.specs.Season.{season_moves, season_at}
 use Rattle.atl_month.proofs.SeasonLaws.{season_little, room_goes_on, room_now, season_at_leaves_well, season_goes_on}
 use Rattle.atl_month.proofs.season.turn_regions.Goals as goal
 
+-- the invariant of the loop over regions holds before the first one
 pub loop-number-init : goal.loop-number-init
 loop-number-init c =
     let listed : c.into_iter-number-iterator.result ≡ entries c.args.world.now.regions = search rules in
@@ -23,6 +24,7 @@ loop-number-init c =
       marks-refl c.args.campaign.now,
     )
 
+-- the invariant of the loop over regions holds after the season of one more
 pub loop-number-preserved : goal.loop-number-preserved
 loop-number-preserved c =
     let w = c.args.world.now in
@@ -47,6 +49,7 @@ loop-number-preserved c =
       marks-trans c.args.campaign.now c.loop-number.campaign c.turn_region.new.campaign marks c.in_ok-turn_region-in-Some-get.ensures.marks,
     )
 
+-- the books have room for the season of the next region
 pub turn_region-requires-clause-room : goal.turn_region-requires-clause-room
 turn_region-requires-clause-room c =
     let (_, _, whole, steady, room, marks) = c.loop-number.invariant in

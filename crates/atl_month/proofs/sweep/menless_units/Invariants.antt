@@ -2,6 +2,7 @@ use Rattle.std.proofs.Common.{◌≡◌, ◌==◌, ◌++◌, map, filter}
 use Rattle.atl_month.specs.Sweep.{menless_units}
 use Rattle.atl_month.proofs.sweep.menless_units.Given as goal
 
+-- before each unit: the list, and the units without men that are still to come, are all units without men
 abbrev pub invariant-loop-number : goal.invariant-loop-number
 invariant-loop-number l =
     (goal.iterator-loop-number).can_next l.number-iterator ×

@@ -10,6 +10,7 @@ use Rattle.atl_phase.proofs.MeaningLaws.{less_room}
 use Rattle.atl_month.proofs.SweepRunLaws.{lost_marks, passed_item_is}
 use Rattle.atl_month.proofs.sweep.pass_item.Goals as goal
 
+-- the item is a thing of the books, which have room for what is lost of it
 pub lose-requires : goal.lose-requires
 lose-requires c =
     let books = ap (λ (s : CampaignValue). s.books) c.in_ok-set_item-in-Some.ensures.ok in
@@ -21,6 +22,7 @@ lose-requires c =
           (omega arith) c.requires.room);
     }
 
+-- where the unit is there, the item is passed on as the definition says, and all changes are marked
 pub returns-in_ok-set_item-in-Some : goal.returns-in_ok-set_item-in-Some
 returns-in_ok-set_item-in-Some c =
     let u = c.in-Some.unit.now in
@@ -38,6 +40,7 @@ returns-in_ok-set_item-in-Some c =
           c.lose.ensures.what c.lose.ensures.marks;
     }
 
+-- where the unit isn't there, the loss that is booked is marked
 pub returns-in-None-clause-marks : goal.returns-in-None-clause-marks
 returns-in-None-clause-marks c =
     lost_marks c.args.amount c.args.campaign.now c.lose-in-None.new.campaign (Item c.args.item)

@@ -7,6 +7,8 @@ use Rattle.atl_phase.specs.Bounds.{HaveRoom, moving_items}
 use Rattle.atl_month.specs.Sweep.{after_passing_item}
 use Rattle.atl_month.proofs.sweep.pass_items.Given as goal
 
+-- before each item: passing on those still to come makes what passing on all makes; the campaign is steady, its books
+-- have room, and all changes are marked
 abbrev pub invariant-loop-item : goal.invariant-loop-item
 invariant-loop-item l = record {
   rest : fold (after_passing_item l.to) l.campaign.value (drop l.item-index l.items) ≡ fold (after_passing_item l.to) l.initial.campaign.value l.items;

@@ -8,6 +8,8 @@ use Rattle.atl_month.specs.Receivers.{AreReceivers}
 use Rattle.atl_month.specs.Sweep.{after_sweeping_unit, loses_by}
 use Rattle.atl_month.proofs.sweep.sweep_units.Given as goal
 
+-- before each unit: sweeping those still to come makes what sweeping all makes; the campaign is steady, the map has its
+-- receivers, its books have room, and all changes are marked
 abbrev pub invariant-loop-number : goal.invariant-loop-number
 invariant-loop-number l = record {
   rest : fold after_sweeping_unit l.campaign.value (drop l.number-index l.numbers) ≡ fold after_sweeping_unit l.initial.campaign.value l.numbers;

@@ -2,6 +2,7 @@ use Rattle.std.proofs.Common.{◌≡◌, ◌*◌, ◌/◌, ◌++◌, map}
 use Rattle.atl_month.specs.UpkeepTaken.{staying_list}
 use Rattle.atl_month.proofs.upkeep.days_with.Given as goal
 
+-- before each skill: the list, and the days that stay of the skills still to come, are the days that stay of all
 abbrev pub invariant-loop-skill : goal.invariant-loop-skill
 invariant-loop-skill l =
     (goal.iterator-loop-skill).can_next l.skill-iterator ×

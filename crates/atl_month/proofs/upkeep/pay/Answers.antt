@@ -2,8 +2,10 @@ use Rattle.atl_phase.proofs.ChangeLaws.{money_changes}
 use Rattle.atl_month.proofs.UpkeepLaws.{pays_nothing}
 use Rattle.atl_month.proofs.upkeep.pay.Goals as goal
 
+-- where the unit pays nothing and nobody starves, the campaign stays as it is
 pub returns-then-settled-eq0-clause-what : goal.returns-then-settled-eq0-clause-what
 returns-then-settled-eq0-clause-what c u is = pays_nothing c.args.campaign.now.value c.args.settled.now u is c.requires.fed c.if-settled-eq0.true
 
+-- the unit whose money changes is marked
 pub returns-in-Some-clause-marks : goal.returns-in-Some-clause-marks
 returns-in-Some-clause-marks c = (money_changes c.args.campaign.now c.set_money.new.self c.args.settled.now.unit _ c.set_money.ensures.what c.set_money.ensures.marks).marks

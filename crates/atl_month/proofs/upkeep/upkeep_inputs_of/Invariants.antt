@@ -4,6 +4,8 @@ use Rattle.atl_month.specs.UpkeepSharing.{IsUpkeepInput}
 use Rattle.atl_month.specs.Upkeep.{upkeep_input_of, upkeep_inputs_of}
 use Rattle.atl_month.proofs.upkeep.upkeep_inputs_of.Given as goal
 
+-- before each unit: what was read so far, with the units still to come, is what upkeep reads of all, each within its
+-- limits
 abbrev pub invariant-loop-number : goal.invariant-loop-number
 invariant-loop-number l =
     (goal.iterator-loop-number).can_next l.number-iterator ×

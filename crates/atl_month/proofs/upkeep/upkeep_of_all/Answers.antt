@@ -9,6 +9,7 @@ use Rattle.atl_month.specs.UpkeepTaken.{CanPayUpkeep}
 use Rattle.atl_month.specs.Upkeep.{upkeep_at}
 use Rattle.atl_month.proofs.upkeep.upkeep_of_all.Goals as goal
 
+-- the next unit can pay what upkeep takes from it
 pub upkeep_of-requires : goal.upkeep_of-requires
 upkeep_of-requires c =
     let list = c.args.list.now in
@@ -18,6 +19,7 @@ upkeep_of-requires c =
     let (w, can) = c.loop-settled.invariant.can in
     (w, (subst (CanInTurn (CanPayUpkeep w) upkeep_at c.loop-settled.campaign.value) behind can).0)
 
+-- the invariant of the loop over results holds after the upkeep of one more unit
 pub loop-settled-preserved : goal.loop-settled-preserved
 loop-settled-preserved c =
     let list = c.args.list.now in

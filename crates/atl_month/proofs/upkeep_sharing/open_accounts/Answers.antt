@@ -9,12 +9,14 @@ use Rattle.atl_month.specs.UpkeepSharing.{left_of, short_of}
 use Rattle.atl_month.proofs.UpkeepSharingLaws.{few_more, no_accounts, none_few, opened_more}
 use Rattle.atl_month.proofs.upkeep_sharing.open_accounts.Goals as goal
 
+-- the invariant of the loop over units holds before the first one
 pub loop-input-init : goal.loop-input-init
 loop-input-init c = record {
   each = λ s g. rw c.new-accounts.ensures (no_accounts c.args.maintenance s g);
   few = λ s g. rw c.new-accounts.ensures (none_few s g);
 }
 
+-- the invariant of the loop over units holds after one more is counted
 pub loop-input-preserved : goal.loop-input-preserved
 loop-input-preserved c =
     let m = c.args.maintenance in

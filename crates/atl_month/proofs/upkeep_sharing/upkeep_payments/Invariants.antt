@@ -4,6 +4,8 @@ use Rattle.atl_month.specs.Accounts.{account_at, account_of}
 use Rattle.atl_month.specs.UpkeepSharing.{peers_of, upkeep_result_among}
 use Rattle.atl_month.proofs.upkeep_sharing.upkeep_payments.Given as goal
 
+-- before each unit: the accounts are those after the turns so far, and the list has what upkeep takes from the units
+-- that had one
 abbrev pub invariant-loop-input : goal.invariant-loop-input
 invariant-loop-input l = record {
   each : (region faction : ℕ) → account_at l.accounts region faction ≡ account_of l.maintenance l.inputs (take l.input-index l.inputs) region faction;

@@ -49,7 +49,7 @@ fn add(maintenance: u64, purse: Purse, person: Person, is_before: bool) -> Purse
     }
 }
 
-/// The sums over the units of a unit's faction in its region.
+/// The sums over all units of one unit's faction in its region, and over those with lower numbers.
 fn purse_of(maintenance: u64, plain: &Plain, one: Person) -> Purse {
     let mut purse = Purse {
         left: 0,
@@ -65,8 +65,8 @@ fn purse_of(maintenance: u64, plain: &Plain, one: Person) -> Purse {
     purse
 }
 
-/// How much of an amount, handed out in order, a taker of `own` gets after takers of `before`
-/// together.
+/// How much of an amount that is handed out in turn a taker who wants `own` gets, after takers who
+/// want `before` together.
 fn part(amount: u64, before: u64, own: u64) -> u64 {
     let with = before.wrapping_add(own);
     amount.min(with).wrapping_sub(amount.min(before))

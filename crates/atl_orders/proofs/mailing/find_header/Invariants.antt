@@ -6,6 +6,8 @@ use Rattle.atl_orders.specs.Views.{lines_of_rest, rest_size}
 use Rattle.atl_orders.specs.Mailing.{header_from}
 use Rattle.atl_orders.proofs.mailing.find_header.Given as goal
 
+-- the first header of the lines left is that of the text, and the number of the next line and what is left to read are
+-- within the text's length
 abbrev pub invariant-loop-rest : goal.invariant-loop-rest
 invariant-loop-rest l = record {
   ends : IfSome (option_copied l.rest) (EndsWith l.text);
@@ -13,5 +15,6 @@ invariant-loop-rest l = record {
   small : l.number + rest_size (option_copied l.rest) ≤ length l.text + 2;
 }
 
+-- how much of the text is left to read, less after each turn, so the loop ends
 abbrev pub decreases-loop-rest : goal.decreases-loop-rest
 decreases-loop-rest l = rest_size (option_copied l.rest)

@@ -8,6 +8,7 @@ use Rattle.atl_orders.specs.Standing.{EndsWith}
 use Rattle.atl_orders.specs.Mailing.{effects, entry_of, fault_of}
 use Rattle.atl_orders.proofs.mailing.read_body.Given as goal
 
+-- the orders and faulty lines so far, followed by those that the lines left give, are those that all lines give
 abbrev pub invariant-loop-rest : goal.invariant-loop-rest
 invariant-loop-rest l =
     let left = effects l.world l.number l.place (alias_set l.aliases) (lines_of_rest (option_copied l.rest)) in
@@ -19,5 +20,6 @@ invariant-loop-rest l =
       small : l.number + rest_size (option_copied l.rest) < 2 ^ 32;
     }
 
+-- how much of the text is left to read, less after each turn, so the loop ends
 abbrev pub decreases-loop-rest : goal.decreases-loop-rest
 decreases-loop-rest l = rest_size (option_copied l.rest)

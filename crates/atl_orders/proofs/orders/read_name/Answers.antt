@@ -4,6 +4,7 @@ use Rattle.atl_orders.specs.Orders.{read_name}
 use Rattle.atl_orders.proofs.WordLaws.{place_behind, bytes_in_span}
 use Rattle.atl_orders.proofs.orders.read_name.Goals as goal
 
+-- the operands read after NAME are those of the definition, since the span covers the bytes of the name
 pub returns : goal.returns
 unfolding read_name
 returns c =

@@ -4,6 +4,7 @@ use Rattle.std.specs.Char.{is_ascii_digit}
 use Rattle.std.specs.Str.Parse.{digits_value}
 use Rattle.atl_orders.proofs.words.number.Given as goal
 
+-- the bytes so far are digits, and `value` is the number that they write, or `most` + 1 if it is greater than `most`
 abbrev pub invariant-loop-byte : goal.invariant-loop-byte
 invariant-loop-byte l = record {
   digits : list_all is_ascii_digit (take l.byte-index l.bytes) ≡ true;

@@ -14,9 +14,11 @@ use Rattle.atl_phase.proofs.holdings.set_each.Goals as goal
 abbrev set_all : List (ℕ × ℕ) → Unit → Unit
 set_all list u = record u { holding = record u.holding { days = with_days u.holding.days list } }
 
+-- the invariant of the loop over skills holds before the first one
 pub loop-skill-init : goal.loop-skill-init
 loop-skill-init c = record { value = refl; marks = marks-refl c.args.campaign.now; goods = refl; items = refl }
 
+-- the invariant of the loop over skills holds after one more skill is set
 pub loop-skill-preserved : goal.loop-skill-preserved
 loop-skill-preserved c =
     let list = c.args.list.now in
@@ -39,6 +41,7 @@ loop-skill-preserved c =
       items = ap (λ (m : Marks). m.items) c.in_ok-set_days.ensures.marks ∙ old.items;
     }
 
+-- after the loop the unit has the days of all listed skills, and the changes are marked (`ChangesHolding`)
 pub returns-clause-what : goal.returns-clause-what
 returns-clause-what c =
     let after = c.loop-skill.campaign.value in

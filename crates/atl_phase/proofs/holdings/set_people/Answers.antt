@@ -5,6 +5,7 @@ use Rattle.atl_phase.specs.Holdings.{with_days}
 use Rattle.atl_phase.proofs.ChangeLaws.{men_changes, then_changes}
 use Rattle.atl_phase.proofs.holdings.set_people.Goals as goal
 
+-- the unit has the new number of men and the days of the listed skills, and the changes are marked (`ChangesHolding`)
 pub returns-clause-what : goal.returns-clause-what
 returns-clause-what c =
     let old = c.args.campaign.now in
@@ -14,5 +15,6 @@ returns-clause-what c =
     (men_changes old mid c.args.unit c.args.men c.set_men.ensures.what c.set_men.ensures.marks))
     c.set_each.ensures.what
 
+-- the same single items are marked as before
 pub returns-clause-items : goal.returns-clause-items
 returns-clause-items c = on_ok_weaker c.set_each.result (λ same. same ∙ ap (λ (m : Marks). m.items) c.set_men.ensures.marks) c.set_each.ensures.items

@@ -7,9 +7,11 @@ use Rattle.atl_phase.proofs.OrderIndexLaws.{Added, added, counts_by, ended, pass
 use Rattle.atl_phase.proofs.order_indices.add_standing.Goals as goal
 use Rattle.atl_phase.proofs.order_indices.add_standing.Goals.{then-stands+in_ok-push, else-stands}
 
+-- the invariant of the loop over a mailing's orders holds before the first one
 pub loop-place-init : goal.loop-place-init
 loop-place-init c = record { there = λ all. all; tasks = refl }
 
+-- the invariant of the loop over a mailing's orders holds after one more order, whether it counts or not
 pub loop-place-preserved : goal.loop-place-preserved
 loop-place-preserved c =
     let aliases = c.args.aliases.now in
@@ -37,6 +39,7 @@ loop-place-preserved c =
           subst (Added aliases ms at old (i + 1)) (sym same) (passed aliases ms at old list i inside c.loop-place.invariant (counts ∙ w.if-stands.false))
     ]
 
+-- after the loop the list has the old indices and those of all orders of the mailing that count (`AddsMailing`)
 pub returns : goal.returns
 returns c =
     let ms = c.args.mailings.now in

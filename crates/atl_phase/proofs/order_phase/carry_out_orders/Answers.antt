@@ -13,6 +13,7 @@ use Rattle.atl_phase.proofs.FoldLaws.{each_mapped, fold_behind, fold_ended, fold
 use Rattle.atl_phase.proofs.OrderEffectLaws.{leaves_well, order_well, orders_fit, orders_spare, room_left, room_reserved, well_same, well_twice}
 use Rattle.atl_phase.proofs.order_phase.carry_out_orders.Goals as goal
 
+-- the invariant of the loop over orders holds before the first one
 pub loop-order-init : goal.loop-order-init
 loop-order-init g c =
     let P = g.P.OrderPhase in
@@ -23,15 +24,18 @@ loop-order-init g c =
       marks = marks-refl c.args.campaign.now;
     }
 
+-- the phase's condition (`holds`) is true of the campaign before the next order
 pub carry_one-requires-clause-holds : goal.carry_one-requires-clause-holds
 carry_one-requires-clause-holds g c = c.loop-order.invariant.well.holds_still
 
+-- the books have room for all that the orders may still book, before the next order
 pub carry_one-requires-clause-room : goal.carry_one-requires-clause-room
 carry_one-requires-clause-room g c =
     let P = g.P.OrderPhase in
     room_left c.args.world.now c.args.campaign.now.value c.loop-order.campaign.value c.loop-order.invariant.well
     (room_reserved P.reserve P.moving c.args.campaign.now.value (c.is_orderly.ensures.bounded c.args.world.now c.args.campaign.now.value c.requires.holds) c.requires.room)
 
+-- the next order can be read with the world
 pub carry_one-requires-clause-fit : goal.carry_one-requires-clause-fit
 carry_one-requires-clause-fit g c =
     let w = c.args.world.now in
@@ -42,6 +46,7 @@ carry_one-requires-clause-fit g c =
     (ap (map task_of) c.deref-order-items.ensures.value ∙ c.in_ok-orders.ensures) (orders_fit w m.aliases m.readings c.requires.read g.P.PhaseVerbs.is_of)
     c.loop-order.order-index o c.loop-order-test.true)
 
+-- the invariant of the loop over orders holds after one more order
 pub loop-order-preserved : goal.loop-order-preserved
 loop-order-preserved g c =
     let P = g.P.OrderPhase in
@@ -66,6 +71,7 @@ loop-order-preserved g c =
       marks = marks-trans c.args.campaign.now c.loop-order.campaign _ c.loop-order.invariant.marks c.in_ok-carry_one.ensures.marks;
     }
 
+-- after the loop, campaign and month are what the orders make one by one (`meaning_by_orders`)
 pub returns-clause-meaning : goal.returns-clause-meaning
 unfolding meaning_by_orders
 returns-clause-meaning g c =
@@ -85,11 +91,13 @@ returns-clause-meaning g c =
     ∙ ap (fold step start) (ap (map task_of) c.deref-order-items.ensures.value ∙ c.in_ok-orders.ensures)
     ∙ ap (λ p. fold step p (orders_by_unit g.P.PhaseVerbs.is_of m)) none
 
+-- after the loop the phase's condition holds, the books balance, and each amount moved within its bound (`LeavesWell`)
 pub returns-clause-leaves : goal.returns-clause-leaves
 returns-clause-leaves g c =
     leaves_well c.args.world.now c.args.campaign.now.value c.loop-order.campaign.value
     (c.is_orderly.ensures.bounded c.args.world.now c.args.campaign.now.value c.requires.holds) c.loop-order.invariant.well
 
+-- units that no order concerns are spared (`spares_others`)
 pub returns-clause-keeps : goal.returns-clause-keeps
 unfolding meaning_by_orders
 returns-clause-keeps g c =
@@ -100,5 +108,6 @@ returns-clause-keeps g c =
     subst (λ d. AreUnaffected P.concerns P.spares ts c.args.campaign.now.value d) (sym (ap (λ p. p.0) (returns-clause-meaning g c)))
     (orders_spare (P.step c.args.phase.now) c.is_orderly.ensures w c.args.campaign.now.value m ts c.requires.holds (orders_fit w m.aliases m.readings c.requires.read g.P.PhaseVerbs.is_of))
 
+-- all that the orders change is marked
 pub returns-clause-marks : goal.returns-clause-marks
 returns-clause-marks g c = c.loop-order.invariant.marks

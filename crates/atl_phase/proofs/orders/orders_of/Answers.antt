@@ -6,6 +6,7 @@ use Rattle.atl_phase.specs.declared.phase_order.Arrangement.TheVariants.{ByUnit}
 use Rattle.atl_phase.proofs.PickedLaws.{picked_list}
 use Rattle.atl_phase.proofs.orders.orders_of.Goals as goal
 
+-- the orders picked from the month's gathered indices are those of the phase, by unit
 pub returns-in-ByUnit-Some : goal.returns-in-ByUnit-Some
 returns-in-ByUnit-Some g c =
     let aliases = c.args.aliases.now in
@@ -14,6 +15,7 @@ returns-in-ByUnit-Some g c =
     let all = subst (λ (a : Arrangement). AreOrderIndices a aliases ms c.deref.result.now) (sym c.in-ByUnit-Some.is-0) (subst (AreOrderIndices ByUnit aliases ms) (sym c.deref.ensures.value) kept) in
     picked_list g.P.PhaseVerbs.is_of aliases c.args.arrangement ms c.deref.result.now c.phase_orders_at.result c.requires.sorted all c.phase_orders_at.ensures
 
+-- the orders picked from indices that are gathered for this call alone are those of the phase
 pub returns-in_ok-places-in_default : goal.returns-in_ok-places-in_default
 returns-in_ok-places-in_default g c =
     let aliases = c.args.aliases.now in

@@ -5,6 +5,7 @@ use Rattle.atl_phase.proofs.PickedLaws.{all_picked, left, taken}
 use Rattle.atl_phase.proofs.orders.phase_orders_at.Goals as goal
 use Rattle.atl_phase.proofs.orders.phase_orders_at.Goals.{then-has+in_ok-push, else-has}
 
+-- the invariant of the loop over indices holds after one more, whether its order has a verb of the phase or not
 pub loop-placed-preserved : goal.loop-placed-preserved
 loop-placed-preserved g c =
     let is_of = g.P.PhaseVerbs.is_of in
@@ -28,5 +29,6 @@ loop-placed-preserved g c =
           left is_of ms ps list i p o _ h at c.order_at-order.ensures c.loop-placed.invariant c.if-has.list.items verb same
     ]
 
+-- after the loop the list has all orders to be picked
 pub returns : goal.returns
 returns g c = all_picked g.P.PhaseVerbs.is_of c.args.mailings.now c.args.places.now c.loop-placed.list.items c.loop-placed.placed-index _ c.loop-placed-test.false c.loop-placed.invariant

@@ -5,6 +5,8 @@ use Rattle.atl_phase.specs.PhaseOrders.{last_line, slot_number, tasks_of, tasks_
 use Rattle.atl_phase.specs.OrderIndices.{line_in}
 use Rattle.atl_phase.proofs.standing.last_lines.Given as goal
 
+-- before each order, for each slot and unit: the greater of the noted line and the greatest line still to come is the
+-- greatest line of the mailing
 abbrev pub invariant-loop-entry : goal.invariant-loop-entry
 invariant-loop-entry l =
     (slot : Slot) (unit : ℕ) →

@@ -7,6 +7,7 @@ use Rattle.atl_records.specs.Levels.{measure_of}
 use Rattle.atl_records.proofs.LevelLaws.{added, fits_next, no_more}
 use Rattle.atl_records.proofs.levels.goods_measure.Goals as goal
 
+-- before the first item is counted, the sum is 0 and all items are left
 pub loop-item-init : goal.loop-item-init
 loop-item-init c =
     let all : c.into_iter-item-iterator.result ≡ entries c.args.holding.now.items = c.into_iter-item-iterator.ensures.into_iter_gives ∙ c.items-item-items.ensures in
@@ -16,6 +17,7 @@ loop-item-init c =
       fits = (0, omega arith, omega arith, begins_zero (entries c.args.holding.now.items));
     }
 
+-- the loop's invariant still holds after one more item is counted
 pub loop-item-preserved : goal.loop-item-preserved
 loop-item-preserved c =
     let e : ℕ × ℕ = (c.in-Some.item, c.in-Some.amount.now) in

@@ -4,6 +4,7 @@ use Rattle.atl_campaign.specs.KeptLists.{list_of}
 use Rattle.atl_report.specs.Sight.{structures_in}
 use Rattle.atl_report.proofs.sites.sites_of.Given as goal
 
+-- each region's list so far, followed by its structures still to come, has all structures of the region
 abbrev pub invariant-loop-number : goal.invariant-loop-number
 invariant-loop-number l =
     (goal.iterator-loop-number).can_next l.number-iterator ×

@@ -17,18 +17,21 @@ use Rattle.atl_campaign.proofs.GoodLaws.{IsGood-joined}
 use Rattle.atl_service.proofs.JoinStepLaws.{bad_name, bad_pass, is_taken, is_too_full, steps_on, joining_is, arrives}
 use Rattle.atl_service.proofs.answering.join.Goals as goal
 
+-- a join whose name breaks the rule of names is rightly refused with BadName (`Answers`)
 pub returns-then-not-name_ok-clause-ok : goal.returns-then-not-name_ok-clause-ok
 returns-then-not-name_ok-clause-ok g c =
     let w = c.args.world.now in
     let old = c.args.campaign.now.value in
     is_refused g.S.Store w old c.args.conn.now (Join c.args.name.now c.args.pass.now c.args.word) why.BadName (bad_name w old c.args.name.now c.args.pass.now c.args.word (cc)) c.requires.good
 
+-- a join whose pass text breaks the rule of pass texts is rightly refused with BadPassText (`Answers`)
 pub returns-then-not-pass_ok-clause-ok : goal.returns-then-not-pass_ok-clause-ok
 returns-then-not-pass_ok-clause-ok g c =
     let w = c.args.world.now in
     let old = c.args.campaign.now.value in
     is_refused g.S.Store w old c.args.conn.now (Join c.args.name.now c.args.pass.now c.args.word) why.BadPassText (bad_pass w old c.args.name.now c.args.pass.now c.args.word (cc) (cc)) c.requires.good
 
+-- a join for which the campaign gives NameTaken is rightly refused with NameTaken (`Answers`)
 pub returns-in-Err-NameTaken-clause-ok : goal.returns-in-Err-NameTaken-clause-ok
 returns-in-Err-NameTaken-clause-ok g c =
     let w = c.args.world.now in
@@ -36,6 +39,7 @@ returns-in-Err-NameTaken-clause-ok g c =
     let refused = rw (c.as_slice-3.ensures, c.as_slice-4.ensures) at (rw c.in-Err-NameTaken.field-0-is at c.in-Err-NameTaken.ensures.definition) in
     rw refused.1 (is_refused g.S.Store w old c.args.conn.now (Join c.args.name.now c.args.pass.now c.args.word) why.NameTaken (is_taken w old c.args.name.now c.args.pass.now c.args.word (cc) (cc) refused.0) c.requires.good)
 
+-- a join for which the campaign gives Full is rightly refused with Full (`Answers`)
 pub returns-in-Err-Full-clause-ok : goal.returns-in-Err-Full-clause-ok
 returns-in-Err-Full-clause-ok g c =
     let w = c.args.world.now in
@@ -43,6 +47,7 @@ returns-in-Err-Full-clause-ok g c =
     let refused = rw (c.as_slice-3.ensures, c.as_slice-4.ensures) at (rw c.in-Err-Full.field-0-is at c.in-Err-Full.ensures.definition) in
     rw refused.1 (is_refused g.S.Store w old c.args.conn.now (Join c.args.name.now c.args.pass.now c.args.word) why.Full (is_too_full w old c.args.name.now c.args.pass.now c.args.word (cc) (cc) refused.0) c.requires.good)
 
+-- a join that succeeds leaves the campaign of `step`, on a clean disk also in the tables (`Answers`)
 pub returns-clause-ok : goal.returns-clause-ok
 returns-clause-ok g c =
     let w = c.args.world.now in
@@ -59,6 +64,7 @@ returns-clause-ok g c =
       tables = λ clean text keeps. rw same (c.in_ok-write_join.ensures.ok clean text old keeps (rw done is_joining));
     }
 
+-- if `write_join` fails, the tables are left as `GivesUp` allows
 pub returns-in_err-write_join-clause-err : goal.returns-in_err-write_join-clause-err
 returns-in_err-write_join-clause-err g c = on_err _ (GivesUp g.S.Store c.args.world.now c.args.campaign.now.value c.args.conn.now (Join c.args.name.now c.args.pass.now c.args.word) c.write_join.new.conn) (λ clean text keeps.
     let w = c.args.world.now in
@@ -69,6 +75,7 @@ returns-in_err-write_join-clause-err g c = on_err _ (GivesUp g.S.Store c.args.wo
     let stops = c.in_err-write_join.ensures.err clean text old keeps (rw done (joining_is w c.args.name.now c.args.pass.now c.args.word old c.join.new.self.value c.in-Ok.numbers.0 c.in-Ok.numbers.1 c.requires.good is)) in
     subst (λ (after : CampaignValue). LeavesAfterFault (state g.S.Store c.args.conn.now).faults (state g.S.Store c.write_join.new.conn) text old after) (done ∙ sym (ap (λ p. p.0) steps)) stops)
 
+-- `write_join` gets a campaign with the new faction, its unit and its report (`HasArrival`)
 pub write_join-requires-clause-arrived : goal.write_join-requires-clause-arrived
 write_join-requires-clause-arrived g c =
     let w = c.args.world.now in
@@ -77,6 +84,7 @@ write_join-requires-clause-arrived g c =
     let done : c.store_report.new.campaign.value ≡ reported w c.join.new.self.value c.in-Ok.numbers.0 = c.in_ok-store_report.ensures.ok in
     rw done (arrives w c.args.name.now c.args.pass.now c.args.word old c.join.new.self.value c.in-Ok.numbers.0 c.in-Ok.numbers.1 c.requires.good is)
 
+-- if `write_join` fails, the fault of the join has its cause (`HasCause`)
 pub returns-in_err-write_join-clause-cause : goal.returns-in_err-write_join-clause-cause
 returns-in_err-write_join-clause-cause g c =
     let w = c.args.world.now in

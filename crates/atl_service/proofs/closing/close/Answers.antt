@@ -14,6 +14,7 @@ use Rattle.atl_service.proofs.CauseLaws.{ended_by}
 use Rattle.atl_service.proofs.CloseLaws.{closed_after_reports, few_things}
 use Rattle.atl_service.proofs.closing.close.Goals as goal
 
+-- `write_changes` gets a campaign whose books have at most `most_things` things
 pub write_changes-requires-clause-things : goal.write_changes-requires-clause-things
 write_changes-requires-clause-things g c =
     let w = c.args.world.now in
@@ -21,6 +22,7 @@ write_changes-requires-clause-things g c =
     let done = closed_after_reports w c.args.campaign.now.value c.turn_month.new.campaign.value after c.as_slice.result.now c.in_ok-outcome.outcome c.in_ok-outcome.ensures.outcome c.in_ok-report_to_all.ensures.what c.in_ok-outcome.ensures.there c.in_ok-outcome.ensures.good in
     few_things w after c.in_default.ensures.ok.world done.1
 
+-- if `write_changes` fails, the tables are left as `GivesUp` allows
 pub returns-in_err-write_changes-clause-err : goal.returns-in_err-write_changes-clause-err
 returns-in_err-write_changes-clause-err g c = on_err _ (GivesUp g.S.Store c.args.world.now c.args.campaign.now.value c.args.conn.now (Close c.args.month c.args.pass.now c.args.words.now) c.write_changes.new.conn) (λ clean text keeps.
     let old = c.args.campaign.now.value in
@@ -30,6 +32,7 @@ returns-in_err-write_changes-clause-err g c = on_err _ (GivesUp g.S.Store c.args
     let stops = c.in_err-write_changes.ensures.err clean text old keeps marks.covers in
     subst (λ (a : CampaignValue). LeavesAfterFault (state g.S.Store c.args.conn.now).faults (state g.S.Store c.write_changes.new.conn) text old a) (done.0 ∙ sym (ap (λ p. p.0) c.in_default.ensures.ok.step_is)) stops)
 
+-- a close that succeeds leaves the campaign of `step`, on a clean disk also in the tables (`Answers`)
 pub returns-clause-ok : goal.returns-clause-ok
 returns-clause-ok g c =
     let w = c.args.world.now in
@@ -46,6 +49,7 @@ returns-clause-ok g c =
       tables = λ clean text keeps. rw written (c.in_ok-write_changes.ensures.ok clean text old keeps marks.covers);
     }
 
+-- if `write_changes` fails, the fault of the close has its cause (`HasCause`)
 pub returns-in_err-write_changes-clause-cause : goal.returns-in_err-write_changes-clause-cause
 returns-in_err-write_changes-clause-cause g c =
     let w = c.args.world.now in

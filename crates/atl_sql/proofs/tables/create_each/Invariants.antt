@@ -3,5 +3,6 @@ use Rattle.atl_sql.proofs.MakingLaws.{MakesSome}
 use Rattle.atl_sql.proofs.WriteLaws.{SoFar}
 use Rattle.atl_sql.proofs.tables.create_each.Given as goal
 
+-- the tables of the texts before the loop's current one are made, all empty (`MakesSome`)
 abbrev pub invariant-loop-table : goal.invariant-loop-table
 invariant-loop-table g l = SoFar g.S.Store Creations (MakesSome l.table-index) l.fn.tx.conn l.tx.conn

@@ -6,6 +6,7 @@ use Rattle.atl_store.proofs.StayLaws.{commits_keeps, may_found, leaves_spares, r
 use Rattle.atl_store.specs.Keeps.{FailsToCreate}
 use Rattle.atl_store.proofs.founding.create.Goals as goal
 
+-- Ok: there was no table `campaign`, and the connection holds the campaign (`Creates`)
 pub returns-clause-ok : goal.returns-clause-ok
 returns-clause-ok g c =
     let old = state g.S.Store c.args.conn.now in
@@ -17,6 +18,7 @@ returns-clause-ok g c =
           (c.is_ready.ensures.ready.0 c.if-not-is_ready.false).0 (λ did. did);
     }
 
+-- an error of the transaction is returned as a fault, and nothing is changed (`RefusesToCreate`)
 pub returns-in_err-write_founding-clause-err : goal.returns-in_err-write_founding-clause-err
 returns-in_err-write_founding-clause-err g c =
     let old = state g.S.Store c.args.conn.now in
@@ -29,6 +31,7 @@ returns-in_err-write_founding-clause-err g c =
     } in
     refused_with g.S.Store c.args.world_text.now c.args.campaign.now.value c.args.conn.now c.write_founding.new.conn ready fails _ c.from_residual.result c.from_residual.ensures.1 c.in_err-write_founding.ensures.told
 
+-- if the database isn't ready, the fault is Store and nothing at all is changed (`RefusesToCreate`)
 pub returns-then-not-is_ready-clause-err : goal.returns-then-not-is_ready-clause-err
 returns-then-not-is_ready-clause-err g c = (
   record {
@@ -39,8 +42,10 @@ returns-then-not-is_ready-clause-err g c = (
   inl (λ ready. true≢false (sym (c.is_ready.ensures.ready.1 ready) ∙ c.if-not-is_ready.true), refl),
 )
 
+-- after Ok no failure of the disk is forgotten (`IsLater`)
 pub returns-clause-later : goal.returns-clause-later
 returns-clause-later g c = later (state g.S.Store c.args.conn.now) (state g.S.Store c.write_founding.new.conn) _ c.write_founding.ensures.crash
 
+-- after an error of the transaction no failure of the disk is forgotten (`IsLater`)
 pub returns-in_err-write_founding-clause-later : goal.returns-in_err-write_founding-clause-later
 returns-in_err-write_founding-clause-later g c = later (state g.S.Store c.args.conn.now) (state g.S.Store c.write_founding.new.conn) _ c.write_founding.ensures.crash

@@ -8,6 +8,7 @@ use Rattle.atl_store.proofs.JoinLaws.{mail_held}
 use Rattle.atl_store.proofs.StayLaws.{commits_keeps, leaves_stops, commits_spares, leaves_others, later, on_err, told_by}
 use Rattle.atl_store.proofs.mailing.write_mail.Goals as goal
 
+-- Ok: the connection keeps the campaign with the mail, if it kept the campaign before
 pub returns-clause-ok : goal.returns-clause-ok
 returns-clause-ok g c clean text before keeps =
     let old = state g.S.Store c.args.conn.now in
@@ -15,6 +16,7 @@ returns-clause-ok g c clean text before keeps =
     commits_keeps old new text (λ db up. g.met.S.Store.settled c.write_mailing.new.conn.store db up) HasTables (WritesMail c.args.faction c.args.text.now) (with_mail before c.args.faction c.args.text.now) (c.in_ok-write_mailing.ensures.ok clean) keeps.tables
     (λ did. mail_held c.args.faction c.args.text.now old.now new.now did text before keeps.rows)
 
+-- a fault leaves the campaign before, and a crash then the one before or the one with the mail (`LeavesAfterFault`)
 pub returns-in_err-write_mailing-clause-err : goal.returns-in_err-write_mailing-clause-err
 returns-in_err-write_mailing-clause-err g c clean = on_err c.from_residual.result _ (λ text before keeps.
     let old = state g.S.Store c.args.conn.now in
@@ -22,23 +24,30 @@ returns-in_err-write_mailing-clause-err g c clean = on_err c.from_residual.resul
     leaves_stops old new text (λ db up. g.met.S.Store.settled c.write_mailing.new.conn.store db up) (WritesMail c.args.faction c.args.text.now) before (with_mail before c.args.faction c.args.text.now) clean (c.in_err-write_mailing.ensures.err clean) c.write_mailing.ensures.crash keeps
     (λ db did. mail_held c.args.faction c.args.text.now old.now db did text before keeps.rows))
 
+-- Ok leaves the tables that aren't the campaign's as they were
 pub returns-clause-others : goal.returns-clause-others
 returns-clause-others g c clean = commits_spares (state g.S.Store c.args.conn.now) (state g.S.Store c.write_mailing.new.conn) HasTables (WritesMail c.args.faction c.args.text.now) (c.in_ok-write_mailing.ensures.ok clean) (λ has. has)
 
+-- a fault leaves the tables that aren't the campaign's as they were
 pub returns-in_err-write_mailing-clause-others : goal.returns-in_err-write_mailing-clause-others
 returns-in_err-write_mailing-clause-others g c clean = leaves_others (state g.S.Store c.args.conn.now) (state g.S.Store c.write_mailing.new.conn) (c.in_err-write_mailing.ensures.err clean)
 
+-- after Ok no failure of the disk is forgotten (`IsLater`)
 pub returns-clause-later : goal.returns-clause-later
 returns-clause-later g c = later (state g.S.Store c.args.conn.now) (state g.S.Store c.write_mailing.new.conn) _ c.write_mailing.ensures.crash
 
+-- after a fault no failure of the disk is forgotten (`IsLater`)
 pub returns-in_err-write_mailing-clause-later : goal.returns-in_err-write_mailing-clause-later
 returns-in_err-write_mailing-clause-later g c = later (state g.S.Store c.args.conn.now) (state g.S.Store c.write_mailing.new.conn) _ c.write_mailing.ensures.crash
 
+-- Ok: whatever the tables held, the write touched the row of the mailing alone (`WritesMail`)
 pub returns-clause-own : goal.returns-clause-own
 returns-clause-own g c clean tables = ((c.in_ok-write_mailing.ensures.ok clean).does tables).does
 
+-- the fault is that of an error that the statement of the mailing, or the commit, gave
 pub returns-in_err-write_mailing-clause-told : goal.returns-in_err-write_mailing-clause-told
 returns-in_err-write_mailing-clause-told g c clean = told_by g.S.Store (OfMail c.args.faction c.args.text.now) write_fault c.args.conn.now c.write_mailing.new.conn _ c.from_residual.result c.from_residual.ensures.1 (c.in_err-write_mailing.ensures.told clean)
 
+-- after a fault nothing was done, whatever the tables held (`LeavesOff`)
 pub returns-in_err-write_mailing-clause-left : goal.returns-in_err-write_mailing-clause-left
 returns-in_err-write_mailing-clause-left g c clean = on_err c.from_residual.result _ (c.in_err-write_mailing.ensures.err clean)

@@ -9,5 +9,6 @@ count_view : (vs : List Value) → count_of (items_view vs) ≡ length vs
 count_view [] = refl
 count_view (v ∷ vs) = ap suc (count_view vs)
 
+-- an array of the code has as many elements as the definition counts (`count_of`)
 pub returns-clause-value : goal.returns-clause-value
 returns-clause-value c = search (rules, count_view)

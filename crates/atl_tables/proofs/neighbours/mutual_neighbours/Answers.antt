@@ -9,10 +9,12 @@ use Rattle.atl_tables.proofs.FaultLaws.{exits}
 use Rattle.atl_tables.proofs.EachLaws.{goes_on_at, ends_at}
 use Rattle.atl_tables.proofs.neighbours.mutual_neighbours.Goals as goal
 
+-- an error at one region is the first fault of all regions, or Memory
 pub returns-in_err-neighbours_of-clause-value : goal.returns-in_err-neighbours_of-clause-value
 returns-in_err-neighbours_of-clause-value c =
     exits _ _ _ _ _ c.from_residual.ensures.1 (ends_at (neighbours_at c.args.regions.now) c.args.drafts.now c.loop-i.i c.index-drafts-i.result _ c.loop-i-test.true c.index-drafts-i.is c.loop-i.invariant.faults c.in_err-neighbours_of.field-0.0 c.in_err-neighbours_of.ensures.value)
 
+-- the loop's invariant still holds after one more region is checked
 pub loop-i-preserved : goal.loop-i-preserved
 loop-i-preserved c =
     let regions = c.args.regions.now in
@@ -26,5 +28,6 @@ loop-i-preserved c =
       back = subst (All back) (sym more) (All-push back (take i drafts) draft c.loop-i.invariant.back c.in_ok-neighbours_of.ensures.back);
     }
 
+-- after the loop each region is on the opposite side of each of its neighbours
 pub returns-clause-back : goal.returns-clause-back
 returns-clause-back c = rw (take_all c.loop-i.i c.args.drafts.now (omega (arith))) at c.loop-i.invariant.back

@@ -4,7 +4,7 @@ use Rattle.atl_tables.specs.Each.{each}
 use Rattle.atl_tables.specs.Faults.{first_fault}
 use Rattle.atl_tables.specs.Keys.{path}
 use Rattle.atl_tables.specs.OutputTable.{duplicate_key_at}
-use Rattle.atl_tables.specs.Names.{same_name}
+use Rattle.atl_world.specs.Names.{same_name}
 use Rattle.atl_tables.specs.declared.fault.WorldFault.TheVariants.{TwoNames}
 use Rattle.atl_tables.specs.declared.output_table.Output.{Output}
 use Rattle.atl_tables.proofs.EachLaws.{goes_on_at, ends_at}
@@ -17,6 +17,7 @@ unfolding duplicate_key_at
 by_test at all i o true h = rw h
 by_test at all i o false h = rw h
 
+-- at a key that came before, TwoNames at its path is the first fault of all keys
 pub returns-then-not-branch : goal.returns-then-not-branch
 returns-then-not-branch c =
     let o = c.output-item.result in
@@ -26,6 +27,7 @@ returns-then-not-branch c =
     let test = stands_before (λ p. p.item) all i o c.loop-output.seen c.loop-output.invariant.seen _ c.in_ok-is_new.ensures.new c.if-not-branch.true in
     rw (c.in_ok-path.ensures, c.as_str.ensures) (ends_at (duplicate_key_at at all) all i o (first_fault (each (duplicate_key_at at all) 0 all)) c.loop-output-test.true c.output-item.is c.loop-output.invariant.faults (TwoNames (path at o.item)) (by_test at all i o true test))
 
+-- the loop's invariant still holds after one more key that is new
 pub loop-output-preserved : goal.loop-output-preserved
 loop-output-preserved c =
     let o = c.output-item.result in

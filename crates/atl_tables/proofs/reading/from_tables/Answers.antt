@@ -11,22 +11,26 @@ use Rattle.atl_tables.proofs.reading.from_tables.Goals as goal
 abbrev last : WorldDraft → Conditions
 last all = neighbours_are_mutual all ++ is_some_land (land_of (world_of_tables all))
 
+-- an error in comparing names is the first fault of the tables (`table_conditions`), or Memory
 pub returns-in_err-names_differ : goal.returns-in_err-names_differ
 returns-in_err-names_differ c =
     let all = c.args.all in
     exits _ _ _ _ _ c.from_residual.ensures.1 (stops_on c.in_err-names_differ.field-0.0 (names_differ all) (names_are_known all ++ last all) c.in_err-names_differ.ensures)
 
+-- an error in looking up names is the first fault of the tables (`table_conditions`), or Memory
 pub returns-in_err-parts : goal.returns-in_err-parts
 returns-in_err-parts c =
     let all = c.args.all in
     let e = c.in_err-parts.field-0.0 in
     exits _ _ _ _ _ c.from_residual-in_err-parts.ensures.1 (stops_after e (names_differ all) (names_are_known all ++ last all) c.in_ok-names_differ.ensures.0 (stops_on e (names_are_known all) (last all) c.in_err-parts.ensures.value))
 
+-- if names differ and are known, what `join` gives of the parts is what the tables give
 pub returns : goal.returns
 returns c =
     let all = c.args.all in
     gives_after (λ w. w) c.join.result (names_differ all) (names_are_known all ++ last all) (world_of_tables all) c.in_ok-names_differ.ensures.0
     (gives_after (λ w. w) c.join.result (names_are_known all) (last all) (world_of_tables all) c.in_ok-parts.ensures.value.0 c.join.ensures)
 
+-- if names are compared without a fault, those of terrains, items, skills and kinds differ, as `join` requires
 pub join-requires-clause-names : goal.join-requires-clause-names
 join-requires-clause-names c = thing_names_differ c.args.all c.in_ok-names_differ.ensures.0

@@ -12,5 +12,6 @@ drafts_sound : (regions : List OldRegion) (drafts : List RegionDraft) → All Is
 drafts_sound regions drafts sound made =
     subst (All IsRegionDraft) (sym made) (All-map IsRegionDraft as_draft regions (All-weaker IsOldRegion (λ r. IsRegionDraft (as_draft r)) (λ r h. record { place = h.place; markets = All-nil IsMarketDraft }) regions sound))
 
+-- the regions that the first format reads are in their ranges (`IsRegionDraft`)
 pub returns-in_ok-without_markets-in-First-clause-sound : goal.returns-in_ok-without_markets-in-First-clause-sound
 returns-in_ok-without_markets-in-First-clause-sound c = drafts_sound c.in_ok-regions-in-First.regions _ c.in_ok-regions-in-First.ensures.sound c.in_ok-without_markets-in-First.ensures

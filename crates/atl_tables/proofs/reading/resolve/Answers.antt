@@ -31,6 +31,7 @@ kinds all = each (kind_known all) 0 all.kinds
 abbrev regions : WorldDraft → Conditions
 regions all = each (region_known all) 0 all.regions
 
+-- an error in looking up the names in the rules is the first fault of `names_are_known`, or Memory
 pub returns-in_err-rules-clause-value : goal.returns-in_err-rules-clause-value
 unfolding names_are_known
 returns-in_err-rules-clause-value c =
@@ -38,6 +39,7 @@ returns-in_err-rules-clause-value c =
     let e = c.in_err-rules.field-0.0 in
     exits _ _ _ _ _ c.from_residual.ensures.1 (stops_on e (rules t) (terrains t ++ (items t ++ (kinds t ++ regions t))) c.in_err-rules.ensures.value)
 
+-- an error in looking up the names in terrains is the first fault of `names_are_known`, or Memory
 pub returns-in_err-terrains-clause-value : goal.returns-in_err-terrains-clause-value
 unfolding names_are_known
 returns-in_err-terrains-clause-value c =
@@ -45,6 +47,7 @@ returns-in_err-terrains-clause-value c =
     let e = c.in_err-terrains.field-0.0 in
     exits _ _ _ _ _ c.from_residual-in_err-terrains.ensures.1 (stops_after e (rules t) (terrains t ++ (items t ++ (kinds t ++ regions t))) c.in_ok-rules.ensures.value.0 (stops_on e (terrains t) (items t ++ (kinds t ++ regions t)) (rw c.as_slice.ensures at c.in_err-terrains.ensures.value)))
 
+-- an error in looking up the names in items is the first fault of `names_are_known`, or Memory
 pub returns-in_err-items-clause-value : goal.returns-in_err-items-clause-value
 unfolding names_are_known
 returns-in_err-items-clause-value c =
@@ -52,6 +55,7 @@ returns-in_err-items-clause-value c =
     let e = c.in_err-items.field-0.0 in
     exits _ _ _ _ _ c.from_residual-in_err-items.ensures.1 (stops_after e (rules t) (terrains t ++ (items t ++ (kinds t ++ regions t))) c.in_ok-rules.ensures.value.0 (stops_after e (terrains t) (items t ++ (kinds t ++ regions t)) (rw c.as_slice.ensures at c.in_ok-terrains.ensures.value.0) (stops_on e (items t) (kinds t ++ regions t) (rw c.as_slice-2.ensures at c.in_err-items.ensures.value))))
 
+-- an error in looking up the names in kinds is the first fault of `names_are_known`, or Memory
 pub returns-in_err-kinds-clause-value : goal.returns-in_err-kinds-clause-value
 unfolding names_are_known
 returns-in_err-kinds-clause-value c =
@@ -59,6 +63,7 @@ returns-in_err-kinds-clause-value c =
     let e = c.in_err-kinds.field-0.0 in
     exits _ _ _ _ _ c.from_residual-in_err-kinds.ensures.1 (stops_after e (rules t) (terrains t ++ (items t ++ (kinds t ++ regions t))) c.in_ok-rules.ensures.value.0 (stops_after e (terrains t) (items t ++ (kinds t ++ regions t)) (rw c.as_slice.ensures at c.in_ok-terrains.ensures.value.0) (stops_after e (items t) (kinds t ++ regions t) (rw c.as_slice-2.ensures at c.in_ok-items.ensures.value.0) (stops_on e (kinds t) (regions t) (rw c.as_slice-3.ensures at c.in_err-kinds.ensures.value)))))
 
+-- an error in looking up the names in regions is the first fault of `names_are_known`, or Memory
 pub returns-in_err-regions-clause-value : goal.returns-in_err-regions-clause-value
 unfolding names_are_known
 returns-in_err-regions-clause-value c =
@@ -66,6 +71,7 @@ returns-in_err-regions-clause-value c =
     let e = c.in_err-regions.field-0.0 in
     exits _ _ _ _ _ c.from_residual-in_err-regions.ensures.1 (stops_after e (rules t) (terrains t ++ (items t ++ (kinds t ++ regions t))) c.in_ok-rules.ensures.value.0 (stops_after e (terrains t) (items t ++ (kinds t ++ regions t)) (rw c.as_slice.ensures at c.in_ok-terrains.ensures.value.0) (stops_after e (items t) (kinds t ++ regions t) (rw c.as_slice-2.ensures at c.in_ok-items.ensures.value.0) (stops_after e (kinds t) (regions t) (rw c.as_slice-3.ensures at c.in_ok-kinds.ensures.value.0) (rw c.as_slice-4.ensures at c.in_err-regions.ensures.value)))))
 
+-- if all names are found, no condition on them is broken, and the parts are those that `world_parts_of` gives
 pub returns-clause-value : goal.returns-clause-value
 unfolding names_are_known
 returns-clause-value c =

@@ -28,6 +28,7 @@ things doc = things_conditions doc
 abbrev regions : Format → Members → Conditions
 regions format doc = regions_conditions format doc
 
+-- an error in reading the rules is the first fault of `keys_conditions`, or Memory
 pub returns-in_err-rules-clause-value : goal.returns-in_err-rules-clause-value
 unfolding keys_conditions
 returns-in_err-rules-clause-value c =
@@ -35,6 +36,7 @@ returns-in_err-rules-clause-value c =
     let e = c.in_err-rules.field-0.0 in
     exits _ _ _ _ _ c.from_residual.ensures.1 (stops_on e (rules t) (terrains t ++ (things t ++ regions c.args.format t)) c.in_err-rules.ensures.value)
 
+-- an error in reading terrains is the first fault of `keys_conditions`, or Memory
 pub returns-in_err-terrains-clause-value : goal.returns-in_err-terrains-clause-value
 unfolding keys_conditions
 returns-in_err-terrains-clause-value c =
@@ -42,6 +44,7 @@ returns-in_err-terrains-clause-value c =
     let e = c.in_err-terrains.field-0.0 in
     exits _ _ _ _ _ c.from_residual-in_err-terrains.ensures.1 (stops_after e (rules t) (terrains t ++ (things t ++ regions c.args.format t)) c.in_ok-rules.ensures.value.0 (stops_on e (terrains t) (things t ++ regions c.args.format t) c.in_err-terrains.ensures.value))
 
+-- an error in reading items, skills or kinds is the first fault of `keys_conditions`, or Memory
 pub returns-in_err-things-clause-value : goal.returns-in_err-things-clause-value
 unfolding keys_conditions
 returns-in_err-things-clause-value c =
@@ -49,6 +52,7 @@ returns-in_err-things-clause-value c =
     let e = c.in_err-things.field-0.0 in
     exits _ _ _ _ _ c.from_residual-in_err-things.ensures.1 (stops_after e (rules t) (terrains t ++ (things t ++ regions c.args.format t)) c.in_ok-rules.ensures.value.0 (stops_after e (terrains t) (things t ++ regions c.args.format t) c.in_ok-terrains.ensures.value.0 (stops_on e (things t) (regions c.args.format t) c.in_err-things.ensures.value)))
 
+-- an error in reading regions is the first fault of `keys_conditions`, or Memory
 pub returns-in_err-regions-clause-value : goal.returns-in_err-regions-clause-value
 unfolding keys_conditions
 returns-in_err-regions-clause-value c =
@@ -56,12 +60,14 @@ returns-in_err-regions-clause-value c =
     let e = c.in_err-regions.field-0.0 in
     exits _ _ _ _ _ c.from_residual-in_err-regions.ensures.1 (stops_after e (rules t) (terrains t ++ (things t ++ regions c.args.format t)) c.in_ok-rules.ensures.value.0 (stops_after e (terrains t) (things t ++ regions c.args.format t) c.in_ok-terrains.ensures.value.0 (stops_after e (things t) (regions c.args.format t) c.in_ok-things.ensures.value.0 c.in_err-regions.ensures.value)))
 
+-- if all tables are read, no condition on their keys is broken, and they are those that `tables_of` gives
 pub returns-clause-value : goal.returns-clause-value
 unfolding keys_conditions tables_of
 returns-clause-value c =
     let t = table_view c.args.document.now in
     rw (c.in_ok-rules.ensures.value.1, c.in_ok-terrains.ensures.value.1, c.in_ok-things.ensures.value.1, c.in_ok-regions.ensures.value.1) (passes_both (rules t) (terrains t ++ (things t ++ regions c.args.format t)) c.in_ok-rules.ensures.value.0 (passes_both (terrains t) (things t ++ regions c.args.format t) c.in_ok-terrains.ensures.value.0 (passes_both (things t) (regions c.args.format t) c.in_ok-things.ensures.value.0 c.in_ok-regions.ensures.value.0)), refl)
 
+-- the tables read have names by the rule and numbers in their ranges (`IsWorldDraft`)
 pub returns-clause-sound : goal.returns-clause-sound
 returns-clause-sound c = record {
   rules = c.in_ok-rules.ensures.sound;

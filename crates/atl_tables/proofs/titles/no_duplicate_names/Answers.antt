@@ -16,6 +16,7 @@ unfolding no_twin_before
 by_test title array key all i x true h = rw h
 by_test title array key all i x false h = rw h
 
+-- at a title that came before, TwoNames at its path is the first fault of all elements
 pub returns-then-not-branch : goal.returns-then-not-branch
 returns-then-not-branch g c =
     let x = c.index-items-i.result in
@@ -27,6 +28,7 @@ returns-then-not-branch g c =
     let test = stands_before title all i x c.loop-i.seen c.loop-i.invariant.seen _ (rw c.title.ensures at c.in_ok-is_new.ensures.new) c.if-not-branch.true in
     rw (c.in_ok-path.ensures, c.as_str.ensures, c.in_ok-place.ensures) (ends_at (no_twin_before title array key all) all i x (first_fault (no_twins title array key all)) c.loop-i-test.true c.index-items-i.is c.loop-i.invariant.faults (TwoNames (path (element_path array i) key)) (by_test title array key all i x true test))
 
+-- the loop's invariant still holds after one more element with a new title
 pub loop-i-preserved : goal.loop-i-preserved
 loop-i-preserved g c =
     let x = c.index-items-i.result in

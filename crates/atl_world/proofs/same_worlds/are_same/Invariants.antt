@@ -1,6 +1,7 @@
 use Rattle.std.proofs.Common.{◌≡◌, take, length}
 use Rattle.atl_world.proofs.same_worlds.are_same.Given as goal
 
+-- the two lists are of the same length, and equal below index i
 abbrev pub invariant-loop-i : goal.invariant-loop-i
 invariant-loop-i g l = record {
   count : length l.things ≡ length l.others;

@@ -4,6 +4,7 @@ use Rattle.atl_world.proofs.MergeLaws.{Under, under_last, own_put, other_put, al
 use Rattle.atl_world.proofs.ApartLaws.{stand_apart}
 use Rattle.atl_world.proofs.sorted_numbers.merge.Goals as goal
 
+-- the invariant of the loop holds after the largest number left of the first list is put in place
 pub loop-left-preserved-then-is_last_above : goal.loop-left-preserved-then-is_last_above
 loop-left-preserved-then-is_last_above c =
     let was = c.args.numbers.now in
@@ -27,6 +28,7 @@ loop-left-preserved-then-is_last_above c =
           ∙ c.loop-left.invariant.merged;
     }
 
+-- the invariant of the loop holds after the largest number left of the second list is put in place
 pub loop-left-preserved : goal.loop-left-preserved
 loop-left-preserved c =
     let was = c.args.numbers.now in
@@ -53,5 +55,6 @@ loop-left-preserved c =
           ∙ c.loop-left.invariant.merged;
     }
 
+-- once no number of the second list is left, the list is both lists merged
 pub returns : goal.returns
 returns c = all_put c.args.numbers.now c.args.others.now c.loop-left.numbers _ c.loop-left.own c.loop-left.left (omega arith) c.loop-left.invariant.kept c.loop-left.invariant.merged

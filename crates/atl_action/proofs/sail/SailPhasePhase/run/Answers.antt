@@ -5,6 +5,7 @@ use Rattle.atl_action.specs.Sail.{SailsWith, is_sailing}
 use Rattle.atl_action.proofs.SailLaws.{all_carried, sail_spares_others}
 use Rattle.atl_action.proofs.sail.SailPhasePhase.run.Goals as goal
 
+-- each unit at most went along, and a unit whose structure doesn't sail is unchanged (`sail_keeps`)
 pub returns-clause-keeps : goal.returns-clause-keeps
 returns-clause-keeps c =
     let w = c.args.world.now in

@@ -4,6 +4,7 @@ use Rattle.atl_http.specs.Dice.{first_words}
 use Rattle.atl_http.proofs.WordLaws.{word_more}
 use Rattle.atl_http.proofs.dice.Dice.month_words.Goals as goal
 
+-- the loop's invariant still holds after one more word is added
 pub loop-preserved : goal.loop-preserved
 loop-preserved c =
     let before : Lcg = record { state = c.loop.generator.state; increment = c.loop.generator.increment } in

@@ -8,6 +8,8 @@ use Rattle.atl_phase.specs.Bounds.{StepsWell, books_nothing}
 use Rattle.atl_instant.proofs.form.FormPhasePhase.run.Given as goal
 use Rattle.atl_instant.specs.Forming.{form_apart}
 
+-- carrying out the copied orders still to come gives what carrying out all of them gives; the campaign so far is early
+-- and in balance, and each unit that was there is unchanged
 abbrev pub invariant-loop-order : goal.invariant-loop-order
 invariant-loop-order l = record {
   orders : fold form_apart (l.campaign.value, l.month) (drop l.order-index l.order-items) ≡ fold form_apart (l.fn.campaign.value, l.fn.month) l.order-items;

@@ -4,11 +4,13 @@ use Rattle.atl_month.proofs.UpkeepPeersLaws.{upkeep_is_of_peers}
 use Rattle.atl_month.proofs.UpkeepLaws.{all_can_pay, inputs_in_order, upkeep_leaves_well}
 use Rattle.atl_month.proofs.upkeep.UpkeepPhasePhase.run.Goals as goal
 
+-- what upkeep reads of the units is sorted by their numbers
 pub upkeep_payments-requires-clause-order : goal.upkeep_payments-requires-clause-order
 upkeep_payments-requires-clause-order c =
     let list : c.deref.result.now ≡ upkeep_inputs_of c.args.campaign.value = search rules in
     rw list (inputs_in_order c.args.campaign.value)
 
+-- each unit can pay what upkeep takes from it when its turn comes
 pub upkeep_of_all-requires : goal.upkeep_of_all-requires
 upkeep_of_all-requires c =
     let w = c.args.world.now in
@@ -16,6 +18,7 @@ upkeep_of_all-requires c =
     let list : c.deref-2.result.now ≡ upkeep_results w before = search rules in
     (w, rw list (all_can_pay w before c.rules.ensures.world.rules.maintenance_least c.requires.needs c.requires.room))
 
+-- upkeep keeps the campaign steady and its books balanced, within the phase's bound
 pub returns-clause-leaves : goal.returns-clause-leaves
 returns-clause-leaves c =
     let w = c.args.world.now in
@@ -23,6 +26,7 @@ returns-clause-leaves c =
     let is : c.upkeep_of_all.new.campaign.value ≡ upkeep before (upkeep_results w before) = search rules in
     rw is (upkeep_leaves_well w before c.rules.ensures.world.rules.maintenance_least c.requires.needs c.requires.room)
 
+-- upkeep leaves each unit what its faction's units in its region decide (`upkeep_keeps`)
 pub returns-clause-keeps : goal.returns-clause-keeps
 returns-clause-keeps c =
     let w = c.args.world.now in

@@ -22,5 +22,6 @@ returns-clause-keeps g c =
     both_keep_well g.P.Phase.meaning g.P.Phase.keeps g.Q.Phase.keeps c.args.world.now c.args.month c.in_ok-campaign.month c.args.campaign.value c.in_ok-campaign.campaign.value c.in_ok-campaign-2.campaign.value
     c.in_ok-campaign.ensures.meaning c.in_ok-campaign.ensures.keeps c.in_ok-campaign-2.ensures.keeps
 
+-- the mailings that the second phase gets can be read with the world
 pub run-requires-2-clause-read : goal.run-requires-2-clause-read
 run-requires-2-clause-read g c = subst (AreFit c.args.world.now) (sym c.in_ok-campaign.ensures.readings) c.requires.read

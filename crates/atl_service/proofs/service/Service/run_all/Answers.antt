@@ -2,6 +2,7 @@ use Rattle.std.proofs.Common.{◌+◌, ◌++◌, ◌∷◌, [], cond, ap, ◌∙
 use Rattle.atl_service.proofs.ListLaws.{one_more, all_done, headline}
 use Rattle.atl_service.proofs.service.Service.run_all.Goals as goal
 
+-- the loop's invariant still holds after one more command is run
 pub loop-command-preserved : goal.loop-command-preserved
 loop-command-preserved g c =
     let fits = c.push.ensures.succeeds (omega (arith, c.loop-command.invariant.count, c.loop-command.invariant.room)) in
@@ -14,11 +15,14 @@ loop-command-preserved g c =
       room = omega (arith, c.push.ensures.capacity, c.loop-command.invariant.room);
     }
 
+-- the commands were answered as `run_all` promises (`RunsAll`)
 pub returns-clause-runs : goal.returns-clause-runs
 returns-clause-runs g c = all_done g.S.Store _ _ _ c.loop-command.command-index _ c.loop-command-test.false c.loop-command.invariant.whole c.loop-command.invariant.tables
 
+-- from an open service the main theorem holds, or a command ended in a fault (`HeadlineAt`)
 pub returns-clause-headline : goal.returns-clause-headline
 returns-clause-headline g c = headline g.S.Store _ _ _ _ (all_done g.S.Store _ _ _ c.loop-command.command-index _ c.loop-command-test.false c.loop-command.invariant.whole c.loop-command.invariant.tables)
 
+-- after all commands the books balance, if the service is open (`Balances`)
 pub returns-clause-balances : goal.returns-clause-balances
 returns-clause-balances g c = c.loop-command.invariant.balances

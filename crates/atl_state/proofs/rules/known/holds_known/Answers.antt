@@ -7,6 +7,7 @@ use Rattle.atl_state.proofs.rules.known.holds_known.Goals as goal
 abbrev IsBelow : ℕ → ℕ → ℕ → Type 0
 IsBelow count n amount = n < count
 
+-- if a unit's items are the world's, the function returns whether its skills are
 pub returns-then-are_below : goal.returns-then-are_below
 returns-then-are_below c =
     let items = rw (c.items.ensures, c.items-2.ensures.value) at c.are_below.ensures in
@@ -17,6 +18,7 @@ returns-then-are_below c =
       λ both. days.1 (each-from_every (IsBelow (length w.skills)) held.days both.1),
     )
 
+-- if an item of a unit isn't the world's, not all of the unit's items and skills are
 pub returns-else-are_below : goal.returns-else-are_below
 returns-else-are_below c =
     let items = rw (c.items.ensures, c.items-2.ensures.value) at c.are_below.ensures in

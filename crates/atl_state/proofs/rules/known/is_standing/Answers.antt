@@ -1,5 +1,6 @@
 use Rattle.std.proofs.Common.{rules}
 use Rattle.atl_state.proofs.rules.known.is_standing.Goals as goal
 
+-- if a structure's kind exists, the function returns whether its region does
 pub returns-then-from-kinds : goal.returns-then-from-kinds
 returns-then-from-kinds c = (λ r. (search rules, c.is_region.ensures.0 r), λ both. c.is_region.ensures.1 both.1)

@@ -7,5 +7,6 @@ use Rattle.atl_state_tests.proofs.tests.making.one_man.Goals as goal
 none_some : {A P : Type 0} (x : A) → None ≡ Some x → P
 none_some x e = cc
 
+-- the empty map of items that `Holding::new` gets has only amounts within the limits
 pub new-requires-3-clause-items : goal.new-requires-3-clause-items
 new-requires-3-clause-items c = rw c.new.ensures (λ item amount e. none_some amount (sym (get-empty nat_cmp item) ∙ e))

@@ -5,6 +5,7 @@ use Rattle.atl_store.proofs.MarketLaws.{had_stock, no_stock, stock_put, stock_dr
 use Rattle.atl_sql.proofs.WriteLaws.{weaker, among_only}
 use Rattle.atl_store.proofs.markets.SingleStocksSingleAmounts.rewrite_single.Goals as goal
 
+-- putting the row of a stock other than 0 rewrites the stock, with a statement of a change
 pub returns : goal.returns
 returns g c =
     let campaign = c.args.campaign.now.value in
@@ -12,6 +13,7 @@ returns g c =
     weaker g.S.Store (stock_put c.args.owner c.args.number campaign stock.result stock.ensures c.if-stock-eq0.false)
     (among_only g.S.Store _ _ (changes_row (puts_row Markets (λ own. had_stock campaign.regions c.args.owner c.args.number stock.result stock.ensures c.if-stock-eq0.false))) c.put_stock.ensures)
 
+-- deleting the row of a stock of 0 rewrites the stock, with a statement of a change
 pub returns-then-stock-eq0 : goal.returns-then-stock-eq0
 returns-then-stock-eq0 g c =
     let stock = c.stock-stock in

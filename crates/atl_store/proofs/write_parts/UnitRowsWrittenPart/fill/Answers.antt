@@ -9,6 +9,7 @@ use Rattle.atl_store.proofs.WholeLaws.{done_as}
 use Rattle.atl_sql.proofs.WriteLaws.{among_each}
 use Rattle.atl_store.proofs.write_parts.UnitRowsWrittenPart.fill.Goals as goal
 
+-- putting the rows of all units fills the table `unit` (`FillsPart`), each with a statement of the part's rows
 pub returns : goal.returns
 returns g c =
     let campaign = c.args.campaign.now.value in

@@ -3,6 +3,7 @@ use Rattle.atl_world.specs.RoomySets.{RoomySet}
 use Rattle.atl_world.specs.Tracking.{Lists}
 use Rattle.atl_world.proofs.sorted_numbers.SortedNumbers.as_slice.Goals as goal
 
+-- the slice has exactly the numbers of the set, in ascending order
 pub returns : goal.returns
 returns c =
     subst (λ xs. Lists c.args.self.now.numbers xs) (sym c.deref.ensures.value) (record { rising = c.self.invariant; all = ap (λ (m : RoomySet). m.numbers) c.self.view_is })

@@ -4,9 +4,11 @@ use Rattle.atl_world.specs.RoomySets.{RoomySet}
 use Rattle.atl_world.proofs.MarkLaws.{rising-empty}
 use Rattle.atl_world.proofs.sorted_numbers.SortedNumbers.clear.Goals as goal
 
+-- the empty list is sorted
 pub invariant_of-self : goal.invariant_of-self
 invariant_of-self c = rw c.clear.ensures.items rising-empty
 
+-- after the call the set is empty, and the room is the same
 pub returns : goal.returns
 returns c =
     let numbers : set.from_list c.clear.new.self.items ≡ set.empty = ap set.from_list c.clear.ensures.items in

@@ -5,12 +5,14 @@ use Rattle.atl_world.specs.SortedNumbers.{IsAt, BelongsAt}
 use Rattle.atl_world.proofs.MarkLaws.{contains-stands, contains-belongs}
 use Rattle.atl_world.proofs.sorted_numbers.SortedNumbers.contains.Goals as goal
 
+-- a number that the search finds is in the set
 pub returns-in-Ok : goal.returns-in-Ok
 returns-in-Ok c =
     let items = c.self.inside.numbers.items in
     let stands : IsAt items c.args.number c.in-Ok.field-0 = rw c.deref.ensures.value at c.in-Ok.ensures.found in
     sym (sym (ap (λ (m : RoomySet). set.contains m.numbers c.args.number) c.self.view_is) ∙ contains-stands items c.args.number c.in-Ok.field-0 stands)
 
+-- a number that the search does not find is not in the set
 pub returns-in-Err : goal.returns-in-Err
 returns-in-Err c =
     let items = c.self.inside.numbers.items in

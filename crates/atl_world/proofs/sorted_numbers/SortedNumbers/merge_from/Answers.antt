@@ -5,6 +5,7 @@ use Rattle.atl_world.proofs.MarkLaws.{rising-empty, len-rising}
 use Rattle.atl_world.proofs.MergeLaws.{rising-merged, from_list-merged}
 use Rattle.atl_world.proofs.sorted_numbers.SortedNumbers.merge_from.Goals as goal
 
+-- the list has room for the numbers of both lists
 pub unite-requires-clause-room : goal.unite-requires-clause-room
 unite-requires-clause-room c =
     let own = len-rising c.self.inside.numbers.items c.self.invariant in
@@ -15,12 +16,15 @@ unite-requires-clause-room c =
     let size = ap length c.deref.ensures.value in
     omega (arith, own, others, own_seen, others_seen, room, size, c.requires.room)
 
+-- the merged list is sorted
 pub invariant_of-self : goal.invariant_of-self
 invariant_of-self c = rw (c.unite.ensures.items, c.deref.ensures.value) (rising-merged c.self.inside.numbers.items c.others.inside.numbers.items c.self.invariant c.others.invariant)
 
+-- the other list is sorted, since it is empty now
 pub invariant_of-others : goal.invariant_of-others
 invariant_of-others c = rw c.clear.ensures.items rising-empty
 
+-- the set after the call is the union of both sets, and the room is the same
 pub returns-clause-numbers : goal.returns-clause-numbers
 returns-clause-numbers c =
     let others = c.others.inside.numbers.items in

@@ -6,12 +6,14 @@ use Rattle.atl_world.proofs.SetLaws.{remove_absent}
 use Rattle.atl_world.proofs.MarkLaws.{rising-remove, from_list-remove, contains-belongs}
 use Rattle.atl_world.proofs.sorted_numbers.SortedNumbers.take.Goals as goal
 
+-- the list is still sorted after the number is taken out
 pub invariant_of-self : goal.invariant_of-self
 invariant_of-self c =
     let items = c.self.inside.numbers.items in
     let stands : IsAt items c.args.number c.in-Ok.place = rw c.deref.ensures.value at c.in-Ok.ensures.found in
     rw c.remove.ensures.items (rising-remove items c.in-Ok.place c.self.invariant stands.within)
 
+-- where the number is in the list, the set after the call is the old one without it, and the room is the same
 pub returns-in-Ok : goal.returns-in-Ok
 returns-in-Ok c =
     let items = c.self.inside.numbers.items in
@@ -22,6 +24,7 @@ returns-in-Ok c =
     let room = c.remove.ensures.capacity ∙ ap (λ (m : RoomySet). m.room) c.self.view_is in
     λ i. record { numbers = numbers i; room = room i }
 
+-- where the number is not in the list, nothing changes
 pub returns-in-Err : goal.returns-in-Err
 returns-in-Err c =
     let items = c.self.inside.numbers.items in

@@ -14,6 +14,7 @@ found_item_raw_count xs each i (Some x) some at =
     let inside : i < length xs = grind (arith, nat_tests, sym some) in
     each i x.now (slice_get-get_or xs i x.now inside ∙ ap Some (sym at))
 
+-- an item that is found is made of at least 1 raw item (`raw_count`)
 pub returns-clause-bounds : goal.returns-clause-bounds
 returns-clause-bounds c =
     found_item_raw_count c.items.result.now (λ i x is. (c.items.ensures.world.items i x (ap (λ xs. slice_get xs i) (sym c.items.ensures.value) ∙ is)).raw_count_least) c.from.result c.get.result c.get.ensures.lookup.0 c.get.ensures.lookup.1

@@ -12,6 +12,7 @@ some_market : (items number : ℕ) (markets : FinMap nat_cmp Market) → ((i : �
 some_market items number markets each None is = tt
 some_market items number markets each (Some m) is = each number m.now (sym is)
 
+-- a market that is found trades the given item, and its numbers are in their ranges (`IsMarket`)
 pub returns-clause-bounds : goal.returns-clause-bounds
 returns-clause-bounds c =
     let plan = c.in_ok-region.field-0.now in

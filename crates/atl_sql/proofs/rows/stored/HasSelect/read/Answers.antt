@@ -8,15 +8,18 @@ use Rattle.atl_sql.proofs.RowsLaws.{gives_table}
 use Rattle.atl_sql.proofs.SelectLaws.{reads_part, part_plain}
 use Rattle.atl_sql.proofs.rows.stored.HasSelect.read.Goals as goal
 
+-- the read gives what the SELECT of its part shows, or the fault (`ReadsRows`)
 pub returns-clause-select : goal.returns-clause-select
 returns-clause-select g c = rw c.select_of-since.ensures.select at c.read_all.ensures
 
+-- under the tables of a campaign, the read gives all rows of its table (`GivesTable`)
 pub returns-clause-table : goal.returns-clause-table
 returns-clause-table g c =
     let part = g.Self.HasSelect.part in
     let reads = rw c.select_of-since.ensures.select at c.read_all.ensures in
     gives_table g.S.Store (listing_of part).select c.args.conn.now c.read_all.new.conn g.Self.Stored.forms g.Self.Stored.shown c.read_all.result (listing_of part).since (listing_of part).in_table (reads_part part _ g.met.Self.HasSelect.columns) reads
 
+-- what `read_all` requires: under the tables of a campaign, the SELECT is plain (`IsPlain`)
 pub read_all-requires-clause-plain : goal.read_all-requires-clause-plain
 read_all-requires-clause-plain g c has =
     let schema = c.args.conn.now.schema in
