@@ -41,7 +41,7 @@ class World:
         return bool(market) and market["restock"] > 0
 
     def way(self, start, is_goal, may_enter):
-        """The first step to the nearest goal; none where the start is a goal, or no way leads to one."""
+        """The first step to the none_remaining goal; none where the start is a goal, or no way leads to one."""
         seen, queue = {start}, deque([(start, None)])
         while queue:
             here, first = queue.popleft()

@@ -38,7 +38,7 @@ use Rattle.atl_phase.specs.Inside.{inside}
 use Rattle.atl_phase.specs.Outcomes.{first_fault, unless}
 use Rattle.atl_phase.specs.PhaseOrders.{Task, orders_of}
 use Rattle.atl_phase.specs.OrderEffects.{IsUnaffected, effect_on, faction_effect, meaning_by_orders, of_faction, one_order, order_result, spares_others}
-use Rattle.atl_phase.specs.Bounds.{IsOrderly, IsUnaffectedRelation, StepsWell, books_nothing}
+use Rattle.atl_phase.specs.Bounds.{IsOrderly, IsUnaffectedRelation, StepsWell, nothing_remaining}
 use Rattle.atl_phase.specs.Unbooked.{moves_nothing}
 use Rattle.atl_phase.proofs.MeaningLaws.{same_month_by}
 use Rattle.atl_phase.proofs.OutcomeLaws.{false_true, none_fits}
@@ -315,9 +315,9 @@ module _ (w : WorldValue) (c : CampaignValue) (ship to : ℕ) (steady : IsSteady
 
     -- if a complete ship sails to a region that is there, the campaign stays steady,
     -- in its month and with balanced books (`StepsWell`)
-    pub sailed_well : StepsWell IsSteady books_nothing w c (after_sailing c ship to)
+    pub sailed_well : StepsWell IsSteady nothing_remaining w c (after_sailing c ship to)
     sailed_well =
-        subst (StepsWell IsSteady books_nothing w c) (sym sailed_is)
+        subst (StepsWell IsSteady nothing_remaining w c) (sym sailed_is)
         (stays_well IsSteady w c behind (steady-travelled w c units structures f g are steady)
         (same_month_by refl) refl (total_people c behind (all_people ship to c.units ns) refl))
 
@@ -445,9 +445,9 @@ sail_cases P w c n u direction same gone_off =
         by_ship to ship refl four.0 five.0
 
 -- an order of SAIL keeps a steady campaign steady, in its month and with balanced books (`StepsWell`)
-sail_well : (w : WorldValue) (c : CampaignValue) (n : ℕ) (u : Unit) (direction : Direction) → IsSteady w c → StepsWell IsSteady books_nothing w c (sail w n direction c u).0
+sail_well : (w : WorldValue) (c : CampaignValue) (n : ℕ) (u : Unit) (direction : Direction) → IsSteady w c → StepsWell IsSteady nothing_remaining w c (sail w n direction c u).0
 sail_well w c n u direction steady =
-    sail_cases (λ p. StepsWell IsSteady books_nothing w c p.0) w c n u direction (λ outcome. well_same w c steady)
+    sail_cases (λ p. StepsWell IsSteady nothing_remaining w c p.0) w c n u direction (λ outcome. well_same w c steady)
     (λ to x at floats whole there. sailed_well w c u.structure to steady x at floats whole ((steady.known.regions to).1 there))
 
 -- an order of SAIL at most takes each unit along with the structure that it is inside (`IsAtMostMoved`)
@@ -457,7 +457,7 @@ sail_spares w c n u direction steady k v there =
     (λ to x at floats whole near. sailed_spares w c u.structure to steady x at k v there)
 
 -- SAIL keeps a steady campaign steady, books nothing, and at most moves each unit with its structure (`IsOrderly`)
-pub sail_orderly : IsOrderly sail_step IsSteady books_nothing moves_nothing concerns_nobody IsAtMostMoved
+pub sail_orderly : IsOrderly sail_step IsSteady nothing_remaining moves_nothing concerns_nobody IsAtMostMoved
 sail_orderly = record {
   well = λ w a c t x steady fit own. well w c t.unit x steady t.order_value.operands;
   sparing = carried_spares;
@@ -466,7 +466,7 @@ sail_orderly = record {
 }
   where
     -- an order with any operands keeps a steady campaign steady, in its month and with balanced books (`StepsWell`)
-    well : (w : WorldValue) (c : CampaignValue) (n : ℕ) (x : Unit) → IsSteady w c → (s : OperandsValue) → IfSome (sail_effect w n s) (λ deed. StepsWell IsSteady books_nothing w c (deed c x).0)
+    well : (w : WorldValue) (c : CampaignValue) (n : ℕ) (x : Unit) → IsSteady w c → (s : OperandsValue) → IfSome (sail_effect w n s) (λ deed. StepsWell IsSteady nothing_remaining w c (deed c x).0)
     well w c n x steady (operands.Direction direction) = sail_well w c n x direction steady
     well w c n x steady other = tt
 
@@ -501,9 +501,9 @@ fault_with w n u to ship crew load = first_fault (
     ∷ [])
 
 -- an order has the same outcome in two campaigns, whatever it makes of them, if it has the same fault, or none, in both
-unless_told : (c d x y : CampaignValue) (o : Option EventFault) → (unless c o (x, Done 0)).1 ≡ (unless d o (y, Done 0)).1
-unless_told c d x y None = refl
-unless_told c d x y (Some fault) = refl
+same_outcome_unless : (c d x y : CampaignValue) (o : Option EventFault) → (unless c o (x, Done 0)).1 ≡ (unless d o (y, Done 0)).1
+same_outcome_unless c d x y None = refl
+same_outcome_unless c d x y (Some fault) = refl
 
 module _ (w : WorldValue) (begun : CampaignValue) (number faction : ℕ) where
   -- the number of the structure that unit `number` is inside as the phase begins
@@ -545,21 +545,21 @@ module _ (w : WorldValue) (begun : CampaignValue) (number faction : ℕ) where
 
     -- an order for a unit inside the structure of unit `number` has the
     -- outcome that it would have had as the phase began
-    told_same : (n : ℕ) (u : Unit) (direction : Direction) → u.structure ≡ s → (sail w n direction c u).1 ≡ (sail w n direction begun u).1
+    same_outcome : (n : ℕ) (u : Unit) (direction : Direction) → u.structure ≡ s → (sail w n direction c u).1 ≡ (sail w n direction begun u).1
     unfolding sail
-    told_same n u direction here =
+    same_outcome n u direction here =
         let to = neighbour w u.region direction in
         ap (λ o. (unless c o (after_sailing c u.structure (unwrap_or to 0), Done 0)).1) (fault_same n u to here)
-        ∙ unless_told c begun (after_sailing c u.structure (unwrap_or to 0)) (after_sailing begun u.structure (unwrap_or to 0)) (sail_fault w begun n u (get begun.structures u.structure) to)
+        ∙ same_outcome_unless c begun (after_sailing c u.structure (unwrap_or to 0)) (after_sailing begun u.structure (unwrap_or to 0)) (sail_fault w begun n u (get begun.structures u.structure) to)
 
     -- a faction's order for a unit inside the structure of unit `number` has the
     -- outcome that it would have had as the phase began
-    carried_same_told : (f n : ℕ) (direction : Direction) → inside begun n ≡ s → (faction_effect (sail w n direction) c f n).1 ≡ (faction_effect (sail w n direction) begun f n).1
-    carried_same_told f n direction here = ap (λ o. (effect_on (sail w n direction) c (of_faction f o)).1) (same.units n here) ∙ by_unit (get begun.units n) here
+    same_faction_outcome : (f n : ℕ) (direction : Direction) → inside begun n ≡ s → (faction_effect (sail w n direction) c f n).1 ≡ (faction_effect (sail w n direction) begun f n).1
+    same_faction_outcome f n direction here = ap (λ o. (effect_on (sail w n direction) c (of_faction f o)).1) (same.units n here) ∙ by_unit (get begun.units n) here
       where
         -- the order has the outcome that it would have had as the phase began, whether unit u is of faction f or not
         by_faction : (u : Unit) → u.structure ≡ s → (b : Bool) → (effect_on (sail w n direction) c (if b then Some u else None)).1 ≡ (effect_on (sail w n direction) begun (if b then Some u else None)).1
-        by_faction u here true = told_same n u direction here
+        by_faction u here true = same_outcome n u direction here
         by_faction u here false = refl
 
         -- the order has the outcome that it would have had as the phase began, whether its unit is there or not
@@ -585,7 +585,7 @@ module _ (w : WorldValue) (begun : CampaignValue) (number faction : ℕ) where
         carried_cases (λ p. (inside begun n ≡ s → p.1 ≡ Done 0 → ⊥) → IsAsBegun p.0) (sail w n direction) c f n (λ apart. same)
         (λ u is own. sail_cases (λ p. (inside begun n ≡ s → p.1 ≡ Done 0 → ⊥) → IsAsBegun p.0) w c n u direction (λ outcome apart. same)
         (λ to x at floats whole there apart. sailed_else u.structure to x at floats whole there (λ same_ship. apart (sym (same.places n) ∙ ap structure_in is ∙ sym same_ship) refl)))
-        (λ in_it done. apart in_it (ap (λ outcome. Some outcome) (sym (carried_same_told f n direction in_it) ∙ done)))
+        (λ in_it done. apart in_it (ap (λ outcome. Some outcome) (sym (same_faction_outcome f n direction in_it) ∙ done)))
     order_stays f n other apart = same
 
     -- after an order of the phase by which the structure of unit `number` doesn't sail, this structure and all inside

@@ -25,7 +25,7 @@ use Rattle.atl_campaign.proofs.RegionLaws.{get-insert_same}
 use Rattle.atl_phase.specs.Month.{MonthValue}
 use Rattle.atl_phase.specs.Outcomes.{unless}
 use Rattle.atl_phase.specs.PhaseOrders.{Task, orders_of}
-use Rattle.atl_phase.specs.StandOnce.{are_of_slot, share_slot}
+use Rattle.atl_phase.specs.StandOnce.{are_same_slot, share_slot}
 use Rattle.atl_phase.specs.OrderEffects.{OrderEffect, effect_on, faction_effect, meaning_by_orders, of_faction, one_order, order_result}
 use Rattle.atl_phase.specs.Bounds.{IsUnitOf}
 use Rattle.atl_phase.specs.declared.phase_order.Arrangement.TheVariants.{ByUnit}
@@ -37,7 +37,7 @@ use Rattle.atl_action.specs.Study.{after_study, days_after, is_helpful, study, s
 use Rattle.atl_action.specs.StudyAlone.{UnitsStudyAsBegun}
 use Rattle.atl_action.specs.Teach.{TaughtMen, after_lessons}
 use Rattle.atl_action.proofs.StudyLaws.{study_cases, study_stays}
-use Rattle.atl_action.proofs.UnmailedLearnLaws.{taught_told}
+use Rattle.atl_action.proofs.UnmailedLearnLaws.{all_lessons_add_no_starved}
 
 -- ---- an order reads its own unit and the structures
 
@@ -83,9 +83,9 @@ is_study verb is = cc
 -- it can't be that two orders of STUDY for one unit from one faction share no slot
 both_own : (t o : Task) → share_slot t o ≡ false → Studies t → Studies o → t.unit ≡ o.unit → t.faction ≡ o.faction → ⊥
 both_own t o never t_studies o_studies unit faction =
-    all_three (t.unit == o.unit) (t.faction == o.faction) (are_of_slot (row_of t.order_value.verb).slot (row_of o.order_value.verb).slot)
+    all_three (t.unit == o.unit) (t.faction == o.faction) (are_same_slot (row_of t.order_value.verb).slot (row_of o.order_value.verb).slot)
     (ap (λ j. j == o.unit) unit ∙ equal_itself o.unit) (ap (λ j. j == o.faction) faction ∙ equal_itself o.faction)
-    (ap (λ v. are_of_slot (row_of v).slot (row_of o.order_value.verb).slot) (is_study t.order_value.verb t_studies) ∙ ap (λ v. are_of_slot (row_of verbs.Study).slot (row_of v).slot) (is_study o.order_value.verb o_studies)) never
+    (ap (λ v. are_same_slot (row_of v).slot (row_of o.order_value.verb).slot) (is_study t.order_value.verb t_studies) ∙ ap (λ v. are_same_slot (row_of verbs.Study).slot (row_of v).slot) (is_study o.order_value.verb o_studies)) never
   where
     -- three truth values are not all true if their conjunction is false
     all_three : (a b d : Bool) → a ≡ true → b ≡ true → d ≡ true → (a && (b && d)) ≡ false → ⊥
@@ -193,7 +193,7 @@ pub units_study_as_begun : UnitsStudyAsBegun
 unfolding meaning_by_orders
 units_study_as_begun w c m fit n skill u there own =
     let lessons = after_lessons c (learners w c m) m in
-    let told = taught_told c (learners w c m) m in
+    let told = all_lessons_add_no_starved c (learners w c m) m in
     let one : CampaignValue × MonthValue → Task → CampaignValue × MonthValue = one_order (study_step lessons.0) w in
     let list : values (orders_of is_studying ByUnit lessons.1.aliases lessons.1.readings) ≡ study_tasks m =
     ap (λ r. values (orders_of is_studying ByUnit lessons.1.aliases r)) told.readings ∙ ap (λ a. values (orders_of is_studying ByUnit a m.readings)) told.aliases in

@@ -33,25 +33,25 @@ pub record AddsNoStarved (before after : MonthValue) : Type 0 where
   pub starved : (n : ℕ) → starved_in after.events n ≡ starved_in before.events n
 
 -- an order of TEACH keeps readings and aliases, and adds no men who starved to the events
-lesson_told : (c : CampaignValue) (learning : Learning) (p : TaughtMen × MonthValue) (t : Task) → AddsNoStarved p.1 (teach_order c learning p t).1
-lesson_told c learning (taught, m) t = record {
+lesson_adds_no_starved : (c : CampaignValue) (learning : Learning) (p : TaughtMen × MonthValue) (t : Task) → AddsNoStarved p.1 (teach_order c learning p t).1
+lesson_adds_no_starved c learning (taught, m) t = record {
   readings = refl;
   aliases = refl;
   starved = λ n. told_of_order m.events t (teach c m.aliases learning taught t).1 n;
 }
 
 -- orders of TEACH keep readings and aliases, and add no men who starved to the events
-lessons_told : (c : CampaignValue) (learning : Learning) (p : TaughtMen × MonthValue) (ts : List Task) → AddsNoStarved p.1 (fold (teach_order c learning) p ts).1
-lessons_told c learning p [] = record { readings = refl; aliases = refl; starved = λ n. refl }
-lessons_told c learning p (t ∷ ts) =
-    let one = lesson_told c learning p t in
-    let rest = lessons_told c learning (teach_order c learning p t) ts in
+lessons_add_no_starved : (c : CampaignValue) (learning : Learning) (p : TaughtMen × MonthValue) (ts : List Task) → AddsNoStarved p.1 (fold (teach_order c learning) p ts).1
+lessons_add_no_starved c learning p [] = record { readings = refl; aliases = refl; starved = λ n. refl }
+lessons_add_no_starved c learning p (t ∷ ts) =
+    let one = lesson_adds_no_starved c learning p t in
+    let rest = lessons_add_no_starved c learning (teach_order c learning p t) ts in
     record { readings = rest.readings ∙ one.readings; aliases = rest.aliases ∙ one.aliases; starved = λ n. rest.starved n ∙ one.starved n }
 
 -- all orders of TEACH of a month keep readings and aliases, and add no men who starved to the events
-pub taught_told : (c : CampaignValue) (learning : Learning) (m : MonthValue) → AddsNoStarved m (after_lessons c learning m).1
+pub all_lessons_add_no_starved : (c : CampaignValue) (learning : Learning) (m : MonthValue) → AddsNoStarved m (after_lessons c learning m).1
 unfolding after_lessons
-taught_told c learning m = lessons_told c learning ((λ n. 0), m) (values (orders_of is_teaching ByUnit m.aliases m.readings))
+all_lessons_add_no_starved c learning m = lessons_add_no_starved c learning ((λ n. 0), m) (values (orders_of is_teaching ByUnit m.aliases m.readings))
 
 -- ---- STUDY
 
@@ -87,13 +87,13 @@ all_study taught = carried_leaves (study_step taught) is_studying (study_spares 
 -- the phase of TEACH and STUDY leaves units of factions without a mailing what is theirs (`LeavesUnmailed`)
 pub learn_leaves : LeavesUnmailed learn_meaning learn_keeps
 learn_leaves = record {
-  readings = λ w c m. let lessons = after_lessons c (learners w c m) m in (all_study lessons.0).readings w c lessons.1 ∙ (taught_told c (learners w c m) m).readings;
+  readings = λ w c m. let lessons = after_lessons c (learners w c m) m in (all_study lessons.0).readings w c lessons.1 ∙ (all_lessons_add_no_starved c (learners w c m) m).readings;
   told = λ w c m n.
       let lessons = after_lessons c (learners w c m) m in
-      omega (arith, (all_study lessons.0).told w c lessons.1 n, (taught_told c (learners w c m) m).starved n);
+      omega (arith, (all_study lessons.0).told w c lessons.1 n, (all_lessons_add_no_starved c (learners w c m) m).starved n);
   left = λ w c m keeps n u there none.
       let lessons = after_lessons c (learners w c m) m in
-      let same = taught_told c (learners w c m) m in
+      let same = all_lessons_add_no_starved c (learners w c m) m in
       let kept : learn_keeps w lessons.1 c (learn_meaning w c m).0 = alike w c (learn_meaning w c m).0 m lessons.1 same.readings same.aliases keeps in
       let unread : get lessons.1.readings u.faction ≡ None = ap (λ r. get r u.faction) same.readings ∙ none in
       let one = (all_study lessons.0).left w c lessons.1 kept n u there unread in

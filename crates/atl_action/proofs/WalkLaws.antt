@@ -28,7 +28,7 @@ use Rattle.atl_campaign.proofs.LeavingLaws.{owned_by}
 use Rattle.atl_phase.specs.Outcomes.{unless}
 use Rattle.atl_phase.specs.NoWorse.{IsNoWorse}
 use Rattle.atl_phase.specs.OrderEffects.{IsOwnOrder}
-use Rattle.atl_phase.specs.Bounds.{IsOrderly, StepsWell, books_nothing}
+use Rattle.atl_phase.specs.Bounds.{IsOrderly, StepsWell, nothing_remaining}
 use Rattle.atl_phase.specs.Unbooked.{moves_nothing}
 use Rattle.atl_phase.proofs.MeaningLaws.{same_month_by}
 use Rattle.atl_phase.proofs.OutcomeLaws.{false_true, none_fits}
@@ -158,7 +158,7 @@ module _ (w : WorldValue) (c : CampaignValue) (n : ℕ) (u : Unit) (to : ℕ) (i
       }
 
       -- the walk keeps a steady campaign steady, in its month and with balanced books (`StepsWell`)
-      behind_well : StepsWell IsSteady books_nothing w c behind
+      behind_well : StepsWell IsSteady nothing_remaining w c behind
       behind_well =
           stays_well IsSteady w c behind (steady-travelled w c units structures f g are steady)
           (same_month_by refl) refl (total_people c behind same_people refl)
@@ -170,7 +170,7 @@ module _ (w : WorldValue) (c : CampaignValue) (n : ℕ) (u : Unit) (to : ℕ) (i
   unowned outside q y there = still_owned c.structures q y there (owns_no_other w c n u is steady q y there (λ same. not_first q y there (same ∙ outside)))
 
   -- the campaign stays steady, in its month and with balanced books (`StepsWell`), if the unit was inside no structure
-  outside_well : old_place ≡ 0 → StepsWell IsSteady books_nothing w c (behind c.structures)
+  outside_well : old_place ≡ 0 → StepsWell IsSteady nothing_remaining w c (behind c.structures)
   outside_well outside =
       behind_well c.structures (λ q y. y) (λ k. mapped_itself (get c.structures k)) refl
       (λ q y there. (record { kind = refl; done = refl; name = refl }, refl)) (unowned outside)
@@ -212,7 +212,7 @@ module _ (w : WorldValue) (c : CampaignValue) (n : ℕ) (u : Unit) (to : ℕ) (i
       ∙ mapped_twice (handed_on 0 0 n q) (handed_on old_place n next q) (get c.structures q)
 
   -- the campaign stays steady, in its month and with balanced books (`StepsWell`), if the unit was inside a structure
-  inside_well : old_place ≢ 0 → StepsWell IsSteady books_nothing w c (behind gone_off.structures)
+  inside_well : old_place ≢ 0 → StepsWell IsSteady nothing_remaining w c (behind gone_off.structures)
   inside_well some =
       behind_well gone_off.structures (λ q y. handed_on 0 0 n q (handed_on old_place n next q y)) given_at
       (len-after_handover gone_out 0 0 n ∙ len-after_handover begun old_place n next)
@@ -227,15 +227,15 @@ module _ (w : WorldValue) (c : CampaignValue) (n : ℕ) (u : Unit) (to : ℕ) (i
 
   -- the campaign after the walk stays steady, in its month and with balanced books (`StepsWell`),
   -- whether the unit was inside a structure or not
-  by_place : (b : Bool) → (old_place == 0) ≡ b → StepsWell IsSteady books_nothing w c (with_guard (if b then begun else gone_off) n false)
+  by_place : (b : Bool) → (old_place == 0) ≡ b → StepsWell IsSteady nothing_remaining w c (with_guard (if b then begun else gone_off) n false)
   by_place true t = outside_well (is_equal old_place 0 t)
-  by_place false t = subst (λ d. StepsWell IsSteady books_nothing w c (with_guard d n false)) (sym off_is) (inside_well (is_unequal old_place 0 t))
+  by_place false t = subst (λ d. StepsWell IsSteady nothing_remaining w c (with_guard d n false)) (sym off_is) (inside_well (is_unequal old_place 0 t))
 
   -- if a unit walks to a region with land, the campaign stays steady,
   -- in its month and with balanced books (`StepsWell`)
-  pub walked_well : StepsWell IsSteady books_nothing w c (after_walk c n to)
+  pub walked_well : StepsWell IsSteady nothing_remaining w c (after_walk c n to)
   unfolding with_place
-  walked_well = subst (λ o. StepsWell IsSteady books_nothing w c (with_guard (with_place_at c n to 0 o) n false)) (sym is) (by_place (old_place == 0) refl)
+  walked_well = subst (λ o. StepsWell IsSteady nothing_remaining w c (with_guard (with_place_at c n to 0 o) n false)) (sym is) (by_place (old_place == 0) refl)
 
 -- ---- an order
 
@@ -261,8 +261,8 @@ walk_cases P w c n u direction same gone = by_fault (neighbour w u.region direct
         gone (unwrap_or to 0) (land_to w to three.0)
 
 -- an order of MOVE keeps a steady campaign steady, in its month and with balanced books (`StepsWell`)
-walk_well : (w : WorldValue) (c : CampaignValue) (n : ℕ) (u : Unit) → get c.units n ≡ Some u → (direction : Direction) → IsSteady w c → StepsWell IsSteady books_nothing w c (walk w n direction c u).0
-walk_well w c n u is direction steady = walk_cases (λ d. StepsWell IsSteady books_nothing w c d) w c n u direction (well_same w c steady) (λ to land. walked_well w c n u to is steady land)
+walk_well : (w : WorldValue) (c : CampaignValue) (n : ℕ) (u : Unit) → get c.units n ≡ Some u → (direction : Direction) → IsSteady w c → StepsWell IsSteady nothing_remaining w c (walk w n direction c u).0
+walk_well w c n u is direction steady = walk_cases (λ d. StepsWell IsSteady nothing_remaining w c d) w c n u direction (well_same w c steady) (λ to land. walked_well w c n u to is steady land)
 
 -- ---- other units stay
 
@@ -273,7 +273,7 @@ walk_stays w c n u direction k apart =
     changed_else (λ (x : Unit). record x { holding = record x.holding { guard = false } }) (with_place c n to 0).units n k apart (get (with_place c n to 0).units n) ∙ place_stays c n to 0 k apart)
 
 -- MOVE keeps a steady campaign steady and books nothing, and a unit without an own MOVE is no worse off (`IsOrderly`)
-pub walk_orderly : IsOrderly walk_step IsSteady books_nothing moves_nothing IsOwnOrder IsNoWorse
+pub walk_orderly : IsOrderly walk_step IsSteady nothing_remaining moves_nothing IsOwnOrder IsNoWorse
 walk_orderly = record {
   well = λ w a c t x steady fit own. well w c t.unit x own.there steady t.order_value.operands;
   sparing = no_worse_spares;
@@ -282,7 +282,7 @@ walk_orderly = record {
 }
   where
     -- an order with any operands keeps a steady campaign steady, in its month and with balanced books (`StepsWell`)
-    well : (w : WorldValue) (c : CampaignValue) (n : ℕ) (x : Unit) → get c.units n ≡ Some x → IsSteady w c → (s : OperandsValue) → IfSome (walk_effect w n s) (λ deed. StepsWell IsSteady books_nothing w c (deed c x).0)
+    well : (w : WorldValue) (c : CampaignValue) (n : ℕ) (x : Unit) → get c.units n ≡ Some x → IsSteady w c → (s : OperandsValue) → IfSome (walk_effect w n s) (λ deed. StepsWell IsSteady nothing_remaining w c (deed c x).0)
     well w c n x is steady (operands.Direction direction) = walk_well w c n x is direction steady
     well w c n x is steady other = tt
 

@@ -29,7 +29,7 @@ use Rattle.atl_phase.specs.PhaseOrders.{Task}
 use Rattle.atl_phase.specs.OrderEffects.{Affects, IsUnaffected, OrderEffect, OrderMeaning, meaning_by_orders, order_result, spares_others}
 use Rattle.atl_phase.specs.NoWorse.{IsUnchanged}
 use Rattle.atl_action.specs.Regions.{is_region}
-use Rattle.atl_phase.specs.PhaseSpecs.{PhaseSpec, books_none}
+use Rattle.atl_phase.specs.PhaseSpecs.{PhaseSpec, spec_without_books}
 
 -- ---- which orders are of the phase
 
@@ -147,4 +147,4 @@ sail_keeps w m before after = AreAtMostMoved before after × spares_others (Sail
 
 -- the specification of the phase of SAIL, which moves no amount of the books
 abbrev pub sail_spec : PhaseSpec
-sail_spec = books_none (meaning_by_orders sail_step is_sailing) sail_keeps
+sail_spec = spec_without_books (meaning_by_orders sail_step is_sailing) sail_keeps

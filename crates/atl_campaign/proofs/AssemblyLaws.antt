@@ -65,10 +65,10 @@ abbrev amount_of : StoredHas → ℕ
 amount_of r = as_u32 r.amount
 
 -- a sort that is read as 0 (items) is not 1 (skills)
-is_skill : (z : ℤ) → as_u32 z ≡ 0 → is_from 1 1 z ≡ false
-is_skill (pos zero) h = refl
-is_skill (pos (suc n)) h = absurd (grind arith)
-is_skill (negsuc n) h = refl
+not_skill : (z : ℤ) → as_u32 z ≡ 0 → is_from 1 1 z ≡ false
+not_skill (pos zero) h = refl
+not_skill (pos (suc n)) h = absurd (grind arith)
+not_skill (negsuc n) h = refl
 
 -- if `b || c` is true and b is false, c is true
 or_right : (b c : Bool) → b ≡ false → (b || c) ≡ true → c ≡ true
@@ -82,13 +82,13 @@ is_same m n h = grind (arith, nat_tests)
 -- a row of `has` for an item, if it is in range, has an amount from 1 to holding_limit
 pub item_amount : (r : StoredHas) → has_in_range r ≡ true → as_u32 r.sort ≡ 0 → (1 ≤ amount_of r) × (amount_of r ≤ holding_limit)
 item_amount r h sort =
-    let item = or_right (is_from 1 1 r.sort) (is_from 0 0 r.sort && is_from 1 holding_limit r.amount) (is_skill r.sort sort) h in
+    let item = or_right (is_from 1 1 r.sort) (is_from 0 0 r.sort && is_from 1 holding_limit r.amount) (not_skill r.sort sort) h in
     let range = from_range 1 holding_limit r.amount (omega arith) (and_parts (is_from 0 0 r.sort) (is_from 1 holding_limit r.amount) item).1 in
     (range.1, range.2)
 
 -- a row of `has` that is of unit n's items and in range has an amount from 1 to holding_limit
-good_amount : (n : ℕ) (r : StoredHas) → has_in_range r ≡ true → is_of n 0 r ≡ true → (1 ≤ amount_of r) × (amount_of r ≤ holding_limit)
-good_amount n r h of = item_amount r h (is_same (as_u32 r.sort) 0 (and_parts (as_u32 r.unit == n) (as_u32 r.sort == 0) of).1)
+amount_in_range : (n : ℕ) (r : StoredHas) → has_in_range r ≡ true → is_of n 0 r ≡ true → (1 ≤ amount_of r) × (amount_of r ≤ holding_limit)
+amount_in_range n r h of = item_amount r h (is_same (as_u32 r.sort) 0 (and_parts (as_u32 r.unit == n) (as_u32 r.sort == 0) of).1)
 
 -- if Some a and Some b are equal, a and b are equal
 some_same : (a b : ℕ) → Some a ≡ Some b → a ≡ b
@@ -106,15 +106,15 @@ AreAmounts-insert m k v h old item amount e =
 
 -- amounts stay from 1 to holding_limit (AreAmounts) if a row in range is put in where it is of unit n's items
 chosen : (n : ℕ) (r : StoredHas) (m : FinMap nat_cmp ℕ) (b : Bool) → is_of n 0 r ≡ b → has_in_range r ≡ true → AreAmounts m → AreAmounts (cond b (insert m (thing_of r) (amount_of r)) m)
-chosen n r m true of h old = AreAmounts-insert m (thing_of r) (amount_of r) (good_amount n r h of) old
+chosen n r m true of h old = AreAmounts-insert m (thing_of r) (amount_of r) (amount_in_range n r h of) old
 chosen n r m false of h old = old
 
 -- amounts stay from 1 to holding_limit (AreAmounts) once all rows of unit n's items, each in range, are put in
-put_good : (n : ℕ) (rows : List StoredHas) (m : FinMap nat_cmp ℕ) → list_all has_in_range rows ≡ true → AreAmounts m → AreAmounts (put_rows thing_of amount_of (filter (is_of n 0) rows) m)
-put_good n [] m h old = old
-put_good n (r ∷ rows) m h old =
+put_in_range : (n : ℕ) (rows : List StoredHas) (m : FinMap nat_cmp ℕ) → list_all has_in_range rows ≡ true → AreAmounts m → AreAmounts (put_rows thing_of amount_of (filter (is_of n 0) rows) m)
+put_in_range n [] m h old = old
+put_in_range n (r ∷ rows) m h old =
     let parts = and_parts (has_in_range r) (list_all has_in_range rows) h in
-    subst AreAmounts (sym (taken_or_not thing_of amount_of (is_of n 0) r rows (is_of n 0 r) m refl)) (put_good n rows (cond (is_of n 0 r) (insert m (thing_of r) (amount_of r)) m) parts.1 (chosen n r m (is_of n 0 r) refl parts.0 old))
+    subst AreAmounts (sym (taken_or_not thing_of amount_of (is_of n 0) r rows (is_of n 0 r) m refl)) (put_in_range n rows (cond (is_of n 0 r) (insert m (thing_of r) (amount_of r)) m) parts.1 (chosen n r m (is_of n 0 r) refl parts.0 old))
 
 -- None is not Some
 no_some : (x : ℕ) → None ≡ Some x → ⊥
@@ -126,7 +126,7 @@ none_held item amount e = absurd (no_some amount (sym (get-empty nat_cmp item) �
 
 -- the items that rows in range give unit n have amounts from 1 to holding_limit (AreAmounts)
 pub AreAmounts-had : (n : ℕ) (rows : List StoredHas) → list_all has_in_range rows ≡ true → AreAmounts (things_had n 0 rows)
-AreAmounts-had n rows h = put_good n rows empty h none_held
+AreAmounts-had n rows h = put_in_range n rows empty h none_held
 
 -- ---- texts
 

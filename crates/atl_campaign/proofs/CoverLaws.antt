@@ -30,13 +30,13 @@ use Rattle.atl_records.proofs.HoldingLaws.{set_amount, set_other}
 use Rattle.atl_campaign.proofs.RegionLaws.{amount-other}
 
 -- if b is true wherever a is, and b is false, a is false
-without_marks : (a b : Bool) → (a ≡ true → b ≡ true) → b ≡ false → a ≡ false
-without_marks true b stays free = absurd (true≢false (sym (stays refl) ∙ free))
-without_marks false b stays free = refl
+false_before : (a b : Bool) → (a ≡ true → b ≡ true) → b ≡ false → a ≡ false
+false_before true b stays free = absurd (true≢false (sym (stays refl) ∙ free))
+false_before false b stays free = refl
 
 -- if no mark is lost, a number that is not marked after a change was not marked before
 pub was_unmarked : (before after : FinSet nat_cmp) → StaysMarked before after → (n : ℕ) → contains after n ≡ false → contains before n ≡ false
-was_unmarked before after stays n free = without_marks (contains before n) (contains after n) (stays n) free
+was_unmarked before after stays n free = false_before (contains before n) (contains after n) (stays n) free
 
 -- StayMarked is transitive: if two changes each lose no mark, both together lose none
 pub stay-trans : {a b c : Marks} → StayMarked a b → StayMarked b c → StayMarked a c
@@ -62,15 +62,15 @@ pub covers-trans : {m n : Marks} (a b c : CampaignValue) → StayMarked m n → 
 covers-trans {m} {n} a b c stay one two = record {
   factions = λ k free. two.factions k free ∙ one.factions k (was_unmarked m.factions n.factions stay.factions k free);
   regions = λ k free. two.regions k free ∙ one.regions k (was_unmarked m.regions n.regions stay.regions k free);
-  stocks = λ k t free. two.stocks k t free ∙ one.stocks k t (without_marks (is_thing_marked m.stocks m.stock_items k t) (is_thing_marked n.stocks n.stock_items k t) (stay.stocks k t) free);
+  stocks = λ k t free. two.stocks k t free ∙ one.stocks k t (false_before (is_thing_marked m.stocks m.stock_items k t) (is_thing_marked n.stocks n.stock_items k t) (stay.stocks k t) free);
   structures = λ k free. two.structures k free ∙ one.structures k (was_unmarked m.structures n.structures stay.structures k free);
   mail = λ k free. two.mail k free ∙ one.mail k (was_unmarked m.mail n.mail stay.mail k free);
   reports = λ k free. two.reports k free ∙ one.reports k (was_unmarked m.reports n.reports stay.reports k free);
   units = λ k free. two.units k free ∙ one.units k (was_unmarked m.rows n.rows stay.rows k free);
-  items = λ k t free. two.items k t free ∙ one.items k t (without_marks (is_thing_marked m.goods m.items k t) (is_thing_marked n.goods n.items k t) (stay.items k t) free);
-  days = λ k t free. two.days k t free ∙ one.days k t (without_marks (is_thing_marked m.goods m.skills k t) (is_thing_marked n.goods n.skills k t) (stay.skills k t) free);
+  items = λ k t free. two.items k t free ∙ one.items k t (false_before (is_thing_marked m.goods m.items k t) (is_thing_marked n.goods n.items k t) (stay.items k t) free);
+  days = λ k t free. two.days k t free ∙ one.days k t (false_before (is_thing_marked m.goods m.skills k t) (is_thing_marked n.goods n.skills k t) (stay.skills k t) free);
   books = λ e t free. two.books e t free ∙ one.books e t (was_unmarked m.books n.books stay.books (amount_number e t) free);
-  row = λ free. two.row free ∙ one.row (without_marks m.row n.row stay.row free);
+  row = λ free. two.row free ∙ one.row (false_before m.row n.row stay.row free);
 }
 
 -- MarksChanges is transitive: if two changes each mark all that they change, both together do
@@ -157,25 +157,25 @@ module _ (goods : FinSet nat_cmp) (things : Things) (n thing : ℕ) where
 -- ---- the parts of a campaign, which are marked each for itself
 
 -- the 14 parts of a campaign that have marks of their own: more than its ten tables, as units and goods have several
-pub data Part : Type 0 where
-  Factions : Part
-  Regions : Part
-  Markets : Part
-  Stocks : Part
-  Structures : Part
-  Mail : Part
-  Reports : Part
-  Units : Part
-  Rows : Part
-  Goods : Part
-  Items : Part
-  Skills : Part
-  Books : Part
-  Row : Part
+pub data MarkedPart : Type 0 where
+  Factions : MarkedPart
+  Regions : MarkedPart
+  Markets : MarkedPart
+  Stocks : MarkedPart
+  Structures : MarkedPart
+  Mail : MarkedPart
+  Reports : MarkedPart
+  Units : MarkedPart
+  Rows : MarkedPart
+  Goods : MarkedPart
+  Items : MarkedPart
+  Skills : MarkedPart
+  Books : MarkedPart
+  Row : MarkedPart
 
 -- what names one mark of a part: region and item for Stocks, unit and thing for Items and Skills, nothing for Row,
 -- and one number for each other part
-abbrev pub Mark : Part → Type 0
+abbrev pub Mark : MarkedPart → Type 0
 Mark Stocks = ℕ × ℕ
 Mark Items = ℕ × ℕ
 Mark Skills = ℕ × ℕ
@@ -183,7 +183,7 @@ Mark Row = Prim.Unit {0}
 Mark _ = ℕ
 
 -- whether the named mark of a part is set; for Stocks, Items and Skills alone, or with all of the region or unit
-abbrev pub is_marked : (p : Part) → Marks → Mark p → Bool
+abbrev pub is_marked : (p : MarkedPart) → Marks → Mark p → Bool
 is_marked Factions m k = contains m.factions k
 is_marked Regions m k = contains m.regions k
 is_marked Markets m k = contains m.markets k
@@ -201,7 +201,7 @@ is_marked Row m k = m.row
 
 -- what a value of a part is looked up by: region and item for Stocks, unit and thing for Items and Skills, entry and
 -- thing for Books, nothing for Row, and one number for each other part
-abbrev pub LookupKey : Part → Type 0
+abbrev pub LookupKey : MarkedPart → Type 0
 LookupKey Stocks = ℕ × ℕ
 LookupKey Items = ℕ × ℕ
 LookupKey Skills = ℕ × ℕ
@@ -210,12 +210,12 @@ LookupKey Row = Prim.Unit {0}
 LookupKey _ = ℕ
 
 -- the mark for the value of a part under a key: the key itself, but for the books the number of the account's amount
-abbrev pub mark_at : (p : Part) → LookupKey p → Mark p
+abbrev pub mark_at : (p : MarkedPart) → LookupKey p → Mark p
 mark_at Books k = amount_number k.0 k.1
 mark_at _ k = k
 
 -- the type of a part's values that its marks cover; nothing for Units, Goods and Markets, which other parts cover
-abbrev pub Shown : Part → Type 0
+abbrev pub Shown : MarkedPart → Type 0
 Shown Factions = Option Faction
 Shown Regions = Option Region
 Shown Markets = Prim.Unit {0}
@@ -232,7 +232,7 @@ Shown Books = ℤ
 Shown Row = ℕ × (List ℕ × (ℕ × (ℕ × ℕ)))
 
 -- the value of a part under a key; nothing for Units, Goods and Markets
-abbrev pub shown : (p : Part) → CampaignValue → LookupKey p → Shown p
+abbrev pub shown : (p : MarkedPart) → CampaignValue → LookupKey p → Shown p
 shown Factions c k = get c.factions k
 shown Regions c k = option_map unstocked (get c.regions k)
 shown Markets c k = tt
@@ -249,15 +249,15 @@ shown Books c k = amount_in c.books k.0 k.1
 shown Row c k = own_row c
 
 -- all that was marked of a part under m is marked under n
-abbrev pub Stays : Marks → Marks → Part → Type 0
+abbrev pub Stays : Marks → Marks → MarkedPart → Type 0
 Stays m n p = (k : Mark p) → is_marked p m k ≡ true → is_marked p n k ≡ true
 
 -- each value of a part that is not marked in m is the same before and after
-abbrev pub KeepsUnmarked : Marks → CampaignValue → CampaignValue → Part → Type 0
+abbrev pub KeepsUnmarked : Marks → CampaignValue → CampaignValue → MarkedPart → Type 0
 KeepsUnmarked m before after p = (k : LookupKey p) → is_marked p m (mark_at p k) ≡ false → shown p after k ≡ shown p before k
 
 -- MarksChanges holds if for each part no mark is lost, and all values that are not marked are unchanged
-pub part_by_part : (a b : MarkedCampaign) → ((p : Part) → Stays a.marks b.marks p) → ((p : Part) → KeepsUnmarked b.marks a.value b.value p) → MarksChanges a b
+pub part_by_part : (a b : MarkedCampaign) → ((p : MarkedPart) → Stays a.marks b.marks p) → ((p : MarkedPart) → KeepsUnmarked b.marks a.value b.value p) → MarksChanges a b
 part_by_part a b stays tells = record {
   stay = record {
     factions = stays Factions;

@@ -9,7 +9,7 @@ use Rattle.std.specs.FinMap.{FinMap, entries, empty, get-empty, len-empty, len-e
 use Rattle.std.specs.FinSet as set
 use Rattle.atl_world.specs.Worlds.{WorldValue, IsWorld, IsRegionPlan}
 use Rattle.atl_world.specs.Sums.{sum_over, mapped}
-use Rattle.atl_world.proofs.MadeLaws.{entries-mapped}
+use Rattle.atl_world.proofs.MappedLaws.{entries-mapped}
 use Rattle.atl_world.proofs.Maps.{entries-empty}
 use Rattle.atl_records.specs.declared.books.Entry.{Entry}
 use Rattle.atl_records.specs.declared.books.Entry.TheVariants.{Founding}

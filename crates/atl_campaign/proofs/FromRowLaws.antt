@@ -32,7 +32,7 @@ use Rattle.atl_records.specs.Limits.{last_month, most_units, last_unit, men_limi
 use Rattle.atl_campaign.specs.RowRules.{is_from, campaign_row_in_range, faction_in_range, region_in_range, unit_in_range, has_in_range, structure_in_range, books_in_range, books_bound, market_in_range, are_few, people_in_range, numbers_in_range, AreRowsInRange}
 use Rattle.atl_campaign.specs.Stocks.{stock_limit}
 use Rattle.atl_campaign.proofs.AssemblyLaws.{is_same, AreAmounts-had}
-use Rattle.atl_campaign.proofs.BackLaws.{every_by}
+use Rattle.atl_campaign.proofs.ReadBackLaws.{every_by}
 use Rattle.atl_records.proofs.AccountLaws.{place_at}
 use Rattle.atl_records.proofs.BookLaws.{AreBooks-no_amounts, AreBooks-with_amount}
 use Rattle.atl_records.proofs.EveryLaws.{every-empty, every-insert}
@@ -139,8 +139,8 @@ in_stock w n markets all =
     (kept (λ m. as_u32 m.region == n) (InStock w n) markets (each_passes (market_in_range w) (λ m. (as_u32 m.region == n) ≡ true → InStock w n m) (has_room w n) markets all))
 
 -- a region assembled from rows in range has peasants, money and stocks in their ranges
-region_good : (w : WorldValue) (markets : List StoredMarket) (r : StoredRegion) → list_all (market_in_range w) markets ≡ true → region_in_range r ≡ true → IsRegion w (as_u32 r.number) (region_of markets r)
-region_good w markets r all h =
+region_ranges : (w : WorldValue) (markets : List StoredMarket) (r : StoredRegion) → list_all (market_in_range w) markets ≡ true → region_in_range r ≡ true → IsRegion w (as_u32 r.number) (region_of markets r)
+region_ranges w markets r all h =
     let parts = and_parts (is_from 0 most_amount r.peasants) (is_from 0 most_amount r.money) h in
     record {
       peasants = (in_range 0 most_amount most_u32 r.peasants (omega arith) parts.0).1;
@@ -149,8 +149,8 @@ region_good w markets r all h =
     }
 
 -- a structure assembled from a row in range has from 1 to its kind's size done
-structure_good : (w : WorldValue) (r : StoredStructure) → structure_in_range w r ≡ true → (1 ≤ (structure_of r).done) × ((structure_of r).done ≤ size_of w (structure_of r).kind)
-structure_good w r h =
+structure_ranges : (w : WorldValue) (r : StoredStructure) → structure_in_range w r ≡ true → (1 ≤ (structure_of r).done) × ((structure_of r).done ≤ size_of w (structure_of r).kind)
+structure_ranges w r h =
     let size = size_of w (as_u16 r.kind) in
     in_range 1 size most_u32 r.done (omega arith) (and_parts (is_from 1 most_structures r.number) (is_from 1 size r.done) h).1
 
@@ -173,8 +173,8 @@ unit_ranges r h =
     record { number = inner.0; men = inner.1; money = middle.1; guard = outer.1 }
 
 -- a unit assembled from rows in range has a number from 1 and a holding within the limits
-unit_good : (has : List StoredHas) (r : StoredUnit) → list_all has_in_range has ≡ true → unit_in_range r ≡ true → (1 ≤ as_u32 r.number) × IsHolding (unit_of has r).holding
-unit_good has r all h =
+unit_ranges_read : (has : List StoredHas) (r : StoredUnit) → list_all has_in_range has ≡ true → unit_in_range r ≡ true → (1 ≤ as_u32 r.number) × IsHolding (unit_of has r).holding
+unit_ranges_read has r all h =
     let ranges = unit_ranges r h in (
       (in_range 1 last_unit most_u32 r.number (omega arith) ranges.number).0,
       record {
@@ -279,8 +279,8 @@ module _ (w : WorldValue) (p : Parts) (h : AreRowsInRange w p) where
         next_unit_least = unit.0;
         next_unit_most = unit.1;
         factions = by_number-every (λ r. as_u32 r.number) faction_of (λ n f. f.number ≡ n) faction_in_range (λ r good. refl) p.factions ranges.factions;
-        regions = by_number-every (λ r. as_u32 r.number) (region_of p.markets) (λ n r. IsRegion w n r) region_in_range (λ r good. region_good w p.markets r ranges.markets good) p.regions ranges.regions;
-        units = by_number-every (λ r. as_u32 r.number) (unit_of p.has) (λ n u. (1 ≤ n) × IsHolding u.holding) unit_in_range (λ r good. unit_good p.has r ranges.has good) p.units ranges.units;
-        structures = by_number-every (λ r. as_u32 r.number) structure_of (λ n s. (1 ≤ s.done) × (s.done ≤ size_of w s.kind)) (structure_in_range w) (λ r good. structure_good w r good) p.structures ranges.structures;
+        regions = by_number-every (λ r. as_u32 r.number) (region_of p.markets) (λ n r. IsRegion w n r) region_in_range (λ r good. region_ranges w p.markets r ranges.markets good) p.regions ranges.regions;
+        units = by_number-every (λ r. as_u32 r.number) (unit_of p.has) (λ n u. (1 ≤ n) × IsHolding u.holding) unit_in_range (λ r good. unit_ranges_read p.has r ranges.has good) p.units ranges.units;
+        structures = by_number-every (λ r. as_u32 r.number) structure_of (λ n s. (1 ≤ s.done) × (s.done ≤ size_of w s.kind)) (structure_in_range w) (λ r good. structure_ranges w r good) p.structures ranges.structures;
         books = put-books (things_of w) p.books (no_amounts (things_of w)) (AreBooks-no_amounts (things_of w));
       }

@@ -32,7 +32,7 @@ use Rattle.atl_records.specs.Every.{Every}
 use Rattle.atl_campaign.proofs.GoodLaws.{posted-there}
 use Rattle.atl_campaign.specs.Good.{AreInRange, AreAmountsWithin, HaveMen, AreNamed, IsPlaced, AreKnown, IsNumbered, AreNumbered, AreDays, GoneHaveNone, UnitlessAreGone, AreOwned, IsAboard, AreAfloat, guards, AreOfOneFaction, IsMail, IsSteady, IsSound, amount_bound}
 use Rattle.atl_campaign.specs.Joining.{joined, new_faction, first_unit, home_of, is_full, name_taken}
-use Rattle.atl_campaign.specs.Ordered.{put_number, first_above}
+use Rattle.atl_campaign.specs.Ordered.{put_number, first_not_below}
 use Rattle.atl_records.proofs.BookLaws.{booked-after_booking, AreBooks-after_booking, IsWithin-after_booking, IsSmall-within, share_of}
 use Rattle.atl_records.proofs.EveryLaws.{every-empty, every-insert, every-from_none, get-insert_other, there-new, there-insert, passes-listed, none_some}
 use Rattle.atl_campaign.proofs.NumberedNameLaws.{unit_name_ok}
@@ -115,7 +115,7 @@ other_key m k n v free is = let apart : k ≢ n = λ same. none_some v (sym free
 -- a list into which a number was put is not empty
 some_put : {P : Type 0} (n : ℕ) (xs : List ℕ) → put_number n xs ≡ [] → P
 unfolding put_number
-some_put n xs e = absurd (omega (arith, ap length e, length-append (take (first_above n xs) xs) (n ∷ drop (first_above n xs) xs)))
+some_put n xs e = absurd (omega (arith, ap length e, length-append (take (first_not_below n xs) xs) (n ∷ drop (first_not_below n xs) xs)))
 
 -- a name that is not taken is no faction's joined name
 untaken : (c : CampaignValue) (name : List ℕ) → name_taken c name ≡ false → Every (λ n f. f.joined_as ≢ name) c.factions

@@ -3,7 +3,7 @@ pub mod RegionLaws
 pub mod OrderedLaws
 pub mod SortedLaws
 pub mod AssemblyLaws
-pub mod BackLaws
+pub mod ReadBackLaws
 pub mod GroupLaws
 pub mod GivingLaws
 pub mod TotalLaws
@@ -16,11 +16,11 @@ pub mod JoinLaws
 pub mod OwnerLaws
 pub mod ListLaws
 pub mod KeyLaws
-pub mod FreeLaws
+pub mod GapVecLaws
 pub mod FromRowLaws
 pub mod HasLaws
 pub mod OrderLaws
-pub mod RosterLaws
+pub mod SortedMapLaws
 pub mod RowLaws
 pub mod UnitLaws
 pub mod MarkedRegionLaws
@@ -32,7 +32,7 @@ pub mod StockLaws
 pub mod HoldingLaws
 pub mod NumberListLaws
 pub mod LeavingLaws
-pub mod GoneLaws
+pub mod GoneFactionLaws
 pub mod PostLaws
 pub mod HavingLaws
 pub mod BegunLaws

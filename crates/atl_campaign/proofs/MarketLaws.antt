@@ -9,7 +9,7 @@ use Rattle.atl_world.specs.ByNumber.{market_of}
 use Rattle.atl_world.specs.Worlds.{IsWorld, WorldValue, without_market, without_markets}
 use Rattle.atl_world.specs.declared.world.Market.{Market}
 use Rattle.atl_world.specs.declared.world.RegionPlan.{RegionPlan}
-use Rattle.atl_world.proofs.MadeLaws.{get-mapped}
+use Rattle.atl_world.proofs.MappedLaws.{get-mapped}
 use Rattle.atl_campaign.specs.Campaign.{CampaignValue}
 use Rattle.atl_campaign.specs.Good.{AreKnown, HasNoStocks}
 use Rattle.atl_campaign.proofs.RuleLaws.{free_from}

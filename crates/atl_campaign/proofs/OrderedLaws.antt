@@ -11,15 +11,15 @@ use Rattle.std.proofs.lemmas.Bool.Decides.{nat_tests}
 use Rattle.atl_world.specs.Sums.{numbers_where}
 use Rattle.atl_world.proofs.SumLaws.{chosen-cons, numbers_where-insert_other, put_back, put_over}
 use Rattle.std.specs.List.{remove}
-use Rattle.atl_campaign.specs.Ordered.{first_above, put_number, take_number}
+use Rattle.atl_campaign.specs.Ordered.{first_not_below, put_number, take_number}
 use Rattle.atl_records.proofs.EveryLaws.{is_true, none_some}
 
 -- ---- put_number and take_number as recursions
 -- n is put in front of a first element x if n is at most x (t), and else into the rest of the list
-put_step : (t : Bool) (n x : ℕ) (xs : List ℕ) → take (cond (not t) (1 + first_above n xs) 0) (x ∷ xs) ++ n ∷ drop (cond (not t) (1 + first_above n xs) 0) (x ∷ xs) ≡ cond t (n ∷ x ∷ xs) (x ∷ put_number n xs)
+put_step : (t : Bool) (n x : ℕ) (xs : List ℕ) → take (cond (not t) (1 + first_not_below n xs) 0) (x ∷ xs) ++ n ∷ drop (cond (not t) (1 + first_not_below n xs) 0) (x ∷ xs) ≡ cond t (n ∷ x ∷ xs) (x ∷ put_number n xs)
 unfolding put_number
 put_step true n x xs = refl
-put_step false n x xs = let e : 1 + first_above n xs ≡ suc (first_above n xs) = omega arith in ap (λ i. take i (x ∷ xs) ++ n ∷ drop i (x ∷ xs)) e
+put_step false n x xs = let e : 1 + first_not_below n xs ≡ suc (first_not_below n xs) = omega arith in ap (λ i. take i (x ∷ xs) ++ n ∷ drop i (x ∷ xs)) e
 
 -- a number is put before a first element that it is at most, else into the rest
 pub put_number-cons : (n x : ℕ) (xs : List ℕ) → put_number n (x ∷ xs) ≡ cond (nat_le n x) (n ∷ x ∷ xs) (x ∷ put_number n xs)
@@ -32,10 +32,10 @@ unfolding put_number
 put_number-nil n = refl
 
 -- taking n out removes a first element x if n is at most x (t), and else takes n out of the rest of the list
-take_step : (t : Bool) (n x : ℕ) (xs : List ℕ) → remove (x ∷ xs) (cond (not t) (1 + first_above n xs) 0) ≡ cond t xs (x ∷ take_number n xs)
+take_step : (t : Bool) (n x : ℕ) (xs : List ℕ) → remove (x ∷ xs) (cond (not t) (1 + first_not_below n xs) 0) ≡ cond t xs (x ∷ take_number n xs)
 unfolding take_number
 take_step true n x xs = refl
-take_step false n x xs = let e : 1 + first_above n xs ≡ suc (first_above n xs) = omega arith in ap (remove (x ∷ xs)) e
+take_step false n x xs = let e : 1 + first_not_below n xs ≡ suc (first_not_below n xs) = omega arith in ap (remove (x ∷ xs)) e
 
 -- take_number removes a first element that n is at most, and else takes n out of the rest
 pub take_number-cons : (n x : ℕ) (xs : List ℕ) → take_number n (x ∷ xs) ≡ cond (nat_le n x) xs (x ∷ take_number n xs)

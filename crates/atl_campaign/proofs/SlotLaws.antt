@@ -12,7 +12,7 @@ use Rattle.std.specs.Ordering.{nat_cmp, is_eq, eq_by_cmp}
 use Rattle.std.specs.Cmp.{nat_cmp_total, ranked}
 use Rattle.std.specs.FinMap.{FinMap, get, find, insert, remove, empty, entries, is_sorted, len, len-entries, len-empty, len-insert, len-remove, get-entries, get-insert, get-remove, get-empty, get-from_entries, from_entries, same_map, nat_cmp-IsAntisymmetric}
 use Rattle.std.specs.FinMap.Entries.{below_all}
-use Rattle.atl_world.proofs.MadeLaws.{is_less}
+use Rattle.atl_world.proofs.MappedLaws.{is_less}
 use Rattle.atl_world.proofs.Maps.{entries-empty, entries_of}
 use Rattle.slab.specs.Slab as slab
 use Rattle.atl_campaign.specs.Slots.{slot_entries, slot_entry_at, values_of, AreInUse, HaveOwnSlots, IsArena}

@@ -8,13 +8,13 @@ IsSorted [] = ⊤
 IsSorted (x ∷ xs) = AllByRecursion (λ y. x ≤ y) xs × IsSorted xs
 
 -- the index of the first number of a list that is not below n; the length where there is none
-abbrev pub first_above : ℕ → List ℕ → ℕ
-first_above n xs = position_or_len (nat_le n) xs
+abbrev pub first_not_below : ℕ → List ℕ → ℕ
+first_not_below n xs = position_or_len (nat_le n) xs
 
 -- the list with n put in before the first number that is not below it
 unfoldable pub put_number : ℕ → List ℕ → List ℕ
-put_number n xs = take (first_above n xs) xs ++ n ∷ drop (first_above n xs) xs
+put_number n xs = take (first_not_below n xs) xs ++ n ∷ drop (first_not_below n xs) xs
 
 -- the list without the first number that is not below n, which is n where the list has it
 unfoldable pub take_number : ℕ → List ℕ → List ℕ
-take_number n xs = remove xs (first_above n xs)
+take_number n xs = remove xs (first_not_below n xs)

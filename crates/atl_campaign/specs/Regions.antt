@@ -49,8 +49,8 @@ abbrev pub with_item_marked_in : MarkedRegions → (region item : ℕ) → Optio
 with_item_marked_in r n item region = record r { markets = marked_with r.markets n region; items = thing_marked r.items n item region }
 
 -- the regions with all stocks of region n marked; unchanged if None is given for that region
-abbrev pub with_items_marked_in : MarkedRegions → (region : ℕ) → Option Region → MarkedRegions
-with_items_marked_in r n region = record r { markets = marked_with r.markets n region; stocks = marked_with r.stocks n region }
+abbrev pub with_stocks_marked_in : MarkedRegions → (region : ℕ) → Option Region → MarkedRegions
+with_stocks_marked_in r n region = record r { markets = marked_with r.markets n region; stocks = marked_with r.stocks n region }
 
 -- the regions with the stock of an item in region n marked, if there is such a region
 abbrev pub with_item_marked : MarkedRegions → (region item : ℕ) → MarkedRegions
@@ -58,7 +58,7 @@ with_item_marked r n item = with_item_marked_in r n item (map.get r.values n)
 
 -- the regions with all stocks of region n marked, if there is such a region
 abbrev pub with_stocks_marked : MarkedRegions → (region : ℕ) → MarkedRegions
-with_stocks_marked r n = with_items_marked_in r n (map.get r.values n)
+with_stocks_marked r n = with_stocks_marked_in r n (map.get r.values n)
 
 -- region n, if there is one and its stock of an item is another than `amount`; else None
 abbrev pub region_to_restock : map.FinMap nat_cmp Region → (region item : ℕ) → ℕ → Option Region
@@ -68,7 +68,7 @@ region_to_restock values n item amount = if stock_in values n item == amount the
 abbrev pub MarksStockAt : (before after : MarkedRegions) → (region item : ℕ) → ℕ → Type 0
 MarksStockAt before after n item amount =
     let region = region_to_restock before.values n item amount in
-    (after ≡ record (with_item_marked_in before n item region) { values = after.values }) ⊎ (after ≡ record (with_items_marked_in before n region) { values = after.values })
+    (after ≡ record (with_item_marked_in before n item region) { values = after.values }) ⊎ (after ≡ record (with_stocks_marked_in before n region) { values = after.values })
 
 -- For proofs alone: there is room to mark each region's row and its stocks, and a marked stock has its region marked.
 pub record AreRegions (regions : map.FinMap nat_cmp Region) (rows markets stocks : RoomySet) (items : Things) : Type 0 where

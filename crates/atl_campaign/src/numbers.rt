@@ -1,6 +1,6 @@
 //! A sorted list of numbers, as that of the units in a region.
 ghost use Rattle.std.specs.Prelude.{◌≡◌, ◌≤◌, OnOk, OnErr, [], length};
-ghost use Rattle.atl_campaign.specs.Ordered.{IsSorted, put_number, take_number, first_above};
+ghost use Rattle.atl_campaign.specs.Ordered.{IsSorted, put_number, take_number, first_not_below};
 
 use crate::gap_vec::GapVec;
 use std::alloc::{AllocError, Global};
@@ -25,9 +25,9 @@ impl Model for Numbers {
 }
 
 /// The index of the first number of a sorted list that is not below `number`; the length if none.
-fn first_above(items: &[u32], number: u32) -> usize
+fn first_not_below(items: &[u32], number: u32) -> usize
     requires { IsSorted items.now }
-    ensures place { result ≡ first_above number items.now }
+    ensures place { result ≡ first_not_below number items.now }
     ensures small { result ≤ length items.now }
 {
     items.partition_point(|item| *item < number)
@@ -49,7 +49,7 @@ impl Numbers {
         ensures ok { OnOk result (self.new ≡ put_number number self.old) }
         ensures err { OnErr result (self.new ≡ self.old) }
     {
-        let place = first_above(self.as_slice(), number);
+        let place = first_not_below(self.as_slice(), number);
         self.items.insert(place, number)?;
         Ok(())
     }
@@ -60,7 +60,7 @@ impl Numbers {
     pub(crate) fn take(&mut self, number: u32)
         ensures { self.new ≡ take_number number self.old }
     {
-        let place = first_above(self.as_slice(), number);
+        let place = first_not_below(self.as_slice(), number);
         if place < self.items.len() {
             self.items.remove(place);
         }

@@ -218,7 +218,7 @@ fn has_row(number: u32, sort: u32, thing: u32, amount: u32) -> StoredHas
 }
 
 /// Adds a row for each thing of one sort, items or skills, of which a unit has more than 0.
-fn add_kind(
+fn add_sort(
     rows: &mut Sequence<StoredHas>,
     number: u32,
     sort: u32,
@@ -242,8 +242,8 @@ fn add_held(
 ) -> Result<(), AllocError>
     ensures { OnOk result (rows.new ≡ rows.old ++ held_rows number holding.now) }
 {
-    add_kind(rows, number, ITEM_SORT, holding.items())?;
-    add_kind(rows, number, SKILL_SORT, holding.days())
+    add_sort(rows, number, ITEM_SORT, holding.items())?;
+    add_sort(rows, number, SKILL_SORT, holding.days())
 }
 
 /// The rows of `has` for the items and days of study of all units, unit by unit.

@@ -36,10 +36,10 @@ behind_by x y w p rest true e ih k =
 behind_by x y w p rest false e ih k = cc
 
 -- if `after_prefix` gives `rest`, the path is the prefix followed by `rest`
-pub behind_is : (w p rest : List ℕ) → after_prefix w p ≡ Some rest → p ≡ w ++ rest
-behind_is [] p rest h = cc
-behind_is (x ∷ w) [] rest h = cc
-behind_is (x ∷ w) (y ∷ p) rest h = behind_by x y w p rest (y == x) refl (λ k. behind_is w p rest k) (sym (behind_step x y w p) ∙ h)
+pub after_prefix_is : (w p rest : List ℕ) → after_prefix w p ≡ Some rest → p ≡ w ++ rest
+after_prefix_is [] p rest h = cc
+after_prefix_is (x ∷ w) [] rest h = cc
+after_prefix_is (x ∷ w) (y ∷ p) rest h = behind_by x y w p rest (y == x) refl (λ k. after_prefix_is w p rest k) (sym (behind_step x y w p) ∙ h)
 
 -- looking up a path in rows with a common prefix, past the first byte of both, looks up what follows the prefix, or
 -- finds nothing
@@ -52,13 +52,13 @@ front_by x y w p t false e ih =
     rw (step-miss y x w t differ) (seek-empty 0 p)
 
 -- looking up a path in rows with a common prefix looks up the rest of the path after the prefix, or finds nothing
-pub first_behind : (w : List ℕ) (t : Rows) (path : List ℕ) → IsText w → first (prepend w t) path ≡ option_and_then (λ rest. first t rest) (after_prefix w path)
+pub lookup_after_prefix : (w : List ℕ) (t : Rows) (path : List ℕ) → IsText w → first (prepend w t) path ≡ option_and_then (λ rest. first t rest) (after_prefix w path)
 unfolding seek
-first_behind [] t path h = ap (λ r. first r path) (prepend-nil t)
-first_behind (x ∷ w) t [] h = own-prepend x w t
-first_behind (x ∷ w) t (y ∷ p) h =
+lookup_after_prefix [] t path h = ap (λ r. first r path) (prepend-nil t)
+lookup_after_prefix (x ∷ w) t [] h = own-prepend x w t
+lookup_after_prefix (x ∷ w) t (y ∷ p) h =
     seek-lit x w t y p h.0
-    ∙ front_by x y w p t (y == x) refl (first_behind w t p h.1)
+    ∙ front_by x y w p t (y == x) refl (lookup_after_prefix w t p h.1)
     ∙ ap (λ r. option_and_then (λ rest. first t rest) r) (sym (behind_step x y w p))
 
 -- ---- a number after a prefix

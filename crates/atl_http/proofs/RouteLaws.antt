@@ -20,7 +20,7 @@ use Rattle.matchit.proofs.RenameLemmas.{first-rename}
 use Rattle.matchit.specs.Params.{walk, wild_from, part_of, named, AllText}
 use Rattle.std.proofs.lemmas.List.{length-drop, drop_at}
 use Rattle.std.proofs.Math.Seq.{take-length}
-use Rattle.atl_http.proofs.FrontLaws.{behind_is, first_behind, number_row, end_none, ascii_utf8, NumberSays, number_says}
+use Rattle.atl_http.proofs.FrontLaws.{after_prefix_is, lookup_after_prefix, number_row, end_none, ascii_utf8, NumberSays, number_says}
 
 -- ---- the text of a number in a path
 
@@ -146,7 +146,7 @@ leads_number key front path rest p f a b (inr (e, none)) = nowhere (a ∙ e) (b 
 -- the path has the route's prefix or not (`Leads`)
 leads_by : (key c : ℕ) (w q : List ℕ) (found : Option (List ℕ)) → after_prefix w q ≡ found → Fronted key (47 ∷ c ∷ w) → first rows (47 ∷ c ∷ q) ≡ option_and_then (λ rest. first (number_row key) rest) found → route_of (47 ∷ c ∷ q) ≡ in_found key found → Leads (47 ∷ c ∷ q)
 leads_by key c w q None h f a b = nowhere a b
-leads_by key c w q (Some rest) h f a b = leads_number key (47 ∷ c ∷ w) (47 ∷ c ∷ q) rest (ap (λ l. 47 ∷ c ∷ l) (behind_is w q rest h)) f a b (number_says key rest)
+leads_by key c w q (Some rest) h f a b = leads_number key (47 ∷ c ∷ w) (47 ∷ c ∷ q) rest (ap (λ l. 47 ∷ c ∷ l) (after_prefix_is w q rest h)) f a b (number_says key rest)
 
 -- the rows of the router without the slash that each begins with
 abbrev after_slash : Rows
@@ -154,7 +154,7 @@ after_slash = (codes "close/" ++ param_token ∷ [], 0) ∷ (codes "join", 1) �
 
 -- looking up a path looks up the rest of the path after its slash, or finds nothing
 slash_first : (path : List ℕ) → first rows path ≡ option_and_then (λ rest. first after_slash rest) (after_prefix (codes "/") path)
-slash_first path = first_behind (codes "/") after_slash path (lit< tt, tt)
+slash_first path = lookup_after_prefix (codes "/") after_slash path (lit< tt, tt)
 
 -- looking up the rest after the slash steps to the rows that begin with its first letter
 letter_step : (c : ℕ) (q : List ℕ) → first after_slash (c ∷ q) ≡ seek 0 (step c after_slash) q
@@ -170,21 +170,21 @@ leads_close : (q : List ℕ) → Leads (47 ∷ 99 ∷ q)
 unfolding route_of
 leads_close q =
     let same : (x : Option (List ℕ)) → numbered route.Close x None ≡ in_found 0 x = λ x. elim x as (λ x. numbered route.Close x None ≡ in_found 0 x) [ None ↦ refl | Some r ↦ refl ] in
-    leads_by 0 99 (codes "lose/") q (after_prefix (codes "lose/") q) refl fronted_close (letter_first 99 q ∙ first_behind (codes "lose/") (number_row 0) q (is_text (codes "lose/") refl)) (same (after_prefix (codes "lose/") q))
+    leads_by 0 99 (codes "lose/") q (after_prefix (codes "lose/") q) refl fronted_close (letter_first 99 q ∙ lookup_after_prefix (codes "lose/") (number_row 0) q (is_text (codes "lose/") refl)) (same (after_prefix (codes "lose/") q))
 
 -- for each path that begins with `/o`, router and `route_of` agree: the route Orders, or none (`Leads`)
 leads_orders : (q : List ℕ) → Leads (47 ∷ 111 ∷ q)
 unfolding route_of
 leads_orders q =
     let same : (x : Option (List ℕ)) → numbered route.Orders x None ≡ in_found 2 x = λ x. elim x as (λ x. numbered route.Orders x None ≡ in_found 2 x) [ None ↦ refl | Some r ↦ refl ] in
-    leads_by 2 111 (codes "rders/") q (after_prefix (codes "rders/") q) refl fronted_orders (letter_first 111 q ∙ first_behind (codes "rders/") (number_row 2) q (is_text (codes "rders/") refl)) (same (after_prefix (codes "rders/") q))
+    leads_by 2 111 (codes "rders/") q (after_prefix (codes "rders/") q) refl fronted_orders (letter_first 111 q ∙ lookup_after_prefix (codes "rders/") (number_row 2) q (is_text (codes "rders/") refl)) (same (after_prefix (codes "rders/") q))
 
 -- for each path that begins with `/r`, router and `route_of` agree: the route Report, or none (`Leads`)
 leads_report : (q : List ℕ) → Leads (47 ∷ 114 ∷ q)
 unfolding route_of
 leads_report q =
     let same : (x : Option (List ℕ)) → numbered route.Report x None ≡ in_found 3 x = λ x. elim x as (λ x. numbered route.Report x None ≡ in_found 3 x) [ None ↦ refl | Some r ↦ refl ] in
-    leads_by 3 114 (codes "eport/") q (after_prefix (codes "eport/") q) refl fronted_report (letter_first 114 q ∙ first_behind (codes "eport/") (number_row 3) q (is_text (codes "eport/") refl)) (same (after_prefix (codes "eport/") q))
+    leads_by 3 114 (codes "eport/") q (after_prefix (codes "eport/") q) refl fronted_report (letter_first 114 q ∙ lookup_after_prefix (codes "eport/") (number_row 3) q (is_text (codes "eport/") refl)) (same (after_prefix (codes "eport/") q))
 
 -- the row of the router for the route `/join` once all bytes of its text are matched
 abbrev join_row : Rows
@@ -193,7 +193,7 @@ join_row = ([], 1) ∷ []
 -- in the row of `/join`, a path that begins with `/j` and isn't `/join` finds nothing
 join_none : (q : List ℕ) (found : Option (List ℕ)) → after_prefix (codes "oin") q ≡ found → (q ≡ codes "oin" → ⊥) → option_and_then (λ rest. first join_row rest) found ≡ None
 join_none q None h n = refl
-join_none q (Some []) h n = absurd (n (behind_is (codes "oin") q [] h))
+join_none q (Some []) h n = absurd (n (after_prefix_is (codes "oin") q [] h))
 join_none q (Some (b ∷ rest)) h n = end_none 1 b rest
 
 -- the path `/join` leads to the route Join
@@ -205,7 +205,7 @@ at_join = to_join refl (ascii_utf8 (codes "/join") refl) refl
 join_by : (q : List ℕ) (t : Bool) → bytes_eq q (codes "oin") ≡ t → Leads (47 ∷ 106 ∷ q)
 unfolding route_of
 join_by q true e = subst Leads (ap (λ l. 47 ∷ 106 ∷ l) (sym ((bytes_eq-Decides q (codes "oin")).0 e))) at_join
-join_by q false e = nowhere (letter_first 106 q ∙ first_behind (codes "oin") join_row q (is_text (codes "oin") refl) ∙ join_none q (after_prefix (codes "oin") q) refl (λ k. let yes = (bytes_eq-Decides q (codes "oin")).1 k in cc)) (rw e refl)
+join_by q false e = nowhere (letter_first 106 q ∙ lookup_after_prefix (codes "oin") join_row q (is_text (codes "oin") refl) ∙ join_none q (after_prefix (codes "oin") q) refl (λ k. let yes = (bytes_eq-Decides q (codes "oin")).1 k in cc)) (rw e refl)
 
 -- for each path that begins with `/j`, router and `route_of` agree: the route Join, or none (`Leads`)
 leads_join : (q : List ℕ) → Leads (47 ∷ 106 ∷ q)

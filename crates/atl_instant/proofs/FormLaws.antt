@@ -17,7 +17,7 @@ use Rattle.atl_phase.specs.Inside.{inside, region_of}
 use Rattle.atl_phase.specs.Outcomes.{first_fault, unless}
 use Rattle.atl_phase.specs.PhaseOrders.{Task, orders_of}
 use Rattle.atl_phase.specs.OrderEffects.{is_of_faction}
-use Rattle.atl_phase.specs.Bounds.{StepsWell, books_nothing}
+use Rattle.atl_phase.specs.Bounds.{StepsWell, nothing_remaining}
 use Rattle.atl_phase.specs.declared.phase_order.Arrangement.TheVariants.{ByFaction}
 use Rattle.atl_phase.proofs.OrderEffectLaws.{well_same}
 use Rattle.atl_instant.specs.Form.{form_by, form_fault, form_meaning, form_order, is_forming, is_unit_limit, new_unit, with_formed_unit}
@@ -40,7 +40,7 @@ module _ (w : WorldValue) (c : CampaignValue) (early : IsEarly w c) where
     -- campaign d, which an order of FORM makes of c, is early and in balance, nothing is booked (`StepsWell`), and each
     -- unit of c is unchanged
     abbrev Fine : CampaignValue → Type 0
-    Fine d = StepsWell IsEarly books_nothing w c d × Every (λ k v. get d.units k ≡ Some v) c.units
+    Fine d = StepsWell IsEarly nothing_remaining w c d × Every (λ k v. get d.units k ≡ Some v) c.units
 
     -- an unchanged campaign stays early and leaves each unit as it was (`Fine`)
     same_fine : Fine c
@@ -68,7 +68,7 @@ module _ (w : WorldValue) (c : CampaignValue) (early : IsEarly w c) where
     form_fine = by_unit (get c.units n) refl
 
   -- a copied order of FORM keeps an early campaign early, in its month and with balanced books (`StepsWell`)
-  pub order_well : (m : MonthValue) (o : Forming) → StepsWell IsEarly books_nothing w c (form_apart (c, m) o).0
+  pub order_well : (m : MonthValue) (o : Forming) → StepsWell IsEarly nothing_remaining w c (form_apart (c, m) o).0
   order_well m o = (form_fine o.faction o.unit).0
 
   -- a copied order of FORM leaves each unit that was there unchanged

@@ -26,7 +26,7 @@ use Rattle.atl_campaign.proofs.CoverLaws.{Row, Stays, KeepsUnmarked, marks-trans
 use Rattle.atl_records.proofs.EveryLaws.{every-empty, every-insert, get-insert_other, none_some, there-insert}
 use Rattle.atl_campaign.proofs.NumberListLaws.{none_passing}
 use Rattle.atl_campaign.proofs.TotalLaws.{total-with_unit}
-use Rattle.atl_phase.specs.Bounds.{StepsWell, books_nothing}
+use Rattle.atl_phase.specs.Bounds.{StepsWell, nothing_remaining}
 use Rattle.atl_phase.proofs.MeaningLaws.{same_month_by}
 use Rattle.atl_phase.proofs.UnbookedLaws.{unbooked_well}
 use Rattle.atl_instant.specs.Form.{is_unit_limit, new_unit}
@@ -191,7 +191,7 @@ module _ (w : WorldValue) (c : CampaignValue) (p : ℕ) (u : Unit) (is : get c.u
 
   -- if the unit limit isn't reached, forming a unit keeps an early campaign early,
   -- in its month and with balanced books (`StepsWell`)
-  pub begun_well : is_unit_limit c ≡ false → StepsWell IsEarly books_nothing w c begun
+  pub begun_well : is_unit_limit c ≡ false → StepsWell IsEarly nothing_remaining w c begun
   begun_well limit = unbooked_well w c begun (early_begun limit) (same_month_by refl) refl same_total
 
   -- each unit that was there is unchanged after another unit is formed

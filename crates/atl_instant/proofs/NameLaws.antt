@@ -28,7 +28,7 @@ use Rattle.atl_phase.specs.Outcomes.{unless}
 use Rattle.atl_phase.specs.PhaseOrders.{Task}
 use Rattle.atl_phase.specs.NoWorse.{IsNoWorse}
 use Rattle.atl_phase.specs.OrderEffects.{IsOwnOrder, IsUnaffected}
-use Rattle.atl_phase.specs.Bounds.{IsOrderly, IsUnitOf, StepsWell, books_nothing}
+use Rattle.atl_phase.specs.Bounds.{IsOrderly, IsUnitOf, StepsWell, nothing_remaining}
 use Rattle.atl_phase.specs.Unbooked.{moves_nothing}
 use Rattle.atl_phase.proofs.MeaningLaws.{same_month_among, same_month_by}
 use Rattle.atl_phase.proofs.OutcomeLaws.{false_true}
@@ -49,7 +49,7 @@ module _ (w : WorldValue) (c : CampaignValue) (n : ℕ) (u : Unit) (is : get c.u
   -- campaign d, which an order makes of c, is early and in balance, its month is the same, and nothing is booked
   -- (`StepsWell`)
   abbrev Well : CampaignValue → Type 0
-  Well d = StepsWell IsEarly books_nothing w c d
+  Well d = StepsWell IsEarly nothing_remaining w c d
 
   -- ---- the unit's name and its flag
 
@@ -198,7 +198,7 @@ module _ (w : WorldValue) (c : CampaignValue) (n : ℕ) (u : Unit) (k : ℕ) (ap
 
 -- NAME and GUARD 0 keep an early campaign early and book nothing,
 -- and a unit without an own order of these is no worse off (`IsOrderly`)
-pub name_orderly : IsOrderly name_step IsEarly books_nothing moves_nothing name_concerns IsNoWorse
+pub name_orderly : IsOrderly name_step IsEarly nothing_remaining moves_nothing name_concerns IsNoWorse
 name_orderly = record {
   well = λ w a c t x early fit own. order_well w c t.unit x own.there early t.order_value.operands fit;
   sparing = no_worse_spares;

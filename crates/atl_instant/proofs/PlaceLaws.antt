@@ -27,7 +27,7 @@ use Rattle.atl_phase.specs.Outcomes.{first_fault, unless}
 use Rattle.atl_phase.specs.PhaseOrders.{unit_of}
 use Rattle.atl_phase.specs.NoWorse.{IsNoWorse}
 use Rattle.atl_phase.specs.OrderEffects.{IsOwnOrder}
-use Rattle.atl_phase.specs.Bounds.{IsOrderly, StepsWell, books_nothing}
+use Rattle.atl_phase.specs.Bounds.{IsOrderly, StepsWell, nothing_remaining}
 use Rattle.atl_phase.specs.Unbooked.{moves_nothing}
 use Rattle.atl_phase.proofs.MeaningLaws.{same_month_by}
 use Rattle.atl_phase.proofs.PlacingLaws.{place_stays, place_well}
@@ -49,7 +49,7 @@ module _ (w : WorldValue) (c : CampaignValue) (n : ℕ) (u : Unit) (is : get c.u
   -- campaign d, which an order makes of c, is early and in balance, its month is the same, and nothing is booked
   -- (`StepsWell`)
   abbrev Well : CampaignValue → Type 0
-  Well d = StepsWell IsEarly books_nothing w c d
+  Well d = StepsWell IsEarly nothing_remaining w c d
 
   -- an unchanged campaign stays early and in balance (`StepsWell`)
   unchanged : Well c
@@ -181,7 +181,7 @@ module _ (w : WorldValue) (a : Aliases) (c : CampaignValue) (f n : ℕ) (u : Uni
 
 -- LEAVE, ENTER and PROMOTE keep an early campaign early and book nothing,
 -- and units without an own order of these are no worse off (`IsOrderly`)
-pub place_orderly : IsOrderly place_step IsEarly books_nothing moves_nothing IsOwnOrder IsNoWorse
+pub place_orderly : IsOrderly place_step IsEarly nothing_remaining moves_nothing IsOwnOrder IsNoWorse
 place_orderly = record {
   well = λ w a c t x early fit own. order_well w c t.unit x own.there early a t.faction t.order_value.operands;
   sparing = no_worse_spares;

@@ -343,8 +343,8 @@ module _ (w : WorldValue) (c : CampaignValue) (n : ℕ) (u : Unit) (is : get c.u
   there = ap (λ (s : CampaignValue). get s.units n) off_is.same ∙ is
 
   -- after one unit has left, the units are those before without unit n
-  pub units_behind : behind.units ≡ remove c.units n
-  units_behind = (only_reduced w off n u there).units ∙ ap (λ (s : CampaignValue). remove s.units n) off_is.same
+  pub units_left : behind.units ≡ remove c.units n
+  units_left = (only_reduced w off n u there).units ∙ ap (λ (s : CampaignValue). remove s.units n) off_is.same
 
   -- the books balance after the unit left, if they balanced before
   balanced : Balances c → Balances behind
@@ -363,7 +363,7 @@ module _ (w : WorldValue) (c : CampaignValue) (n : ℕ) (u : Unit) (is : get c.u
   drawn e t =
       let only = only_reduced w off n u there in
       let reserves : quit_reserve behind e t + loss_under e t u.holding ≡ quit_reserve c e t =
-      ap (λ (m : FinMap nat_cmp Unit). sum_over (λ (x : Unit). loss_under e t x.holding) m + loss_under e t u.holding) units_behind ∙ sum_over-remove c.units n (λ (x : Unit). loss_under e t x.holding) u is in
+      ap (λ (m : FinMap nat_cmp Unit). sum_over (λ (x : Unit). loss_under e t x.holding) m + loss_under e t u.holding) units_left ∙ sum_over-remove c.units n (λ (x : Unit). loss_under e t x.holding) u is in
       subst (λ (books : BooksValue). UsesBound (quit_reserve c e t) (quit_reserve behind e t) (amount_in c.books e t) (amount_in books e t)) (sym only.books)
       (drawn_near (loss_under e t u.holding) (quit_reserve c e t) (quit_reserve behind e t) (amount_in c.books e t) (amount_in off.books e t) reserves
       (near_more (held_moves u.holding e t) (loss_under e t u.holding) (amount_in c.books e t) (amount_in off.books e t) (moves_what_leaves u.holding e t) (off_is.near e t)))

@@ -23,7 +23,7 @@ use Rattle.atl_phase.specs.declared.phase_order.Arrangement.TheVariants.{ByUnit}
 use Rattle.atl_phase.proofs.StructureLaws.{equal_passes}
 use Rattle.atl_phase.proofs.OrderEffectLaws.{no_worse_spares, orders_fit, orders_spare}
 use Rattle.atl_instant.specs.Quit.{QuitsFrom, after_leaving, is_quitting, quit, quit_effect, quit_keeps, quit_meaning, quit_moves, quit_reserve, quit_step, without_leaver}
-use Rattle.atl_instant.proofs.QuitLaws.{left_well, quit_cases, quit_orderly, quit_well, units_behind}
+use Rattle.atl_instant.proofs.QuitLaws.{left_well, quit_cases, quit_orderly, quit_well, units_left}
 
 -- ---- no unit comes, and none changes
 
@@ -40,7 +40,7 @@ left_some w c n steady = by_unit (get c.units n) refl
     by_unit : (o : Option Unit) → get c.units n ≡ o → HasSomeOf c (without_leaver c n o)
     by_unit None is = λ k u there. there
     by_unit (Some x) is =
-        subst (λ (m : FinMap nat_cmp Unit). Every (λ k u. get c.units k ≡ Some u) m) (sym (units_behind w c n x is steady)) (every-remove c.units n (λ k u. get c.units k ≡ Some u) (λ k u there. there))
+        subst (λ (m : FinMap nat_cmp Unit). Every (λ k u. get c.units k ≡ Some u) m) (sym (units_left w c n x is steady)) (every-remove c.units n (λ k u. get c.units k ≡ Some u) (λ k u there. there))
 
 -- after units left, each unit that is still there is unchanged (`HasSomeOf`), if the campaign was steady
 all_left_some : (w : WorldValue) (c : CampaignValue) (ns : List ℕ) → IsSteady w c → HasSomeOf c (fold after_leaving c ns)

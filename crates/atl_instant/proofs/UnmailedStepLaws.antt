@@ -49,9 +49,9 @@ form_readings p [] = refl
 form_readings p (t ∷ ts) = form_readings (form_order p t) ts
 
 -- orders of FORM add no men who starved to the events
-form_told : (p : CampaignValue × MonthValue) (ts : List Task) (n : ℕ) → starved_in (fold form_order p ts).1.events n ≡ starved_in p.1.events n
-form_told p [] n = refl
-form_told p (t ∷ ts) n = form_told (form_order p t) ts n ∙ told_of_order p.1.events t (form_by p.0 t.faction t.unit).1 n
+form_starves_none : (p : CampaignValue × MonthValue) (ts : List Task) (n : ℕ) → starved_in (fold form_order p ts).1.events n ≡ starved_in p.1.events n
+form_starves_none p [] n = refl
+form_starves_none p (t ∷ ts) n = form_starves_none (form_order p t) ts n ∙ told_of_order p.1.events t (form_by p.0 t.faction t.unit).1 n
 
 -- the phase of FORM leaves units of factions without a mailing what is theirs (`LeavesUnmailed`)
 pub form_leaves : LeavesUnmailed form_meaning form_keeps
@@ -59,7 +59,7 @@ unfolding form_meaning
 form_leaves =
     whole_leaves {meaning = form_meaning} {keeps = form_keeps}
     (λ w c m. form_readings (c, m) (values (orders_of is_forming ByFaction m.aliases m.readings)))
-    (λ w c m n. form_told (c, m) (values (orders_of is_forming ByFaction m.aliases m.readings)) n)
+    (λ w c m n. form_starves_none (c, m) (values (orders_of is_forming ByFaction m.aliases m.readings)) n)
     (λ w c m keeps n u there none. record { unit = u; there = keeps n u there; spared = record { faction = refl; men = refl } })
     (λ w c m keeps n u there none. record { unit = u; there = keeps n u there; spared = record { name = refl; items = λ i. omega arith } })
 

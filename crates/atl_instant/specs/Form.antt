@@ -21,7 +21,7 @@ use Rattle.atl_phase.specs.Outcomes.{first_fault, unless}
 use Rattle.atl_phase.specs.PhaseOrders.{Task, orders_of}
 use Rattle.atl_phase.specs.OrderEffects.{event_for, is_of_faction}
 use Rattle.atl_phase.specs.declared.phase_order.Arrangement.TheVariants.{ByFaction}
-use Rattle.atl_phase.specs.PhaseSpecs.{PhaseSpec, books_none}
+use Rattle.atl_phase.specs.PhaseSpecs.{PhaseSpec, spec_without_books}
 
 -- whether a verb is FORM
 abbrev pub is_forming : Verb → Bool
@@ -86,4 +86,4 @@ form_keeps w m before after = Every (λ n u. get after.units n ≡ Some u) befor
 
 -- the specification of the phase of FORM, which moves no amount of the books
 abbrev pub form_spec : PhaseSpec
-form_spec = books_none form_meaning form_keeps
+form_spec = spec_without_books form_meaning form_keeps

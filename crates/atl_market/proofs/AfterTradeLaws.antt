@@ -18,7 +18,7 @@ use Rattle.atl_campaign.specs.Lending.{with_held}
 use Rattle.atl_campaign.specs.Stocks.{stock_of}
 use Rattle.atl_records.proofs.EveryLaws.{each-from_every, first, other_number, same_number}
 use Rattle.atl_records.proofs.HoldingLaws.{set_other, set_same}
-use Rattle.atl_campaign.proofs.BackLaws.{Rise, entries_rise}
+use Rattle.atl_campaign.proofs.ReadBackLaws.{Rise, entries_rise}
 use Rattle.atl_campaign.proofs.RegionLaws.{changed-known, get-insert_same}
 use Rattle.atl_campaign.proofs.StockLaws.{restocked}
 use Rattle.atl_phase.specs.PhaseOrders.{Task}

@@ -14,7 +14,7 @@ use Rattle.atl_campaign.specs.Campaign.{CampaignValue}
 use Rattle.atl_phase.specs.Bounds.{StepsWell}
 use Rattle.atl_phase.proofs.MeaningLaws.{same_month_by}
 use Rattle.atl_phase.proofs.PlacingLaws.{behind, place_is, placed_steady, placed_total}
-use Rattle.atl_market.specs.Bounds.{CanBuild, build_reserve, usable}
+use Rattle.atl_market.specs.Bounds.{CanBuild, build_reserve, still_bookable}
 use Rattle.atl_market.proofs.BuildBegunLaws.{still_well}
 
 -- if two sums are equal, and their second terms are, their first terms are equal
@@ -29,7 +29,7 @@ module _ (w : WorldValue) (c : CampaignValue) (n : ℕ) (u : Unit) (s : ℕ) (is
   -- moving unit `n` into structure `s` keeps what BUILD may still book
   reserve_stays : (e : Entry) (t : Thing) → build_reserve then e t ≡ build_reserve c e t
   reserve_stays e t =
-      let f = λ (x : Unit). usable e t x.holding in
+      let f = λ (x : Unit). still_bookable e t x.holding in
       let moved : Unit = record u { structure = s } in
       cancelled (build_reserve then e t) (build_reserve c e t) (f u) (f moved) (sum_over-insert_known f c.units n u moved is) refl
 

@@ -28,7 +28,7 @@ use Rattle.atl_phase.specs.Bounds.{HasRoom, HaveRoom, StepsWell, UsesBound}
 use Rattle.atl_records.proofs.HoldingLaws.{alike, set_amount}
 use Rattle.atl_phase.proofs.MeaningLaws.{less_room, near_more}
 use Rattle.atl_phase.proofs.OrderEffectLaws.{drawn_near}
-use Rattle.atl_market.specs.Bounds.{CanBuild, build_reserve, usable}
+use Rattle.atl_market.specs.Bounds.{CanBuild, build_reserve, still_bookable}
 use Rattle.atl_market.specs.Goods.{with_used}
 use Rattle.atl_market.proofs.GoodsLaws.{item_held, used_is, used_up_to}
 use Rattle.atl_market.proofs.ThereLaws.{by_unit}
@@ -59,7 +59,7 @@ used_of item amount e (Item j) = if entry_index e == entry_index Used then cond 
 used_of item amount e t = 0
 
 -- using an amount of an item lowers what BUILD may still book for the holding (`usable`) by that amount, under Used
-usable_less : (h : HoldingValue) (item amount : ℕ) → amount ≤ amount_of h.items item → (e : Entry) (t : Thing) → usable e t h ≡ usable e t (with_less h item amount) + used_of item amount e t
+usable_less : (h : HoldingValue) (item amount : ℕ) → amount ≤ amount_of h.items item → (e : Entry) (t : Thing) → still_bookable e t h ≡ still_bookable e t (with_less h item amount) + used_of item amount e t
 usable_less h item amount enough e Money = refl
 usable_less h item amount enough e People = refl
 usable_less h item amount enough e (Item j) = by_entry (entry_index e == entry_index Used)
@@ -130,7 +130,7 @@ module _ (w : WorldValue) (c : CampaignValue) (n item amount : ℕ) (u : Unit) (
     -- using the item lowers what BUILD may still book by at least as much as it moves the books (`UsesBound`)
     drawn : (e : Entry) (t : Thing) → UsesBound (build_reserve c e t) (build_reserve used e t) (amount_in c.books e t) (amount_in used.books e t)
     drawn e t =
-        let f = λ (x : Unit). usable e t x.holding in
+        let f = λ (x : Unit). still_bookable e t x.holding in
         drawn_near (used_of item amount e t) (build_reserve c e t) (build_reserve used e t) (amount_in c.books e t) (amount_in used.books e t)
         (shrunk (build_reserve used e t) (build_reserve c e t) (f u) (f user) (used_of item amount e t) (sum_over-insert_known f c.units n u user is) (usable_less u.holding item amount enough e t))
         (near_more (moves_only amount Used (Item item) e t) (used_of item amount e t) (amount_in c.books e t) (amount_in used.books e t) (only_used item amount e t) (well.near e t))
@@ -159,7 +159,7 @@ same_next c n item amount = by_unit c n (λ (d : CampaignValue). d.next_structur
 -- books with room for all that BUILD may use have room for what a unit uses of an item that it holds
 pub used_room : (c : CampaignValue) (n item amount : ℕ) (u : Unit) → get c.units n ≡ Some u → amount ≤ amount_of u.holding.items item → HaveRoom (build_reserve c) c → HasRoom amount (amount_in c.books Used (Item item))
 used_room c n item amount u is enough room =
-    let f = λ (x : Unit). usable Used (Item item) x.holding in
+    let f = λ (x : Unit). still_bookable Used (Item item) x.holding in
     less_room amount (build_reserve c Used (Item item)) (amount_in c.books Used (Item item))
     (within amount (amount_of u.holding.items item) (sum_over f (remove c.units n)) (build_reserve c Used (Item item)) enough (sum_over-remove c.units n f u is)) (room Used (Item item))
   where

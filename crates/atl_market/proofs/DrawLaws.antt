@@ -14,7 +14,7 @@ use Rattle.atl_records.specs.declared.records.Unit.{Unit}
 use Rattle.atl_records.specs.Every.{EachOf, IsThere}
 use Rattle.atl_campaign.specs.Good.{IsEarly}
 use Rattle.atl_campaign.specs.Campaign.{CampaignValue, region_changed}
-use Rattle.atl_campaign.proofs.BackLaws.{Rise, entries_rise}
+use Rattle.atl_campaign.proofs.ReadBackLaws.{Rise, entries_rise}
 use Rattle.atl_records.proofs.EveryLaws.{each-from_every, get-insert_other, other_number, same_number}
 use Rattle.atl_campaign.proofs.RegionLaws.{changed-known, get-insert_same}
 use Rattle.atl_market.specs.AtOnce.{stands_in}
@@ -297,10 +297,10 @@ pub record AreReady {K : Type 0} (pots : DrawnPots K) (Fits : ℕ × ℕ → Typ
   pub enough : HaveEnough pots d es
 
 -- after the first unit was paid, and its share left the pots, the later shares can be paid (`AreReady`)
-pub ready_behind : {K : Type 0} (pots : DrawnPots K) {Fits : ℕ × ℕ → Type 0} (w : WorldValue) (c d : CampaignValue) (e : ℕ × ℕ) (es : List (ℕ × ℕ)) (after : CampaignValue)
+pub ready_after : {K : Type 0} (pots : DrawnPots K) {Fits : ℕ × ℕ → Type 0} (w : WorldValue) (c d : CampaignValue) (e : ℕ × ℕ) (es : List (ℕ × ℕ)) (after : CampaignValue)
     → AreReady pots Fits w c d (e ∷ es) → IsEarly w after → ((k : ℕ) → k ≢ e.0 → get after.units k ≡ get d.units k)
     → Drains pots d e after → AreReady pots Fits w c after es
-ready_behind pots w c d e es after ready early others drains = record {
+ready_after pots w c d e es after ready early others drains = record {
   early = early;
   rise = ready.rise.1;
   same = still c d after e.0 es others ready.rise.0 ready.same.1;

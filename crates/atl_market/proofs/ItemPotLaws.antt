@@ -13,7 +13,7 @@ use Rattle.atl_world.specs.Groups.{group_of}
 use Rattle.atl_records.specs.Every.{EachOf, IsThere}
 use Rattle.atl_campaign.specs.Campaign.{CampaignValue, numbers_in}
 use Rattle.atl_records.specs.declared.records.Region.{Region}
-use Rattle.atl_campaign.proofs.BackLaws.{append_each}
+use Rattle.atl_campaign.proofs.ReadBackLaws.{append_each}
 use Rattle.atl_records.proofs.EveryLaws.{each-from_every, first, found_of, get-insert_other, none_some, other_number, same_number}
 use Rattle.atl_campaign.proofs.OrderLaws.{each_so}
 use Rattle.atl_campaign.proofs.RegionLaws.{get-insert_same}

@@ -8,7 +8,7 @@ use Rattle.std.specs.FinMap.{FinMap, empty, entries, find, get, get-entries, get
 use Rattle.std.proofs.lemmas.Bool.{cases_eq}
 use Rattle.atl_world.specs.Worlds.{WorldValue}
 use Rattle.atl_campaign.specs.Campaign.{CampaignValue}
-use Rattle.atl_campaign.proofs.BackLaws.{Rise, entries_rise}
+use Rattle.atl_campaign.proofs.ReadBackLaws.{Rise, entries_rise}
 use Rattle.atl_records.proofs.EveryLaws.{first, none_some}
 use Rattle.atl_market.specs.Puts.{with_each}
 use Rattle.atl_market.specs.Produce.{made_amounts, made_by, output_at, output_item, output_share, produce_pots}

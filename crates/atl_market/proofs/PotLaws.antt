@@ -12,13 +12,13 @@ use Rattle.std.proofs.lemmas.Bool.{and_parts, eqb-true, false≢true}
 use Rattle.std.proofs.lemmas.List.{reverse-append, get_or-map, length-map}
 use Rattle.std.proofs.lemmas.List.Sums.{fold-append}
 use Rattle.atl_world.specs.Sums.{numbers_among}
-use Rattle.atl_world.proofs.MadeLaws.{is_less}
+use Rattle.atl_world.proofs.MappedLaws.{is_less}
 use Rattle.atl_world.proofs.SumLaws.{chosen-cons}
 use Rattle.atl_records.specs.Every.{IsThere, EachOf}
 use Rattle.atl_campaign.specs.Campaign.{CampaignValue, numbers_in}
 use Rattle.atl_records.specs.declared.records.Region.{Region}
 use Rattle.atl_records.specs.declared.records.Unit.{Unit}
-use Rattle.atl_campaign.proofs.BackLaws.{Rise}
+use Rattle.atl_campaign.proofs.ReadBackLaws.{Rise}
 use Rattle.atl_records.proofs.EveryLaws.{every-from_each, none_some, first, later, sorted, same_number}
 use Rattle.atl_campaign.proofs.RegionLaws.{get-insert_same}
 use Rattle.atl_campaign.proofs.OrderLaws.{each_so}

@@ -24,7 +24,7 @@ use Rattle.atl_records.specs.Holdings.{HoldingValue, amount_of, with_amount_of}
 use Rattle.atl_records.specs.Levels.{level_in_any}
 use Rattle.atl_records.specs.Limits.{holding_limit, most_units}
 use Rattle.atl_campaign.specs.Campaign.{CampaignValue}
-use Rattle.atl_campaign.proofs.BackLaws.{Rise, entries_rise}
+use Rattle.atl_campaign.proofs.ReadBackLaws.{Rise, entries_rise}
 use Rattle.atl_records.proofs.EveryLaws.{each-from_every, none_some, same_number}
 use Rattle.atl_phase.specs.Outcomes.{first_fault}
 use Rattle.atl_phase.specs.Meaning.{BookBound, LeavesWell, both_move, most_moved, moves_only}
@@ -128,8 +128,8 @@ module _ (asked : FinMap nat_cmp ℕ) (w : WorldValue) (c : CampaignValue) (e : 
         }
 
     -- the unit can still make the item after it used the raw items
-    can_behind : (r : ℕ) → x.raw ≡ Some r → CanMake w (with_used c e.0 r (e.1 * x.raw_count)) e.0 i e.1
-    can_behind r raw =
+    can_after : (r : ℕ) → x.raw ≡ Some r → CanMake w (with_used c e.0 r (e.1 * x.raw_count)) e.0 i e.1
+    can_after r raw =
         let fits = can.fits i x told there in
         let well = used_well w c e.0 r (e.1 * x.raw_count) (can_use r raw) in
         let left = no_more can.unit.holding r i (e.1 * x.raw_count) in
@@ -157,7 +157,7 @@ module _ (asked : FinMap nat_cmp ℕ) (w : WorldValue) (c : CampaignValue) (e : 
         -- the unit can make the item after it used the raw item `o`, or at once if none goes into it
         by_raw : (o : Option ℕ) → x.raw ≡ o → CanMake w (with_raw_used c e.0 (e.1 * x.raw_count) o) e.0 i e.1
         by_raw None is = can_at_once
-        by_raw (Some r) is = can_behind r is
+        by_raw (Some r) is = can_after r is
 
     -- the unit can use the raw items and make the item
     pub can_make_item : CanMakeOf w c e.0 e.1 i x
@@ -179,7 +179,7 @@ module _ (asked : FinMap nat_cmp ℕ) (w : WorldValue) (c : CampaignValue) (e : 
             let one = moves_only holding_limit booked.Used (things.Item r) in
             let two = moves_only holding_limit booked.Made (things.Item i) in
             well_within (both_move one two) (produce_moves holding_limit) w c (with_made d e.0 i e.1) (both_less r i)
-            (both_leave_well one two w c d (with_made d e.0 i e.1) (used_well w c e.0 r (e.1 * x.raw_count) (can_use r is)) (made_well w d e.0 i e.1 (can_behind r is)))
+            (both_leave_well one two w c d (with_made d e.0 i e.1) (used_well w c e.0 r (e.1 * x.raw_count) (can_use r is)) (made_well w d e.0 i e.1 (can_after r is)))
 
   -- the production of a unit keeps the campaign steady and its books balanced, if the unit can make its share
   pub produced_well : CanProduce asked w c e → LeavesWell IsSteady (produce_moves holding_limit) w c (after_production asked w c e)

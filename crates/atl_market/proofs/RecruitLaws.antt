@@ -25,7 +25,7 @@ use Rattle.atl_records.specs.Limits.{holding_limit, men_limit, most_units}
 use Rattle.atl_campaign.specs.Marking.{mark_amount, mark_region, mark_unit_row}
 use Rattle.atl_campaign.specs.Campaign.{MarkedCampaign, CampaignValue, region_changed, with_amount, with_money, with_peasants}
 use Rattle.atl_campaign.specs.Campaign as state
-use Rattle.atl_campaign.proofs.BackLaws.{entries_rise}
+use Rattle.atl_campaign.proofs.ReadBackLaws.{entries_rise}
 use Rattle.atl_campaign.proofs.CoverLaws.{marks-amount, marks-region, marks-trans}
 use Rattle.atl_records.proofs.EveryLaws.{each-from_every, get-insert_other}
 use Rattle.atl_campaign.proofs.HoldingLaws.{marks-unit_row}
@@ -40,7 +40,7 @@ use Rattle.atl_market.specs.PotPhase.{after_sharing, given_by}
 use Rattle.atl_market.specs.Bounds.{CanInTurn}
 use Rattle.atl_market.specs.Recruit.{after_recruiting, recruit_moves, recruit_pots, recruits_at, with_paid_recruits}
 use Rattle.atl_market.specs.Unordered.{OthersAreNoWorse}
-use Rattle.atl_market.proofs.DrawLaws.{AreReady, Drains, DrawnPots, HaveEnough, all_pairs, drawn, one_drains, one_draws, pot_is_enough, ready_behind, region_pots, untouched, who_stand}
+use Rattle.atl_market.proofs.DrawLaws.{AreReady, Drains, DrawnPots, HaveEnough, all_pairs, drawn, one_drains, one_draws, pot_is_enough, ready_after, region_pots, untouched, who_stand}
 use Rattle.atl_campaign.proofs.HavingLaws.{MayHave, may_have}
 use Rattle.atl_market.proofs.ExchangeLaws.{KeepsTogether, exchange_well}
 use Rattle.atl_market.proofs.UnorderedLaws.{others_no_worse}
@@ -57,8 +57,8 @@ peasants_of q = q.peasants
 -- ---- one unit gets its recruits
 
 -- a region `r` with the peasants of `q` less the recruits
-abbrev pub leave : Region → ℕ → Region → Region
-leave q recruits r = record r { peasants = q.peasants - recruits }
+abbrev pub with_fewer_peasants : Region → ℕ → Region → Region
+with_fewer_peasants q recruits r = record r { peasants = q.peasants - recruits }
 
 -- a campaign in which recruits joined unit `u`, which paid for them
 abbrev pub joined : CampaignValue → ℕ → Unit → (recruits cost : ℕ) → CampaignValue
@@ -66,7 +66,7 @@ joined c n u recruits cost = record c { units = insert c.units n (record u { hol
 
 -- a campaign in which recruits left region `q` and joined unit `u`, and their cost is booked
 abbrev pub recruited_to : CampaignValue → ℕ → Unit → Region → (recruits cost : ℕ) → CampaignValue
-recruited_to c n u q recruits cost = with_amount (region_changed (leave q recruits) (joined c n u recruits cost) u.region) Recruiting Money (neg_ℤ (pos cost))
+recruited_to c n u q recruits cost = with_amount (region_changed (with_fewer_peasants q recruits) (joined c n u recruits cost) u.region) Recruiting Money (neg_ℤ (pos cost))
 
 module _ (w : WorldValue) (c : CampaignValue) (n : ℕ) (u : Unit) (q : Region) (recruits cost : ℕ) (is : get c.units n ≡ Some u) (around : get c.regions u.region ≡ Some q) where
   -- the campaign after recruiting
@@ -83,7 +83,7 @@ module _ (w : WorldValue) (c : CampaignValue) (n : ℕ) (u : Unit) (q : Region) 
 
   -- the campaign in which the recruits have joined the unit and left the region; nothing is booked yet
   abbrev left : CampaignValue
-  left = region_changed (leave q recruits) peopled u.region
+  left = region_changed (with_fewer_peasants q recruits) peopled u.region
 
   -- setting the unit, the peasants and the books, as recruiting does, gives the campaign `after`
   recruits_are : with_amount (with_peasants (with_holding c n more) u.region (q.peasants - recruits)) Recruiting Money (neg_ℤ (pos cost)) ≡ after
@@ -104,15 +104,15 @@ module _ (w : WorldValue) (c : CampaignValue) (n : ℕ) (u : Unit) (q : Region) 
         }
 
     -- unit and region together have the people that they had, and the money that the unit pays is booked
-    together : KeepsTogether u q (leave q recruits) more (neg_ℤ (pos cost))
+    together : KeepsTogether u q (with_fewer_peasants q recruits) more (neg_ℤ (pos cost))
     together = record { money = omega (arith, ints, payable); people = omega (arith, enough); items = λ i. refl }
 
     -- recruiting keeps the campaign early and its books balanced, and books only the cost of the recruits
     recruits_leave_well : LeavesWell IsEarly (recruit_moves holding_limit) w c after
     recruits_leave_well =
         let within = early.steady.numbers.regions u.region q around in
-        exchange_well w c n u q (leave q recruits) more Recruiting (neg_ℤ (pos cost)) is around holding_limit may (λ g. g)
-        (steady-region (leave q recruits) peopled u.region q around w (IsRegion-peasants q (q.peasants - recruits) (omega (arith, within.peasants)) within) (early.steady.known.markets u.region q around))
+        exchange_well w c n u q (with_fewer_peasants q recruits) more Recruiting (neg_ℤ (pos cost)) is around holding_limit may (λ g. g)
+        (steady-region (with_fewer_peasants q recruits) peopled u.region q around w (IsRegion-peasants q (q.peasants - recruits) (omega (arith, within.peasants)) within) (early.steady.known.markets u.region q around))
         together (within-neg cost holding_limit (omega (arith, payable, (may_have w c n u is early.steady).limits.money))) early
 
 -- ---- marks
@@ -170,7 +170,7 @@ module _ (w : WorldValue) (c : CampaignValue) (e : ℕ × ℕ) where
   -- recruiting by a unit that can recruit takes its recruits out of its region's peasants, and out of no other region's
   recruited_drains : (can : CanRecruit w c e) (units : FinMap nat_cmp Unit) → get units e.0 ≡ Some can.at.unit → Drains (region_pots units peasants_of) c e (after_recruiting w c e)
   recruited_drains can units there =
-      one_drains units peasants_of c e can.at.unit can.at.region there can.at.around (after_recruiting w c e) (leave can.at.region e.1) (ap (λ (d : CampaignValue). d.regions) (made_is can)) (less can.at.region.peasants can.enough)
+      one_drains units peasants_of c e can.at.unit can.at.region there can.at.around (after_recruiting w c e) (with_fewer_peasants can.at.region e.1) (ap (λ (d : CampaignValue). d.regions) (made_is can)) (less can.at.region.peasants can.enough)
     where
       -- the peasants that are left and the recruits are together the peasants from before
       less : (all : ℕ) → e.1 ≤ all → all - e.1 + e.1 ≡ all
@@ -229,7 +229,7 @@ module _ (w : WorldValue) (c : CampaignValue) where
       let well = recruited_well w d e can in
       let joined = after_recruiting w d e in (
         can,
-        all_can joined es (ready_behind pots w c d e es joined ready well.leaves_it (recruited_others w d e) (recruited_drains w d e can c.units (sym ready.same.0 ∙ can.at.there)))
+        all_can joined es (ready_after pots w c d e es joined ready well.leaves_it (recruited_others w d e) (recruited_drains w d e can c.units (sym ready.same.0 ∙ can.at.there)))
             (later_room step_moves w d joined e es well room),
       )
 

@@ -20,7 +20,7 @@ use Rattle.atl_campaign.specs.Marking.{mark_region, mark_unit_row}
 use Rattle.atl_campaign.specs.Campaign.{MarkedCampaign, CampaignValue, region_changed, with_money, with_region_money}
 use Rattle.atl_records.specs.Amounts.{region_amount, unit_amount}
 use Rattle.atl_campaign.specs.Totals.{total}
-use Rattle.atl_campaign.proofs.BackLaws.{entries_rise}
+use Rattle.atl_campaign.proofs.ReadBackLaws.{entries_rise}
 use Rattle.atl_campaign.proofs.CoverLaws.{marks-region, marks-trans}
 use Rattle.atl_records.proofs.EveryLaws.{each-from_every}
 use Rattle.atl_campaign.proofs.HoldingLaws.{marks-unit_row, may_hold_money, of_one_faction_kept, steady-unit_amount, total-unit_amount}
@@ -36,7 +36,7 @@ use Rattle.atl_phase.proofs.NoWorseLaws.{are_no_worse, are_no_worse_twice}
 use Rattle.atl_market.specs.PotPhase.{after_sharing, given_by}
 use Rattle.atl_market.specs.Bounds.{CanInTurn}
 use Rattle.atl_market.specs.Tax.{after_tax, money_at, tax_pots}
-use Rattle.atl_market.proofs.DrawLaws.{AreReady, Drains, DrawnPots, HaveEnough, all_pairs, drawn, one_drains, one_draws, pot_is_enough, ready_behind, region_pots, untouched, who_stand}
+use Rattle.atl_market.proofs.DrawLaws.{AreReady, Drains, DrawnPots, HaveEnough, all_pairs, drawn, one_drains, one_draws, pot_is_enough, ready_after, region_pots, untouched, who_stand}
 use Rattle.atl_market.proofs.MoreMoneyLaws.{others_stay, paid, richer, richer_is, richer_no_worse}
 use Rattle.atl_market.proofs.ThereLaws.{by_region, by_unit, region_there, unit_there}
 use Rattle.atl_market.proofs.TurnLaws.{turns_leave_well}
@@ -182,7 +182,7 @@ module _ (w : WorldValue) (c : CampaignValue) where
       let can = first_can d e es ready in
       let early = (taxed_well w d e can).leaves_it in (
         can,
-        all_can (after_tax d e) es (ready_behind pots w c d e es (after_tax d e) ready early (taxed_others w d e can) (taxed_drains w d e can c.units (sym ready.same.0 ∙ can.at.there))),
+        all_can (after_tax d e) es (ready_after pots w c d e es (after_tax d e) ready early (taxed_others w d e can) (taxed_drains w d e can c.units (sym ready.same.0 ∙ can.at.there))),
       )
 
   module _ (early : IsEarly w c) (os : List Task) where

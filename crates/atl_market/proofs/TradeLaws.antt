@@ -32,7 +32,7 @@ use Rattle.atl_records.specs.Limits.{holding_limit, most_units}
 use Rattle.atl_campaign.specs.Marking.{MarksStock}
 use Rattle.atl_campaign.specs.Stocks.{stock_limit, stock_of}
 use Rattle.atl_campaign.specs.Campaign.{MarkedCampaign, CampaignValue, region_changed, with_amount, with_stock}
-use Rattle.atl_campaign.proofs.BackLaws.{entries_rise}
+use Rattle.atl_campaign.proofs.ReadBackLaws.{entries_rise}
 use Rattle.atl_campaign.proofs.CoverLaws.{marks-stock, marks-trans}
 use Rattle.atl_records.proofs.EveryLaws.{each-from_every, get-insert_other, none_some, other_number, same_number}
 use Rattle.atl_campaign.proofs.HavingLaws.{MayHave, may_have}
@@ -56,7 +56,7 @@ use Rattle.atl_market.specs.Unordered.{OthersAreNoWorse}
 use Rattle.atl_market.specs.declared.trade.TradeResult.{TradeResult}
 use Rattle.atl_market.specs.declared.trade.Trade.{Trade}
 use Rattle.atl_market.specs.declared.trade.Trade.TheVariants.{Sell, Buy}
-use Rattle.atl_market.proofs.DrawLaws.{AreReady, Drains, DrawnPots, HaveEnough, all_pairs, drawn, first_draws, nothing_drains, ready_behind, region_drains, shares_are_enough, untouched}
+use Rattle.atl_market.proofs.DrawLaws.{AreReady, Drains, DrawnPots, HaveEnough, all_pairs, drawn, first_draws, nothing_drains, ready_after, region_drains, shares_are_enough, untouched}
 use Rattle.atl_market.proofs.ExchangeLaws.{KeepsTogether, exchange_well}
 use Rattle.atl_market.proofs.ItemPotLaws.{items_give, share_for, shares_at}
 use Rattle.atl_market.proofs.UnorderedLaws.{others_no_worse}
@@ -444,7 +444,7 @@ module _ (trade : Trade) (items : FinMap nat_cmp ℕ) (w : WorldValue) (world : 
       let well = traded_well trade items w d e can in
       let next = after_trade trade items w d e in (
         can,
-        all_can next es (ready_behind pots w c d e es next ready well.leaves_it (traded_others trade items w d e) (traded_drains trade items w d e can c.units (sym ready.same.0 ∙ can.at.there)))
+        all_can next es (ready_after pots w c d e es next ready well.leaves_it (traded_others trade items w d e) (traded_drains trade items w d e can c.units (sym ready.same.0 ∙ can.at.there)))
             (later_room step_moves w d next e es well room),
       )
 

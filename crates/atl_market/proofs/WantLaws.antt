@@ -22,7 +22,7 @@ use Rattle.atl_records.specs.declared.event.EventFault.TheVariants.{NotYours}
 use Rattle.atl_records.specs.declared.records.Unit.{Unit}
 use Rattle.atl_records.specs.Every.{Every}
 use Rattle.atl_campaign.specs.Campaign.{CampaignValue}
-use Rattle.atl_campaign.proofs.BackLaws.{Rise, entries_rise}
+use Rattle.atl_campaign.proofs.ReadBackLaws.{Rise, entries_rise}
 use Rattle.atl_records.proofs.EveryLaws.{every-empty, every-insert, get-insert_other, none_some}
 use Rattle.atl_campaign.proofs.RegionLaws.{get-insert_same}
 use Rattle.atl_phase.specs.PhaseOrders.{Task}

@@ -16,7 +16,7 @@ use Rattle.atl_world.proofs.GeneralLaws.{equal_turned}
 use Rattle.atl_records.specs.Every.{EachOf}
 use Rattle.atl_campaign.specs.Campaign.{CampaignValue}
 use Rattle.atl_records.specs.declared.records.Unit.{Unit}
-use Rattle.atl_campaign.proofs.BackLaws.{append_apart, append_each, entries_rise, flat_apart}
+use Rattle.atl_campaign.proofs.ReadBackLaws.{append_apart, append_each, entries_rise, flat_apart}
 use Rattle.atl_campaign.proofs.GroupLaws.{filter_apart, filter_each}
 use Rattle.atl_records.proofs.EveryLaws.{each-from_every, get-insert_other, other_number, same_number}
 use Rattle.atl_campaign.proofs.OrderLaws.{each_so}

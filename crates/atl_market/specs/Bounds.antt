@@ -26,10 +26,10 @@ pub record CanBuild (w : WorldValue) (c : CampaignValue) : Type 0 where
   pub kinds : (i : ℕ) (k : Kind) → slice_get w.kinds i ≡ Some k → IsKind (length w.items) (length w.skills) k
 
 -- how much of a thing BUILD may still book for a holding under an entry: under Used all that it has of an item, else 0
-abbrev pub usable : Entry → Thing → HoldingValue → ℕ
-usable e (Item i) h = if entry_index e == entry_index Used then amount_of h.items i else 0
-usable e t h = 0
+abbrev pub still_bookable : Entry → Thing → HoldingValue → ℕ
+still_bookable e (Item i) h = if entry_index e == entry_index Used then amount_of h.items i else 0
+still_bookable e t h = 0
 
 -- the bound on what BUILD may still book: Used of an item by all that the units hold of it, nothing else
 abbrev pub build_reserve : RemainingBound
-build_reserve c e t = sum_over (λ u. usable e t u.holding) c.units
+build_reserve c e t = sum_over (λ u. still_bookable e t u.holding) c.units

@@ -16,7 +16,7 @@ use Rattle.atl_phase.specs.Outcomes.{first_fault}
 use Rattle.atl_phase.specs.There.{at_region, at_unit}
 use Rattle.atl_market.specs.Pots.{pot_shares}
 use Rattle.atl_market.specs.PotPhase.{PotMeaning, pots_by_orders}
-use Rattle.atl_phase.specs.PhaseSpecs.{PhaseSpec, books_none}
+use Rattle.atl_phase.specs.PhaseSpecs.{PhaseSpec, spec_without_books}
 
 -- whether a verb is TAX
 abbrev pub is_tax : Verb → Bool
@@ -58,4 +58,4 @@ tax_meaning = pots_by_orders tax_pots is_tax
 
 -- the specification of the phase TAX: money only goes from regions to units, so nothing is booked
 abbrev pub tax_spec : PhaseSpec
-tax_spec = books_none tax_meaning spares_all
+tax_spec = spec_without_books tax_meaning spares_all

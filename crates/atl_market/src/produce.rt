@@ -86,7 +86,7 @@ impl PotPhase for ProducePhase {
 }
 
 /// The law that every `World` is well-formed (`IsWorld`). Does nothing.
-pub(crate) fn world_is_sound(world: &World)
+pub(crate) fn world_is_well_formed(world: &World)
     ensures { IsWorld world.now }
 {
     let _ = world.items();
@@ -109,7 +109,7 @@ impl Phase for ProducePhase {
         mut month: Month,
     ) -> PhaseResult {
         let orders = month.orders(alloc, self, Arrangement::ByUnit)?;
-        world_is_sound(world);
+        world_is_well_formed(world);
         let events = share_out(alloc, self, world, &mut campaign, &orders)?;
         drop(orders);
         add_events(&mut month, &events)?;

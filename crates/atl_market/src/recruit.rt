@@ -64,7 +64,7 @@ impl<'a> Pots for RecruitPots<'a> {
 
 /// Adds recruits to a unit that is there, and takes their cost from its money. It marks none of its
 /// goods.
-fn join_unit(campaign: &mut Campaign, unit: u32, recruits: u32, cost: u32)
+fn add_recruits(campaign: &mut Campaign, unit: u32, recruits: u32, cost: u32)
     requires fits { (u : Unit) → finmap.get campaign.old.value.units unit ≡ Some u
         → u.holding.men + recruits ≤ men_limit }
     requires payable { (u : Unit) → finmap.get campaign.old.value.units unit ≡ Some u
@@ -84,7 +84,7 @@ fn join_unit(campaign: &mut Campaign, unit: u32, recruits: u32, cost: u32)
 }
 
 /// Sets how many peasants a region has left, and books what was paid for the recruits.
-fn leave_region(campaign: &mut Campaign, region: u32, peasants: u32, cost: u32)
+fn take_recruits(campaign: &mut Campaign, region: u32, peasants: u32, cost: u32)
     requires little { cost ≤ holding_limit }
     requires things { 2 ≤ campaign.old.value.books.things }
     requires room { HaveRoom (recruit_moves holding_limit) campaign.old.value }
@@ -158,8 +158,8 @@ impl PotPhase for RecruitPhase {
             None => return Ok(()),
         };
         let cost = share * world.rules().recruit_price;
-        join_unit(campaign, number, share, cost);
-        leave_region(campaign, region, peasants - share, cost);
+        add_recruits(campaign, number, share, cost);
+        take_recruits(campaign, region, peasants - share, cost);
         Ok(())
     }
 }

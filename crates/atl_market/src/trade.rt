@@ -17,7 +17,7 @@ ghost use Rattle.atl_market.specs.AfterPots.{TradesAtOnce};
 
 use crate::item_pots::{ItemPots, item_shares};
 use crate::pot_phase::{PotPhase, named_count, named_item, share_out};
-use crate::produce::world_is_sound;
+use crate::produce::world_is_well_formed;
 use atl_campaign::{Campaign, Entry, EventFault, HOLDING_LIMIT, Holding, Thing, Unit};
 use atl_orders::Verb;
 use atl_phase::{Arrangement, Month, Phase, PhaseOrder, PhaseResult, PhaseVerbs, add_events};
@@ -231,7 +231,7 @@ impl<'a> ItemPots for MarketPots<'a> {
     /// What a region's market for an item has room for (SELL) or has in stock (BUY).
     fn pot(&self, item: u32, region: u32) -> u64 {
         let stock = self.campaign.stock(region, item);
-        world_is_sound(self.world);
+        world_is_well_formed(self.world);
         match self.trade {
             Trade::Sell => { u64::from(limit_of(self.world, item, region).saturating_sub(stock)) }
             Trade::Buy => u64::from(stock),
@@ -357,7 +357,7 @@ impl<const SELLS: bool> Phase for TradePhase<SELLS> {
         mut month: Month,
     ) -> PhaseResult {
         let orders = month.orders(alloc, self, Arrangement::ByUnit)?;
-        world_is_sound(world);
+        world_is_well_formed(world);
         let trade = trade_of(SELLS);
         let events = share_out(alloc, &trade, world, &mut campaign, &orders)?;
         drop(orders);

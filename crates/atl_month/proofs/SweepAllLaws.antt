@@ -30,7 +30,7 @@ use Rattle.atl_phase.proofs.MeaningLaws.{both_leave_well, fold_leaves_well, near
 use Rattle.atl_month.specs.Sweep.{IsKept, after_passing_all, after_sweeping_faction, after_sweeping_unit, is_empty, loses_by, menless_units, receiver, sweep}
 use Rattle.atl_month.specs.AfterSweep.{IsSwept}
 use Rattle.atl_campaign.proofs.NumberListLaws.{IsListed, passing_listed}
-use Rattle.atl_campaign.proofs.GoneLaws.{as_gone, count-gone, get-gone, get-gone_other, known-gone, none-gone, steady-gone, total-gone}
+use Rattle.atl_campaign.proofs.GoneFactionLaws.{as_gone, count-gone, get-gone, get-gone_other, known-gone, none-gone, steady-gone, total-gone}
 use Rattle.atl_month.proofs.PassingLaws.{kept-refl, kept-trans}
 use Rattle.atl_month.proofs.SweepLaws.{others_keep, others_were, swept_leaves_well}
 use Rattle.atl_records.specs.Limits.{most_units}

@@ -24,7 +24,7 @@ use Rattle.atl_phase.proofs.MarkLaws.{marks_by}
 use Rattle.atl_phase.proofs.MeaningLaws.{near_room, room_less}
 use Rattle.atl_instant.proofs.QuitLaws.{part_of}
 use Rattle.atl_month.specs.Sweep.{accepted_of, after_passing_item, after_passing_money, loses_by, with_lost}
-use Rattle.atl_campaign.proofs.GoneLaws.{marks-gone_faction}
+use Rattle.atl_campaign.proofs.GoneFactionLaws.{marks-gone_faction}
 use Rattle.atl_month.proofs.PassingLaws.{PassesOn, pass_item, pass_money}
 use Rattle.atl_month.proofs.SweepLaws.{moves_little, moving_all}
 

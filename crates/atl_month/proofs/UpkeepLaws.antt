@@ -32,7 +32,7 @@ use Rattle.atl_campaign.specs.Marking.{mark_amount}
 use Rattle.atl_campaign.specs.Campaign.{MarkedCampaign, CampaignValue, with_amount, with_money}
 use Rattle.atl_records.specs.Amounts.{unit_amount}
 use Rattle.atl_campaign.specs.Totals.{Balances, total}
-use Rattle.atl_campaign.proofs.BackLaws.{Rise, entries_rise}
+use Rattle.atl_campaign.proofs.ReadBackLaws.{Rise, entries_rise}
 use Rattle.atl_records.proofs.BookLaws.{booked-after_booking, share_of}
 use Rattle.atl_campaign.proofs.CoverLaws.{marks-amount, marks-trans}
 use Rattle.atl_records.proofs.EveryLaws.{each-from_every, every-empty, get-insert_other}

@@ -7,7 +7,7 @@ use Rattle.atl_world.specs.Worlds.{WorldValue}
 use Rattle.atl_records.specs.declared.records.Unit.{Unit}
 use Rattle.atl_records.specs.Every.{EachOf, Every}
 use Rattle.atl_campaign.specs.Campaign.{CampaignValue}
-use Rattle.atl_campaign.proofs.BackLaws.{Rise, entries_rise}
+use Rattle.atl_campaign.proofs.ReadBackLaws.{Rise, entries_rise}
 use Rattle.atl_records.proofs.EveryLaws.{each-from_every, every-from_each}
 use Rattle.atl_campaign.proofs.RegionLaws.{get-insert_same}
 use Rattle.atl_month.specs.declared.upkeep_sharing.UpkeepInput.{UpkeepInput}

@@ -116,8 +116,8 @@ pub ends_further : (line mid rest : List ℕ) → EndsWith line mid → EndsWith
 ends_further line mid rest a b = record { front = a.front ++ b.front; whole = a.whole ∙ ap (λ l. a.front ++ l) b.whole ∙ sym (append_assoc a.front b.front rest) }
 
 -- a part of an end of a line is a part of the line
-pub stands_further : (line mid bytes : List ℕ) (behind : ℕ) → EndsWith line mid → IsPartOf mid bytes behind → IsPartOf line bytes behind
-stands_further line mid bytes behind a b =
+pub part_further : (line mid bytes : List ℕ) (behind : ℕ) → EndsWith line mid → IsPartOf mid bytes behind → IsPartOf line bytes behind
+part_further line mid bytes behind a b =
     record { front = a.front ++ b.front; back = b.back; whole = a.whole ∙ ap (λ l. a.front ++ l) b.whole ∙ sym (append_assoc a.front b.front (bytes ++ b.back)); behind_is = b.behind_is }
 
 -- a line ends with its part `&line[n..]`
@@ -129,8 +129,8 @@ pub ends_shorter : (line rest : List ℕ) → EndsWith line rest → length rest
 ends_shorter line rest e = omega (arith, ap length e.whole, length-append e.front rest)
 
 -- a part of a line is no longer than the line from the part's first byte on, and that is no longer than the line
-pub stands_shorter : (line bytes : List ℕ) (behind : ℕ) → IsPartOf line bytes behind → (length bytes ≤ behind) × (behind ≤ length line)
-stands_shorter line bytes behind s =
+pub part_shorter : (line bytes : List ℕ) (behind : ℕ) → IsPartOf line bytes behind → (length bytes ≤ behind) × (behind ≤ length line)
+part_shorter line bytes behind s =
     let a : length line ≡ length s.front + length (bytes ++ s.back) = ap length s.whole ∙ length-append s.front (bytes ++ s.back) in
     let b : length (bytes ++ s.back) ≡ length bytes + length s.back = length-append bytes s.back in
     (omega (arith, s.behind_is), omega (arith, s.behind_is))

@@ -127,7 +127,7 @@ fn kind_of_name(word: Word) -> Option<NameKind>
 
 /// Reads the operands of NAME: what gets a new name, and the name; else MissingWord, UnknownThing
 /// or BadName.
-#[tactic(auto, using(crate::proofs::WordLaws::place_fits, crate::proofs::WordLaws::place_behind, crate::proofs::WordLaws::stands_shorter, crate::proofs::WordLaws::ends_shorter), unfolding(crate::specs::Orders::read_name))]
+#[tactic(auto, using(crate::proofs::WordLaws::place_fits, crate::proofs::WordLaws::place_behind, crate::proofs::WordLaws::part_shorter, crate::proofs::WordLaws::ends_shorter), unfolding(crate::specs::Orders::read_name))]
 fn read_name(cursor: Cursor) -> Result<Operands, LineFault>
     requires { IsCursor cursor }
     ensures { Gives (named cursor.entry.text.now) result (read_name (words cursor.entry.rest.now)) }

@@ -16,7 +16,7 @@ use Rattle.atl_orders.specs.declared.verb.Verb.{Verb}
 use Rattle.atl_orders.specs.Mailing.{EntryValue, Reading, reading_of}
 use Rattle.atl_world.proofs.Maps.{entries_of}
 use Rattle.atl_campaign.proofs.KeyLaws.{IsDistinct-map}
-use Rattle.atl_campaign.proofs.BackLaws.{append_apart, append_each}
+use Rattle.atl_campaign.proofs.ReadBackLaws.{append_apart, append_each}
 use Rattle.atl_phase.specs.declared.order_indices.OrderIndex.{OrderIndex}
 use Rattle.atl_phase.specs.declared.phase_order.Arrangement.{Arrangement}
 use Rattle.atl_phase.specs.declared.phase_order.Arrangement.TheVariants.{ByUnit, ByFaction}

@@ -13,7 +13,7 @@ use Rattle.atl_orders.specs.declared.verb.Verb.{Verb}
 use Rattle.atl_orders.specs.Mailing.{EntryValue, Reading}
 use Rattle.atl_records.specs.Every.{EachOf}
 use Rattle.atl_records.proofs.EveryLaws.{each-from_every}
-use Rattle.atl_campaign.proofs.BackLaws.{append_each}
+use Rattle.atl_campaign.proofs.ReadBackLaws.{append_each}
 use Rattle.atl_phase.specs.declared.phase_order.Arrangement.{Arrangement}
 use Rattle.atl_phase.specs.Month.{Aliases}
 use Rattle.atl_phase.specs.PhaseOrders.{IsInMailing, OrdersAreInMailings, Task, key_of, orders_of, stands, tasks_for, tasks_from, tasks_of}

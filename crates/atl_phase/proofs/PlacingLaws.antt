@@ -20,7 +20,7 @@ use Rattle.atl_records.proofs.EveryLaws.{get-insert_other, other_number}
 use Rattle.atl_campaign.proofs.InsideLaws.{is_no_zero}
 use Rattle.atl_campaign.proofs.LeavingLaws.{owned_by}
 use Rattle.atl_campaign.proofs.RegionLaws.{changed-known, get-insert_same}
-use Rattle.atl_phase.specs.Bounds.{StepsWell, books_nothing}
+use Rattle.atl_phase.specs.Bounds.{StepsWell, nothing_remaining}
 use Rattle.atl_phase.proofs.MeaningLaws.{same_month_by}
 use Rattle.atl_phase.proofs.OwnerLaws.{heir_owns, owner_stays}
 use Rattle.atl_phase.proofs.RefitLaws.{IsRefit, IsRelabelled, early-refitted, refitted, steady-refitted, total-refitted}
@@ -185,10 +185,10 @@ module _ (w : WorldValue) (c : CampaignValue) (n : ℕ) (u : Unit) (s : ℕ) (is
 module _ (w : WorldValue) (c : CampaignValue) (n : ℕ) (u : Unit) (s : ℕ) (is : get c.units n ≡ Some u) (early : IsEarly w c) (apart : u.structure ≢ s) where
   -- A move to another structure of the region, or on land to none, keeps an early campaign early and in balance
   -- (`StepsWell`). On water the structure must be a ship.
-  pub place_well : (s ≢ 0 → (x : Structure) × (get c.structures s ≡ Some x) × (x.region ≡ u.region)) → (is_land_at w u.region ≡ false → (x : Structure) × (get c.structures s ≡ Some x) × (is_ship w x ≡ true)) → StepsWell IsEarly books_nothing w c (with_place c n u.region s)
+  pub place_well : (s ≢ 0 → (x : Structure) × (get c.structures s ≡ Some x) × (x.region ≡ u.region)) → (is_land_at w u.region ≡ false → (x : Structure) × (get c.structures s ≡ Some x) × (is_ship w x ≡ true)) → StepsWell IsEarly nothing_remaining w c (with_place c n u.region s)
   place_well inside afloat =
       let steady = early.steady in
-      subst (StepsWell IsEarly books_nothing w c) (sym (place_is w c n u s is steady apart))
+      subst (StepsWell IsEarly nothing_remaining w c) (sym (place_is w c n u s is steady apart))
       (unbooked_well w c (behind w c n u s is steady apart) (placed_early w c n u s is steady apart inside afloat early)
       (same_month_by refl) refl (placed_total w c n u s is steady apart inside afloat))
 

@@ -19,13 +19,13 @@ use Rattle.atl_orders.specs.declared.verb.Slot.{Slot}
 use Rattle.atl_orders.specs.declared.verb.Slot.TheVariants.{MonthLong, Selling, Buying, Taxing, Recruiting}
 use Rattle.atl_orders.specs.declared.verb.Verb.{Verb}
 use Rattle.atl_records.specs.Every.{EachOf}
-use Rattle.atl_campaign.proofs.BackLaws.{append_each}
+use Rattle.atl_campaign.proofs.ReadBackLaws.{append_each}
 use Rattle.atl_records.proofs.EveryLaws.{each-from_every}
 use Rattle.atl_phase.specs.declared.phase_order.Arrangement.{Arrangement}
 use Rattle.atl_phase.specs.Month.{Aliases}
 use Rattle.atl_phase.specs.Fit.{AreFit}
 use Rattle.atl_phase.specs.PhaseOrders.{IsInMailing, Task, key_of, last_line, slot_number, stands, stands_in, tasks_for, tasks_from, tasks_of, unit_of}
-use Rattle.atl_phase.specs.StandOnce.{OneOrderStands, are_of_slot, share_slot}
+use Rattle.atl_phase.specs.StandOnce.{OneOrderStands, are_same_slot, share_slot}
 use Rattle.atl_phase.proofs.PhaseOrderLaws.{entries-listed, in_mailings, keyed_entries}
 
 -- ---- lines
@@ -67,11 +67,11 @@ line_of ts t s None is there = cc
 line_of ts t s (Some x) is there = is_equal t.line (last_line x t.unit ts) there ∙ ap (λ y. last_line y t.unit ts) (same_Some x s is)
 
 -- two orders that count, for one unit and in one slot of one mailing, are on one line
-one_line : (ts us : List Task) (t o : Task) → ts ≡ us → t.unit ≡ o.unit → are_of_slot (row_of t.order_value.verb).slot (row_of o.order_value.verb).slot ≡ true → stands ts t ≡ true → stands us o ≡ true → t.line ≡ o.line
+one_line : (ts us : List Task) (t o : Task) → ts ≡ us → t.unit ≡ o.unit → are_same_slot (row_of t.order_value.verb).slot (row_of o.order_value.verb).slot ≡ true → stands ts t ≡ true → stands us o ≡ true → t.line ≡ o.line
 one_line ts us t o same unit share one two = by_slots (row_of t.order_value.verb).slot (row_of o.order_value.verb).slot refl refl share
   where
     -- the orders t and o are on one line, if the slots of their verbs, `a` and `b`, are both there and the same
-    by_slots : (a b : Option Slot) → (row_of t.order_value.verb).slot ≡ a → (row_of o.order_value.verb).slot ≡ b → are_of_slot a b ≡ true → t.line ≡ o.line
+    by_slots : (a b : Option Slot) → (row_of t.order_value.verb).slot ≡ a → (row_of o.order_value.verb).slot ≡ b → are_same_slot a b ≡ true → t.line ≡ o.line
     by_slots None b first second never = cc
     by_slots (Some s) None first second never = cc
     by_slots (Some s) (Some x) first second alike =
@@ -114,7 +114,7 @@ module _ (w : WorldValue) (is_of : Verb → Bool) (a : Arrangement) (aliases : A
       append_each Stands (tasks_for is_of (tasks_of aliases e.0 e.1)) (flat_map (λ e. tasks_for is_of (tasks_of aliases e.0 e.1)) es) (stand_from e.0 e.1 there.0 0 e.1.entries) (all_stand es there.1)
 
   -- order t is in the mailing of its faction and counts there, and its key is `key`
-  record IsKept (key : List ℕ) (t : Task) : Type 0 where
+  record CountsUnderKey (key : List ℕ) (t : Task) : Type 0 where
     -- `key` is the key of the order
     keyed : key ≡ key_of a t
     -- the order is an entry of the mailing of its faction
@@ -122,14 +122,14 @@ module _ (w : WorldValue) (is_of : Verb → Bool) (a : Arrangement) (aliases : A
     -- the order counts in its mailing
     kept : Stands t
 
-  -- orders that are in their mailings and count there are so under their keys, too (`IsKept`)
-  both : (ts : List Task) → AllByRecursion (IsInMailing aliases readings) ts → AllByRecursion Stands ts → AllByRecursion (λ t. IsKept (key_of a t) t) ts
+  -- orders that are in their mailings and count there are so under their keys, too (`CountsUnderKey`)
+  both : (ts : List Task) → AllByRecursion (IsInMailing aliases readings) ts → AllByRecursion Stands ts → AllByRecursion (λ t. CountsUnderKey (key_of a t) t) ts
   both [] there kept = tt
   both (t ∷ ts) there kept = (record { keyed = refl; there = there.0; kept = kept.0 }, both ts there.1 kept.1)
 
   module _ (fit : AreFit w readings) where
-    -- two orders that count in their mailings (`IsKept`), and share a slot, are the same order
-    are_one : (key other : List ℕ) (t o : Task) → IsKept key t → IsKept other o → share_slot t o ≡ true → t ≡ o
+    -- two orders that count in their mailings (`CountsUnderKey`), and share a slot, are the same order
+    are_one : (key other : List ℕ) (t o : Task) → CountsUnderKey key t → CountsUnderKey other o → share_slot t o ≡ true → t ≡ o
     are_one key other t o one two share =
         let first = and_parts _ _ share in
         let second = and_parts _ _ first.1 in
@@ -159,8 +159,8 @@ module _ (w : WorldValue) (is_of : Verb → Bool) (a : Arrangement) (aliases : A
         by_order Equal same l = cc
         by_order Greater same l = cc
 
-    -- an order that counts in its mailing shares no slot with orders of greater keys that count in theirs (`IsKept`)
-    apart_from : (e : List ℕ × Task) (es : List (List ℕ × Task)) → IsKept e.0 e.1 → AllByRecursion (λ x. IsKept x.0 x.1) es → below_all order e.0 es ≡ true → AllByRecursion (λ o. share_slot e.1 o ≡ false) (map (λ x. x.1) es)
+    -- an order that counts in its mailing shares no slot with orders of greater keys that count in theirs (`CountsUnderKey`)
+    apart_from : (e : List ℕ × Task) (es : List (List ℕ × Task)) → CountsUnderKey e.0 e.1 → AllByRecursion (λ x. CountsUnderKey x.0 x.1) es → below_all order e.0 es ≡ true → AllByRecursion (λ o. share_slot e.1 o ≡ false) (map (λ x. x.1) es)
     apart_from e [] here all low = tt
     apart_from e (x ∷ es) here all low =
         let parts = and_parts _ _ low in (
@@ -170,8 +170,8 @@ module _ (w : WorldValue) (is_of : Verb → Bool) (a : Arrangement) (aliases : A
           apart_from e es here all.1 parts.1,
         )
 
-    -- no two of some orders that count in their mailings (`IsKept`) share a slot, if they are sorted by their keys
-    all_apart : (es : List (List ℕ × Task)) → AllByRecursion (λ x. IsKept x.0 x.1) es → is_sorted order es ≡ true → IsDistinct share_slot (map (λ x. x.1) es)
+    -- no two of some orders that count in their mailings (`CountsUnderKey`) share a slot, if they are sorted by their keys
+    all_apart : (es : List (List ℕ × Task)) → AllByRecursion (λ x. CountsUnderKey x.0 x.1) es → is_sorted order es ≡ true → IsDistinct share_slot (map (λ x. x.1) es)
     unfolding IsDistinct
     all_apart [] all rise = tt
     all_apart (e ∷ es) all rise = let parts = and_parts _ _ rise in (apart_from e es all.0 all.1 parts.0, all_apart es all.1 parts.1)
@@ -184,6 +184,6 @@ one_order_stands w is_of a aliases readings fit =
     let there = each-from_every (λ f r. get readings f ≡ Some r) readings (λ f r is. is) in
     let kept = both w is_of a aliases readings ts (in_mailings aliases readings is_of (entries readings) there) (all_stand w is_of a aliases readings (entries readings) there) in
     all_apart w is_of a aliases readings fit (entries (from_entries {R = slice_cmp nat_cmp} es))
-    (entries-listed (slice_cmp nat_cmp) (IsKept w is_of a aliases readings) nat_list_cmp_total (slice_cmp-IsAntisymmetric nat_cmp-IsAntisymmetric) es
-    (keyed_entries (slice_cmp nat_cmp) (IsKept w is_of a aliases readings) (key_of a) ts kept))
+    (entries-listed (slice_cmp nat_cmp) (CountsUnderKey w is_of a aliases readings) nat_list_cmp_total (slice_cmp-IsAntisymmetric nat_cmp-IsAntisymmetric) es
+    (keyed_entries (slice_cmp nat_cmp) (CountsUnderKey w is_of a aliases readings) (key_of a) ts kept))
     (is_true _ (entries_sorted (from_entries {R = slice_cmp nat_cmp} es)))

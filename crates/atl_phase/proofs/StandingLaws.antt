@@ -12,7 +12,7 @@ use Rattle.atl_orders.specs.Mailing.{entry_value}
 use Rattle.atl_orders.specs.Verbs.{row_of}
 use Rattle.atl_campaign.proofs.KeyLaws.{next_of}
 use Rattle.atl_phase.specs.Month.{Aliases}
-use Rattle.atl_phase.specs.PhaseOrders.{unit_of, slot_number, is_slot, last_line, tasks_from}
+use Rattle.atl_phase.specs.PhaseOrders.{unit_of, slot_number, is_same_slot, last_line, tasks_from}
 use Rattle.atl_phase.specs.OrderIndices.{Lines, line_in, with_line}
 
 -- the greatest line in a slot for a unit, after one more line is noted
@@ -69,10 +69,10 @@ module _ (slot : Slot) (aliases : Aliases) (faction : ℕ) (text : List ℕ) whe
   -- the greatest line of the orders from i on is that of those from i + 1 on, or the line of the order at i, if this is
   -- greater and the order is in the slot and for the unit
   opened : (es : List Entry) (i : ℕ) (e : Entry) (in_slot : Option Slot) (unit : ℕ) → i < length es → e ≡ get_or es i e → (row_of e.order.verb).slot ≡ in_slot →
-      rest_from i es unit ≡ max (if (unit_of aliases faction e.target == unit) && is_slot slot in_slot then e.line else 0) (rest_from (i + 1) es unit)
+      rest_from i es unit ≡ max (if (unit_of aliases faction e.target == unit) && is_same_slot slot in_slot then e.line else 0) (rest_from (i + 1) es unit)
   opened es i e in_slot unit h is slot_is =
       ap (λ ds. last_line slot unit (tasks_from aliases faction i (map (entry_value text) ds))) (next_of es i e h is)
-      ∙ ap (λ o. max (if (unit_of aliases faction e.target == unit) && is_slot slot o then e.line else 0) (rest_from (i + 1) es unit)) slot_is
+      ∙ ap (λ o. max (if (unit_of aliases faction e.target == unit) && is_same_slot slot o then e.line else 0) (rest_from (i + 1) es unit)) slot_is
 
   -- the line at i noted, and then the orders from i + 1 on, give the same greatest line as the orders from i on
   pub noted : (es : List Entry) (i : ℕ) (e : Entry) (lines : Lines) (other : Slot) (unit : ℕ) → i < length es → e ≡ get_or es i e → (row_of e.order.verb).slot ≡ Some other →

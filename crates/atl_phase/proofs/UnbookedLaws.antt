@@ -17,13 +17,13 @@ use Rattle.atl_phase.specs.Meaning.{Condition, IsSameMonth}
 use Rattle.atl_phase.specs.PhaseOrders.{Task}
 use Rattle.atl_phase.specs.NoWorse.{IsNoWorse}
 use Rattle.atl_phase.specs.OrderEffects.{IsOwnOrder, IsUnaffected, OrderEffect}
-use Rattle.atl_phase.specs.Bounds.{IsUnitOf, StepsWell, books_nothing}
+use Rattle.atl_phase.specs.Bounds.{IsUnitOf, StepsWell, nothing_remaining}
 use Rattle.atl_phase.proofs.NoWorseLaws.{no_worse}
 use Rattle.atl_phase.proofs.OrderEffectLaws.{not_drawn}
 
 -- a step that leaves month, books and totals as they are keeps the books in balance within a remaining bound of 0
 -- (`StepsWell`), if `holds` is true of the campaign after it
-pub stays_well : (holds : Condition) (w : WorldValue) (c d : CampaignValue) → holds w d → IsSameMonth c d → d.books ≡ c.books → ((t : Thing) → total d t ≡ total c t) → StepsWell holds books_nothing w c d
+pub stays_well : (holds : Condition) (w : WorldValue) (c d : CampaignValue) → holds w d → IsSameMonth c d → d.books ≡ c.books → ((t : Thing) → total d t ≡ total c t) → StepsWell holds nothing_remaining w c d
 stays_well holds w c d still same books totals = record {
   holds_still = still;
   same_month = same;
@@ -33,7 +33,7 @@ stays_well holds w c d still same books totals = record {
 
 -- a step that leaves month, books and totals as they are keeps the books in balance within a remaining bound of 0
 -- (`StepsWell`), if the campaign is early after it
-pub unbooked_well : (w : WorldValue) (c d : CampaignValue) → IsEarly w d → IsSameMonth c d → d.books ≡ c.books → ((t : Thing) → total d t ≡ total c t) → StepsWell IsEarly books_nothing w c d
+pub unbooked_well : (w : WorldValue) (c d : CampaignValue) → IsEarly w d → IsSameMonth c d → d.books ≡ c.books → ((t : Thing) → total d t ≡ total c t) → StepsWell IsEarly nothing_remaining w c d
 unbooked_well = stays_well IsEarly
 
 -- campaigns with the same units and regions have the same totals

@@ -96,8 +96,8 @@ pub record IsOrderly (step : OrderMeaning) (holds : Condition) (reserve : Remain
 -- ---- what is left of the bounds of single phases
 
 -- the remaining bound of a phase that books nothing: 0 for each amount
-abbrev pub books_nothing : RemainingBound
-books_nothing c = moves_nothing
+abbrev pub nothing_remaining : RemainingBound
+nothing_remaining c = moves_nothing
 
 -- the bound on the books for a list of items with their amounts, each booked as lost
 abbrev pub moving_items : List (ℕ × ℕ) → BookBound

@@ -64,19 +64,19 @@ slot_number Taxing = 3
 slot_number Recruiting = 4
 
 -- whether the second slot is there (`Some`), and is the same as the first
-abbrev pub is_slot : Slot → Option Slot → Bool
-is_slot slot None = false
-is_slot slot (Some other) = slot_number slot == slot_number other
+abbrev pub is_same_slot : Slot → Option Slot → Bool
+is_same_slot slot None = false
+is_same_slot slot (Some other) = slot_number slot == slot_number other
 
 -- whether a verb takes the whole month
 abbrev pub is_month_long : Verb → Bool
-is_month_long verb = is_slot MonthLong (row_of verb).slot
+is_month_long verb = is_same_slot MonthLong (row_of verb).slot
 
 -- the greatest line of those of these orders that are in a slot and for a unit; 0 where there is none
 abbrev pub last_line : Slot → ℕ → List Task → ℕ
 last_line slot unit [] = 0
 last_line slot unit (t ∷ ts) =
-    max (if t.unit == unit && is_slot slot (row_of t.order_value.verb).slot then t.line else 0) (last_line slot unit ts)
+    max (if t.unit == unit && is_same_slot slot (row_of t.order_value.verb).slot then t.line else 0) (last_line slot unit ts)
 
 -- whether an order in this slot counts: it has the greatest line for its unit; an order without a slot always does
 abbrev pub stands_in : List Task → Task → Option Slot → Bool

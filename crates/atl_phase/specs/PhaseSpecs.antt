@@ -58,13 +58,13 @@ abbrev pub MovesItsOwn : PhaseSpec → Type 0
 MovesItsOwn phase = (e : Entry) (t : Thing) → phase.moving e t ≤ (if may_move phase.moved e t then most_moved else 0)
 
 -- the specification of a phase that moves no amount of the books
-abbrev pub books_none : Meaning → Frame → PhaseSpec
-books_none meaning keeps = record { meaning = meaning; moving = moves_nothing; moved = no_moved_entries; keeps = keeps }
+abbrev pub spec_without_books : Meaning → Frame → PhaseSpec
+spec_without_books meaning keeps = record { meaning = meaning; moving = moves_nothing; moved = no_moved_entries; keeps = keeps }
 
 -- the specification of a phase that moves no amount of the books and carries its orders out one by one.
 -- It spares the units that none of its orders concerns.
 abbrev pub goes_by_orders : OrderMeaning → (Verb → Bool) → Affects → Unaffected → PhaseSpec
-goes_by_orders step is_of concerns spares = books_none (meaning_by_orders step is_of) (spares_others concerns spares is_of)
+goes_by_orders step is_of concerns spares = spec_without_books (meaning_by_orders step is_of) (spares_others concerns spares is_of)
 
 -- the specification of a phase that moves the money of one entry of the books, and no other amount
 abbrev pub books_money : Entry → Meaning → Frame → PhaseSpec

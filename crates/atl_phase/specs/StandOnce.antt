@@ -12,16 +12,16 @@ use Rattle.atl_orders.specs.Verbs.{row_of}
 use Rattle.atl_phase.specs.declared.phase_order.Arrangement.{Arrangement}
 use Rattle.atl_phase.specs.Month.{Aliases}
 use Rattle.atl_phase.specs.Fit.{AreFit}
-use Rattle.atl_phase.specs.PhaseOrders.{Task, is_slot, orders_of}
+use Rattle.atl_phase.specs.PhaseOrders.{Task, is_same_slot, orders_of}
 
 -- whether both slots are there (`Some`), and are the same
-abbrev pub are_of_slot : Option Slot → Option Slot → Bool
-are_of_slot None other = false
-are_of_slot (Some slot) other = is_slot slot other
+abbrev pub are_same_slot : Option Slot → Option Slot → Bool
+are_same_slot None other = false
+are_same_slot (Some slot) other = is_same_slot slot other
 
 -- whether two orders are of one faction, for one unit and in one slot
 abbrev pub share_slot : Task → Task → Bool
-share_slot t o = t.unit == o.unit && (t.faction == o.faction && are_of_slot (row_of t.order_value.verb).slot (row_of o.order_value.verb).slot)
+share_slot t o = t.unit == o.unit && (t.faction == o.faction && are_same_slot (row_of t.order_value.verb).slot (row_of o.order_value.verb).slot)
 
 -- no two orders that a phase carries out share a slot, where the mailings can be read with the world
 abbrev pub OneOrderStands : Type 0

@@ -7,7 +7,7 @@ ghost use Rattle.atl_campaign.specs.Covers.{MarksChanges};
 ghost use Rattle.atl_orders.specs.Bounds.{IsOrderOf};
 ghost use Rattle.atl_phase.specs.Fit.{AreFit};
 ghost use Rattle.atl_phase.specs.Meaning.{BookBound, Condition, LeavesWell};
-ghost use Rattle.atl_phase.specs.Bounds.{HaveRoom, IsOrderly, RemainingBound, books_nothing};
+ghost use Rattle.atl_phase.specs.Bounds.{HaveRoom, IsOrderly, RemainingBound, nothing_remaining};
 ghost use Rattle.atl_phase.specs.NoWorse.{IsNoWorse};
 ghost use Rattle.atl_phase.specs.Unbooked.{moves_nothing};
 ghost use Rattle.atl_phase.specs.OrderEffects.{Affects, IsOwnOrder, OrderMeaning, Unaffected, is_of_faction, meaning_by_orders, of_faction, one_order, order_result, spares_others};
@@ -32,7 +32,7 @@ pub trait OrderPhase: PhaseVerbs {
     ghost holds: { Condition };
 
     // By how much each amount of the books may still be moved, from a campaign on: by default 0.
-    ghost reserve: { RemainingBound } = { books_nothing };
+    ghost reserve: { RemainingBound } = { nothing_remaining };
 
     // By how much the whole phase may move each amount of the books, up or down: by default 0.
     ghost moving: { BookBound } = { moves_nothing };

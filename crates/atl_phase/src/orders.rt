@@ -11,7 +11,7 @@ ghost use Rattle.atl_phase.specs.OrderIndices.{IsSortedMonth, IsThere, task_at, 
 
 use crate::order_indices::{OrderIndex, order_indices};
 use crate::phase_order::{Arrangement, PhaseOrder};
-use crate::standing::is_slot;
+use crate::standing::is_same_slot;
 use atl_orders::{Mailing, Slot, Verb};
 use atl_world::Numbered;
 use std::alloc::{AllocError, Global};
@@ -35,7 +35,7 @@ impl PhaseVerbs for MonthLongVerbs {
     ghost is_of = { is_month_long };
 
     fn has(&self, verb: Verb) -> bool {
-        is_slot(Slot::MonthLong, verb.row().slot)
+        is_same_slot(Slot::MonthLong, verb.row().slot)
     }
 }
 

@@ -2,7 +2,7 @@
 //! "Orders of a month".
 ghost use Rattle.std.specs.Prelude.{◌≡◌, IfOk, OnOk};
 ghost use Rattle.atl_orders.specs.Mailing.{reading_of};
-ghost use Rattle.atl_phase.specs.PhaseOrders.{unit_of, slot_number, is_slot, tasks_of};
+ghost use Rattle.atl_phase.specs.PhaseOrders.{unit_of, slot_number, is_same_slot, tasks_of};
 ghost use Rattle.atl_phase.specs.OrderIndices.{AreLastLines, line_in, stands_by, with_line};
 
 use crate::month::unit_under;
@@ -24,8 +24,8 @@ fn number_of(slot: Slot) -> u32
 }
 
 /// Whether the second slot is there (`Some`), and is the same as the first.
-pub(crate) fn is_slot(slot: Slot, other: Option<Slot>) -> bool
-    ensures { result ≡ is_slot slot other }
+pub(crate) fn is_same_slot(slot: Slot, other: Option<Slot>) -> bool
+    ensures { result ≡ is_same_slot slot other }
 {
     match other {
         Some(other) => number_of(slot) == number_of(other),

@@ -8,7 +8,7 @@ use Rattle.std.specs.FinMap.{FinMap, get, insert, find, entries, entries_sorted,
 use Rattle.std.specs.FinMap.Entries.{below_all}
 use Rattle.std.proofs.lemmas.Bool.{and_parts, false≢true}
 use Rattle.atl_world.specs.Sums.{numbers_where, mapped}
-use Rattle.atl_world.proofs.MadeLaws.{get-mapped}
+use Rattle.atl_world.proofs.MappedLaws.{get-mapped}
 use Rattle.atl_world.proofs.SumLaws.{chosen-cons}
 use Rattle.atl_records.specs.Every.{EachOf, Every, IsThere}
 use Rattle.std.proofs.lemmas.Bool.Decides.{nat_tests}

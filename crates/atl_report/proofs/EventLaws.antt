@@ -57,12 +57,12 @@ results_lines faction [] events h = by_test (list_any (λ (e : Event). e.faction
     by_test false h rest = absurd (false≢true (sym h))
 
 -- two lists of events with the same events of a faction give that faction the same report
-pub others_events_are_not_told : OthersEventsAreNotTold
+pub others_events_are_not_reported : OthersEventsAreNotTold
 unfolding report_of orders_part
-others_events_are_not_told w v faults events others h = ap (λ own. header_line v ++ ((codes "Orders:\n" ++ results_text faults own) ++ region_parts w v.regions)) h
+others_events_are_not_reported w v faults events others h = ap (λ own. header_line v ++ ((codes "Orders:\n" ++ results_text faults own) ++ region_parts w v.regions)) h
 
 -- two campaigns of which a faction sees the same give it one report, for the same faulty lines and own events
-pub only_what_is_seen_is_told : OnlyWhatIsSeenIsTold
+pub only_what_is_seen_is_reported : OnlyWhatIsSeenIsTold
 unfolding view_of
-only_what_is_seen_is_told w c d faction faults events others seen results_text =
-    others_events_are_not_told w (view_of w c faction) faults events others results_text ∙ ap (λ v. report_of w v faults others) seen
+only_what_is_seen_is_reported w c d faction faults events others seen results_text =
+    others_events_are_not_reported w (view_of w c faction) faults events others results_text ∙ ap (λ v. report_of w v faults others) seen

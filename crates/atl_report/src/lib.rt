@@ -10,7 +10,7 @@ pub mod views;
 mod watch;
 
 pub use books::books_text;
-pub use report::{only_what_is_seen_is_told, others_events_are_not_told, report_text};
+pub use report::{only_what_is_seen_is_reported, others_events_are_not_reported, report_text};
 pub use sight::{view, view_over};
 pub use sites::{Sites, sites_of};
 pub use views::{ItemView, MarketView, RegionView, Side, SkillView, StructureView, UnitView, View};

@@ -392,13 +392,13 @@ pub fn report_text(
 }
 
 /// The law that events of other factions make no difference to a faction's report. It does nothing.
-pub fn others_events_are_not_told()
+pub fn others_events_are_not_reported()
     ensures { OthersEventsAreNotTold }
 {}
 
 /// The law that a report depends only on the faction's view, its faulty lines and its own events.
 /// Two campaigns of one world with the same view, faulty lines and own events give one report. It
 /// does nothing.
-pub fn only_what_is_seen_is_told()
+pub fn only_what_is_seen_is_reported()
     ensures { OnlyWhatIsSeenIsTold }
 {}

@@ -53,12 +53,12 @@ module _ {S : Type 0} (g : Ghosts S) (own : Statements) (old new : Held S) where
 
   -- if a write's fault reports, on a clean disk, an error of one of its calls, this error is the cause of the service's
   -- fault: out of memory for Memory, another for Store (`HasCause`)
-  pub writing_told : (fault : WriteFault) → (HasCleanDisk (state g new) → IsFaultOfError g own write_fault old new fault) → HasCause g own old new (of_write fault)
-  writing_told write.Memory told = inr (λ clean. lacked (told clean))
-  writing_told write.Store told = λ clean. failed (told clean)
+  pub write_has_cause : (fault : WriteFault) → (HasCleanDisk (state g new) → IsFaultOfError g own write_fault old new fault) → HasCause g own old new (of_write fault)
+  write_has_cause write.Memory told = inr (λ clean. lacked (told clean))
+  write_has_cause write.Store told = λ clean. failed (told clean)
 
   -- if a call ends with the fault of a write as its error, the error that this fault reports is the cause of the
   -- service's fault (`HasCause`)
-  pub ended_by : {A : Type 0} (fault : WriteFault) (r : Result A WriteFault) → IsErrAnd r (λ f. f ≡ fault) → (HasCleanDisk (state g new) → IsFaultOfError g own write_fault old new fault) → IfErr r (λ f. HasCause g own old new (of_write f))
-  ended_by fault (Ok a) is told = tt
-  ended_by fault (Err f) is told = subst (λ x. HasCause g own old new (of_write x)) (sym is) (writing_told fault told)
+  pub call_has_cause : {A : Type 0} (fault : WriteFault) (r : Result A WriteFault) → IsErrAnd r (λ f. f ≡ fault) → (HasCleanDisk (state g new) → IsFaultOfError g own write_fault old new fault) → IfErr r (λ f. HasCause g own old new (of_write f))
+  call_has_cause fault (Ok a) is told = tt
+  call_has_cause fault (Err f) is told = subst (λ x. HasCause g own old new (of_write x)) (sym is) (write_has_cause fault told)

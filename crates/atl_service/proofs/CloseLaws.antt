@@ -11,7 +11,7 @@ use Rattle.std.specs.Ordering.{nat_cmp, eq_by_cmp}
 use Rattle.std.specs.FinMap.{FinMap, empty, entries, get, insert, same_entries_map}
 use Rattle.atl_world.specs.Worlds.{WorldValue, IsWorld}
 use Rattle.atl_world.specs.Sums.{mapped, numbers_among}
-use Rattle.atl_world.proofs.MadeLaws.{entries-mapped, get-mapped, insert_last}
+use Rattle.atl_world.proofs.MappedLaws.{entries-mapped, get-mapped, insert_last}
 use Rattle.atl_world.proofs.Maps.{entries-empty}
 use Rattle.atl_orders.specs.declared.fault.FaultyLine.{FaultyLine}
 use Rattle.atl_orders.specs.declared.fault.MailFault.{MailFault}
@@ -112,8 +112,8 @@ own_factions w c ms good is =
 -- ---- the faulty lines of each mailing
 
 -- the faulty lines found under a number are those of that faction's mailing
-pub wrong_under : (w : WorldValue) (mail : FinMap nat_cmp (List ℕ)) (n : ℕ) → unwrap_or (get (mapped (λ text. faults_of (reading w text)) mail) n) [] ≡ faults_in w (get mail n)
-wrong_under w mail n = ap (λ o. unwrap_or o []) (get-mapped (λ text. faults_of (reading w text)) mail n) ∙ at (get mail n)
+pub faulty_lines_under : (w : WorldValue) (mail : FinMap nat_cmp (List ℕ)) (n : ℕ) → unwrap_or (get (mapped (λ text. faults_of (reading w text)) mail) n) [] ≡ faults_in w (get mail n)
+faulty_lines_under w mail n = ap (λ o. unwrap_or o []) (get-mapped (λ text. faults_of (reading w text)) mail n) ∙ at (get mail n)
   where
     -- the faulty lines found for a faction, with a mailing or without one, are those of `faults_in`
     at : (o : Option (List ℕ)) → unwrap_or (option_map (λ text. faults_of (reading w text)) o) [] ≡ faults_in w o
@@ -158,7 +158,7 @@ pub closed_is : (w : WorldValue) (c after : CampaignValue) (events : List Event)
     → faults ≡ mapped (λ text. faults_of (reading w text)) c.mail → fold (reported_to w (λ n. unwrap_or (get faults n) []) events) (after_month after) (active c) ≡ closed w c words
 unfolding closed
 closed_is w c after events words faults is wrong =
-    same_reports w events (λ n. unwrap_or (get faults n) []) (λ n. faults_in w (get c.mail n)) (λ n. ap (λ m. unwrap_or (get m n) []) wrong ∙ wrong_under w c.mail n) (after_month after) (active c)
+    same_reports w events (λ n. unwrap_or (get faults n) []) (λ n. faults_in w (get c.mail n)) (λ n. ap (λ m. unwrap_or (get m n) []) wrong ∙ faulty_lines_under w c.mail n) (after_month after) (active c)
     ∙ ap (with_month_reports w c) is
 
 -- ---- the dirty set
@@ -192,8 +192,8 @@ stored_marked w c d n faults events (Err e) is m = tt
 -- ---- the mail, read one mailing after another
 
 -- the faulty lines of each mailing in the entries `es` of the mail, with the number of its faction
-abbrev wrong_in : WorldValue → List (ℕ × List ℕ) → List (ℕ × List FaultyLine)
-wrong_in w es = map (λ e. (e.0, faults_of (reading w e.1))) es
+abbrev faulty_lines_in : WorldValue → List (ℕ × List ℕ) → List (ℕ × List FaultyLine)
+faulty_lines_in w es = map (λ e. (e.0, faults_of (reading w e.1))) es
 
 -- the faulty lines of all mailings of a campaign, by faction
 abbrev wrong : WorldValue → CampaignValue → FinMap nat_cmp (List FaultyLine)
@@ -206,7 +206,7 @@ read_begins w c ms faults all good is none none_wrong =
     rw (is, none, none_wrong) (
       refl,
       λ k d h. absurd (omega arith),
-      ap (λ es. es ++ wrong_in w (entries c.mail)) (entries-empty {X = List FaultyLine}) ∙ sym (entries-mapped (λ text. faults_of (reading w text)) c.mail),
+      ap (λ es. es ++ faulty_lines_in w (entries c.mail)) (entries-empty {X = List FaultyLine}) ∙ sym (entries-mapped (λ text. faults_of (reading w text)) c.mail),
       sent_by w c good,
     )
 
@@ -216,14 +216,14 @@ pub read_goes_on : (w : WorldValue) (c : CampaignValue) (ms ns : List Mailing) (
 read_goes_on w c ms ns faults faults' here rest n text m left one_more read kept put (mailings, all, outcome, sent) =
     let is : reading w text ≡ Ok (reading_of m) = ap (reading w) (sym kept) ∙ read in
     let of_all = subst (λ es. map reading_of ms ++ texts_read w es ≡ readings w c) left mailings in
-    let told_of_all = subst (λ es. entries faults ++ wrong_in w es ≡ entries (wrong w c)) left outcome in
+    let told_of_all = subst (λ es. entries faults ++ faulty_lines_in w es ≡ entries (wrong w c)) left outcome in
     let first : faults_of (reading w text) ≡ m.faults = ap faults_of is in
-    let told_now = subst (λ fs. entries faults ++ (n, fs) ∷ wrong_in w rest ≡ entries (wrong w c)) first told_of_all in (
+    let told_now = subst (λ fs. entries faults ++ (n, fs) ∷ faulty_lines_in w rest ≡ entries (wrong w c)) first told_of_all in (
       ap (λ xs. map reading_of xs ++ texts_read w rest) one_more ∙ ap (λ xs. xs ++ texts_read w rest) (map-append reading_of ms (m ∷ []))
           ∙ append_assoc (map reading_of ms) (reading_of m ∷ []) (texts_read w rest) ∙ ap (λ rs. map reading_of ms ++ (read_of rs ++ texts_read w rest)) (sym is) ∙ of_all,
       subst (All (IsReadWith w)) (sym one_more) (All-push (IsReadWith w) ms m all read),
-      ap (λ fs. entries fs ++ wrong_in w rest) put ∙ ap (λ es. es ++ wrong_in w rest) (insert_last faults (wrong w c) n m.faults (wrong_in w rest) told_now)
-          ∙ append_assoc (entries faults) ((n, m.faults) ∷ []) (wrong_in w rest) ∙ told_now,
+      ap (λ fs. entries fs ++ faulty_lines_in w rest) put ∙ ap (λ es. es ++ faulty_lines_in w rest) (insert_last faults (wrong w c) n m.faults (faulty_lines_in w rest) told_now)
+          ∙ append_assoc (entries faults) ((n, m.faults) ∷ []) (faulty_lines_in w rest) ∙ told_now,
       (subst (EachOf IsMailingOf) left sent).1,
     )
 
@@ -232,7 +232,7 @@ pub read_ends : (w : WorldValue) (c : CampaignValue) (r : ReadMail) (rest : List
 read_ends w c r rest none (mailings, all, outcome, sent) = record {
   readings_are = sym (append-nil (map reading_of r.mailings.items)) ∙ subst (λ es. map reading_of r.mailings.items ++ texts_read w es ≡ readings w c) none mailings;
   read = all;
-  faults = same_entries_map r.faults (wrong w c) (sym (append-nil (entries r.faults)) ∙ subst (λ es. entries r.faults ++ wrong_in w es ≡ entries (wrong w c)) none outcome);
+  faults = same_entries_map r.faults (wrong w c) (sym (append-nil (entries r.faults)) ∙ subst (λ es. entries r.faults ++ faulty_lines_in w es ≡ entries (wrong w c)) none outcome);
 }
 
 -- ---- the reports, stored one after another

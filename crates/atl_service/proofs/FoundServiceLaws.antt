@@ -10,7 +10,7 @@ use Rattle.atl_campaign.specs.Campaign.{CampaignValue}
 use Rattle.atl_campaign.specs.Founding.{founded_of}
 use Rattle.atl_campaign.specs.Good.{IsGood}
 use Rattle.atl_sql.specs.Making.{has_campaign}
-use Rattle.atl_store.specs.Keeps.{Keeps, IsLater, IsReadyToCreate, MayFound, Creates, BreaksOffCreation, FailsToCreate, RefusesToCreate, HoldsCampaign}
+use Rattle.atl_store.specs.Keeps.{Keeps, IsLater, IsReadyToCreate, MayLeaveCampaign, Creates, BreaksOffCreation, FailsToCreate, RefusesToCreate, HoldsCampaign}
 use Rattle.atl_store.proofs.StayLaws.{spares_itself}
 use Rattle.atl_store.specs.declared.fault.CreateFault.{CreateFault}
 use Rattle.atl_store.specs.declared.fault.CreateFault.TheVariants.{NotEmpty, Store, Memory}
@@ -83,7 +83,7 @@ module _ {S : Type 0} (g : Ghosts S) where
     failed fails = record {
       tables = fails.tables;
       unfounded = λ bad. elim bad [ inl no_world ↦ absurd (no_world (w, made.world)) | inr no_pass ↦ absurd (false≢true (sym no_pass ∙ made.pass_is_good)) ];
-      crash = λ clean v v_is. let same : w ≡ v = ok_same w v (sym made.world ∙ v_is) in subst (λ (d : CampaignValue). MayFound (state g old) text d (state g new)) (made.campaign ∙ ap (λ u. founded_of u pass) same) (fails.crash clean);
+      crash = λ clean v v_is. let same : w ≡ v = ok_same w v (sym made.world ∙ v_is) in subst (λ (d : CampaignValue). MayLeaveCampaign (state g old) text d (state g new)) (made.campaign ∙ ap (λ u. founded_of u pass) same) (fails.crash clean);
     }
       where
         -- equal results Ok have equal worlds

@@ -39,8 +39,8 @@ module _ {S : Type 0} (g : Ghosts S) where
   }
 
   -- opening may refuse a connection in a transaction with Store, and leave it as it is (`RefusesOpening`)
-  pub refused_unasked : (conn : Held S) → conn.in_transaction ≡ true → RefusesOpening g conn (of_loading Store) conn
-  refused_unasked conn busy = record { fault = Store; why_is = refl; cause = λ clean. inl busy; alone = alone_itself conn; later = later _ _ _ (alone_itself conn).survives }
+  pub refused_in_transaction : (conn : Held S) → conn.in_transaction ≡ true → RefusesOpening g conn (of_loading Store) conn
+  refused_in_transaction conn busy = record { fault = Store; why_is = refl; cause = λ clean. inl busy; alone = alone_itself conn; later = later _ _ _ (alone_itself conn).survives }
 
   module _ (old new : Held S) (alone : LeavesAlone g old new) where
     -- if loading fails with a fault, opening refuses with the cause of the same name (`RefusesOpening`)

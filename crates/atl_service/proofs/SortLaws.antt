@@ -12,7 +12,7 @@ use Rattle.atl_orders.specs.declared.fault.FaultyLine.{FaultyLine}
 use Rattle.atl_records.specs.declared.event.Event.{Event}
 use Rattle.atl_campaign.specs.Campaign.{CampaignValue, with_report}
 use Rattle.atl_report.specs.Events.{own_events}
-use Rattle.atl_report.proofs.EventLaws.{only_what_is_seen_is_told}
+use Rattle.atl_report.proofs.EventLaws.{only_what_is_seen_is_reported}
 use Rattle.atl_service.specs.Closing.{reported_with}
 use Rattle.atl_service.specs.Sorting.{events_of, with_event}
 
@@ -71,4 +71,4 @@ pub stored_own : {A E : Type 0} (w : WorldValue) (c d : CampaignValue) (n : ℕ)
 stored_own w c d n faults lines events own (Err e) wrong mine is = tt
 stored_own w c d n faults lines events own (Ok a) wrong mine is =
     is ∙ ap (λ fs. reported_with w c n fs own) wrong
-    ∙ ap (λ text. with_report c n text) (only_what_is_seen_is_told w c c n faults own events refl (ap (own_events n) mine ∙ own_again n events))
+    ∙ ap (λ text. with_report c n text) (only_what_is_seen_is_reported w c c n faults own events refl (ap (own_events n) mine ∙ own_again n events))

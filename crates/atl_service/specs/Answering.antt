@@ -47,8 +47,8 @@ pub record Answers {S : Type 0} (g : Ghosts S) (w : WorldValue) (before : Campai
 
 -- A command failed with a fault: on a clean disk, tables that held the campaign before the command still do
 -- (`LeavesAfterFault`). A crash leaves that campaign or the one after `step`.
-abbrev pub GivesUp : {S : Type 0} → Ghosts S → WorldValue → CampaignValue → Held S → Command → Held S → Type 0
-GivesUp g w before old command new = HasCleanDisk (state g new) → (text : List ℕ) → Keeps (state g old) text before → LeavesAfterFault (state g old).faults (state g new) text before (step w before command).0
+abbrev pub LeavesAfterFailure : {S : Type 0} → Ghosts S → WorldValue → CampaignValue → Held S → Command → Held S → Type 0
+LeavesAfterFailure g w before old command new = HasCleanDisk (state g new) → (text : List ℕ) → Keeps (state g old) text before → LeavesAfterFault (state g old).faults (state g new) text before (step w before command).0
 
 -- After any command, answered or failed: the connection is in no transaction, its count of disk failures has not sunk,
 -- and other tables are unchanged.

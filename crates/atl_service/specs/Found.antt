@@ -11,7 +11,7 @@ use Rattle.atl_tables.specs.declared.fault.WorldFault.TheVariants as world
 use Rattle.atl_campaign.specs.Campaign.{CampaignValue}
 use Rattle.atl_campaign.specs.Founding.{founded_of}
 use Rattle.atl_sql.specs.Making.{has_campaign}
-use Rattle.atl_store.specs.Keeps.{HoldsCampaign, IsLater, IsReadyToCreate, ChangesNothing, MayFound}
+use Rattle.atl_store.specs.Keeps.{HoldsCampaign, IsLater, IsReadyToCreate, ChangesNothing, MayLeaveCampaign}
 use Rattle.atl_store.specs.declared.fault.CreateFault.{CreateFault}
 use Rattle.atl_store.specs.declared.fault.CreateFault.TheVariants as create
 use Rattle.atl_service.specs.declared.command.Cause.{Cause}
@@ -55,7 +55,7 @@ MayBeCause text pass is_there Memory = ⊤
 pub record FailsToFound {S : Type 0} (g : Ghosts S) (old : Held S) (text pass : List ℕ) (new : Held S) : Type 0 where
   pub tables : HasCleanDisk (state g new) → ChangesNothing (state g old) (state g new)
   pub unfounded : (¬ IsWorldText text) ⊎ (pass_ok pass ≡ false) → new ≡ old
-  pub crash : HasCleanDisk (state g new) → (w : WorldValue) → world_of text ≡ Ok w → MayFound (state g old) text (founded_of w pass) (state g new)
+  pub crash : HasCleanDisk (state g new) → (w : WorldValue) → world_of text ≡ Ok w → MayLeaveCampaign (state g old) text (founded_of w pass) (state g new)
 
 -- Why founding fails with Store: the connection isn't ready (`IsReadyToCreate`) and is unchanged, or it is ready and
 -- the write failed. In the second case, if the disk is clean, a call of the write gave an error other than out of

@@ -7,12 +7,12 @@ ghost use Rattle.atl_campaign.specs.Good.{IsGood, IsActive};
 ghost use Rattle.atl_campaign.specs.Marks.{no_marks};
 ghost use Rattle.atl_campaign.specs.Campaign.{with_mail};
 ghost use Rattle.atl_service.specs.Step.{faction_with_pass, step};
-ghost use Rattle.atl_service.specs.Answering.{Answers, Denies, GivesUp, IsNoFault, LeavesIdle, of_write, mail_error};
+ghost use Rattle.atl_service.specs.Answering.{Answers, Denies, LeavesAfterFailure, IsNoFault, LeavesIdle, of_write, mail_error};
 ghost use Rattle.atl_service.specs.Causes.{OfCommand, HasCause};
 
 use crate::closing::close;
 use crate::command::{Answer, Command, Refusal};
-use crate::reporting::store_report;
+use crate::reporting::store_first_report;
 use atl_campaign::{Campaign, Faction, JoinFault};
 use atl_orders::{MailFault, Mailing, read_mailing};
 use atl_store::{WriteFault, write_join, write_mail};
@@ -37,7 +37,7 @@ fn join<S: Alter>(
         (Answers S.Store world.now campaign.old.value conn.old
         (Command.Join name.now pass.now word) campaign.new.value conn.new) }
     ensures err { OnErr result
-        (GivesUp S.Store world.now campaign.old.value conn.old
+        (LeavesAfterFailure S.Store world.now campaign.old.value conn.old
         (Command.Join name.now pass.now word) conn.new) }
     ensures cause { IfErr result
         (λ fault. HasCause S.Store (OfCommand world.now campaign.old.value
@@ -57,7 +57,7 @@ fn join<S: Alter>(
         Err(JoinFault::Full) => return Ok(Answer::Refused(Refusal::Full)),
         Err(JoinFault::Memory) => return Err(WriteFault::Memory),
     };
-    store_report(alloc, world, campaign, faction)?;
+    store_first_report(alloc, world, campaign, faction)?;
     write_join(conn, campaign, faction)?;
     campaign.unmark();
     Ok(Answer::Joined { faction, unit })
@@ -167,7 +167,7 @@ fn mail<S: Alter>(
         (Answers S.Store world.now campaign.old.value conn.old
         (Command.Mail faction pass.now text.now) campaign.new.value conn.new) }
     ensures err { OnErr result
-        (GivesUp S.Store world.now campaign.old.value conn.old
+        (LeavesAfterFailure S.Store world.now campaign.old.value conn.old
         (Command.Mail faction pass.now text.now) conn.new) }
     ensures cause { IfErr result
         (λ fault. HasCause S.Store (OfCommand world.now campaign.old.value
@@ -228,7 +228,7 @@ pub(crate) fn answer_to<S: Alter>(
         (Answers S.Store world.now campaign.old.value conn.old command.now campaign.new.value
         conn.new) }
     ensures err { OnErr result
-        (GivesUp S.Store world.now campaign.old.value conn.old command.now conn.new) }
+        (LeavesAfterFailure S.Store world.now campaign.old.value conn.old command.now conn.new) }
     ensures cause { IfErr result
         (λ fault. HasCause S.Store (OfCommand world.now campaign.old.value command.now) conn.old
         conn.new (of_write fault)) }

@@ -58,7 +58,7 @@ fn store_report_with(
 
 /// Stores the first report of a faction: what it sees. The report becomes dirty. If memory runs
 /// out, the campaign stays as it is.
-pub(crate) fn store_report(
+pub(crate) fn store_first_report(
     alloc: Global,
     world: &World,
     campaign: &mut Campaign,

@@ -73,16 +73,16 @@ pub shares-short : (pot : ℕ) (wants : List ℕ) → pot < sum wants → shares
 shares-short pot wants h = grind (arith, nat_tests)
 
 -- what holds of any want and its share, and of 0 and 0, holds of the want and the share at each index `i`
-each_behind : (P : ℕ → ℕ → Type 0) (pot total : ℕ) → ((before want : ℕ) → P want (share_upto pot total (before + want) - share_upto pot total before)) → P 0 0 → (before : ℕ) (wants : List ℕ) (i : ℕ) → P (get_or wants i 0) (get_or (shares_after pot total before wants) i 0)
-each_behind P pot total here none before [] i = none
-each_behind P pot total here none before (w ∷ ws) zero = here before w
-each_behind P pot total here none before (w ∷ ws) (suc i) = each_behind P pot total here none (before + w) ws i
+each_later : (P : ℕ → ℕ → Type 0) (pot total : ℕ) → ((before want : ℕ) → P want (share_upto pot total (before + want) - share_upto pot total before)) → P 0 0 → (before : ℕ) (wants : List ℕ) (i : ℕ) → P (get_or wants i 0) (get_or (shares_after pot total before wants) i 0)
+each_later P pot total here none before [] i = none
+each_later P pot total here none before (w ∷ ws) zero = here before w
+each_later P pot total here none before (w ∷ ws) (suc i) = each_later P pot total here none (before + w) ws i
 
 -- no share is above its want
 pub share_at_most : (pot : ℕ) (wants : List ℕ) (i : ℕ) → get_or (shares pot wants) i 0 ≤ get_or wants i 0
 share_at_most pot wants i =
     elim (cases_lt pot (sum wants)) [
-      | inl h ↦ rw (shares-short pot wants h) (each_behind (λ w s. s ≤ w) pot (sum wants) (λ b w. part_le pot (sum wants) b w (omega arith) (omega arith)) (omega arith) 0 wants i)
+      | inl h ↦ rw (shares-short pot wants h) (each_later (λ w s. s ≤ w) pot (sum wants) (λ b w. part_le pot (sum wants) b w (omega arith) (omega arith)) (omega arith) 0 wants i)
       | inr h ↦ rw (shares-enough pot wants h) (omega arith)
     ]
 
@@ -102,7 +102,7 @@ all_is_given pot wants =
 -- if the pot isn't enough, each share differs from `pot * want / total` by less than one
 pub share_is_near : (pot : ℕ) (wants : List ℕ) (i : ℕ) → pot < sum wants → IsNearPart pot (sum wants) (get_or wants i 0) (get_or (shares pot wants) i 0)
 share_is_near pot wants i h =
-    rw (shares-short pot wants h) (each_behind (IsNearPart pot (sum wants)) pot (sum wants)
+    rw (shares-short pot wants h) (each_later (IsNearPart pot (sum wants)) pot (sum wants)
     (λ b w. let n = share_near pot (sum wants) b w (omega arith) in record { above = n.0; below = n.1 })
     (record { above = omega arith; below = omega arith }) 0 wants i)
 
@@ -128,10 +128,10 @@ sum-split ahead parts behind =
     omega arith
 
 -- splitting a want changes no other share by prefix sums (`shares_after`), and its parts get together what it got
-split_behind : (pot total : ℕ) → 0 < total → (ahead parts behind : List ℕ)
+split_later : (pot total : ℕ) → 0 < total → (ahead parts behind : List ℕ)
     → (shares_after pot total 0 (ahead ++ parts ++ behind) ≡ shares_after pot total 0 ahead ++ shares_after pot total (sum ahead) parts ++ shares_after pot total (sum ahead + sum parts) behind)
     × (shares_after pot total 0 (ahead ++ sum parts ∷ behind) ≡ shares_after pot total 0 ahead ++ sum (shares_after pot total (sum ahead) parts) ∷ shares_after pot total (sum ahead + sum parts) behind)
-split_behind pot total p ahead parts behind =
+split_later pot total p ahead parts behind =
     let front = shares_after pot total 0 ahead in
     let two : sum (ahead ++ parts) ≡ sum ahead + sum parts = sum_by-append (λ x. x) ahead parts in
     let given : sum (shares_after pot total (sum ahead) parts) + share_upto pot total (sum ahead) ≡ share_upto pot total (sum ahead + sum parts) = sum-shares_after pot total (sum ahead) p parts in
@@ -152,7 +152,7 @@ splitting_keeps_others pot ahead parts behind =
     elim (cases_lt pot (sum (ahead ++ parts ++ behind))) [
       | inl h ↦
           let total = sum (ahead ++ parts ++ behind) in
-          let split = split_behind pot total (omega arith) ahead parts behind in (
+          let split = split_later pot total (omega arith) ahead parts behind in (
             shares_after pot total 0 ahead,
             shares_after pot total (sum ahead) parts,
             shares_after pot total (sum ahead + sum parts) behind,

@@ -59,13 +59,13 @@ each_column [] more = refl
 each_column (v ∷ vs) more = ap (λ (l : Row). v ∷ l) (shifted (column (v ∷ (vs ++ more))) (column (vs ++ more)) (next_column v (vs ++ more)) 0 (length vs) ∙ each_column vs more)
 
 -- all columns after the first, one by one, are the row without its first value
-each_behind : (v : Value) (vs more : Row) → map (column (v ∷ (vs ++ more))) (range_with_len 1 (length vs)) ≡ vs
-each_behind v vs more = shifted (column (v ∷ (vs ++ more))) (column (vs ++ more)) (next_column v (vs ++ more)) 0 (length vs) ∙ each_column vs more
+each_later : (v : Value) (vs more : Row) → map (column (v ∷ (vs ++ more))) (range_with_len 1 (length vs)) ≡ vs
+each_later v vs more = shifted (column (v ∷ (vs ++ more))) (column (vs ++ more)) (next_column v (vs ++ more)) 0 (length vs) ∙ each_column vs more
 
 -- the column of a row after some values is the value that comes next
-column_behind : (vs : Row) (x : Value) (more : Row) → column (vs ++ x ∷ more) (length vs) ≡ x
-column_behind [] x more = refl
-column_behind (v ∷ vs) x more = column_behind vs x more
+column_after : (vs : Row) (x : Value) (more : Row) → column (vs ++ x ∷ more) (length vs) ≡ x
+column_after [] x more = refl
+column_after (v ∷ vs) x more = column_after vs x more
 
 -- ---- what the terms make of the parameters, which are a number and so many values
 
@@ -106,7 +106,7 @@ module _ (tree : ℕ) (name key_name : List ℕ) (columns : List Column) (unique
 
     -- the terms of the parameters after the first give the values
     of_parameters : (more : Row) (rows : List Row) → eval_all (map (col 0) (range_with_len 1 width)) ((int n ∷ (values ++ more)) ∷ rows) ≡ values
-    of_parameters more rows = map-map (λ (t : Term). eval t ((int n ∷ (values ++ more)) ∷ rows)) (col 0) (range_with_len 1 width) ∙ each_behind (int n) values more
+    of_parameters more rows = map-map (λ (t : Term). eval t ((int n ∷ (values ++ more)) ∷ rows)) (col 0) (range_with_len 1 width) ∙ each_later (int n) values more
 
     -- the terms of the INSERT make the row of the number and the values
     source_is : value_rows ((int n ∷ values) ++ []) (width + 2) (length (given_row width) / (width + 2)) (given_row width) ≡ its_row ∷ []
@@ -141,7 +141,7 @@ module _ (tree : ℕ) (name key_name : List ℕ) (columns : List Column) (unique
       changed = λ more r. ap (λ l. column r 0 ∷ Null ∷ l) (of_parameters more (r ∷ []));
       casted = casted_is;
       shown = shown_is;
-      aimed = λ x more. next_column (int n) (values ++ x ∷ more) width ∙ column_behind values x more;
+      aimed = λ x more. next_column (int n) (values ++ x ∷ more) width ∙ column_after values x more;
     }
 
     -- the terms for all columns make the row of the number and the values of their columns' types (`MakesRow`)

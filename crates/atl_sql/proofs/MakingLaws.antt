@@ -44,15 +44,15 @@ abbrev pub schema_of_first : ℕ → Schema
 schema_of_first count = with_tables (take count all_tables)
 
 -- inside a transaction, which remains open, a database without tables gets the first `count` tables, all empty
-abbrev pub MakesSome : ℕ → State → State → Type 0
-MakesSome count old new = (new.in_transaction ≡ old.in_transaction) × (AreBare no_tables old.now → AreBare (schema_of_first count) new.now × (0 < count → IsDatabase new.now))
+abbrev pub MakesFirst : ℕ → State → State → Type 0
+MakesFirst count old new = (new.in_transaction ≡ old.in_transaction) × (AreBare no_tables old.now → AreBare (schema_of_first count) new.now × (0 < count → IsDatabase new.now))
 
--- doing nothing makes the first 0 tables (`MakesSome`)
-pub makes_none : (s : State) → MakesSome 0 s s
+-- doing nothing makes the first 0 tables (`MakesFirst`)
+pub makes_none : (s : State) → MakesFirst 0 s s
 makes_none s = (refl, λ bare. (bare, λ some. absurd (omega (arith, some))))
 
--- making the next table after the first `count` makes the first `count + 1` (`MakesSome`)
-pub makes_more : (count : ℕ) (a b c : State) → MakesSome count a b → Extends (schema_of_first count) (schema_of_first (count + 1)) b c → MakesSome (count + 1) a c
+-- making the next table after the first `count` makes the first `count + 1` (`MakesFirst`)
+pub makes_more : (count : ℕ) (a b c : State) → MakesFirst count a b → Extends (schema_of_first count) (schema_of_first (count + 1)) b c → MakesFirst (count + 1) a c
 makes_more count a b c first next = (next.0 ∙ first.0, λ bare. let made = next.1 (first.1 bare).0 in (made.0, λ some. made.1))
 
 -- ---- all ten tables
@@ -62,7 +62,7 @@ no_rows : IsKeyed []
 no_rows = record { apart = tt; ints = tt }
 
 -- making at least `table_count` tables in a blank database makes all of them, empty
-pub makes_all : (count : ℕ) → table_count ≤ count → (a b : State) → MakesSome count a b → Inside IsBlank AreEmpty a b
+pub makes_all : (count : ℕ) → table_count ≤ count → (a b : State) → MakesFirst count a b → Inside IsBlank AreEmpty a b
 makes_all count enough a b all = (
   all.0,
   λ blank.

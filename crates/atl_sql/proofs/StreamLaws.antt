@@ -87,9 +87,9 @@ unchanged_then old mid new a b = (
 )
 
 -- mapping a list with one more element at its end maps the list and the element
-map_behind : {A B : Type 0} (f : A → B) (xs : List A) (x : A) → map f (xs ++ x ∷ []) ≡ map f xs ++ f x ∷ []
-map_behind f [] x = refl
-map_behind f (y ∷ xs) x = ap (λ ys. f y ∷ ys) (map_behind f xs x)
+map_at_end : {A B : Type 0} (f : A → B) (xs : List A) (x : A) → map f (xs ++ x ∷ []) ≡ map f xs ++ f x ∷ []
+map_at_end f [] x = refl
+map_at_end f (y ∷ xs) x = ap (λ ys. f y ∷ ys) (map_at_end f xs x)
 
 -- a query is running, has given the rows `given`, and changed nothing
 pub record IsGiving {S : Type 0} (g : Ghosts S) (sql : List ℕ) (old : Held S) (given : List Row) (now : Held S) : Type 0 where
@@ -170,7 +170,7 @@ module _ {S : Type 0} (g : Ghosts S) (sql : List ℕ) (old : Held S) where
       -- the values read, with that of the next row, are those of the rows given, with the next row
       pub read_more : (old_items new_items : List A) (row : Row) → map shown old_items ≡ map (first_columns (length forms)) given → AddsRow forms shown old_items row new_items → map shown new_items ≡ map (first_columns (length forms)) (given ++ row ∷ [])
       read_more old_items new_items row read adds =
-          ap (map shown) adds.1 ∙ map_behind shown old_items adds.0 ∙ ap (λ rs. rs ++ shown adds.0 ∷ []) read ∙ ap (λ r. map (first_columns (length forms)) given ++ r ∷ []) adds.2 ∙ sym (map_behind (first_columns (length forms)) given row)
+          ap (map shown) adds.1 ∙ map_at_end shown old_items adds.0 ∙ ap (λ rs. rs ++ shown adds.0 ∷ []) read ∙ ap (λ r. map (first_columns (length forms)) given ++ r ∷ []) adds.2 ∙ sym (map_at_end (first_columns (length forms)) given row)
 
       -- the rows given and the next row have values of their columns' forms (`AreTyped`), if the next could be parsed
       pub typed_more : (old_items new_items : List A) (row : Row) → AreTyped forms given → AddsRow forms shown old_items row new_items → AreTyped forms (given ++ row ∷ [])

@@ -259,8 +259,8 @@ abbrev pub HasTablesOf : Format → Schema → Type 0
 HasTablesOf f = Begins (table_count_in f) (index_count_in f)
 
 -- the schema is exactly the nine tables of the first format and their three indexes
-abbrev pub IsJustOld : Schema → Type 0
-IsJustOld schema = schema ≡ first_tables (table_count_in First) (index_count_in First)
+abbrev pub IsFirstFormatOnly : Schema → Type 0
+IsFirstFormatOnly schema = schema ≡ first_tables (table_count_in First) (index_count_in First)
 
 -- For proofs alone: the schema of all ten tables with their indexes, then these other tables and indexes.
 abbrev pub all_and : List Table → List Index → Schema

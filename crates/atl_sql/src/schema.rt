@@ -1,7 +1,7 @@
 //! Tests whether a schema begins with the tables of a campaign. See docs/FORMATS.md, "Tables".
 ghost use Rattle.std.specs.Prelude.{◌≡◌, ◌≤◌, [], length, ◌↔◌, IsTrue};
 ghost use Rattle.std.specs.List.{AllByRecursion};
-ghost use Rattle.atl_sql.specs.Tables.{IsJustOld, all_tables, all_indexes, AreTables, Begins, HasAll, HasTablesOf};
+ghost use Rattle.atl_sql.specs.Tables.{IsFirstFormatOnly, all_tables, all_indexes, AreTables, Begins, HasAll, HasTablesOf};
 
 pub(crate) mod checks;
 mod columns;
@@ -71,8 +71,8 @@ pub fn has_tables_of(schema: &Schema, format: Format) -> bool
 }
 
 /// Whether the schema has exactly the tables and indexes of the first format.
-pub fn is_just_old(schema: &Schema) -> bool
-    ensures { IsTrue result ↔ (IsJustOld schema.now) }
+pub fn is_first_format_only(schema: &Schema) -> bool
+    ensures { IsTrue result ↔ (IsFirstFormatOnly schema.now) }
 {
     schema.tables.len() == FIRST_TABLES
         && schema.indexes.len() == FIRST_INDEXES

@@ -16,7 +16,7 @@ use Rattle.atl_records.specs.Books.{Account, BooksValue, account_cmp, amount_in,
 use Rattle.atl_campaign.specs.FromRows.{put_amounts}
 use Rattle.atl_campaign.specs.RowRules.{books_key, HaveKeys}
 use Rattle.atl_campaign.specs.Rows.{amounts_rows, books_row, books_rows}
-use Rattle.atl_campaign.proofs.BackLaws.{each_permuted, each_back, read_whole, apart_keys, keys_permuted, same_size}
+use Rattle.atl_campaign.proofs.ReadBackLaws.{each_permuted, each_back, read_whole, apart_keys, keys_permuted, same_size}
 use Rattle.atl_records.proofs.AccountLaws.{account_total, at_place, same_account}
 use Rattle.atl_records.proofs.BookLaws.{AreBooks-no_amounts, same_books}
 use Rattle.atl_records.proofs.EveryEntryLaws.{entry_small, numbered_entry}

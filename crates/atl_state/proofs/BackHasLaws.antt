@@ -14,7 +14,7 @@ use Rattle.atl_campaign.specs.FromRows.{as_u32, is_of, things_had}
 use Rattle.atl_records.specs.Every.{Every}
 use Rattle.atl_campaign.specs.RowRules.{has_key, HaveKeys}
 use Rattle.atl_campaign.specs.Rows.{is_zero, has_row, rows_of_sort, held_rows, has_rows}
-use Rattle.atl_campaign.proofs.BackLaws.{each_permuted, read_whole, written_whole, apart_keys, append_each, each_appended, append_apart, flat_apart, entries_rise, keys_permuted, same_size}
+use Rattle.atl_campaign.proofs.ReadBackLaws.{each_permuted, read_whole, written_whole, apart_keys, append_each, each_appended, append_apart, flat_apart, entries_rise, keys_permuted, same_size}
 use Rattle.atl_campaign.proofs.AssemblyLaws.{is_same}
 use Rattle.atl_state.proofs.BackGroupLaws.{groups_each, each_group, lines_each, each_line, lines_apart, amounts_back}
 use Rattle.atl_campaign.proofs.HasLaws.{IsKeyed, same, things_apart}

@@ -16,7 +16,7 @@ use Rattle.atl_campaign.specs.RowRules.{market_key, HaveKeys}
 use Rattle.atl_campaign.specs.Rows.{is_zero, market_row, stock_rows, market_rows}
 use Rattle.atl_campaign.proofs.AssemblyLaws.{is_same}
 use Rattle.atl_state.proofs.BackGroupLaws.{groups_each, each_group, lines_each, each_line, lines_apart, amounts_back}
-use Rattle.atl_campaign.proofs.BackLaws.{each_permuted, read_whole, written_whole, apart_keys, flat_apart, entries_rise, keys_permuted, same_size}
+use Rattle.atl_campaign.proofs.ReadBackLaws.{each_permuted, read_whole, written_whole, apart_keys, flat_apart, entries_rise, keys_permuted, same_size}
 use Rattle.atl_campaign.proofs.HasLaws.{same}
 use Rattle.atl_state.proofs.StockRowLaws.{IsKeyed, is_in, items_apart}
 

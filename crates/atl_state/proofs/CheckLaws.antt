@@ -26,7 +26,7 @@ use Rattle.atl_campaign.specs.Totals.{IsCountable}
 use Rattle.atl_records.specs.Limits.{first_entry_count}
 use Rattle.atl_campaign.specs.Rows.{books_rows, AreRowsOf}
 use Rattle.atl_state.proofs.BackBooksLaws.{line_at}
-use Rattle.atl_campaign.proofs.BackLaws.{each_back, read_whole}
+use Rattle.atl_campaign.proofs.ReadBackLaws.{each_back, read_whole}
 use Rattle.atl_records.proofs.EveryEntryLaws.{entry_small}
 use Rattle.atl_campaign.proofs.FromRowLaws.{by_number-every, from_le, AreInRange-said, HaveMen-said}
 use Rattle.atl_state.proofs.NamedLaws.{AreNamed-said, AreAmountsWithin-said}

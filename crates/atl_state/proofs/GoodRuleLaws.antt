@@ -45,7 +45,7 @@ use Rattle.atl_records.specs.declared.books.Entry.{Entry}
 use Rattle.atl_records.specs.declared.books.Thing.{Thing}
 use Rattle.atl_records.proofs.BookLaws.{zero_not}
 use Rattle.atl_records.proofs.EveryEntryLaws.{entry_small}
-use Rattle.atl_campaign.proofs.BackLaws.{each_permuted, all_pass, read_whole, rows_pass, count_rows}
+use Rattle.atl_campaign.proofs.ReadBackLaws.{each_permuted, all_pass, read_whole, rows_pass, count_rows}
 use Rattle.atl_state.proofs.BackBooksLaws.{amount_is, lines_each, books_keys}
 use Rattle.atl_state.proofs.BackHasLaws.{has_each, has_keys, goods_of}
 use Rattle.atl_state.proofs.DifferLaws.{entries_differ}

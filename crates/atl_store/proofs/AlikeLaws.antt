@@ -18,7 +18,7 @@ use Rattle.atl_records.specs.declared.records.Faction.{Faction}
 use Rattle.atl_records.specs.declared.records.Region.{Region}
 use Rattle.atl_records.specs.declared.records.Structure.{Structure}
 use Rattle.atl_records.specs.declared.records.Unit.{Unit}
-use Rattle.atl_campaign.proofs.BackLaws.{agree}
+use Rattle.atl_campaign.proofs.ReadBackLaws.{agree}
 use Rattle.atl_records.proofs.AccountLaws.{same_account}
 use Rattle.atl_records.proofs.BookLaws.{same_books}
 use Rattle.atl_store.specs.OneCampaign.{HoldsOne}

@@ -7,7 +7,7 @@ use Rattle.std.specs.FinMap.{FinMap, get, get-empty}
 use Rattle.atl_world.specs.ByNumber.{is_land_at}
 use Rattle.atl_world.specs.Worlds.{WorldValue, is_land, without_market, without_markets}
 use Rattle.atl_world.specs.declared.world.RegionPlan.{RegionPlan}
-use Rattle.atl_world.proofs.MadeLaws.{get-mapped}
+use Rattle.atl_world.proofs.MappedLaws.{get-mapped}
 use Rattle.atl_campaign.specs.Campaign.{CampaignValue}
 use Rattle.atl_records.specs.Every.{IsThere}
 use Rattle.atl_campaign.specs.Good.{HasNoStocks, IsGood}

@@ -28,7 +28,7 @@ use Rattle.atl_sql.specs.Marked.{accounts, amount_marked, is_marked_amount}
 use Rattle.atl_store.specs.Rewriting.{RewritesAmounts, RewritesBooks, is_number, is_among, of_amounts}
 use Rattle.atl_store.proofs.GoodsLaws.{optional_has, has_optional}
 use Rattle.atl_store.proofs.LedgerLaws.{two_same, differs_zero, is_differing}
-use Rattle.atl_store.proofs.RewriteLaws.{Nearing, one_nearer, all_rewritten, tied, is_itself, rewrites_key}
+use Rattle.atl_store.proofs.RewriteLaws.{Remaining, one_less_remaining, all_rewritten, tied, is_itself, rewrites_key}
 use Rattle.atl_store.proofs.WholeLaws.{inside_weaker}
 
 -- ---- a row that begins with an entry and a thing
@@ -217,13 +217,13 @@ module _ (c : MarkedCampaign) where
 
   -- The dirty amounts of some entries are rewritten: once the `rest` is rewritten too, all these entries are.
   abbrev pub NearingEntries : (ℕ → Bool) → List Entry → List Entry → Database → Database → Type 0
-  NearingEntries things rest all old new = Nearing books_table wanted (λ r. of_amounts c.marks.books (is_among (map entry_index rest)) things r) (λ r. of_amounts c.marks.books (is_among (map entry_index all)) things r) old new
+  NearingEntries things rest all old new = Remaining books_table wanted (λ r. of_amounts c.marks.books (is_among (map entry_index rest)) things r) (λ r. of_amounts c.marks.books (is_among (map entry_index all)) things r) old new
 
   -- rewriting one more entry's dirty amounts leaves one entry fewer to rewrite
   pub entry_nearer : (things : ℕ → Bool) (x : Entry) (now rest all : List Entry) → now ≡ x ∷ rest → (old mid new : State)
       → Inside HasTables (NearingEntries things now all) old mid → Inside HasTables (RewritesAmounts c (is_number (entry_index x)) things) mid new
       → Inside HasTables (NearingEntries things rest all) old new
-  entry_nearer things x now rest all is = one_nearer books_table wanted (λ r. of_amounts c.marks.books (is_number (entry_index x)) things r) (λ r. of_amounts c.marks.books (is_among (map entry_index now)) things r) (λ r. of_amounts c.marks.books (is_among (map entry_index rest)) things r) (λ r. of_amounts c.marks.books (is_among (map entry_index all)) things r)
+  entry_nearer things x now rest all is = one_less_remaining books_table wanted (λ r. of_amounts c.marks.books (is_number (entry_index x)) things r) (λ r. of_amounts c.marks.books (is_among (map entry_index now)) things r) (λ r. of_amounts c.marks.books (is_among (map entry_index rest)) things r) (λ r. of_amounts c.marks.books (is_among (map entry_index all)) things r)
       (λ r. ap (λ es. of_amounts c.marks.books (is_among (map entry_index es)) things r) is ∙ next_entry c.marks.books (entry_index x) (map entry_index rest) things r)
 
   -- when no entry is left, the dirty amounts of all these entries are rewritten
@@ -235,13 +235,13 @@ module _ (c : MarkedCampaign) where
 
   -- The dirty amounts of some things are rewritten: once the `rest` is rewritten too, all these things are.
   abbrev pub NearingThings : List ℕ → List ℕ → Database → Database → Type 0
-  NearingThings rest all old new = Nearing books_table wanted (λ r. of_amounts c.marks.books (is_among (map entry_index all_entries)) (is_among rest) r) (λ r. of_amounts c.marks.books (is_among (map entry_index all_entries)) (is_among all) r) old new
+  NearingThings rest all old new = Remaining books_table wanted (λ r. of_amounts c.marks.books (is_among (map entry_index all_entries)) (is_among rest) r) (λ r. of_amounts c.marks.books (is_among (map entry_index all_entries)) (is_among all) r) old new
 
   -- rewriting one more thing's dirty amounts leaves one thing fewer to rewrite
   pub thing_nearer : (t : ℕ) (now rest all : List ℕ) → now ≡ t ∷ rest → (old mid new : State) → Inside HasTables (NearingThings now all) old mid
       → Inside HasTables (RewritesAmounts c (is_among (map entry_index all_entries)) (is_number t)) mid new
       → Inside HasTables (NearingThings rest all) old new
-  thing_nearer t now rest all is = one_nearer books_table wanted (λ r. of_amounts c.marks.books (is_among (map entry_index all_entries)) (is_number t) r) (λ r. of_amounts c.marks.books (is_among (map entry_index all_entries)) (is_among now) r)
+  thing_nearer t now rest all is = one_less_remaining books_table wanted (λ r. of_amounts c.marks.books (is_among (map entry_index all_entries)) (is_number t) r) (λ r. of_amounts c.marks.books (is_among (map entry_index all_entries)) (is_among now) r)
       (λ r. of_amounts c.marks.books (is_among (map entry_index all_entries)) (is_among rest) r) (λ r. of_amounts c.marks.books (is_among (map entry_index all_entries)) (is_among all) r)
       (λ r. ap (λ ts. of_amounts c.marks.books (is_among (map entry_index all_entries)) (is_among ts) r) is ∙ next_thing c.marks.books (is_among (map entry_index all_entries)) t rest r)
 

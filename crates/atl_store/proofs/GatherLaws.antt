@@ -267,9 +267,9 @@ module _ {S : Type 0} (g : Ghosts S) where
   found_both xs ys P Q old None None p q = other_within old xs (xs ++ ys) (has_left xs ys) (each_of_both (λ s. (rows : List Row) × SelectShows g old s.0 rows) xs ys p.all q.all) p
 
   -- what a later stage of the reads found was in the tables before the first stage
-  found_behind : {A : Type 0} (old mid new : Held S) → AfterReads g old mid → (selects : List (List ℕ × List Form)) (P Q : A → Type 0) (r : Result (Option A) LoadFault) → ReadsSome g mid selects P r new → (o : Option A) → r ≡ Ok o
+  found_before : {A : Type 0} (old mid new : Held S) → AfterReads g old mid → (selects : List (List ℕ × List Form)) (P Q : A → Type 0) (r : Result (Option A) LoadFault) → ReadsSome g mid selects P r new → (o : Option A) → r ≡ Ok o
       → ((state g mid).now ≡ (state g old).now → (a : A) → P a → Q a) → HasCleanDisk (state g new) → Found g old selects Q o
-  found_behind old mid new before selects P Q r reads o was weaker clean =
+  found_before old mid new before selects P Q r reads o was weaker clean =
       let up = subst (λ r. IfOk r (λ _. IsTrue (state g mid).is_open)) was (reads.was_open clean) in
       let same = ((before.stays (omega (arith, reads.leaves.survives.clean, clean))).same up).0 in
       found_then old mid same selects P Q o (weaker same) (subst (λ r. IfOk r (Found g mid selects P)) was (reads.found clean))
@@ -317,7 +317,7 @@ module _ {S : Type 0} (g : Ghosts S) where
       found = λ clean.
           subst (Found g old (xs ++ ys) _) (sym is) (found_both xs ys P Q2 old a b
           (subst (λ r. IfOk r (Found g old xs P)) was_first (first.found (clean_mid clean)))
-          (found_behind old mid new first.leaves ys Q Q2 two second b was weaker clean));
+          (found_before old mid new first.leaves ys Q Q2 two second b was weaker clean));
       fails = λ _. tt;
       leaves = leaves_then old mid new first.leaves second.leaves;
     }
@@ -398,10 +398,10 @@ module _ {S : Type 0} (g : Ghosts S) where
   reads_by some others rows old new r f is same reads = subst (λ f. ReadsSome g old (selects_by f some others) (λ a. AreOfFormat f (state g old).now (rows a)) r new) (sym same) reads
 
   -- the rows of a format that a later stage of the reads found were in the tables before the first stage
-  pub format_behind : {A : Type 0} (f : Format) (rows : A → ReadRows) (old mid new : Held S) → AfterReads g old mid → (selects : List (List ℕ × List Form)) (r : Result (Option A) LoadFault) → ReadsSome g mid selects (λ a. AreOfFormat f (state g mid).now (rows a)) r new → (o : Option A) → r ≡ Ok o
+  pub format_before : {A : Type 0} (f : Format) (rows : A → ReadRows) (old mid new : Held S) → AfterReads g old mid → (selects : List (List ℕ × List Form)) (r : Result (Option A) LoadFault) → ReadsSome g mid selects (λ a. AreOfFormat f (state g mid).now (rows a)) r new → (o : Option A) → r ≡ Ok o
       → HasCleanDisk (state g new) → Found g old selects (λ a. AreOfFormat f (state g old).now (rows a)) o
-  format_behind f rows old mid new before selects r reads o was clean =
-      found_behind old mid new before selects (λ a. AreOfFormat f (state g mid).now (rows a)) (λ a. AreOfFormat f (state g old).now (rows a)) r reads o was (λ same a are. subst (λ (db : Database). AreOfFormat f db (rows a)) same are) clean
+  format_before f rows old mid new before selects r reads o was clean =
+      found_before old mid new before selects (λ a. AreOfFormat f (state g mid).now (rows a)) (λ a. AreOfFormat f (state g old).now (rows a)) r reads o was (λ same a are. subst (λ (db : Database). AreOfFormat f db (rows a)) same are) clean
 
 -- no rows of some tables and none of others are no rows of both
 pub both_none : (some others : ReadRows) → AreNone some → AreNone others → AreNone (some ++ others)

@@ -29,7 +29,7 @@ use Rattle.atl_sql.specs.Rows.{campaign_row_of, campaign_line, faction_line, uni
 use Rattle.atl_sql.specs.PutsCampaignRow.{PutsCampaignRow}
 use Rattle.atl_sql.specs.Inside.{Inside, HasTables, Both, Puts}
 use Rattle.atl_store.specs.Keeps.{IsJoining}
-use Rattle.atl_store.specs.Arriving.{IsFound, Enters, settled, WritesAmount, HasPut, WritesJoin, WritesMail}
+use Rattle.atl_store.specs.Arriving.{IsFound, AddsJoin, settled, WritesAmount, HasPut, WritesJoin, WritesMail}
 use Rattle.atl_sql.proofs.PartLaws.{listed, same_part, is_among, not_among}
 use Rattle.atl_store.proofs.TurnLaws.{stays_is}
 use Rattle.atl_store.proofs.ArriveLaws.{get_inserted, put_rows, no_goods, settled_rows}
@@ -116,12 +116,12 @@ put_campaign_row rows news text before after was made r = (
 )
 
 -- The campaign row, the faction's row and the unit's row are put.
-abbrev Enrolls : ℕ → Faction → ℕ → Unit → CampaignValue → List ℕ → Database → Database → Type 0
-Enrolls n f m u after world = Both (PutsCampaignRow (campaign_row_of after) world) (Both (Puts faction_table 1 (faction_line n f)) (Puts unit_table 1 (unit_line m u)))
+abbrev PutsNewcomer : ℕ → Faction → ℕ → Unit → CampaignValue → List ℕ → Database → Database → Type 0
+PutsNewcomer n f m u after world = Both (PutsCampaignRow (campaign_row_of after) world) (Both (Puts faction_table 1 (faction_line n f)) (Puts unit_table 1 (unit_line m u)))
 
 -- The report's row is put, and the two amounts of the books are written.
-abbrev Welcomes : ℕ → List ℕ → CampaignValue → Database → Database → Type 0
-Welcomes n report after = Both (Puts report_table 1 (report_row n report)) (Both (WritesAmount after Joining Money) (WritesAmount after Joining People))
+abbrev PutsReportAndAmounts : ℕ → List ℕ → CampaignValue → Database → Database → Type 0
+PutsReportAndAmounts n report after = Both (Puts report_table 1 (report_row n report)) (Both (WritesAmount after Joining Money) (WritesAmount after Joining People))
 
 -- a table that the steps before and after leave alone changes as the step between changes it
 rows_moved : (t : Table) (F : List Row → Set) (a b c d : Database) → b.trees t.tree ≡ a.trees t.tree → d.trees t.tree ≡ c.trees t.tree → Is (rows_in t c.trees) (F (rows_in t b.trees)) → Is (rows_in t d.trees) (F (rows_in t a.trees))
@@ -135,8 +135,8 @@ settled_on c e t rows news S was is r = (
 )
 
 module _ (n : ℕ) (f : Faction) (m : ℕ) (u : Unit) (report : List ℕ) (after : CampaignValue) (found : IsFound after n f m u report) where
-  -- `put_newcomer` (`Enrolls`) and then `put_welcome` (`Welcomes`) are together the write of a join (`WritesJoin`)
-  joins : (world : List ℕ) (a b d : Database) → Enrolls n f m u after world a b → Welcomes n report after b d → WritesJoin n after a d
+  -- `put_newcomer` (`PutsNewcomer`) and then `put_report_and_amounts` (`PutsReportAndAmounts`) are together the write of a join (`WritesJoin`)
+  joins : (world : List ℕ) (a b d : Database) → PutsNewcomer n f m u after world a b → PutsReportAndAmounts n report after b d → WritesJoin n after a d
   joins world a b d enrolls reports before text was =
       let x = enrolls.0 in
       let y = enrolls.2.0 in
@@ -187,7 +187,7 @@ module _ (n : ℕ) (f : Faction) (m : ℕ) (u : Unit) (report : List ℕ) (after
       arrival = arrives n f m u report before after found joining
 
       -- what the join wrote into the tables
-      enters : Enters n after text a d
+      enters : AddsJoin n after text a d
       enters = did (campaign_row_of before) text (holds.rows Own)
 
       -- a part that no statement of a join writes has the rows that it had
@@ -207,7 +207,7 @@ module _ (n : ℕ) (f : Faction) (m : ℕ) (u : Unit) (report : List ℕ) (after
           (λ there. people.0 ((enters.books r).0 there), λ of. (enters.books r).1 (people.1 of))
       rows part = subst (λ (c : CampaignValue). Is (rows_in (table_of part) d.trees) (rows_for (campaign_line text c) c part)) (sym joining.7) (stays part refl)
 
--- inside a transaction, the rows of campaign, faction and unit, put one after another, are all put (`Enrolls`)
+-- inside a transaction, the rows of campaign, faction and unit, put one after another, are all put (`PutsNewcomer`)
 pub enrolling_done : (n : ℕ) (f : Faction) (m : ℕ) (u : Unit) (after : CampaignValue) (world : List ℕ) (start one two three : State) → Inside HasTables (PutsCampaignRow (campaign_row_of after) world) start one → Inside HasTables (Puts faction_table 1 (faction_line n f)) one two
     → Inside HasTables (Puts unit_table 1 (unit_line m u)) two three → Inside HasTables (Both (PutsCampaignRow (campaign_row_of after) world) (Both (Puts faction_table 1 (faction_line n f)) (Puts unit_table 1 (unit_line m u)))) start three
 enrolling_done n f m u after world start one two three first second third =
@@ -215,7 +215,7 @@ enrolling_done n f m u after world start one two three first second third =
     let units = Puts unit_table 1 (unit_line m u) in
     inside_then HasTables (PutsCampaignRow (campaign_row_of after) world) (Both factions units) start one three first (inside_then HasTables factions units one two three second third)
 
--- inside a transaction, the report's row and the two amounts, one after another, are all written (`Welcomes`)
+-- inside a transaction, the report's row and the two amounts, one after another, are all written (`PutsReportAndAmounts`)
 pub reporting_done : (n : ℕ) (report : List ℕ) (after : CampaignValue) (start one two three : State) → Inside HasTables (Puts report_table 1 (report_row n report)) start one → Inside HasTables (WritesAmount after Joining Money) one two
     → Inside HasTables (WritesAmount after Joining People) two three → Inside HasTables (Both (Puts report_table 1 (report_row n report)) (Both (WritesAmount after Joining Money) (WritesAmount after Joining People))) start three
 reporting_done n report after start one two three first second third =
@@ -228,8 +228,8 @@ pub joining_done : (n : ℕ) (f : Faction) (m : ℕ) (u : Unit) (report : List �
     → Inside HasTables (Both (PutsCampaignRow (campaign_row_of after) world) (Both (Puts faction_table 1 (faction_line n f)) (Puts unit_table 1 (unit_line m u)))) start one
     → Inside HasTables (Both (Puts report_table 1 (report_row n report)) (Both (WritesAmount after Joining Money) (WritesAmount after Joining People))) one two → Inside HasTables (WritesJoin n after) start two
 joining_done n f m u report after world start one two found first second =
-    inside_weaker HasTables (Both (Enrolls n f m u after world) (Welcomes n report after)) (WritesJoin n after) start two (λ has did. joins n f m u report after found world start.now did.0 two.now did.1 did.2)
-    (inside_then HasTables (Enrolls n f m u after world) (Welcomes n report after) start one two first second)
+    inside_weaker HasTables (Both (PutsNewcomer n f m u after world) (PutsReportAndAmounts n report after)) (WritesJoin n after) start two (λ has did. joins n f m u report after found world start.now did.0 two.now did.1 did.2)
+    (inside_then HasTables (PutsNewcomer n f m u after world) (PutsReportAndAmounts n report after) start one two first second)
 
 -- ---- a mailing
 

@@ -39,7 +39,7 @@ use Rattle.atl_store.specs.declared.fault.LoadFault.{LoadFault}
 use Rattle.atl_store.specs.declared.fault.LoadFault.TheVariants.{Store, Damaged, NotACampaign, OtherFormat, Memory}
 use Rattle.atl_sql.specs.declared.rows.campaign.StoredCampaign.{StoredCampaign}
 use Rattle.atl_store.proofs.KeyedLaws.{cut_nothing, cut_places, places_keyed, keyed_places, unplaced_all}
-use Rattle.atl_store.proofs.GatherLaws.{shown_open, fails_then, format_behind}
+use Rattle.atl_store.proofs.GatherLaws.{shown_open, fails_then, format_before}
 use Rattle.atl_sql.proofs.ListLaws.{has_map, map_has}
 use Rattle.atl_store.proofs.PartsLaws.{every_part, keeps_one_row, rows_hold, rows_keyed, holds_all}
 use Rattle.atl_sql.proofs.SelectLaws.{has_first}
@@ -244,7 +244,7 @@ module _ (f : Format) {S : Type 0} (g : Ghosts S) {A : Type 0} (rows : A → Rea
     (reads : ReadsSome g mid (other_selects f) (λ a. AreOfFormat f (state g mid).now (rows a)) r new) (o : Option A) (was : r ≡ Ok o) (clean : HasCleanDisk (state g new)) where
   -- what was read of the other tables is what their SELECTs find before the campaign row is read (`Found`)
   found : (told : Option A) → o ≡ told → Found g old (other_selects f) (λ a. AreOfFormat f (state g old).now (rows a)) told
-  found told is = subst (Found g old (other_selects f) (λ a. AreOfFormat f (state g old).now (rows a))) is (format_behind g f rows old mid new before (other_selects f) r reads o was clean)
+  found told is = subst (Found g old (other_selects f) (λ a. AreOfFormat f (state g old).now (rows a))) is (format_before g f rows old mid new before (other_selects f) r reads o was clean)
 
   -- the rows put together of what was read are gathered (`Gathered`)
   pub gathered_with : (a : A) → o ≡ Some a → (p : Parts) (head : StoredCampaignRow) → head ≡ own.head → IsMadeOf head (rows a) p → Gathered f g old w p
@@ -280,8 +280,8 @@ module _ {S : Type 0} (g : Ghosts S) where
   is_idle auto false is said = refl
 
   -- tables that are confirmed after some reads are confirmed from before these reads, if the disk is clean
-  pub confirmed_behind : (f : Format) (old mid new : Held S) → AfterReads g old mid → AfterReads g mid new → HasCleanDisk (state g mid) → HasCleanDisk (state g new) → IsConfirmed f (state g mid) (state g new) → IsConfirmed f (state g old) (state g new)
-  confirmed_behind f old mid new one two clean_mid clean confirmed =
+  pub confirmed_before : (f : Format) (old mid new : Held S) → AfterReads g old mid → AfterReads g mid new → HasCleanDisk (state g mid) → HasCleanDisk (state g new) → IsConfirmed f (state g mid) (state g new) → IsConfirmed f (state g old) (state g new)
+  confirmed_before f old mid new one two clean_mid clean confirmed =
       let up = (two.stays clean).was_open confirmed.is_open in
       let same = ((one.stays clean_mid).same up).0 in
       record {

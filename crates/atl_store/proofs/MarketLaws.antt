@@ -15,7 +15,7 @@ use Rattle.atl_sql.specs.Shown.{int, market_key, market_row}
 use Rattle.atl_sql.specs.Tables.{market_table}
 use Rattle.atl_sql.specs.Inside.{Inside, HasTables, Puts, Drops}
 use Rattle.atl_sql.specs.Marked.{of_stock}
-use Rattle.atl_store.specs.Rewriting.{FindsByNumbers, RewritesStock, is_thing}
+use Rattle.atl_store.specs.Rewriting.{FindsByNumbers, RewritesChosenStocks, is_thing}
 use Rattle.atl_store.proofs.RewriteLaws.{tied, is_itself, rewrites_key, kept_only}
 use Rattle.atl_store.proofs.WholeLaws.{inside_weaker}
 use Rattle.atl_sql.specs.Rows.{MarketRowsOf}
@@ -131,8 +131,8 @@ module _ (region item : ℕ) where
     no_stock none r of key = (wanted_here r (of_key r key) of).0 none
 
     -- putting the row of a stock that isn't 0 rewrites that stock
-    pub stock_put : stock ≢ 0 → (old new : State) → Inside HasTables (Puts market_table 2 row) old new → Inside HasTables (RewritesStock c (is_thing region item)) old new
-    stock_put some old new did = inside_weaker HasTables (Puts market_table 2 row) (RewritesStock c (is_thing region item)) old new
+    pub stock_put : stock ≢ 0 → (old new : State) → Inside HasTables (Puts market_table 2 row) old new → Inside HasTables (RewritesChosenStocks c (is_thing region item)) old new
+    stock_put some old new did = inside_weaker HasTables (Puts market_table 2 row) (RewritesChosenStocks c (is_thing region item)) old new
         (λ has puts. rewrites_key is_here (λ r. take 2 r ≡ market_key region item) (λ r. r ≡ row) (MarketRowsOf c.regions) key_of of_key
         (λ r same. (ap (take 2) same, subst (MarketRowsOf c.regions) (sym same) (had_stock c.regions region item stock is some)))
         (λ r here of. (wanted_here r here of).1)
@@ -140,8 +140,8 @@ module _ (region item : ℕ) where
         did
 
     -- deleting the row of a stock that is 0 rewrites that stock
-    pub stock_dropped : stock ≡ 0 → (old new : State) → Inside HasTables (Drops market_table 2 (market_key region item)) old new → Inside HasTables (RewritesStock c (is_thing region item)) old new
-    stock_dropped none old new did = inside_weaker HasTables (Drops market_table 2 (market_key region item)) (RewritesStock c (is_thing region item)) old new
+    pub stock_dropped : stock ≡ 0 → (old new : State) → Inside HasTables (Drops market_table 2 (market_key region item)) old new → Inside HasTables (RewritesChosenStocks c (is_thing region item)) old new
+    stock_dropped none old new did = inside_weaker HasTables (Drops market_table 2 (market_key region item)) (RewritesChosenStocks c (is_thing region item)) old new
         (λ has drops. rewrites_key is_here (λ r. take 2 r ≡ market_key region item) (λ r. ⊥) (MarketRowsOf c.regions) key_of of_key (λ r never. absurd never)
         (λ r here of. (wanted_here r here of).0 none)
         market_table old.now new.now (λ r. let so = drops.rows r in (λ h. inr (so.0 h), λ h. so.1 (kept_only h))) drops.others)

@@ -35,7 +35,7 @@ chosen_step true false W M N same = same
 chosen_step false false W M N same = same
 
 -- Some chosen rows are rewritten: once the `rest` is rewritten too, all are. The other tables are unchanged.
-pub record Nearing (table : Table) (Wanted : Set) (rest all : Row → Bool) (old now : Database) : Type 0 where
+pub record Remaining (table : Table) (Wanted : Set) (rest all : Row → Bool) (old now : Database) : Type 0 where
   -- once the rows that `rest` chooses are the wanted ones, all that `all` chooses are
   pub rows : (r : Row) → Chosen (rest r) (Wanted r) (Has (rows_in table now.trees) r) ↔ Chosen (all r) (Wanted r) (Has (rows_in table old.trees) r)
   -- the other tables are unchanged
@@ -43,7 +43,7 @@ pub record Nearing (table : Table) (Wanted : Set) (rest all : Row → Bool) (old
 
 module _ (table : Table) (Wanted : Set) where
   -- before any step, all chosen rows are left to rewrite
-  pub none_nearer : (rest all : Row → Bool) → ((r : Row) → rest r ≡ all r) → (s : State) → Inside HasTables (Nearing table Wanted rest all) s s
+  pub none_nearer : (rest all : Row → Bool) → ((r : Row) → rest r ≡ all r) → (s : State) → Inside HasTables (Remaining table Wanted rest all) s s
   none_nearer rest all same s = (
     refl,
     λ has. record {
@@ -57,10 +57,10 @@ module _ (table : Table) (Wanted : Set) where
   )
 
   -- a step that rewrites some of the remaining rows leaves the others to rewrite
-  pub one_nearer : (step rest next all : Row → Bool) → ((r : Row) → rest r ≡ (step r || next r)) → (old mid new : State)
-      → Inside HasTables (Nearing table Wanted rest all) old mid → Inside HasTables (Rewrites table step Wanted) mid new
-      → Inside HasTables (Nearing table Wanted next all) old new
-  one_nearer step rest next all parts old mid new so_far more = (
+  pub one_less_remaining : (step rest next all : Row → Bool) → ((r : Row) → rest r ≡ (step r || next r)) → (old mid new : State)
+      → Inside HasTables (Remaining table Wanted rest all) old mid → Inside HasTables (Rewrites table step Wanted) mid new
+      → Inside HasTables (Remaining table Wanted next all) old new
+  one_less_remaining step rest next all parts old mid new so_far more = (
     more.0 ∙ so_far.0,
     λ has.
         let was = so_far.1 has in
@@ -82,7 +82,7 @@ module _ (table : Table) (Wanted : Set) where
 
   -- when no row is left to rewrite, all chosen rows are rewritten
   pub all_rewritten : (rest all goal : Row → Bool) → ((r : Row) → rest r ≡ false) → ((r : Row) → all r ≡ goal r) → (old new : State)
-      → Inside HasTables (Nearing table Wanted rest all) old new → Inside HasTables (Rewrites table goal Wanted) old new
+      → Inside HasTables (Remaining table Wanted rest all) old new → Inside HasTables (Rewrites table goal Wanted) old new
   all_rewritten rest all goal none is old new did = (
     did.0,
     λ has.
@@ -168,12 +168,12 @@ of_set marks ns all r = ap (λ (f : ℕ → Bool). begins f r) (λ i n. (sym (co
 module _ (table : Table) (Wanted : Set) where
   -- The rows of some numbers are rewritten: once those of the `rest` are rewritten too, the rows of all numbers are.
   abbrev pub NearingNumbers : List ℕ → List ℕ → Database → Database → Type 0
-  NearingNumbers rest all = Nearing table Wanted (λ r. begins (is_among rest) r) (λ r. begins (is_among all) r)
+  NearingNumbers rest all = Remaining table Wanted (λ r. begins (is_among rest) r) (λ r. begins (is_among all) r)
 
   -- rewriting the rows of one more number leaves one number fewer to rewrite
   pub number_nearer : (n : ℕ) (now rest all : List ℕ) → now ≡ n ∷ rest → (old mid new : State) → Inside HasTables (NearingNumbers now all) old mid
       → Inside HasTables (Rewrites table (begins (is_number n)) Wanted) mid new → Inside HasTables (NearingNumbers rest all) old new
-  number_nearer n now rest all is = one_nearer table Wanted (λ r. begins (is_number n) r) (λ r. begins (is_among now) r) (λ r. begins (is_among rest) r) (λ r. begins (is_among all) r) (λ r. ap (λ ns. begins (is_among ns) r) is ∙ next_number n rest r)
+  number_nearer n now rest all is = one_less_remaining table Wanted (λ r. begins (is_number n) r) (λ r. begins (is_among now) r) (λ r. begins (is_among rest) r) (λ r. begins (is_among all) r) (λ r. ap (λ ns. begins (is_among ns) r) is ∙ next_number n rest r)
 
   -- when no number is left, the rows of all numbers of the set are rewritten
   pub numbers_rewritten : (marks : FinSet nat_cmp) (rest all : List ℕ) → rest ≡ [] → from_list all ≡ marks → (old new : State)

@@ -16,7 +16,7 @@ use Rattle.atl_sql.specs.Inside.{Inside, HasTables}
 use Rattle.atl_sql.specs.Marked.{has_thing}
 use Rattle.atl_store.specs.Rewriting.{FindsByNumbers, Rewrites, is_number, is_among, is_thing, is_of}
 use Rattle.atl_store.proofs.EntryLaws.{in_order}
-use Rattle.atl_store.proofs.RewriteLaws.{Nearing, one_nearer, all_rewritten, tied}
+use Rattle.atl_store.proofs.RewriteLaws.{Remaining, one_less_remaining, all_rewritten, tied}
 
 -- ---- the entries of a map
 
@@ -62,7 +62,7 @@ module _ {V : Type 0} where
 module _ (table : Table) (Wanted : Set) (finds : (ℕ → ℕ → Bool) → Row → Bool) where
   -- some single amounts are rewritten: once the `rest` is rewritten too, all are
   abbrev pub NearingSingles : (ℕ → ℕ → Bool) → (ℕ → ℕ → Bool) → Database → Database → Type 0
-  NearingSingles rest all = Nearing table Wanted (λ r. finds rest r) (λ r. finds all r)
+  NearingSingles rest all = Remaining table Wanted (λ r. finds rest r) (λ r. finds all r)
 
   -- the rows that the test finds by these numbers become the wanted ones, and all others stay
   abbrev RewritesFound : (ℕ → ℕ → Bool) → Database → Database → Type 0
@@ -80,13 +80,13 @@ module _ (table : Table) (Wanted : Set) (finds : (ℕ → ℕ → Bool) → Row 
     -- a step that rewrites some of the remaining amounts leaves the others to rewrite
     nearer : (step rest next all : ℕ → ℕ → Bool) → ((n t : ℕ) → rest n t ≡ (step n t || next n t)) → (old mid new : State)
         → Inside HasTables (NearingSingles rest all) old mid → Inside HasTables (RewritesFound step) mid new → Inside HasTables (NearingSingles next all) old new
-    nearer step rest next all parts = one_nearer table Wanted (λ r. finds step r) (λ r. finds rest r) (λ r. finds next r) (λ r. finds all r)
+    nearer step rest next all parts = one_less_remaining table Wanted (λ r. finds step r) (λ r. finds rest r) (λ r. finds next r) (λ r. finds all r)
         (λ r. finds_same rest (λ n t. step n t || next n t) parts r ∙ by_numbers.either step next r)
 
     -- when no amount is left to rewrite, all are rewritten
-    nearest : (rest all goal : ℕ → ℕ → Bool) → ((n t : ℕ) → rest n t ≡ false) → ((n t : ℕ) → all n t ≡ goal n t) → (old new : State)
+    none_remaining : (rest all goal : ℕ → ℕ → Bool) → ((n t : ℕ) → rest n t ≡ false) → ((n t : ℕ) → all n t ≡ goal n t) → (old new : State)
         → Inside HasTables (NearingSingles rest all) old new → Inside HasTables (RewritesFound goal) old new
-    nearest rest all goal none same = all_rewritten table Wanted (λ r. finds rest r) (λ r. finds all r) (λ r. finds goal r) (finds_none rest none) (finds_same all goal same)
+    none_remaining rest all goal none same = all_rewritten table Wanted (λ r. finds rest r) (λ r. finds all r) (λ r. finds goal r) (finds_none rest none) (finds_same all goal same)
 
     module _ {V : Type 0} where
       -- rewriting one more amount of an owner leaves one amount fewer to rewrite
@@ -99,7 +99,7 @@ module _ (table : Table) (Wanted : Set) (finds : (ℕ → ℕ → Bool) → Row 
       -- when no amount is left, all listed amounts of the owner are rewritten
       pub singles_rewritten : (owner : ℕ) (numbers : FinMap nat_cmp V) (rest all : List (ℕ × V)) → rest ≡ [] → all ≡ entries numbers → (old new : State)
           → Inside HasTables (NearingSingles (is_key owner rest) (is_key owner all)) old new → Inside HasTables (RewritesFound (is_of owner numbers)) old new
-      singles_rewritten owner numbers rest all none is = nearest (is_key owner rest) (is_key owner all) (is_of owner numbers)
+      singles_rewritten owner numbers rest all none is = none_remaining (is_key owner rest) (is_key owner all) (is_of owner numbers)
           (λ n t. ap (λ es. is_key owner es n t) none ∙ and-false (is_number owner n))
           (λ n t. ap (λ es. is_key owner es n t) is ∙ ap (λ b. is_number owner n && b) (listed_key (entries numbers) t ∙ ap is_some (sym (get-entries numbers t))))
 
@@ -112,6 +112,6 @@ module _ (table : Table) (Wanted : Set) (finds : (ℕ → ℕ → Bool) → Row 
     -- when no owner is left, all single dirty amounts are rewritten
     pub owners_rewritten : (things : Things) (rest all : List (ℕ × FinMap nat_cmp (Unit {0}))) → rest ≡ [] → all ≡ entries things → (old new : State)
         → Inside HasTables (NearingSingles (is_listed rest) (is_listed all)) old new → Inside HasTables (RewritesFound (has_thing things)) old new
-    owners_rewritten things rest all none is = nearest (is_listed rest) (is_listed all) (has_thing things)
+    owners_rewritten things rest all none is = none_remaining (is_listed rest) (is_listed all) (has_thing things)
         (λ n t. ap (λ es. is_listed es n t) none)
         (λ n t. ap (λ es. is_listed es n t) is ∙ listed_thing (entries things) n t (in_order things) ∙ ap (λ o. is_some (get (unwrap_or o empty) t)) (sym (get-entries things n)))

@@ -11,7 +11,7 @@ use Rattle.sqlite.specs.State.{State, HasCleanDisk, Survives}
 use Rattle.atl_campaign.specs.Campaign.{CampaignValue}
 use Rattle.atl_sql.specs.Rows.{Holds}
 use Rattle.atl_sql.specs.Inside.{HasTables, Carries, Commits, LeavesOff, MayLeave}
-use Rattle.atl_store.specs.Keeps.{Stores, Keeps, IsLater, IsReadyToCreate, FailsToCreate, BreaksOffCreation, RefusesToCreate, LeavesAfterFault, ChangesNothing, LeavesOthersAlone, MayFound}
+use Rattle.atl_store.specs.Keeps.{Stores, Keeps, IsLater, IsReadyToCreate, FailsToCreate, BreaksOffCreation, RefusesToCreate, LeavesAfterFault, ChangesNothing, LeavesOthersAlone, MayLeaveCampaign}
 use Rattle.atl_sql.specs.Statements.{Statements}
 use Rattle.atl_store.specs.OwnStatements.{OfFounding}
 use Rattle.atl_sql.specs.Causes.{Gives, IsFaultOfError}
@@ -64,7 +64,7 @@ module _ (old new : State) (text : List ℕ) (settled : (db : Trees) → IsTrue 
 
 -- a crash after a transaction that writes a campaign leaves what it could have left before, or the campaign
 pub may_found : (old new : State) (text : List ℕ) (c : CampaignValue) (Before : Database → Type 0) (Does : Database → Database → Type 0) → Before old.now → ((db : Database) → Does old.now db → Holds db.trees text c) → HasCleanDisk new
-    → Survives old new (MayLeave Before Does old) → MayFound old text c new
+    → Survives old new (MayLeave Before Does old) → MayLeaveCampaign old text c new
 may_found old new text c Before Does before holds clean survives db may = elim (survives.crash clean db may) [
   | inl was ↦ inl was
   | inr made ↦ let did = made.1 before in inr (subst (λ t. Stores t text c) (sym made.2) (stored made.0 text c did.tables (holds made.0 did.does)))
@@ -83,14 +83,14 @@ leaves_spares old new Commits clean off survives idle settled = record {
 -- the fault of a creation that an error of the database ended
 module _ {S : Type 0} (g : Ghosts S) (text : List ℕ) (c : CampaignValue) (old new : Held S) (ready : IsReadyToCreate (state g old)) (fails : FailsToCreate g text c old new) where
   -- a creation that an error broke off is refused by its fault, which is not NotEmpty (`RefusesToCreate`)
-  refused_as : (fault : CreateFault) → fault ≢ create.NotEmpty → BreaksOffCreation g text c old new fault → RefusesToCreate g text c old new fault
-  refused_as create.NotEmpty other breaks = absurd (other refl)
-  refused_as create.Store other breaks = (fails, inr breaks)
-  refused_as create.Memory other breaks = (fails, breaks)
+  refused_by_fault : (fault : CreateFault) → fault ≢ create.NotEmpty → BreaksOffCreation g text c old new fault → RefusesToCreate g text c old new fault
+  refused_by_fault create.NotEmpty other breaks = absurd (other refl)
+  refused_by_fault create.Store other breaks = (fails, inr breaks)
+  refused_by_fault create.Memory other breaks = (fails, breaks)
 
   -- the fault of `create` for an error of the database is never NotEmpty
-  tells_more : (e : Error) → create_fault e ≢ create.NotEmpty
-  tells_more e = go (is_memory e)
+  never_not_empty : (e : Error) → create_fault e ≢ create.NotEmpty
+  never_not_empty e = go (is_memory e)
     where
       -- neither Memory nor Store is NotEmpty
       go : (b : Bool) → cond b create.Memory create.Store ≢ create.NotEmpty
@@ -100,7 +100,7 @@ module _ {S : Type 0} (g : Ghosts S) (text : List ℕ) (c : CampaignValue) (old 
   -- a creation that an error ended is refused by that error's fault (`RefusesToCreate`)
   pub refused_with : (e : Error) (r : Result (Unit {0}) CreateFault) → IsErrAnd r (λ f. f ≡ create_fault e) → (HasCleanDisk (state g new) → Gives g (OfFounding text c) e old new) → IfErr r (RefusesToCreate g text c old new)
   refused_with e (Ok a) told gave = tt
-  refused_with e (Err f) told gave = refused_as f (λ none. tells_more e (sym told ∙ none)) (record { ready = ready; told = λ clean. (e, told, gave clean) })
+  refused_with e (Err f) told gave = refused_by_fault f (λ none. never_not_empty e (sym told ∙ none)) (record { ready = ready; told = λ clean. (e, told, gave clean) })
 
 -- the fault of a write is that of the error with which the database ended the write (`IsFaultOfError`)
 pub told_by : {S F A : Type 0} (g : Ghosts S) (own : Statements) (fault_of : Error → F) (old new : Held S) (e : Error) (r : Result A F) → IsErrAnd r (λ f. f ≡ fault_of e) → Gives g own e old new → IfErr r (IsFaultOfError g own fault_of old new)

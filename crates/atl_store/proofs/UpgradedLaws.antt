@@ -22,7 +22,7 @@ use Rattle.atl_store.specs.Keeps.{ChangesNothing, IsLater}
 use Rattle.atl_store.specs.Loading.{LeavesAlone, LoadsIn, RefusesToLoadIn}
 use Rattle.atl_store.specs.OwnStatements.{OfUpgrade}
 use Rattle.atl_sql.specs.Rows.{Holds, HoldsIn}
-use Rattle.atl_sql.specs.Tables.{HasTablesOf, IsJustOld}
+use Rattle.atl_sql.specs.Tables.{HasTablesOf, IsFirstFormatOnly}
 use Rattle.atl_store.specs.UpgradeSteps.{IsFirstFormat, WritesUpgrade}
 use Rattle.atl_store.specs.Upgrading.{BreaksOffUpgrade, FailsCheck, FailsInTransaction, HasMore, HasOld, HasOtherWorld, HoldsOld, IsReadyToUpgrade, Matches, MayUpgrade, RefusesToUpgrade, Upgrades}
 use Rattle.atl_store.specs.WorldText.{world_text}
@@ -85,7 +85,7 @@ module _ {S : Type 0} (g : Ghosts S) (text : List ℕ) (old mid : Held S) (alone
   }
 
   -- the upgrade is refused if there are more tables or indexes than those of the first format (`HasMore`)
-  pub has_more : (w : WorldValue) (c : MarkedCampaign) → IsReadyToUpgrade g text old mid w c → ¬ IsJustOld mid.schema → HasMore g text old mid
+  pub has_more : (w : WorldValue) (c : MarkedCampaign) → IsReadyToUpgrade g text old mid w c → ¬ IsFirstFormatOnly mid.schema → HasMore g text old mid
   has_more w c ready more =
       let stands = ready.loads.stands clean in
       let same = (alone.spares clean).same stands.is_open in
@@ -140,7 +140,7 @@ module _ {S : Type 0} (g : Ghosts S) (text : List ℕ) (old mid new : Held S) (w
   Wrote r = Transacts g (OfUpgrade text c.value) IsFirstFormat (WritesUpgrade text c.value) r mid new
 
   -- the loaded tables are just those of the first format, if the schema is (`IsFirstFormat`)
-  is_old : IsJustOld mid.schema → HasCleanDisk (state g mid) → IsFirstFormat (state g mid).now
+  is_old : IsFirstFormatOnly mid.schema → HasCleanDisk (state g mid) → IsFirstFormat (state g mid).now
   is_old just clean = let stands = ready.loads.stands clean in record { just = just; keyed = stands.keyed; listed = stands.listed }
 
   -- a database that the upgrade wrote holds the loaded campaign with the new text
@@ -152,7 +152,7 @@ module _ {S : Type 0} (g : Ghosts S) (text : List ℕ) (old mid new : Held S) (w
   before survives clean = omega (arith, survives.clean, clean)
 
   -- after the commit the connection keeps the loaded campaign with the new text, good and unmarked (`Upgrades`)
-  pub upgrades : (settled : (db : Trees) → IsTrue (state g new).is_open → (state g new).may_leave db → db ≡ (state g new).committed.trees) → IsJustOld mid.schema → (HasCleanDisk (state g new) → Commits IsFirstFormat (WritesUpgrade text c.value) (state g mid) (state g new)) → Survives (state g mid) (state g new) (MayLeave IsFirstFormat (WritesUpgrade text c.value) (state g mid)) → new.in_transaction ≡ false
+  pub upgrades : (settled : (db : Trees) → IsTrue (state g new).is_open → (state g new).may_leave db → db ≡ (state g new).committed.trees) → IsFirstFormatOnly mid.schema → (HasCleanDisk (state g new) → Commits IsFirstFormat (WritesUpgrade text c.value) (state g mid) (state g new)) → Survives (state g mid) (state g new) (MayLeave IsFirstFormat (WritesUpgrade text c.value) (state g mid)) → new.in_transaction ≡ false
       → Upgrades g text old new w c
   upgrades settled just done survives over = record {
     world = ready.world;
@@ -183,7 +183,7 @@ module _ {S : Type 0} (g : Ghosts S) (text : List ℕ) (old mid new : Held S) (w
     ];
   }
 
-  module _ (just : IsJustOld mid.schema) (idle : mid.in_transaction ≡ false) (off : HasCleanDisk (state g new) → LeavesOff (state g mid) (state g new)) (survives : Survives (state g mid) (state g new) (MayLeave IsFirstFormat (WritesUpgrade text c.value) (state g mid))) where
+  module _ (just : IsFirstFormatOnly mid.schema) (idle : mid.in_transaction ≡ false) (off : HasCleanDisk (state g new) → LeavesOff (state g mid) (state g new)) (survives : Survives (state g mid) (state g new) (MayLeave IsFirstFormat (WritesUpgrade text c.value) (state g mid))) where
     -- if the transaction of the upgrade failed and the disk is clean, nothing is changed (`ChangesNothing`)
     spared : HasCleanDisk (state g new) → ChangesNothing (state g old) (state g new)
     spared clean =

@@ -62,7 +62,7 @@ HasPut table row old new = Is (rows_in table new.trees) (put 1 row (Has (rows_in
 
 -- What a join writes: the campaign row, the faction, its unit, which came last, its report, and what joining booked.
 -- The campaign row keeps this world text, and every other row and table is as it was.
-pub record Enters (faction : ℕ) (after : CampaignValue) (text : List ℕ) (old new : Database) : Type 0 where
+pub record AddsJoin (faction : ℕ) (after : CampaignValue) (text : List ℕ) (old new : Database) : Type 0 where
   -- the campaign row is that of the campaign after the join, with this world text
   pub campaign : Is (rows_in campaign_table new.trees) (λ r. r ≡ campaign_line text after)
   -- the faction's row is put
@@ -76,9 +76,9 @@ pub record Enters (faction : ℕ) (after : CampaignValue) (text : List ℕ) (old
   -- the tables of all other parts are as they were
   pub others : (part : Part) → ¬ Has (Own ∷ Factions ∷ Units ∷ Reports ∷ Books ∷ []) part → new.trees (table_of part).tree ≡ old.trees (table_of part).tree
 
--- if the table `campaign` held one row, a join is written (`Enters`), whatever that row said
+-- if the table `campaign` held one row, a join is written (`AddsJoin`), whatever that row said
 abbrev pub WritesJoin : ℕ → CampaignValue → Database → Database → Type 0
-WritesJoin faction after old new = (before : CampaignRowValue) (text : List ℕ) → Is (rows_in campaign_table old.trees) (λ r. r ≡ campaign_row before text) → Enters faction after text old new
+WritesJoin faction after old new = (before : CampaignRowValue) (text : List ℕ) → Is (rows_in campaign_table old.trees) (λ r. r ≡ campaign_row before text) → AddsJoin faction after text old new
 
 -- a mailing is written: it replaces an older one of its faction, or is added; all other rows and tables stay
 abbrev pub WritesMail : ℕ → List ℕ → Database → Database → Type 0

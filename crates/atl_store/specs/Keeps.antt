@@ -89,8 +89,8 @@ pub record ChangesNothing (old new : State) : Type 0 where
   pub shuts : IsTrue old.is_open → IsTrue new.is_open ⊎ MoreFaults old.faults new.faults
 
 -- a crash leaves what it could have left before, or a file that stores this campaign
-abbrev pub MayFound : State → List ℕ → CampaignValue → State → Type 0
-MayFound old text c new = (db : Trees) → new.may_leave db → old.may_leave db ⊎ Stores db text c
+abbrev pub MayLeaveCampaign : State → List ℕ → CampaignValue → State → Type 0
+MayLeaveCampaign old text c new = (db : Trees) → new.may_leave db → old.may_leave db ⊎ Stores db text c
 
 -- With Ok of `create` there was no table `campaign`, and the connection holds the campaign, if the disk is clean.
 -- It is in no transaction.
@@ -110,7 +110,7 @@ pub record FailsToCreate {S : Type 0} (g : Ghosts S) (text : List ℕ) (c : Camp
   -- nothing is changed
   pub tables : HasCleanDisk (state g new) → ChangesNothing (state g old) (state g new)
   -- a crash leaves what it could have left before, or the campaign
-  pub crash : HasCleanDisk (state g new) → MayFound (state g old) text c (state g new)
+  pub crash : HasCleanDisk (state g new) → MayLeaveCampaign (state g old) text c (state g new)
 
 -- the database has no table, index or view, and the connection is in no transaction
 abbrev pub IsReadyToCreate : State → Type 0

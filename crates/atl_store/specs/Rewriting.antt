@@ -72,8 +72,8 @@ abbrev pub RewritesGroups : Table → Set → FinSet nat_cmp → Database → Da
 RewritesGroups table Wanted marks old new = Rewrites table (begins_marked marks) Wanted old new
 
 -- the rows of `market` of the regions and items that `stocks` chooses become the campaign's
-abbrev pub RewritesStock : CampaignValue → (ℕ → ℕ → Bool) → Database → Database → Type 0
-RewritesStock c stocks old new = Rewrites market_table (of_stock stocks) (MarketRowsOf c.regions) old new
+abbrev pub RewritesChosenStocks : CampaignValue → (ℕ → ℕ → Bool) → Database → Database → Type 0
+RewritesChosenStocks c stocks old new = Rewrites market_table (of_stock stocks) (MarketRowsOf c.regions) old new
 
 -- all marked rows of `market` become the campaign's
 abbrev pub RewritesStocks : MarkedCampaign → Database → Database → Type 0

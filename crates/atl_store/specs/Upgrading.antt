@@ -21,7 +21,7 @@ use Rattle.atl_store.specs.Keeps.{HoldsCampaign, Stores, ChangesNothing}
 use Rattle.atl_store.specs.Loading.{LeavesAlone, LoadsIn, RefusesToLoadIn}
 use Rattle.atl_store.specs.OwnStatements.{OfUpgrade}
 use Rattle.atl_sql.specs.Rows.{HoldsIn}
-use Rattle.atl_sql.specs.Tables.{HasTablesOf, IsJustOld}
+use Rattle.atl_sql.specs.Tables.{HasTablesOf, IsFirstFormatOnly}
 
 -- the tables hold this campaign, which is good, in the first format, with a text of this world
 pub record HoldsOld (s : State) (w : WorldValue) (c : CampaignValue) : Type 0 where
@@ -96,7 +96,7 @@ module _ {S : Type 0} (g : Ghosts S) (text : List ℕ) (old new : Held S) where
     -- the schema begins with the tables of the first format
     pub begins : HasTablesOf First old.schema
     -- the schema has more than the tables and indexes of the first format
-    pub more : ¬ IsJustOld old.schema
+    pub more : ¬ IsFirstFormatOnly old.schema
 
   -- the tables hold a good campaign in the first format
   abbrev pub HasOld : Type 0

@@ -12,7 +12,7 @@ ghost use Rattle.atl_store.specs.Faults.{write_fault};
 ghost use Rattle.atl_store.specs.OwnStatements.{OfChange};
 ghost use Rattle.atl_sql.specs.Writes.{Writes, Transacts};
 ghost use Rattle.atl_sql.specs.Inside.{Inside, HasTables, LeavesOff};
-ghost use Rattle.atl_store.specs.Keeps.{Keeps, LeavesAfterFault, IsLater, MayFound, LeavesOthersAlone};
+ghost use Rattle.atl_store.specs.Keeps.{Keeps, LeavesAfterFault, IsLater, MayLeaveCampaign, LeavesOthersAlone};
 
 use crate::campaign_row::rewrite_campaign_row;
 use crate::fault::WriteFault;
@@ -75,7 +75,7 @@ pub fn write_changes<S: Alter>(
     ensures crash { HasCleanDisk (state S.Store conn.new)
         → OnErr result ((text : List ℕ) → HasTables (state S.Store conn.old).now
         → HoldsUnmarked (state S.Store conn.old).now.trees text campaign.old
-        → MayFound (state S.Store conn.old) text campaign.old.value (state S.Store conn.new)) }
+        → MayLeaveCampaign (state S.Store conn.old) text campaign.old.value (state S.Store conn.new)) }
     ensures left { HasCleanDisk (state S.Store conn.new)
         → OnErr result (LeavesOff (state S.Store conn.old) (state S.Store conn.new)) }
     ensures told { HasCleanDisk (state S.Store conn.new)

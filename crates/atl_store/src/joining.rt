@@ -73,7 +73,7 @@ fn put_newcomer<S: Alter>(
 
 /// Puts the row of the faction's report, and writes the two amounts that are booked under joining:
 /// money and people.
-fn put_welcome<S: Alter>(
+fn put_report_and_amounts<S: Alter>(
     tx: &mut Transaction<'_, S>,
     campaign: &Campaign,
     arrival: &Arrival<'_>,
@@ -104,7 +104,7 @@ fn put_joining<S: Alter>(
         tx.new.conn }
 {
     put_newcomer(tx, campaign, arrival)?;
-    put_welcome(tx, campaign, arrival)
+    put_report_and_amounts(tx, campaign, arrival)
 }
 
 /// Puts all rows that a faction's joining adds or changes, in one transaction.

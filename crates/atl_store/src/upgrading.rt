@@ -14,7 +14,7 @@ use crate::campaign_row::upgrade_campaign_row;
 use crate::fault::UpgradeFault;
 use crate::loading::load_as;
 use atl_campaign::Campaign;
-use atl_sql::schema::is_just_old;
+use atl_sql::schema::is_first_format_only;
 use atl_sql::tables::create_market;
 use atl_tables::read_world;
 use atl_world::{Format, World};
@@ -70,7 +70,7 @@ fn world_and_campaign<S: Alter>(
     }
     let (old_world, campaign) = load_as(alloc, conn, Format::First)?;
     let world = read_world(alloc, new_world)?;
-    if !world.differs_in_markets_alone(&old_world) {
+    if !world.is_same_but_for_markets(&old_world) {
         return Err(UpgradeFault::Differs);
     }
     Ok((world, campaign))
@@ -98,7 +98,7 @@ pub fn upgrade<S: Alter>(
     ensures later { IsLater (state S.Store conn.old) (state S.Store conn.new) }
 {
     let (world, campaign) = world_and_campaign(alloc, conn, new_world)?;
-    if !is_just_old(conn.schema()) {
+    if !is_first_format_only(conn.schema()) {
         return Err(UpgradeFault::Store);
     }
     write_upgrade(conn, new_world, &campaign)?;

@@ -17,7 +17,7 @@ use Rattle.atl_world.specs.declared.format.Format.TheVariants.{First}
 use Rattle.atl_tables.specs.declared.region_table.OldRegion.{OldRegion}
 use Rattle.atl_tables.specs.declared.world_draft.WorldDraft.{WorldDraft}
 use Rattle.atl_world.specs.declared.world.RegionPlan.{RegionPlan}
-use Rattle.atl_world.proofs.MadeLaws.{get-mapped}
+use Rattle.atl_world.proofs.MappedLaws.{get-mapped}
 use Rattle.atl_tables.proofs.HasNumberLaws.{at_number}
 
 -- an option mapped by f stays as it is, if f doesn't change its value

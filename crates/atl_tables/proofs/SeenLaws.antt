@@ -36,12 +36,12 @@ not_before new false said h = refl
 
 module _ {A Z : Type 0} (title : A → List ℕ) (all : List A) (i : ℕ) (x : A) (seen : BTreeSet (String Z)) (so_far : HasNames title (take i all) seen) where
   -- a name that isn't new to the names of the first i elements is the name of one of these
-  pub stands_before : (new : Bool) → new ≡ not (has_name seen (title x)) → new ≡ false → list_any (λ y. same_name (title y) (title x)) (take i all) ≡ true
-  stands_before new said h = sym (so_far (title x)) ∙ there_before new _ said h
+  pub came_before : (new : Bool) → new ≡ not (has_name seen (title x)) → new ≡ false → list_any (λ y. same_name (title y) (title x)) (take i all) ≡ true
+  came_before new said h = sym (so_far (title x)) ∙ there_before new _ said h
 
   -- a name that is new to the names of the first i elements is the name of none of these
-  pub stands_first : (new : Bool) → new ≡ not (has_name seen (title x)) → new ≡ true → list_any (λ y. same_name (title y) (title x)) (take i all) ≡ false
-  stands_first new said h = sym (so_far (title x)) ∙ not_before new _ said h
+  pub comes_first : (new : Bool) → new ≡ not (has_name seen (title x)) → new ≡ true → list_any (λ y. same_name (title y) (title x)) (take i all) ≡ false
+  comes_first new said h = sym (so_far (title x)) ∙ not_before new _ said h
 
   -- the set of the names of the first i elements has those of the first i + 1 after the name of the i-th is put in
   pub has_one_more : (grown : BTreeSet (String Z)) → i < length all → x ≡ get_or all i x → ((other : List ℕ) → has_name grown other ≡ (has_name seen other || same_name (title x) other)) → HasNames title (take (i + 1) all) grown

@@ -173,8 +173,8 @@ mark_taken m l n h =
     record { apart = apart_remove m.numbers l.numbers n h.apart; fits = omega (arith, len-less m.numbers n, len-less l.numbers n, h.fits) }
 
 -- if a number of xs is at most a number of ys, it is less, where xs and ys have no number in common
-pub stand_apart : (xs ys : List ℕ) (i j : ℕ) → AreApart (set.from_list xs) (set.from_list ys) → i < length xs → j < length ys → get_or xs i 0 ≤ get_or ys j 0 → get_or xs i 0 < get_or ys j 0
-stand_apart xs ys i j h l m le =
+pub less_apart : (xs ys : List ℕ) (i j : ℕ) → AreApart (set.from_list xs) (set.from_list ys) → i < length xs → j < length ys → get_or xs i 0 ≤ get_or ys j 0 → get_or xs i 0 < get_or ys j 0
+less_apart xs ys i j h l m le =
     elim (cases_order (get_or xs i 0) (get_or ys j 0)) [
       | inl e ↦
           let first : set.contains {R = nat_cmp} (set.from_list xs) (get_or ys j 0) ≡ true = contains-stands xs (get_or ys j 0) i (record { within = l; is = e }) in

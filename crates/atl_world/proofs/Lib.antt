@@ -9,6 +9,6 @@ pub mod CountLaws
 pub mod LookupLaws
 pub mod SumLaws
 pub mod NameLaws
-pub mod MadeLaws
+pub mod MappedLaws
 pub mod TrackLaws
 pub mod SameLaws

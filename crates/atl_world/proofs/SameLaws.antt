@@ -5,7 +5,7 @@ use Rattle.std.specs.Ordering.{nat_cmp}
 use Rattle.atl_world.specs.Worlds.{without_market}
 use Rattle.atl_world.specs.Sums.{mapped}
 use Rattle.atl_world.specs.declared.world.RegionPlan.{RegionPlan}
-use Rattle.atl_world.proofs.MadeLaws.{entries-mapped}
+use Rattle.atl_world.proofs.MappedLaws.{entries-mapped}
 
 -- the entries of a map of regions, with the markets left out
 abbrev pub bare : List (ℕ × RegionPlan) → List (ℕ × RegionPlan)

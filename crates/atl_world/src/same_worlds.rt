@@ -104,7 +104,7 @@ fn are_same_regions(plans: &Numbered<RegionPlan>, others: &Numbered<RegionPlan>)
 /// Compares a world with another one.
 impl World {
     /// Whether two worlds are equal once the markets of their regions are left out.
-    pub fn differs_in_markets_alone(&self, other: &World) -> bool
+    pub fn is_same_but_for_markets(&self, other: &World) -> bool
         ensures { IsTrue result ↔ (without_markets self.now ≡ without_markets other.now) }
     {
         are_same_rules(self.rules(), other.rules())

@@ -118,7 +118,7 @@ pub(crate) struct CampaignMaps {
 
 /// The factions that rows of `faction` say, by number, with nothing marked. Names and pass texts
 /// keep their rules.
-fn marked_map_of_factions(
+fn unmarked_factions(
     alloc: Global,
     rows: &[StoredFaction],
 ) -> Result<MarkedMap<Faction>, AllocError>
@@ -145,7 +145,7 @@ fn unmarked_regions(
 
 /// The structures that rows of `structure` say, by number, with nothing marked. Names keep the name
 /// rule.
-fn marked_map_of_structures(
+fn unmarked_structures(
     alloc: Global,
     rows: &[StoredStructure],
 ) -> Result<MarkedMap<Structure>, AllocError>
@@ -158,10 +158,7 @@ fn marked_map_of_structures(
 }
 
 /// The mail that rows of `mail` say, by the factions' numbers, with nothing marked.
-fn marked_map_of_mail(
-    alloc: Global,
-    rows: &[StoredMail],
-) -> Result<MarkedMap<Sequence<u8>>, AllocError>
+fn unmarked_mail(alloc: Global, rows: &[StoredMail]) -> Result<MarkedMap<Sequence<u8>>, AllocError>
     ensures { IfOk result (λ t. t
         ≡ without_marks (by_number (λ r. as_u32 r.faction) (λ r. r.text) rows.now)) }
 {
@@ -170,10 +167,7 @@ fn marked_map_of_mail(
 }
 
 /// The reports that rows of `report` say, by the factions' numbers, with nothing marked.
-fn marked_map_of_reports(
-    alloc: Global,
-    rows: &[StoredReport],
-) -> Result<MarkedMap<Text>, AllocError>
+fn unmarked_reports(alloc: Global, rows: &[StoredReport]) -> Result<MarkedMap<Text>, AllocError>
     ensures { IfOk result (λ t. t
         ≡ without_marks (by_number (λ r. as_u32 r.faction) (λ r. r.text) rows.now)) }
 {
@@ -188,11 +182,11 @@ pub(crate) fn campaign_maps_of(alloc: Global, parts: &Parts) -> Result<CampaignM
     requires structures { list_all (λ r. name_ok r.name) parts.now.structures ≡ true }
     ensures { IfOk result (λ tables. tables ≡ campaign_maps_of parts.now) }
 {
-    let factions = marked_map_of_factions(alloc, parts.factions.as_slice())?;
+    let factions = unmarked_factions(alloc, parts.factions.as_slice())?;
     let regions = unmarked_regions(alloc, parts.regions.as_slice(), parts.markets.as_slice())?;
-    let structures = marked_map_of_structures(alloc, parts.structures.as_slice())?;
-    let mail = marked_map_of_mail(alloc, parts.mail.as_slice())?;
-    let reports = marked_map_of_reports(alloc, parts.reports.as_slice())?;
+    let structures = unmarked_structures(alloc, parts.structures.as_slice())?;
+    let mail = unmarked_mail(alloc, parts.mail.as_slice())?;
+    let reports = unmarked_reports(alloc, parts.reports.as_slice())?;
     Ok(CampaignMaps {
         factions,
         regions,

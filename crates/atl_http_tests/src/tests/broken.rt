@@ -1,8 +1,8 @@
 //! Tests that a command has run even if its reply can't be written to the end, and of the numbers
 //! of faults.
 use super::compare::{assert_count, assert_fault, assert_number, assert_true};
-use super::ends::Narrow;
 use super::making::begun;
+use super::readers_and_writers::Narrow;
 use super::requests::{JOIN, JOINED};
 use super::serving::Served;
 use atl_http::HttpFault;

@@ -2,8 +2,8 @@
 //! writes, and ends in a fault beyond that.
 use super::broken::breaks_off;
 use super::compare::{assert_count, assert_text};
-use super::ends::{Narrow, Pieces};
 use super::making::{assert_reply, begun, told};
+use super::readers_and_writers::{Narrow, Pieces};
 use super::requests::{JOIN, JOINED};
 use super::serving::Served;
 use std::alloc::Global;

@@ -12,7 +12,7 @@ use atl_month::{
     each_unit_can_spare, months_have_no_order, one_phase_has_room, phases_move_little,
 };
 use atl_phase::{mailings_have_no_order, one_order_stands, orders_are_in_mailings};
-use atl_report::{only_what_is_seen_is_told, others_events_are_not_told};
+use atl_report::{only_what_is_seen_is_reported, others_events_are_not_reported};
 
 /// Calls each law of the crates under test and asserts nothing: the clause of each is proved.
 #[test]
@@ -36,6 +36,6 @@ fn states_laws_of_the_month() {
     phases_move_little();
     one_phase_has_room();
     each_unit_can_spare();
-    only_what_is_seen_is_told();
-    others_events_are_not_told();
+    only_what_is_seen_is_reported();
+    others_events_are_not_reported();
 }

@@ -37,7 +37,10 @@ static SETTLED: [(&[(u8, u8, u16, u16)], &str); 11] = [
 ];
 
 /// What upkeep reads of each unit of a case; the units are numbered from 1.
-fn purses_of(alloc: Global, units: &[(u8, u8, u16, u16)]) -> Result<Vec<UpkeepInput>, AllocError>
+fn upkeep_inputs_of(
+    alloc: Global,
+    units: &[(u8, u8, u16, u16)],
+) -> Result<Vec<UpkeepInput>, AllocError>
     ensures each { IfOk result (λ purses. All IsUpkeepInput purses.items) }
     ensures order { IfOk result (λ purses. AreInOrder purses.items) }
 {
@@ -62,7 +65,7 @@ fn purses_of(alloc: Global, units: &[(u8, u8, u16, u16)]) -> Result<Vec<UpkeepIn
 /// What upkeep takes from each unit, as text: the money that it pays, and how many of its men
 /// starve.
 fn told_of(alloc: Global, units: &[(u8, u8, u16, u16)]) -> Result<String, Fail> {
-    let purses = purses_of(alloc, units)?;
+    let purses = upkeep_inputs_of(alloc, units)?;
     let mut told = String::new(alloc);
     for unit in upkeep_payments(alloc, MAINTENANCE, &purses)?.iter() {
         tell_pair(

@@ -90,8 +90,8 @@ fn assert_difference(
 ) -> Result<(), Fail> {
     let other = read_world(alloc, text)?;
     let (there, back) = (
-        world.differs_in_markets_alone(&other),
-        other.differs_in_markets_alone(world),
+        world.is_same_but_for_markets(&other),
+        other.is_same_but_for_markets(world),
     );
     assert!(rt; there == alone && back == alone, "{text}");
     Ok(())

@@ -145,16 +145,16 @@ fn answers(
 }
 
 /// Fills a campaign, and asserts the answer to a join in it.
-fn is_filled(rt: &impl Abort, alloc: Global, filled: &Filled) -> Result<(), Fail> {
+fn join_is_answered(rt: &impl Abort, alloc: Global, filled: &Filled) -> Result<(), Fail> {
     let mut conn = joined(rt, alloc)?;
     fill(&mut conn, filled)?;
     answers(rt, alloc, conn, filled)
 }
 
 /// Fills each campaign of `FILLED`, and asserts the answer to the join in it.
-fn are_filled(rt: &impl Abort, alloc: Global) -> Result<(), Fail> {
+fn joins_are_answered(rt: &impl Abort, alloc: Global) -> Result<(), Fail> {
     for filled in FILLED.iter() {
-        is_filled(rt, alloc, filled)?;
+        join_is_answered(rt, alloc, filled)?;
     }
     Ok(())
 }
@@ -163,5 +163,5 @@ fn are_filled(rt: &impl Abort, alloc: Global) -> Result<(), Fail> {
 /// numbers or all unit numbers were given.
 #[test]
 fn nobody_joins_a_full_campaign(rt: HostRuntime) -> Result<(), Fail> {
-    are_filled(&rt, rt.alloc())
+    joins_are_answered(&rt, rt.alloc())
 }

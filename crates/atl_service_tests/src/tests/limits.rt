@@ -15,6 +15,6 @@ static NO_MONTH_MORE: [Step; 3] = [
 
 /// After month 9,999 every closing is refused.
 #[test]
-fn no_month_is_closed_behind_the_last(rt: HostRuntime) -> Result<(), Fail> {
+fn no_month_is_closed_after_the_last(rt: HostRuntime) -> Result<(), Fail> {
     refuses(&rt, rt.alloc(), LAST_IS_CLOSED, &NO_MONTH_MORE)
 }

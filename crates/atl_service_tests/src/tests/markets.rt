@@ -75,12 +75,12 @@ static AFTER_STOCKING: [(&str, Option<i64>); 3] = [
 ];
 
 /// SELECTs and what they return before the first month: nothing is in stock.
-static NOBODY_THERE: [(&str, Option<i64>); 2] = [(STOCKED, Some(0)), (STOCK, None)];
+static BEFORE_STOCKING: [(&str, Option<i64>); 2] = [(STOCKED, Some(0)), (STOCK, None)];
 
 /// A market is empty before the first month, and stocked after it.
 #[test]
 fn a_market_is_stocked(rt: HostRuntime) -> Result<(), Fail> {
-    plays(&rt, rt.alloc(), MART, &[], &NOBODY_THERE)?;
+    plays(&rt, rt.alloc(), MART, &[], &BEFORE_STOCKING)?;
     plays(&rt, rt.alloc(), MART, &STOCKED_ONCE, &AFTER_STOCKING)
 }
 

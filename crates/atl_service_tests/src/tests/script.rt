@@ -101,7 +101,7 @@ fn has_joined(rt: &impl Abort, answer: &Answer, first: u32, member: u32) {
 }
 
 /// Asserts the orders and the faulty lines in the answer to a mailing.
-fn is_kept(rt: &impl Abort, answer: &Answer, wanted: usize, faulty: &[(u32, u32)]) {
+fn is_mailed(rt: &impl Abort, answer: &Answer, wanted: usize, faulty: &[(u32, u32)]) {
     match answer {
         Answer::Mailed { orders, faults } => {
             assert_count(rt, *orders, wanted);
@@ -169,7 +169,7 @@ pub(crate) fn assert_answer(rt: &impl Abort, answer: &Answer, step: &Step) {
     match step {
         Step::Told(_, words) => assert_text(rt, told(answer), words),
         Step::Joined(_, faction, unit) => has_joined(rt, answer, *faction, *unit),
-        Step::Mailed(_, orders, faulty) => is_kept(rt, answer, *orders, faulty),
+        Step::Mailed(_, orders, faulty) => is_mailed(rt, answer, *orders, faulty),
         Step::Closed(_, month) => is_closed(rt, answer, *month),
         _ => assert!(rt; false),
     }

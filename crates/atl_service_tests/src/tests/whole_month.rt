@@ -167,7 +167,7 @@ const MONTH_OF_ORDERS: [Step; 6] = [
 ];
 
 /// SELECTs and what they return after the month of ten units.
-const BEHIND: [(&str, Option<i64>); 4] = [
+const AFTER_MONTH_OF_TEN: [(&str, Option<i64>); 4] = [
     (MONTH, Some(1)),
     (NEXT, Some(300012)),
     (UNITS, Some(11)),
@@ -179,7 +179,7 @@ static MONTH_OF_TEN: Course = Course {
     world: ISLE,
     rows: BEFORE,
     steps: &MONTH_OF_ORDERS,
-    after: &BEHIND,
+    after: &AFTER_MONTH_OF_TEN,
 };
 
 /// A month with ten units and every kind of order but SELL and BUY gives the reports, books and

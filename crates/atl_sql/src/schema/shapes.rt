@@ -16,7 +16,7 @@ fn is_unstamped(stamps: &Stamps) -> bool
 }
 
 /// Whether the table has no foreign key, no default that is computed, and no AUTOINCREMENT.
-fn is_without_more(found: &Table) -> bool
+fn has_nothing_more(found: &Table) -> bool
     ensures { IsTrue result ↔
         (found.now ≡ record found.now {
           references = [];
@@ -42,7 +42,7 @@ pub(crate) fn is_strict(found: &Table, made: &TableDefinition) -> bool
     found.tree == made.tree
         && found.name.as_slice() == made.name
         && are_fields(found.columns.as_slice(), made.columns)
-        && is_without_more(found)
+        && has_nothing_more(found)
 }
 
 /// Whether tree, name and columns are as defined, and the table has nothing more than keys, so no

@@ -154,7 +154,7 @@ pub fn are_distinct<K: Ord + Copy + Drop>(alloc: Global, keys: &[K]) -> Result<b
 }
 
 /// Whether no two rows of a table have the same key.
-fn have_keys<R: Keyed>(alloc: Global, rows: &[R]) -> Result<bool, AllocError>
+fn have_distinct_keys<R: Keyed>(alloc: Global, rows: &[R]) -> Result<bool, AllocError>
     ensures { IfOk result (λ yes. IsTrue yes ↔ (HaveKeys R.key_of rows.now)) }
 {
     let keys = keys_of(alloc, rows)?;
@@ -162,18 +162,18 @@ fn have_keys<R: Keyed>(alloc: Global, rows: &[R]) -> Result<bool, AllocError>
 }
 
 /// Whether in each table but `campaign` no two rows have the same key.
-pub(super) fn are_keyed(alloc: Global, parts: &Parts) -> Result<bool, AllocError>
+pub(super) fn tables_have_distinct_keys(alloc: Global, parts: &Parts) -> Result<bool, AllocError>
     ensures { IfOk result (λ yes. IsTrue yes ↔ (AreKeyed parts.now)) }
 {
-    let factions = have_keys(alloc, parts.factions.as_slice())?;
-    let regions = have_keys(alloc, parts.regions.as_slice())?;
-    let units = have_keys(alloc, parts.units.as_slice())?;
-    let has = have_keys(alloc, parts.has.as_slice())?;
-    let structures = have_keys(alloc, parts.structures.as_slice())?;
-    let mail = have_keys(alloc, parts.mail.as_slice())?;
-    let reports = have_keys(alloc, parts.reports.as_slice())?;
-    let books = have_keys(alloc, parts.books.as_slice())?;
-    let markets = have_keys(alloc, parts.markets.as_slice())?;
+    let factions = have_distinct_keys(alloc, parts.factions.as_slice())?;
+    let regions = have_distinct_keys(alloc, parts.regions.as_slice())?;
+    let units = have_distinct_keys(alloc, parts.units.as_slice())?;
+    let has = have_distinct_keys(alloc, parts.has.as_slice())?;
+    let structures = have_distinct_keys(alloc, parts.structures.as_slice())?;
+    let mail = have_distinct_keys(alloc, parts.mail.as_slice())?;
+    let reports = have_distinct_keys(alloc, parts.reports.as_slice())?;
+    let books = have_distinct_keys(alloc, parts.books.as_slice())?;
+    let markets = have_distinct_keys(alloc, parts.markets.as_slice())?;
     let people = factions && regions && units && has;
     Ok(people && structures && mail && reports && books && markets)
 }

@@ -3,7 +3,7 @@ ghost use Rattle.std.specs.Prelude.{◌≡◌, IfOk, length, ◌↔◌, IsTrue};
 ghost use Rattle.std.specs.List.{list_all};
 ghost use Rattle.atl_campaign.specs.RowRules.{campaign_row_in_range, faction_in_range, region_in_range, unit_in_range, has_in_range, structure_in_range, books_bound, books_in_range, market_in_range, are_few, people_in_range, numbers_in_range, AreRowsInRange};
 
-use super::keys::are_keyed;
+use super::keys::tables_have_distinct_keys;
 use super::markets::market_of;
 use super::numbers::{is_from, is_within};
 use atl_campaign::parts::{
@@ -189,6 +189,6 @@ pub(crate) fn rows_in_range(alloc: Global, world: &World, parts: &Parts) -> Resu
     requires { length parts.now.campaign ≡ 1 }
     ensures { IfOk result (λ yes. IsTrue yes ↔ (AreRowsInRange world.now parts.now)) }
 {
-    let keyed = are_keyed(alloc, parts)?;
+    let keyed = tables_have_distinct_keys(alloc, parts)?;
     Ok(keyed && are_few(parts) && numbers_in_range(world, parts))
 }

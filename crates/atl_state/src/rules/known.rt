@@ -182,7 +182,7 @@ fn are_placed(world: &World, campaign: &Campaign) -> bool
 }
 
 /// Whether a structure's kind and region exist.
-fn is_standing(world: &World, campaign: &Campaign, structure: &Structure) -> bool
+fn has_known_kind_and_region(world: &World, campaign: &Campaign, structure: &Structure) -> bool
     ensures { IsTrue result ↔
         ((structure.now.kind < length world.now.kinds)
         × IsThere campaign.now.value.regions structure.now.region) }
@@ -202,7 +202,7 @@ fn is_owner_there(campaign: &Campaign, structure: &Structure) -> bool
 fn is_built(world: &World, campaign: &Campaign, structure: &Structure) -> bool
     ensures { IsTrue result ↔ (IsBuilt world.now campaign.now.value structure.now) }
 {
-    is_standing(world, campaign, structure) && is_owner_there(campaign, structure)
+    has_known_kind_and_region(world, campaign, structure) && is_owner_there(campaign, structure)
 }
 
 /// Whether each structure's kind and region exist, and its owner is nobody or an existing unit.

@@ -1,5 +1,5 @@
 use Rattle.std.proofs.Common.{arith}
-use Rattle.atl_campaign.proofs.FreeLaws.{closed, removed}
+use Rattle.atl_campaign.proofs.GapVecLaws.{closed, removed}
 use Rattle.atl_campaign.proofs.gap_vec.close.Goals as goal
 
 pub returns-then-place-len-clause-part : goal.returns-then-place-len-clause-part

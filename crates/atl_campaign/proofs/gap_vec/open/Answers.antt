@@ -1,4 +1,4 @@
-use Rattle.atl_campaign.proofs.FreeLaws.{inserted}
+use Rattle.atl_campaign.proofs.GapVecLaws.{inserted}
 use Rattle.atl_campaign.proofs.gap_vec.open.Goals as goal
 
 pub returns-then-len-free-clause-part : goal.returns-then-len-free-clause-part

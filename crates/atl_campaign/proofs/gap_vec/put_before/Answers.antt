@@ -1,4 +1,4 @@
-use Rattle.atl_campaign.proofs.FreeLaws.{opened}
+use Rattle.atl_campaign.proofs.GapVecLaws.{opened}
 use Rattle.atl_campaign.proofs.gap_vec.put_before.Goals as goal
 
 pub returns-clause-part : goal.returns-clause-part

@@ -1,10 +1,10 @@
 use Rattle.std.proofs.Common.{◌+◌}
-use Rattle.atl_orders.proofs.WordLaws.{stands_further, ends_further, ends_at}
+use Rattle.atl_orders.proofs.WordLaws.{part_further, ends_further, ends_at}
 use Rattle.atl_orders.proofs.words.next_word.Goals as goal
 
 -- a first word in quotes is a part of the line
 pub returns-then-byte-eq-QUOTE-clause-stands : goal.returns-then-byte-eq-QUOTE-clause-stands
-returns-then-byte-eq-QUOTE-clause-stands c = stands_further c.args.line.now _ _ _ (ends_at c.args.line.now (c.loop-i.i + 1)) c.quoted_word.ensures.stands
+returns-then-byte-eq-QUOTE-clause-stands c = part_further c.args.line.now _ _ _ (ends_at c.args.line.now (c.loop-i.i + 1)) c.quoted_word.ensures.stands
 
 -- the line ends with what follows a first word in quotes
 pub returns-then-byte-eq-QUOTE-clause-rest : goal.returns-then-byte-eq-QUOTE-clause-rest
@@ -12,7 +12,7 @@ returns-then-byte-eq-QUOTE-clause-rest c = ends_further c.args.line.now _ _ (end
 
 -- a first word without quotes is a part of the line
 pub returns-then-not-is_blank-clause-stands : goal.returns-then-not-is_blank-clause-stands
-returns-then-not-is_blank-clause-stands c = stands_further c.args.line.now _ _ _ (ends_at c.args.line.now c.loop-i.i) c.bare_word.ensures.stands
+returns-then-not-is_blank-clause-stands c = part_further c.args.line.now _ _ _ (ends_at c.args.line.now c.loop-i.i) c.bare_word.ensures.stands
 
 -- the line ends with what follows a first word without quotes
 pub returns-then-not-is_blank-clause-rest : goal.returns-then-not-is_blank-clause-rest

@@ -10,8 +10,8 @@ use Rattle.atl_service.specs.declared.command.Command.TheVariants.{Join}
 use Rattle.atl_service.specs.declared.command.Refusal.TheVariants as why
 use Rattle.atl_service.specs.Step.{reported, step}
 use Rattle.atl_service.specs.Causes.{OfCommand}
-use Rattle.atl_service.proofs.CauseLaws.{ended_by}
-use Rattle.atl_service.specs.Answering.{GivesUp}
+use Rattle.atl_service.proofs.CauseLaws.{call_has_cause}
+use Rattle.atl_service.specs.Answering.{LeavesAfterFailure}
 use Rattle.atl_service.proofs.AnswerLaws.{is_refused}
 use Rattle.atl_campaign.proofs.GoodLaws.{IsGood-joined}
 use Rattle.atl_service.proofs.JoinStepLaws.{bad_name, bad_pass, is_taken, is_too_full, steps_on, joining_is, arrives}
@@ -54,8 +54,8 @@ returns-clause-ok g c =
     let old = c.args.campaign.now.value in
     let is = rw (c.as_slice-3.ensures, c.as_slice-4.ensures) at c.in-Ok.ensures.definition in
     let is_joining = joining_is w c.args.name.now c.args.pass.now c.args.word old c.join.new.self.value c.in-Ok.numbers.0 c.in-Ok.numbers.1 c.requires.good is in
-    let done : c.store_report.new.campaign.value ≡ reported w c.join.new.self.value c.in-Ok.numbers.0 = c.in_ok-store_report.ensures.ok in
-    let same : c.unmark.new.self.value ≡ c.store_report.new.campaign.value = ap (λ (m : MarkedCampaign). m.value) c.unmark.ensures in
+    let done : c.store_first_report.new.campaign.value ≡ reported w c.join.new.self.value c.in-Ok.numbers.0 = c.in_ok-store_first_report.ensures.ok in
+    let same : c.unmark.new.self.value ≡ c.store_first_report.new.campaign.value = ap (λ (m : MarkedCampaign). m.value) c.unmark.ensures in
     record {
       step_is = rw (same, done) (steps_on w old c.args.name.now c.args.pass.now c.args.word c.join.new.self.value c.in-Ok.numbers.0 c.in-Ok.numbers.1 (cc) (cc) is);
       sound = tt;
@@ -64,13 +64,13 @@ returns-clause-ok g c =
       tables = λ clean text keeps. rw same (c.in_ok-write_join.ensures.ok clean text old keeps (rw done is_joining));
     }
 
--- if `write_join` fails, the tables are left as `GivesUp` allows
+-- if `write_join` fails, the tables are left as `LeavesAfterFailure` allows
 pub returns-in_err-write_join-clause-err : goal.returns-in_err-write_join-clause-err
-returns-in_err-write_join-clause-err g c = on_err _ (GivesUp g.S.Store c.args.world.now c.args.campaign.now.value c.args.conn.now (Join c.args.name.now c.args.pass.now c.args.word) c.write_join.new.conn) (λ clean text keeps.
+returns-in_err-write_join-clause-err g c = on_err _ (LeavesAfterFailure g.S.Store c.args.world.now c.args.campaign.now.value c.args.conn.now (Join c.args.name.now c.args.pass.now c.args.word) c.write_join.new.conn) (λ clean text keeps.
     let w = c.args.world.now in
     let old = c.args.campaign.now.value in
     let is = rw (c.as_slice-3.ensures, c.as_slice-4.ensures) at c.in-Ok.ensures.definition in
-    let done : c.store_report.new.campaign.value ≡ reported w c.join.new.self.value c.in-Ok.numbers.0 = c.in_ok-store_report.ensures.ok in
+    let done : c.store_first_report.new.campaign.value ≡ reported w c.join.new.self.value c.in-Ok.numbers.0 = c.in_ok-store_first_report.ensures.ok in
     let steps = steps_on w old c.args.name.now c.args.pass.now c.args.word c.join.new.self.value c.in-Ok.numbers.0 c.in-Ok.numbers.1 (cc) (cc) is in
     let stops = c.in_err-write_join.ensures.err clean text old keeps (rw done (joining_is w c.args.name.now c.args.pass.now c.args.word old c.join.new.self.value c.in-Ok.numbers.0 c.in-Ok.numbers.1 c.requires.good is)) in
     subst (λ (after : CampaignValue). LeavesAfterFault (state g.S.Store c.args.conn.now).faults (state g.S.Store c.write_join.new.conn) text old after) (done ∙ sym (ap (λ p. p.0) steps)) stops)
@@ -81,7 +81,7 @@ write_join-requires-clause-arrived g c =
     let w = c.args.world.now in
     let old = c.args.campaign.now.value in
     let is = rw (c.as_slice-3.ensures, c.as_slice-4.ensures) at c.in-Ok.ensures.definition in
-    let done : c.store_report.new.campaign.value ≡ reported w c.join.new.self.value c.in-Ok.numbers.0 = c.in_ok-store_report.ensures.ok in
+    let done : c.store_first_report.new.campaign.value ≡ reported w c.join.new.self.value c.in-Ok.numbers.0 = c.in_ok-store_first_report.ensures.ok in
     rw done (arrives w c.args.name.now c.args.pass.now c.args.word old c.join.new.self.value c.in-Ok.numbers.0 c.in-Ok.numbers.1 c.requires.good is)
 
 -- if `write_join` fails, the fault of the join has its cause (`HasCause`)
@@ -91,9 +91,9 @@ returns-in_err-write_join-clause-cause g c =
     let old = c.args.campaign.now.value in
     let command = Join c.args.name.now c.args.pass.now c.args.word in
     let is = rw (c.as_slice-3.ensures, c.as_slice-4.ensures) at c.in-Ok.ensures.definition in
-    let done : c.store_report.new.campaign.value ≡ reported w c.join.new.self.value c.in-Ok.numbers.0 = c.in_ok-store_report.ensures.ok in
+    let done : c.store_first_report.new.campaign.value ≡ reported w c.join.new.self.value c.in-Ok.numbers.0 = c.in_ok-store_first_report.ensures.ok in
     let steps = steps_on w old c.args.name.now c.args.pass.now c.args.word c.join.new.self.value c.in-Ok.numbers.0 c.in-Ok.numbers.1 (cc) (cc) is in
     let joining = joining_is w c.args.name.now c.args.pass.now c.args.word old c.join.new.self.value c.in-Ok.numbers.0 c.in-Ok.numbers.1 c.requires.good is in
-    ended_by g.S.Store (OfCommand w old command) c.args.conn.now c.write_join.new.conn _ c.from_residual-in_err-write_join.result c.from_residual-in_err-write_join.ensures.1 (λ clean.
+    call_has_cause g.S.Store (OfCommand w old command) c.args.conn.now c.write_join.new.conn _ c.from_residual-in_err-write_join.result c.from_residual-in_err-write_join.ensures.1 (λ clean.
     subst (λ n. IsFaultOfError g.S.Store (OfJoining n (step w old command).0) write_fault c.args.conn.now c.write_join.new.conn c.in_err-write_join.field-0.0) joining.6
     (subst (λ (after : CampaignValue). IsFaultOfError g.S.Store (OfJoining c.in-Ok.numbers.0 after) write_fault c.args.conn.now c.write_join.new.conn c.in_err-write_join.field-0.0) (done ∙ sym (ap (λ p. p.0) steps)) (c.in_err-write_join.ensures.told clean)))

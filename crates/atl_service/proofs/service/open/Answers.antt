@@ -1,9 +1,9 @@
-use Rattle.atl_service.proofs.OpenLaws.{is_idle, is_busy, refused_unasked, opens, comes_back, opened_consistent}
+use Rattle.atl_service.proofs.OpenLaws.{is_idle, is_busy, refused_in_transaction, opens, comes_back, opened_consistent}
 use Rattle.atl_service.proofs.service.open.Goals as goal
 
 -- a connection in a transaction is rightly refused with Store, and is unchanged (`RefusesOpening`)
 pub returns-then-not-is_autocommit-clause-err : goal.returns-then-not-is_autocommit-clause-err
-returns-then-not-is_autocommit-clause-err g c = refused_unasked g.S.Store c.args.conn (is_busy c.is_autocommit.result _ c.is_autocommit.ensures.value c.if-not-is_autocommit.true)
+returns-then-not-is_autocommit-clause-err g c = refused_in_transaction g.S.Store c.args.conn (is_busy c.is_autocommit.result _ c.is_autocommit.ensures.value c.if-not-is_autocommit.true)
 
 -- the service of the loaded campaign is consistent, and its dirty set empty (`IsService`)
 pub opened-requires : goal.opened-requires

@@ -9,7 +9,7 @@ use Rattle.atl_sql.proofs.tables.create_each.Goals as goal
 pub loop-table-init : goal.loop-table-init
 loop-table-init g c = begins g.S.Store makes_none
 
--- running the next text makes one table more, all empty (`MakesSome`)
+-- running the next text makes one table more, all empty (`MakesFirst`)
 pub loop-table-preserved : goal.loop-table-preserved
 loop-table-preserved g c =
     let i = c.loop-table.table-index in

@@ -62,7 +62,7 @@ returns-in_err-write_marked-clause-told g c clean = told_by g.S.Store (OfChange 
 pub returns-in_err-write_marked-clause-left : goal.returns-in_err-write_marked-clause-left
 returns-in_err-write_marked-clause-left g c clean = on_err c.from_residual.result _ (c.in_err-write_marked.ensures.err clean)
 
--- a crash after a fault leaves what it could have left before, or the campaign (`MayFound`)
+-- a crash after a fault leaves what it could have left before, or the campaign (`MayLeaveCampaign`)
 pub returns-in_err-write_marked-clause-crash : goal.returns-in_err-write_marked-clause-crash
 returns-in_err-write_marked-clause-crash g c clean = on_err c.from_residual.result _ (λ text tables rest.
     let old = state g.S.Store c.args.conn.now in

@@ -6,7 +6,7 @@ use Rattle.atl_store.proofs.joining.put_joining.Goals as goal
 -- the rows of the newcomer, and then the report and the amounts, are the write of a join (`WritesJoin`)
 pub returns : goal.returns
 returns g c = two_steps g.S.Store (λ old mid new. joining_done c.args.arrival.now.number c.args.arrival.now.faction.now c.args.arrival.now.place c.args.arrival.now.unit.now c.args.arrival.now.report.now c.args.campaign.now.value [] old mid new c.requires)
-    c.in_ok-put_newcomer.ensures c.put_welcome.ensures
+    c.in_ok-put_newcomer.ensures c.put_report_and_amounts.ensures
 
 -- if the rows of the newcomer can't be put, the write of the join ends with this error
 pub returns-in_err-put_newcomer : goal.returns-in_err-put_newcomer

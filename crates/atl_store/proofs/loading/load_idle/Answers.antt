@@ -3,7 +3,7 @@ use Rattle.sqlite.specs.Held.{state}
 use Rattle.sqlite.specs.State.{HasCleanDisk}
 use Rattle.atl_store.specs.Loading.{RefusesToLoadIn}
 use Rattle.atl_store.proofs.GatherLaws.{leaves_then}
-use Rattle.atl_store.proofs.LoadedLaws.{unconfirmed_refuses, judged_damaged, told_as, confirmed_behind}
+use Rattle.atl_store.proofs.LoadedLaws.{unconfirmed_refuses, judged_damaged, told_as, confirmed_before}
 use Rattle.atl_store.proofs.loading.load_idle.Goals as goal
 
 -- a fault of confirming the tables refuses the load (`RefusesToLoadIn`)
@@ -26,7 +26,7 @@ returns-in_err-campaign-clause-err g c clean =
     let new = c.confirm.new.conn in
     let gathered : HasCleanDisk (state g.S.Store mid) = omega (arith, c.confirm.ensures.leaves.survives.clean, clean) in
     told_as g.S.Store (RefusesToLoadIn f g.S.Store old) _ c.from_residual-in_err-campaign.result c.from_residual-in_err-campaign.ensures.1
-    (judged_damaged f g.S.Store old c.requires.idle c.in_ok-world.world c.in_ok-world.parts (c.in_ok-world.ensures.ok gathered) (confirmed_behind g.S.Store f old mid new c.gather.ensures.leaves c.confirm.ensures.leaves gathered clean (c.in_ok-confirm.ensures.ok clean)).begins
+    (judged_damaged f g.S.Store old c.requires.idle c.in_ok-world.world c.in_ok-world.parts (c.in_ok-world.ensures.ok gathered) (confirmed_before g.S.Store f old mid new c.gather.ensures.leaves c.confirm.ensures.leaves gathered clean (c.in_ok-confirm.ensures.ok clean)).begins
     c.in_err-campaign.field-0.0 c.in_err-campaign.ensures.rules)
 
 -- rows that were gathered, confirmed and checked make a loaded campaign (`IsLoaded`)
@@ -39,7 +39,7 @@ returns-clause-ok g c =
     record {
       parts = c.in_ok-world.parts;
       gathered = λ clean. c.in_ok-world.ensures.ok (omega (arith, c.confirm.ensures.leaves.survives.clean, clean));
-      confirmed = λ clean. confirmed_behind g.S.Store f old mid new c.gather.ensures.leaves c.confirm.ensures.leaves (omega (arith, c.confirm.ensures.leaves.survives.clean, clean)) clean (c.in_ok-confirm.ensures.ok clean);
+      confirmed = λ clean. confirmed_before g.S.Store f old mid new c.gather.ensures.leaves c.confirm.ensures.leaves (omega (arith, c.confirm.ensures.leaves.survives.clean, clean)) clean (c.in_ok-confirm.ensures.ok clean);
       checked = c.in_ok-campaign.ensures.rules;
     }
 

@@ -15,13 +15,13 @@ returns-in_err-world-clause-err g c =
     told_as (RefusesToUpgrade g.S.Store text old mid) c.from_residual.result fault c.from_residual.ensures.1 (refused_before g.S.Store text old mid fault c.in_err-world.ensures.err c.world_and_campaign.ensures.alone)
 
 -- more tables or indexes than those of the first format refuse the upgrade with Store (`RefusesToUpgrade`)
-pub returns-then-not-is_just_old-clause-err : goal.returns-then-not-is_just_old-clause-err
-returns-then-not-is_just_old-clause-err g c =
+pub returns-then-not-is_first_format_only-clause-err : goal.returns-then-not-is_first_format_only-clause-err
+returns-then-not-is_first_format_only-clause-err g c =
     let old = c.args.conn.now in
     let mid = c.world_and_campaign.new.conn in
     let text = c.args.new_world.now in
     refused_before g.S.Store text old mid _
-    (λ clean. inr (has_more g.S.Store text old mid c.world_and_campaign.ensures.alone clean c.in_ok-world.world c.in_ok-world.campaign c.in_ok-world.ensures.ok (λ just. true≢false (sym (c.is_just_old.ensures.1 (c.schema.ensures.value ∙ just)) ∙ c.if-not-is_just_old.true))))
+    (λ clean. inr (has_more g.S.Store text old mid c.world_and_campaign.ensures.alone clean c.in_ok-world.world c.in_ok-world.campaign c.in_ok-world.ensures.ok (λ just. true≢false (sym (c.is_first_format_only.ensures.1 (c.schema.ensures.value ∙ just)) ∙ c.if-not-is_first_format_only.true))))
     c.world_and_campaign.ensures.alone
 
 -- an error of the transaction refuses the upgrade with the error's fault (`RefusesToUpgrade`)
@@ -34,13 +34,13 @@ returns-in_err-write_upgrade-clause-err g c =
     let error = c.in_err-write_upgrade.field-0.0 in
     told_as (RefusesToUpgrade g.S.Store text old new) c.from_residual-in_err-write_upgrade.result (upgrade_fault error) c.from_residual-in_err-write_upgrade.ensures.1
     (refused_after g.S.Store text old mid new c.in_ok-world.world c.in_ok-world.campaign c.world_and_campaign.ensures.alone c.in_ok-world.ensures.ok
-    (sym c.schema.ensures.value ∙ c.is_just_old.ensures.0 c.if-not-is_just_old.false) c.in_ok-world.ensures.idle c.in_err-write_upgrade.ensures.err c.write_upgrade.ensures.crash error c.in_err-write_upgrade.ensures.told)
+    (sym c.schema.ensures.value ∙ c.is_first_format_only.ensures.0 c.if-not-is_first_format_only.false) c.in_ok-world.ensures.idle c.in_err-write_upgrade.ensures.err c.write_upgrade.ensures.crash error c.in_err-write_upgrade.ensures.told)
 
 -- Ok: the connection keeps the campaign of the first format, with the new text (`Upgrades`)
 pub returns-clause-ok : goal.returns-clause-ok
 returns-clause-ok g c =
     upgrades g.S.Store c.args.new_world.now c.args.conn.now c.world_and_campaign.new.conn c.write_upgrade.new.conn c.in_ok-world.world c.in_ok-world.campaign c.world_and_campaign.ensures.alone c.in_ok-world.ensures.ok
-    (λ db up. g.met.S.Store.settled c.write_upgrade.new.conn.store db up) (sym c.schema.ensures.value ∙ c.is_just_old.ensures.0 c.if-not-is_just_old.false) c.in_ok-write_upgrade.ensures.ok c.write_upgrade.ensures.crash c.write_upgrade.ensures.idle
+    (λ db up. g.met.S.Store.settled c.write_upgrade.new.conn.store db up) (sym c.schema.ensures.value ∙ c.is_first_format_only.ensures.0 c.if-not-is_first_format_only.false) c.in_ok-write_upgrade.ensures.ok c.write_upgrade.ensures.crash c.write_upgrade.ensures.idle
 
 -- after Ok no failure of the disk is forgotten (`IsLater`)
 pub returns-clause-later : goal.returns-clause-later

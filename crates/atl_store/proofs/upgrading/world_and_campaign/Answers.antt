@@ -27,10 +27,10 @@ returns-in_err-world-clause-err g c clean =
     ))
 
 -- a new world that differs in more than markets is a check that failed, with Differs (`FailsCheck`)
-pub returns-then-not-differs_in_markets_alone-clause-err : goal.returns-then-not-differs_in_markets_alone-clause-err
-returns-then-not-differs_in_markets_alone-clause-err g c clean =
+pub returns-then-not-is_same_but_for_markets-clause-err : goal.returns-then-not-is_same_but_for_markets-clause-err
+returns-then-not-is_same_but_for_markets-clause-err g c clean =
     other_world g.S.Store c.args.new_world.now c.args.conn.now c.load_as.new.conn c.load_as.ensures.alone clean c.in_ok-old_world.old_world c.in_ok-world.world c.in_ok-old_world.campaign c.in_ok-old_world.ensures.ok c.in_ok-world.ensures.definition
-    (λ same. true≢false (sym (c.differs_in_markets_alone.ensures.1 same) ∙ c.if-not-differs_in_markets_alone.true))
+    (λ same. true≢false (sym (c.is_same_but_for_markets.ensures.1 same) ∙ c.if-not-is_same_but_for_markets.true))
 
 -- Ok: the campaign is loaded, and the new world differs from the old one in markets alone (`IsReadyToUpgrade`)
 pub returns-clause-ok : goal.returns-clause-ok
@@ -38,5 +38,5 @@ returns-clause-ok g c = record {
   world = c.in_ok-world.ensures.definition;
   before = c.in_ok-old_world.old_world;
   loads = c.in_ok-old_world.ensures.ok;
-  same = c.differs_in_markets_alone.ensures.0 c.if-not-differs_in_markets_alone.false;
+  same = c.is_same_but_for_markets.ensures.0 c.if-not-is_same_but_for_markets.false;
 }

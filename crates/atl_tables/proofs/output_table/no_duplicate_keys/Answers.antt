@@ -8,7 +8,7 @@ use Rattle.atl_world.specs.Names.{same_name}
 use Rattle.atl_tables.specs.declared.fault.WorldFault.TheVariants.{TwoNames}
 use Rattle.atl_tables.specs.declared.output_table.Output.{Output}
 use Rattle.atl_tables.proofs.EachLaws.{goes_on_at, ends_at}
-use Rattle.atl_tables.proofs.SeenLaws.{stands_before, stands_first, has_one_more}
+use Rattle.atl_tables.proofs.SeenLaws.{came_before, comes_first, has_one_more}
 use Rattle.atl_tables.proofs.output_table.no_duplicate_keys.Goals as goal
 
 -- the condition on the i-th key of an output is broken (TwoNames) exactly if an earlier key is equal
@@ -24,7 +24,7 @@ returns-then-not-branch c =
     let all = c.args.outputs.now in
     let at = c.args.at.now in
     let i = c.loop-output.output-index in
-    let test = stands_before (λ p. p.item) all i o c.loop-output.seen c.loop-output.invariant.seen _ c.in_ok-is_new.ensures.new c.if-not-branch.true in
+    let test = came_before (λ p. p.item) all i o c.loop-output.seen c.loop-output.invariant.seen _ c.in_ok-is_new.ensures.new c.if-not-branch.true in
     rw (c.in_ok-path.ensures, c.as_str.ensures) (ends_at (duplicate_key_at at all) all i o (first_fault (each (duplicate_key_at at all) 0 all)) c.loop-output-test.true c.output-item.is c.loop-output.invariant.faults (TwoNames (path at o.item)) (by_test at all i o true test))
 
 -- the loop's invariant still holds after one more key that is new
@@ -34,7 +34,7 @@ loop-output-preserved c =
     let all = c.args.outputs.now in
     let at = c.args.at.now in
     let i = c.loop-output.output-index in
-    let test = stands_first (λ p. p.item) all i o c.loop-output.seen c.loop-output.invariant.seen _ c.in_ok-is_new.ensures.new c.if-not-branch.false in
+    let test = comes_first (λ p. p.item) all i o c.loop-output.seen c.loop-output.invariant.seen _ c.in_ok-is_new.ensures.new c.if-not-branch.false in
     record {
       seen = has_one_more (λ p. p.item) all i o c.loop-output.seen c.loop-output.invariant.seen c.is_new.new.seen c.loop-output-test.true c.output-item.is c.in_ok-is_new.ensures.seen;
       faults = goes_on_at (duplicate_key_at at all) all i o (first_fault (each (duplicate_key_at at all) 0 all)) c.loop-output-test.true c.output-item.is c.loop-output.invariant.faults (by_test at all i o false test);

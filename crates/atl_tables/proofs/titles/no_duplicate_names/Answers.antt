@@ -6,7 +6,7 @@ use Rattle.atl_tables.specs.Keys.{path, element_path}
 use Rattle.atl_tables.specs.Titles.{no_twin_before, no_twins}
 use Rattle.atl_world.specs.Names.{same_name}
 use Rattle.atl_tables.proofs.EachLaws.{goes_on_at, ends_at}
-use Rattle.atl_tables.proofs.SeenLaws.{stands_before, stands_first, has_one_more}
+use Rattle.atl_tables.proofs.SeenLaws.{came_before, comes_first, has_one_more}
 use Rattle.atl_tables.proofs.titles.no_duplicate_names.Goals as goal
 
 -- the condition on the name of the i-th element is broken (TwoNames) exactly if an earlier element has the name
@@ -25,7 +25,7 @@ returns-then-not-branch g c =
     let key = c.args.key.now in
     let all = c.args.items.now in
     let i = c.loop-i.i in
-    let test = stands_before title all i x c.loop-i.seen c.loop-i.invariant.seen _ (rw c.title.ensures at c.in_ok-is_new.ensures.new) c.if-not-branch.true in
+    let test = came_before title all i x c.loop-i.seen c.loop-i.invariant.seen _ (rw c.title.ensures at c.in_ok-is_new.ensures.new) c.if-not-branch.true in
     rw (c.in_ok-path.ensures, c.as_str.ensures, c.in_ok-place.ensures) (ends_at (no_twin_before title array key all) all i x (first_fault (no_twins title array key all)) c.loop-i-test.true c.index-items-i.is c.loop-i.invariant.faults (TwoNames (path (element_path array i) key)) (by_test title array key all i x true test))
 
 -- the loop's invariant still holds after one more element with a new title
@@ -37,7 +37,7 @@ loop-i-preserved g c =
     let key = c.args.key.now in
     let all = c.args.items.now in
     let i = c.loop-i.i in
-    let test = stands_first title all i x c.loop-i.seen c.loop-i.invariant.seen _ (rw c.title.ensures at c.in_ok-is_new.ensures.new) c.if-not-branch.false in
+    let test = comes_first title all i x c.loop-i.seen c.loop-i.invariant.seen _ (rw c.title.ensures at c.in_ok-is_new.ensures.new) c.if-not-branch.false in
     record {
       seen = has_one_more title all i x c.loop-i.seen c.loop-i.invariant.seen c.is_new.new.seen c.loop-i-test.true c.index-items-i.is (rw c.title.ensures at c.in_ok-is_new.ensures.seen);
       faults = goes_on_at (no_twin_before title array key all) all i x (first_fault (no_twins title array key all)) c.loop-i-test.true c.index-items-i.is c.loop-i.invariant.faults (by_test title array key all i x false test);

@@ -1,7 +1,7 @@
 use Rattle.std.proofs.Common.{◌≡◌, ◌+◌, ◌-◌, ◌<◌, ◌≤◌, length, get_or, take, refl, sym, ap, subst, ◌∙◌, arith}
 use Rattle.std.proofs.lemmas.List.{length-take-le, get_or-take, take-take, take-set-le}
 use Rattle.atl_world.proofs.MergeLaws.{Under, under_last, own_put, other_put, all_put, not_above}
-use Rattle.atl_world.proofs.ApartLaws.{stand_apart}
+use Rattle.atl_world.proofs.ApartLaws.{less_apart}
 use Rattle.atl_world.proofs.sorted_numbers.merge.Goals as goal
 
 -- the invariant of the loop holds after the largest number left of the first list is put in place
@@ -45,7 +45,7 @@ loop-left-preserved c =
     get_or-take c.args.own was (own - 1) 0 (omega (arith, some)) ∙ sym (get_or-take own was (own - 1) 0 (omega (arith, some)))
     ∙ ap (λ xs. get_or xs (own - 1) 0) (sym c.loop-left.invariant.kept) ∙ get_or-take own now (own - 1) 0 (omega (arith, some)) in
     let most : get_or now (own - 1) 0 ≤ n = not_above (0 < own) (get_or now (own - 1) 0) n c.if-is_last_above.ensures.1 some in
-    stand_apart first others (own - 1) (left - 1) c.requires.apart (omega (arith, some, size)) (omega arith) (omega (arith, is, most)) in
+    less_apart first others (own - 1) (left - 1) c.requires.apart (omega (arith, some, size)) (omega arith) (omega (arith, is, most)) in
     let under : Under (take own was) n = subst (λ xs. Under xs n) (take-take own c.args.own was c.loop-left.invariant.own) (under_last first own n c.requires.rising (omega (arith, size)) below) in
     record {
       own = c.loop-left.invariant.own;

@@ -3,10 +3,10 @@ use Rattle.std.specs.Ordering.{nat_cmp}
 use Rattle.std.specs.FinMap.{FinMap, entries, empty, insert, same_entries_map}
 use Rattle.std.proofs.lemmas.List.{append-nil, append_assoc}
 use Rattle.atl_world.proofs.Maps.{entries-empty}
-use Rattle.atl_world.proofs.MadeLaws.{insert_last}
+use Rattle.atl_world.proofs.MappedLaws.{insert_last}
 use Rattle.atl_campaign.specs.KeptLists.{AreUnitLists}
 use Rattle.atl_records.specs.declared.records.Unit.{Unit}
-use Rattle.atl_campaign.proofs.RosterLaws.{comes_new}
+use Rattle.atl_campaign.proofs.SortedMapLaws.{comes_new}
 use Rattle.atl_campaign.proofs.assembly.units.lists_of.Goals as goal
 
 pub loop-number-init : goal.loop-number-init

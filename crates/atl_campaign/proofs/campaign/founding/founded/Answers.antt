@@ -2,7 +2,7 @@ use Rattle.std.proofs.Common.{◌≡◌, ◌+◌, length, sym, ap, subst, refl, 
 use Rattle.std.specs.FinMap.{len-entries}
 use Rattle.std.proofs.lemmas.List.{length-map}
 use Rattle.atl_world.specs.Sums.{mapped}
-use Rattle.atl_world.proofs.MadeLaws.{entries-mapped}
+use Rattle.atl_world.proofs.MappedLaws.{entries-mapped}
 use Rattle.atl_world.proofs.NameLaws.{pass_ok-IsUtf8}
 use Rattle.atl_campaign.specs.Campaign.{CampaignValue, MarkedCampaign}
 use Rattle.atl_campaign.specs.Founding.{founded_region, founded_of}

@@ -4,7 +4,7 @@ use Rattle.std.proofs.lemmas.Result.{IfOk-weaker}
 use Rattle.std.specs.FinMap.{entries, same_entries_map}
 use Rattle.atl_world.specs.Sums.{mapped}
 use Rattle.atl_world.proofs.Maps.{entries-empty}
-use Rattle.atl_world.proofs.MadeLaws.{entries-mapped, insert_last}
+use Rattle.atl_world.proofs.MappedLaws.{entries-mapped, insert_last}
 use Rattle.atl_campaign.specs.Regions.{unmarked_regions}
 use Rattle.atl_campaign.specs.Founding.{founded_region}
 use Rattle.atl_records.specs.declared.records.Region.{Region}

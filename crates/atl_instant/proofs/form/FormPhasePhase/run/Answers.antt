@@ -5,7 +5,7 @@ use Rattle.atl_campaign.specs.Good.{IsEarly}
 use Rattle.atl_campaign.specs.Campaign.{CampaignValue}
 use Rattle.atl_campaign.proofs.CoverLaws.{marks-refl, marks-trans}
 use Rattle.atl_phase.specs.Month.{MonthValue}
-use Rattle.atl_phase.specs.Bounds.{StepsWell, books_nothing}
+use Rattle.atl_phase.specs.Bounds.{StepsWell, nothing_remaining}
 use Rattle.atl_phase.proofs.FoldLaws.{fold_behind, fold_ended}
 use Rattle.atl_phase.proofs.OrderEffectLaws.{leaves_well, well_same, well_twice}
 use Rattle.atl_instant.proofs.FormLaws.{all_formed, free_number, order_stays, order_well}
@@ -45,7 +45,7 @@ loop-order-preserved c =
     record {
       orders = fold_behind form_apart xs i none before c.loop-order-test.true step c.loop-order.invariant.orders;
       readings = ap (λ (p : CampaignValue × MonthValue). p.1.readings) step ∙ c.loop-order.invariant.readings;
-      well = well_twice w old now _ c.loop-order.invariant.well (subst (λ d. StepsWell IsEarly books_nothing w now d) (sym what) (order_well w now early c.loop-order.month o));
+      well = well_twice w old now _ c.loop-order.invariant.well (subst (λ d. StepsWell IsEarly nothing_remaining w now d) (sym what) (order_well w now early c.loop-order.month o));
       stays = λ n u there. subst (λ (d : CampaignValue). get d.units n ≡ Some u) (sym what) (order_stays w now early c.loop-order.month o n u (c.loop-order.invariant.stays n u there));
       marks = marks-trans c.args.campaign c.loop-order.campaign _ c.loop-order.invariant.marks c.in_ok-form_one.ensures.marks;
     }

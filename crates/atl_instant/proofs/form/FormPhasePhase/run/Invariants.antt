@@ -4,7 +4,7 @@ use Rattle.std.specs.FinMap.{get}
 use Rattle.atl_campaign.specs.Covers.{MarksChanges}
 use Rattle.atl_records.specs.Every.{Every}
 use Rattle.atl_campaign.specs.Good.{IsEarly}
-use Rattle.atl_phase.specs.Bounds.{StepsWell, books_nothing}
+use Rattle.atl_phase.specs.Bounds.{StepsWell, nothing_remaining}
 use Rattle.atl_instant.proofs.form.FormPhasePhase.run.Given as goal
 use Rattle.atl_instant.specs.Forming.{form_apart}
 
@@ -14,7 +14,7 @@ abbrev pub invariant-loop-order : goal.invariant-loop-order
 invariant-loop-order l = record {
   orders : fold form_apart (l.campaign.value, l.month) (drop l.order-index l.order-items) ≡ fold form_apart (l.fn.campaign.value, l.fn.month) l.order-items;
   readings : l.month.readings ≡ l.fn.month.readings;
-  well : StepsWell IsEarly books_nothing l._world l.fn.campaign.value l.campaign.value;
+  well : StepsWell IsEarly nothing_remaining l._world l.fn.campaign.value l.campaign.value;
   stays : Every (λ n u. get l.campaign.value.units n ≡ Some u) l.fn.campaign.value.units;
   marks : MarksChanges l.fn.campaign l.campaign;
 }

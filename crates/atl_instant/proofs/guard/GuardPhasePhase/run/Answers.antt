@@ -10,7 +10,7 @@ use Rattle.atl_phase.specs.PhaseOrders.{orders_by_unit, task_of}
 use Rattle.atl_phase.specs.NoWorse.{IsNoWorse}
 use Rattle.atl_phase.specs.declared.phase_order.PhaseOrder.{PhaseOrder}
 use Rattle.atl_phase.specs.OrderEffects.{AreUnaffected, meaning_by_orders, one_order}
-use Rattle.atl_phase.specs.Bounds.{StepsWell, books_nothing}
+use Rattle.atl_phase.specs.Bounds.{StepsWell, nothing_remaining}
 use Rattle.atl_phase.proofs.FoldLaws.{each_mapped, fold_behind, fold_ended, fold_mapped}
 use Rattle.atl_phase.proofs.OrderEffectLaws.{leaves_well, order_well, orders_fit, orders_spare, well_same, well_twice}
 use Rattle.atl_instant.specs.Guard.{guard_concerns, guard_step, is_guarding}
@@ -47,7 +47,7 @@ loop-order-preserved c =
     let well = order_well guard_step guard_orderly w m.aliases now (task_of o) c.loop-order.invariant.well.holds_still fit in
     record {
       orders = fold_behind one xs c.loop-order.order-index o before c.loop-order-test.true (step ∙ ap (one before) c.order-item.is) c.loop-order.invariant.orders;
-      well = well_twice w c.args.campaign.value now _ c.loop-order.invariant.well (subst (StepsWell IsSteady books_nothing w now) (sym (ap (λ (p : CampaignValue × MonthValue). p.0) step)) well);
+      well = well_twice w c.args.campaign.value now _ c.loop-order.invariant.well (subst (StepsWell IsSteady nothing_remaining w now) (sym (ap (λ (p : CampaignValue × MonthValue). p.0) step)) well);
       held = c.in_ok-guard_one.ensures.held;
       marks = marks-trans c.args.campaign c.loop-order.campaign _ c.loop-order.invariant.marks c.in_ok-guard_one.ensures.marks;
     }

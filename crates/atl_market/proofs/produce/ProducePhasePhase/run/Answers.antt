@@ -8,12 +8,12 @@ use Rattle.atl_market.proofs.ProduceLaws.{can_share_out, produce_keeps_others, p
 use Rattle.atl_market.proofs.produce.ProducePhasePhase.run.Goals as goal
 
 pub share_out-requires-clause-can : goal.share_out-requires-clause-can
-share_out-requires-clause-can c = can_share_out c.args.world.now c.args.campaign.value c.world_is_sound.ensures c.requires.needs (map task_of c.deref.result.now) c.requires.room
+share_out-requires-clause-can c = can_share_out c.args.world.now c.args.campaign.value c.world_is_well_formed.ensures c.requires.needs (map task_of c.deref.result.now) c.requires.room
 
 pub returns-clause-leaves : goal.returns-clause-leaves
 returns-clause-leaves c =
     subst (λ d. LeavesWell IsSteady (produce_moves most_moved) c.args.world.now c.args.campaign.value d) (sym c.in_ok-events.ensures.what)
-    (produce_leaves_well c.args.world.now c.args.campaign.value c.world_is_sound.ensures c.requires.needs (map task_of c.deref.result.now) c.requires.room)
+    (produce_leaves_well c.args.world.now c.args.campaign.value c.world_is_well_formed.ensures c.requires.needs (map task_of c.deref.result.now) c.requires.room)
 
 pub returns-clause-keeps : goal.returns-clause-keeps
 returns-clause-keeps c =

@@ -11,7 +11,7 @@ use Rattle.atl_market.proofs.trade.TradePhasePhase.run.Goals as goal
 pub share_out-requires-clause-can : goal.share_out-requires-clause-can
 share_out-requires-clause-can g c =
     let room : HaveRoom (trade_moves c.trade_of-trade.result most_moved) c.args.campaign.value = rw c.trade_of-trade.ensures c.requires.room in
-    can_share_out c.trade_of-trade.result c.args.world.now c.world_is_sound.ensures c.args.campaign.value c.requires.needs (map task_of c.deref.result.now) room
+    can_share_out c.trade_of-trade.result c.args.world.now c.world_is_well_formed.ensures c.args.campaign.value c.requires.needs (map task_of c.deref.result.now) room
 
 pub returns-clause-leaves : goal.returns-clause-leaves
 returns-clause-leaves g c =
@@ -19,7 +19,7 @@ returns-clause-leaves g c =
     let room : HaveRoom (trade_moves trade most_moved) c.args.campaign.value = rw c.trade_of-trade.ensures c.requires.room in
     subst (λ t. LeavesWell IsEarly (trade_moves t most_moved) c.args.world.now c.args.campaign.value c.share_out.new.campaign.value) c.trade_of-trade.ensures
     (subst (λ d. LeavesWell IsEarly (trade_moves trade most_moved) c.args.world.now c.args.campaign.value d) (sym c.in_ok-events.ensures.what)
-    (all_trades_leave_well trade c.args.world.now c.world_is_sound.ensures c.args.campaign.value c.requires.needs (map task_of c.deref.result.now) room))
+    (all_trades_leave_well trade c.args.world.now c.world_is_well_formed.ensures c.args.campaign.value c.requires.needs (map task_of c.deref.result.now) room))
 
 pub returns-clause-keeps : goal.returns-clause-keeps
 returns-clause-keeps g c =

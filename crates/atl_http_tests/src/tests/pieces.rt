@@ -1,8 +1,8 @@
 //! Tests of requests that arrive in pieces or cut short, of replies written in pieces, and of long
 //! heads and bodies.
 use super::compare::{assert_count, assert_number, assert_text};
-use super::ends::{Narrow, Pieces};
 use super::making::{assert_books, assert_reply, begun, told};
+use super::readers_and_writers::{Narrow, Pieces};
 use super::requests::{BAD_REQUEST, JOIN, JOINED, NO_ROUTE, REPORT, REPORTED, TOO_LONG};
 use super::serving::Served;
 use std::alloc::Global;

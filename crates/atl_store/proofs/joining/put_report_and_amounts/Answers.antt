@@ -1,7 +1,7 @@
 use Rattle.atl_store.specs.OwnStatements.{joins_report, joins_money, joins_people}
 use Rattle.atl_store.proofs.JoinLaws.{reporting_done}
 use Rattle.atl_sql.proofs.WriteLaws.{among, among_only, three_steps, stops, stops_second}
-use Rattle.atl_store.proofs.joining.put_welcome.Goals as goal
+use Rattle.atl_store.proofs.joining.put_report_and_amounts.Goals as goal
 
 -- the report's row and the amounts of money and of people, written in turn, are all written
 pub returns : goal.returns

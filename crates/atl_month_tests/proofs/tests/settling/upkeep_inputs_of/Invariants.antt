@@ -1,7 +1,7 @@
 use Rattle.std.specs.Prelude.{All, ◌≤◌}
 use Rattle.atl_month.specs.declared.upkeep_sharing.UpkeepInput.{UpkeepInput}
 use Rattle.atl_month.specs.UpkeepSharing.{AreInOrder, IsUpkeepInput}
-use Rattle.atl_month_tests.proofs.tests.settling.purses_of.Given as goal
+use Rattle.atl_month_tests.proofs.tests.settling.upkeep_inputs_of.Given as goal
 
 -- before each unit: what was read so far is within its limits and sorted by unit numbers, none of which is above `last`
 abbrev pub invariant-loop-region : goal.invariant-loop-region

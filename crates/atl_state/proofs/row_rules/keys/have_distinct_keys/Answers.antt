@@ -4,7 +4,7 @@ use Rattle.std.specs.Bool.{Decides}
 use Rattle.std.specs.List.{IsDistinct}
 use Rattle.std.specs.Ordering.{eq_by_cmp}
 use Rattle.atl_campaign.specs.RowRules.{Key, key_cmp}
-use Rattle.atl_state.proofs.row_rules.keys.have_keys.Goals as goal
+use Rattle.atl_state.proofs.row_rules.keys.have_distinct_keys.Goals as goal
 
 -- if memory suffices, the function returns true exactly if no two rows have the same key
 pub returns : goal.returns

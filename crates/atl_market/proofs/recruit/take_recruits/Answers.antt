@@ -4,7 +4,7 @@ use Rattle.atl_campaign.specs.Campaign.{CampaignValue}
 use Rattle.atl_records.specs.declared.books.Entry.TheVariants.{Recruiting}
 use Rattle.atl_records.specs.declared.books.Thing.TheVariants.{Money}
 use Rattle.atl_market.proofs.RecruitLaws.{leaving_marks}
-use Rattle.atl_market.proofs.recruit.leave_region.Goals as goal
+use Rattle.atl_market.proofs.recruit.take_recruits.Goals as goal
 use Rattle.atl_phase.proofs.MeaningLaws.{less_room}
 use Rattle.atl_records.specs.Limits.{holding_limit}
 use Rattle.atl_records.specs.Books.{amount_in}

@@ -3,7 +3,7 @@ use Rattle.std.specs.Prelude.{nat_lt}
 use Rattle.std.proofs.lemmas.List.Sorted.{IsPartitionPoint-from_clause}
 use Rattle.std.proofs.lemmas.List.Sums.{position_or_len_is}
 use Rattle.atl_campaign.proofs.SortedLaws.{parted, not_below, not_above}
-use Rattle.atl_campaign.proofs.numbers.first_above.Goals as goal
+use Rattle.atl_campaign.proofs.numbers.first_not_below.Goals as goal
 
 pub returns-clause-place : goal.returns-clause-place
 returns-clause-place c =

@@ -1,5 +1,5 @@
 use Rattle.std.proofs.Common.{rules}
-use Rattle.atl_state.proofs.rules.known.is_standing.Goals as goal
+use Rattle.atl_state.proofs.rules.known.has_known_kind_and_region.Goals as goal
 
 -- if a structure's kind exists, the function returns whether its region does
 pub returns-then-from-kinds : goal.returns-then-from-kinds

@@ -4,7 +4,7 @@ use Rattle.std.proofs.lemmas.Option.{same_Some}
 use Rattle.atl_campaign.specs.Lending.{with_holding}
 use Rattle.atl_market.specs.Recruit.{with_paid_recruits}
 use Rattle.atl_market.proofs.RecruitLaws.{joined_is, joined_marks}
-use Rattle.atl_market.proofs.recruit.join_unit.Goals as goal
+use Rattle.atl_market.proofs.recruit.add_recruits.Goals as goal
 
 pub returns-in-Some-clause-what : goal.returns-in-Some-clause-what
 returns-in-Some-clause-what c u is =

@@ -1,6 +1,6 @@
 use Rattle.atl_report.proofs.EventLaws as laws
-use Rattle.atl_report.proofs.report.others_events_are_not_told.Goals as goal
+use Rattle.atl_report.proofs.report.others_events_are_not_reported.Goals as goal
 
 -- the law that others' events don't change a report is proved in EventLaws
 pub returns : goal.returns
-returns c = laws.others_events_are_not_told
+returns c = laws.others_events_are_not_reported

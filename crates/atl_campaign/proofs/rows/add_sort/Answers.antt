@@ -2,7 +2,7 @@ use Rattle.std.proofs.Common.{◌≡◌, ◌≢◌, ◌++◌, ◌∷◌, [], sym
 use Rattle.std.proofs.lemmas.List.{append-nil, append_assoc}
 use Rattle.atl_campaign.specs.Rows.{rows_of_sort, has_row}
 use Rattle.atl_campaign.proofs.RowLaws.{sort_rows_one}
-use Rattle.atl_campaign.proofs.rows.add_kind.Goals as goal
+use Rattle.atl_campaign.proofs.rows.add_sort.Goals as goal
 
 pub loop-thing-preserved-in-Continue-1 : goal.loop-thing-preserved-in-Continue-1
 loop-thing-preserved-in-Continue-1 c =
