@@ -78,13 +78,13 @@ study_spares taught w a c t x own = studied_men w taught c t.faction t.unit x ow
 items_of_unchanged : (u v : Unit) → IsUnchanged u v → HasItsItems u v
 items_of_unchanged u v same = record { name = ap (λ (x : Unit). x.holding.name) same; items = λ i. omega (arith, ap (λ (x : Unit). amount_of x.holding.items i) same) }
 
--- the orders of STUDY together leave units of factions without a mailing what is theirs (`LeavesUnmailed`)
+-- the orders of STUDY together leave units of factions without a mailing their men and items (`LeavesUnmailed`)
 all_study : (taught : TaughtMen) → LeavesUnmailed (meaning_by_orders (study_step taught) is_studying) learn_keeps
 all_study taught = carried_leaves (study_step taught) is_studying (study_spares taught) (unmailed_spared is_studying own_faction items_of_unchanged)
 
 -- ---- both
 
--- the phase of TEACH and STUDY leaves units of factions without a mailing what is theirs (`LeavesUnmailed`)
+-- the phase of TEACH and STUDY leaves units of factions without a mailing their men and items (`LeavesUnmailed`)
 pub learn_leaves : LeavesUnmailed learn_meaning learn_keeps
 learn_leaves = record {
   readings = λ w c m. let lessons = after_lessons c (learners w c m) m in (all_study lessons.0).readings w c lessons.1 ∙ (all_lessons_add_no_starved c (learners w c m) m).readings;

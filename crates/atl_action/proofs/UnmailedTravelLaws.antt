@@ -38,7 +38,7 @@ walked_men w c f n x other = tt
 walk_spares : SparesMen walk_step
 walk_spares w a c t x own = walked_men w c t.faction t.unit x t.order_value.operands
 
--- the phase of MOVE leaves units of factions without a mailing what is theirs (`LeavesUnmailed`)
+-- the phase of MOVE leaves units of factions without a mailing their men and items (`LeavesUnmailed`)
 pub walk_leaves : PhaseLeavesUnmailed walk_spec
 walk_leaves = carried_leaves walk_step is_walking walk_spares (unmailed_spared is_walking own_faction items_of_no_worse)
 
@@ -72,7 +72,7 @@ sail_spares w a c t x own = sailing_men w c t.faction t.unit x t.order_value.ope
 items_of_carried : (u v : Unit) → IsAtMostMoved u v → HasItsItems u v
 items_of_carried u v h = record { name = h.name; items = h.items }
 
--- the phase of SAIL leaves units of factions without a mailing what is theirs (`LeavesUnmailed`)
+-- the phase of SAIL leaves units of factions without a mailing their men and items (`LeavesUnmailed`)
 pub sail_leaves : PhaseLeavesUnmailed sail_spec
 sail_leaves =
     carried_leaves sail_step is_sailing sail_spares

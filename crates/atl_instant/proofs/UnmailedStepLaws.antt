@@ -53,7 +53,7 @@ form_starves_none : (p : CampaignValue × MonthValue) (ts : List Task) (n : ℕ)
 form_starves_none p [] n = refl
 form_starves_none p (t ∷ ts) n = form_starves_none (form_order p t) ts n ∙ told_of_order p.1.events t (form_by p.0 t.faction t.unit).1 n
 
--- the phase of FORM leaves units of factions without a mailing what is theirs (`LeavesUnmailed`)
+-- the phase of FORM leaves units of factions without a mailing their men and items (`LeavesUnmailed`)
 pub form_leaves : LeavesUnmailed form_meaning form_keeps
 unfolding form_meaning
 form_leaves =
@@ -82,7 +82,7 @@ name_men w c f n x other = tt
 name_spares : SparesMen name_step
 name_spares w a c t x own = name_men w c t.faction t.unit x t.order_value.operands
 
--- the phase of NAME and GUARD 0 leaves units of factions without a mailing what is theirs (`LeavesUnmailed`)
+-- the phase of NAME and GUARD 0 leaves units of factions without a mailing their men and items (`LeavesUnmailed`)
 pub name_leaves : PhaseLeavesUnmailed name_spec
 name_leaves = carried_leaves name_step is_naming name_spares (unmailed_spared {concerns = name_concerns} is_naming (λ t n f h. own_faction t n f h.0) items_of_no_worse)
 
@@ -108,7 +108,8 @@ places_men w a c f n x other = tt
 place_spares : SparesMen place_step
 place_spares w a c t x own = places_men w a c t.faction t.unit x t.order_value.operands
 
--- the phase of LEAVE, ENTER and PROMOTE leaves units of factions without a mailing what is theirs (`LeavesUnmailed`)
+-- the phase of LEAVE, ENTER and PROMOTE leaves units of factions without a mailing their men and items
+-- (`LeavesUnmailed`)
 pub place_leaves : PhaseLeavesUnmailed place_spec
 place_leaves = carried_leaves place_step is_placing place_spares (unmailed_spared is_placing own_faction items_of_no_worse)
 
@@ -145,7 +146,7 @@ given_men a c f from x here other = tt
 give_spares : SparesMen give_step
 give_spares w a c t x own = given_men a c t.faction t.unit x own.there t.order_value.operands
 
--- the phase of GIVE and PAY leaves units of factions without a mailing what is theirs (`LeavesUnmailed`)
+-- the phase of GIVE and PAY leaves units of factions without a mailing their men and items (`LeavesUnmailed`)
 pub give_leaves : PhaseLeavesUnmailed give_spec
 give_leaves = carried_leaves give_step is_giving give_spares (unmailed_spared is_giving own_faction items_of_no_worse)
 
@@ -179,7 +180,7 @@ transferred a c t x own o = tt
 transfer_spares : SparesMen transfer_step
 transfer_spares w a c t x own = transferred a c t x own t.order_value.operands
 
--- the phase of TRANSFER leaves units of factions without a mailing what is theirs (`LeavesUnmailed`)
+-- the phase of TRANSFER leaves units of factions without a mailing their men and items (`LeavesUnmailed`)
 pub transfer_leaves : PhaseLeavesUnmailed transfer_spec
 transfer_leaves = carried_leaves transfer_step is_transferring transfer_spares (unmailed_spared is_transferring own_faction items_of_no_worse)
 
@@ -199,7 +200,7 @@ guarded_men c f n x other = tt
 guard_spares : SparesMen guard_step
 guard_spares w a c t x own = guarded_men c t.faction t.unit x t.order_value.operands
 
--- the phase of GUARD 1 leaves units of factions without a mailing what is theirs (`LeavesUnmailed`)
+-- the phase of GUARD 1 leaves units of factions without a mailing their men and items (`LeavesUnmailed`)
 pub guard_leaves : PhaseLeavesUnmailed guard_spec
 guard_leaves = carried_leaves guard_step is_guarding guard_spares (unmailed_spared {concerns = guard_concerns} is_guarding (λ t n f h. own_faction t n f h.0) items_of_no_worse)
 
@@ -232,6 +233,6 @@ quitted c t x own o = tt
 quit_spares : SparesMen quit_step
 quit_spares w a c t x own = quitted c t x own t.order_value.operands
 
--- the phase of QUIT leaves units of factions without a mailing what is theirs (`LeavesUnmailed`)
+-- the phase of QUIT leaves units of factions without a mailing their men and items (`LeavesUnmailed`)
 pub quit_leaves : LeavesUnmailed quit_meaning quit_keeps
 quit_leaves = carried_leaves quit_step is_quitting quit_spares (λ w c d m. unmailed_spared {concerns = QuitsFrom c} is_quitting (λ t n f h. h.faction) items_of_no_worse w c d m)

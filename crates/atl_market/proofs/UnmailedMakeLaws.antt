@@ -87,7 +87,7 @@ built_men w c f n x other = tt
 build_spares : SparesMen build_step
 build_spares w a c t x own = built_men w c t.faction t.unit x t.order_value.operands
 
--- the phase BUILD leaves units of factions without a mailing what is theirs (`LeavesUnmailed`)
+-- the phase BUILD leaves units of factions without a mailing their men and items (`LeavesUnmailed`)
 pub build_leaves : PhaseLeavesUnmailed build_spec
 build_leaves = carried_leaves build_step is_building build_spares (unmailed_spared is_building own_faction items_of_no_worse)
 
@@ -111,7 +111,7 @@ produced_men asked w c e =
     (by_option (HaveTheirMen c) (λ r. with_used c e.0 r (e.1 * x.raw_count)) x.raw c (men_stay c) (λ r raw. used_men c e.0 r (e.1 * x.raw_count)))
     (made_men used e.0 i e.1)))
 
--- the phase PRODUCE leaves units of factions without a mailing what is theirs (`LeavesUnmailed`)
+-- the phase PRODUCE leaves units of factions without a mailing their men and items (`LeavesUnmailed`)
 pub produce_leaves : PhaseLeavesUnmailed produce.produce_spec
 produce_leaves =
     shared_leave produce.produce_pots (ordered_for produce.is_produce)

@@ -72,7 +72,8 @@ module _ (p : PotMeaning) (orders : CampaignValue → MonthValue → List Task) 
   abbrev pub shared : Meaning
   shared = pots_meaning p orders
 
-  -- a phase with pots leaves units without a mailing what is theirs (`LeavesUnmailed`), if it keeps their men and items
+  -- a phase with pots leaves units without a mailing their men and items (`LeavesUnmailed`), if it keeps their men and
+  -- items
   pub shared_leave : {keeps : Frame} → ((w : WorldValue) (c : CampaignValue) (m : MonthValue) → UnmailedAre HasItsMen m c (shared w c m).0) → ((w : WorldValue) (c d : CampaignValue) (m : MonthValue) → keeps w m c d → UnmailedAre HasItsItems m c d) → LeavesUnmailed shared keeps
   shared_leave {keeps} men items =
       whole_leaves {meaning = shared} {keeps = keeps} (λ w c m. refl) (λ w c m n. pots_report_none_starved p w c m.events (orders c m) n) (λ w c m h. men w c m) (λ w c m h. items w c (shared w c m).0 m h)
@@ -97,7 +98,7 @@ tax_men w c e =
     men_changed (λ v. record v { holding = record v.holding { money = u.holding.money + e.1 } }) (λ v. record { faction = refl; men = refl })
     c (with_region_money (with_money c e.0 (u.holding.money + e.1)) u.region (q.money - e.1)) e.0 refl))
 
--- the phase TAX leaves units of factions without a mailing what is theirs (`LeavesUnmailed`)
+-- the phase TAX leaves units of factions without a mailing their men and items (`LeavesUnmailed`)
 pub tax_leaves : PhaseLeavesUnmailed tax_spec
 tax_leaves = shared_leave tax_pots (ordered_for is_tax) (paid_men tax_pots (ordered_for is_tax) (λ w items. tax_men w)) none_worse
 
@@ -112,7 +113,7 @@ work_men w c e =
     men_changed (λ v. record v { holding = record v.holding { money = u.holding.money + wages } }) (λ v. record { faction = refl; men = refl })
     c (with_amount (with_money c e.0 (u.holding.money + wages)) Wages Money (pos wages)) e.0 refl)
 
--- the phase WORK leaves units of factions without a mailing what is theirs (`LeavesUnmailed`)
+-- the phase WORK leaves units of factions without a mailing their men and items (`LeavesUnmailed`)
 pub work_leaves : PhaseLeavesUnmailed work_spec
 work_leaves = shared_leave work_pots work_orders (paid_men work_pots work_orders (λ w items. work_men w)) none_worse
 
@@ -139,7 +140,7 @@ module _ (is_of : Verb → Bool) (m : MonthValue) where
   pub others_items : (c d : CampaignValue) → OthersAreNoWorse (orders_by_unit is_of m) c d → UnmailedAre HasItsItems m c d
   others_items c d h n u there none = let (v, behind, better) = h n u there (unordered n u none) in record { unit = v; there = behind; spared = items_of_no_worse u v better }
 
--- the phase RECRUIT leaves units of factions without a mailing what is theirs (`LeavesUnmailed`)
+-- the phase RECRUIT leaves units of factions without a mailing their men and items (`LeavesUnmailed`)
 pub recruit_leaves : PhaseLeavesUnmailed recruit_spec
 recruit_leaves =
     shared_leave recruit_pots (ordered_for is_recruit)
@@ -154,7 +155,7 @@ recruit_leaves =
 -- ---- SELL and BUY
 
 module _ (trade : Trade) where
-  -- SELL or BUY leaves units of factions without a mailing what is theirs (`LeavesUnmailed`)
+  -- SELL or BUY leaves units of factions without a mailing their men and items (`LeavesUnmailed`)
   trade_leaves : LeavesUnmailed (trade_meaning trade) (trade_keeps trade)
   trade_leaves =
       shared_leave (trade_pots trade) (ordered_for (is_trade trade))
@@ -166,10 +167,10 @@ module _ (trade : Trade) where
       })
       (λ w c d m. others_items (is_trade trade) m c d)
 
--- the phase SELL leaves units of factions without a mailing what is theirs (`LeavesUnmailed`)
+-- the phase SELL leaves units of factions without a mailing their men and items (`LeavesUnmailed`)
 pub sell_leaves : PhaseLeavesUnmailed sell_spec
 sell_leaves = trade_leaves Sell
 
--- the phase BUY leaves units of factions without a mailing what is theirs (`LeavesUnmailed`)
+-- the phase BUY leaves units of factions without a mailing their men and items (`LeavesUnmailed`)
 pub buy_leaves : PhaseLeavesUnmailed buy_spec
 buy_leaves = trade_leaves Buy

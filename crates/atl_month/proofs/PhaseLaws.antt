@@ -133,11 +133,12 @@ sweep_alone e (Item i) = both_hold (entry_index e == entry_index entries.Lost) (
 
 -- ---- each phase
 
--- a phase moves its own entries of the books alone, and leaves units of factions without a mailing what is theirs
+-- a phase moves its own entries of the books alone, and leaves units of factions without a mailing their items, and
+-- their men less the starved
 pub record IsPhase (phase : PhaseSpec) : Type 0 where
   -- the phase moves its own entries of the books alone, each by less than 10^14
   pub moves : MovesItsOwn phase
-  -- the phase leaves units of factions without a mailing what is theirs
+  -- the phase leaves units of factions without a mailing their items, and their men less the starved
   pub leaves : PhaseLeavesUnmailed phase
 
 -- `IsPhase` of a phase follows from its law of the books and its law of units without a mailing
@@ -149,7 +150,8 @@ infixr 5 ◌▹◌
 ◌▹◌ : {A B : Type 0} → A → B → A × B
 one ▹ others = (one, others)
 
--- each phase from FORM to RECRUIT moves its own entries alone, and leaves units without a mailing what is theirs
+-- each phase from FORM to RECRUIT moves its own entries alone, and leaves units without a mailing their items, and
+-- their men less the starved
 pub early_are : EachPhase IsPhase early_phases
 early_are =
     is_phase form_spec (nothing no_moved_entries) form_leaves
@@ -163,7 +165,8 @@ early_are =
     ▹ is_phase recruit_spec (money_alone entries.Recruiting) recruit_leaves
     ▹ tt
 
--- each phase from GUARD 1 to PRODUCE moves its own entries alone, and leaves units without a mailing what is theirs
+-- each phase from GUARD 1 to PRODUCE moves its own entries alone, and leaves units without a mailing their items, and
+-- their men less the starved
 pub later_are : EachPhase IsPhase later_phases
 later_are =
     is_phase guard_spec (nothing no_moved_entries) guard_leaves
@@ -179,6 +182,7 @@ later_are =
 pub last_move : EachPhase MovesItsOwn last_phases
 last_move = work_alone ▹ upkeep_alone ▹ season_alone ▹ sweep_alone ▹ tt
 
--- WORK, upkeep, season and sweep together leave units of factions without a mailing what is theirs (`CloseTogether`)
+-- WORK, upkeep, season and sweep together leave units of factions without a mailing their items, and their men less the
+-- starved (`CloseTogether`)
 pub last_leave : CloseTogether last_phases
 last_leave = work_leaves ▹ upkeep_leaves ▹ season_leaves ▹ sweep_leaves

@@ -117,7 +117,7 @@ starved_are_reported (s ∷ ss) n = by_test (starved_are_reported ss n) (s.starv
     by_test rest true is = rest ∙ none s.starved (sum_by (among n) ss) (s.unit == n) (is_equal s.starved 0 is)
     by_test rest false is = sum_by-cons (by_event n) (starved_event s) (map starved_event (filter starves ss)) ∙ ap (λ x. among n s + x) rest
 
--- upkeep leaves units of factions without a mailing what is theirs (`LeavesUnmailed`)
+-- upkeep leaves units of factions without a mailing their items, and their men less the starved (`LeavesUnmailed`)
 pub upkeep_leaves : LeavesUnmailed upkeep_meaning upkeep_keeps
 upkeep_leaves = record {
   readings = λ w c m. refl;
@@ -145,14 +145,15 @@ upkeep_leaves = record {
 
 -- ---- season and sweep
 
--- the season leaves units of factions without a mailing what is theirs (`LeavesUnmailed`)
+-- the season leaves units of factions without a mailing their items, and their men less the starved (`LeavesUnmailed`)
 pub season_leaves : LeavesUnmailed season_meaning season_keeps
 season_leaves =
     whole_leaves {meaning = season_meaning} {keeps = season_keeps} (λ w c m. refl) (λ w c m n. refl)
     (λ w c m same n u there none. men_same c (season_meaning w c m).0 same n u there)
     (λ w c m same n u there none. record { unit = u; there = ap (λ (units : FinMap nat_cmp Unit). get units n) same ∙ there; spared = record { name = refl; items = λ i. omega arith } })
 
--- the sweep, as the last phase, leaves units of factions without a mailing what is theirs (`ClosesUnmailed`)
+-- the sweep, as the last phase, leaves units of factions without a mailing their items, and their men less the starved
+-- (`ClosesUnmailed`)
 pub sweep_leaves : ClosesUnmailed sweep_meaning sweep_keeps
 sweep_leaves = record {
   told = λ w c m n. omega arith;

@@ -24,7 +24,8 @@ use Rattle.atl_month.specs.Unmailed.{SentNone, UnmailedAreLeft}
 
 -- ---- the month
 
--- all phases of a month together leave units of factions without a mailing what is theirs (`ClosesUnmailed`)
+-- all phases of a month together leave units of factions without a mailing their items, and their men less the starved
+-- (`ClosesUnmailed`)
 month_leaves : ClosesUnmailed month_meaning month_keeps
 month_leaves =
     then_closes (both_leave (leave_together early_phases (each_also (λ phase (is : IsPhase phase). is.leaves) early_phases early_are)) (leave_together later_phases (each_also (λ phase (is : IsPhase phase). is.leaves) later_phases later_are)))
@@ -44,8 +45,8 @@ none_read f ms none = get-from_entries nat_cmp_total (map (λ r. (r.faction, r))
           | Greater ↦ λ o. not_found ms none.1
         ] refl
 
--- Phases that leave units without a mailing what is theirs leave them, over a month that begins without events, exactly
--- the men whom its events don't report as starved.
+-- Phases that leave units without a mailing their items, and their men less the starved leave them, over a month that
+-- begins without events, exactly the men whom its events don't report as starved.
 left_behind : (phases : Meaning) (keeps : Frame) → ClosesUnmailed phases keeps → (w : WorldValue) (c d : CampaignValue) (m : MonthValue) (events : List Event) → m.events ≡ [] → ◌≡◌ {A = CampaignValue × List Event} (d, events) ((phases w c m).0, (phases w c m).1.events) → keeps w m c d
     → Every (λ n u. get m.readings u.faction ≡ None → IsLeft (starved_in events n) d n u) c.units
 left_behind phases keeps closes w c d m events begins is kept n u there none some =

@@ -34,24 +34,26 @@ moved_within (phase ∷ next ∷ rest) each e t = counted (may_move phase.moved 
 
 -- ---- a faction without a mailing
 
--- the phase leaves units of factions without a mailing what is theirs (`LeavesUnmailed`)
+-- the phase leaves units of factions without a mailing their items, and their men less the starved (`LeavesUnmailed`)
 abbrev pub PhaseLeavesUnmailed : PhaseSpec → Type 0
 PhaseLeavesUnmailed phase = LeavesUnmailed phase.meaning phase.keeps
 
--- all phases leave units of factions without a mailing what is theirs; after the last, a unit may have starved out
+-- all phases leave units of factions without a mailing their items, and their men less the starved; after the last, a
+-- unit may have starved out
 abbrev pub CloseTogether : List PhaseSpec → Type 0
 CloseTogether [] = ⊥
 CloseTogether (phase ∷ []) = ClosesUnmailed phase.meaning phase.keeps
 CloseTogether (phase ∷ next ∷ rest) = PhaseLeavesUnmailed phase × CloseTogether (next ∷ rest)
 
--- phases in turn, after the last of which a unit may have starved out, leave units of factions without a mailing
--- what is theirs (`ClosesUnmailed`), if each does (`CloseTogether`)
+-- phases in turn, after the last of which a unit may have starved out, leave units of factions without a mailing their
+-- items, and their men less the starved (`ClosesUnmailed`), if each does (`CloseTogether`)
 pub closed_together : (phases : List PhaseSpec) → CloseTogether phases → ClosesUnmailed (meaning_of phases) (keeps_of phases)
 closed_together [] none = absurd none
 closed_together (phase ∷ []) closes = closes
 closed_together (phase ∷ next ∷ rest) each = then_closes each.0 (closed_together (next ∷ rest) each.1)
 
--- phases in turn leave units of factions without a mailing what is theirs, if each does (`LeavesUnmailed`)
+-- phases in turn leave units of factions without a mailing their items, and their men less the starved, if each does
+-- (`LeavesUnmailed`)
 pub leave_together : (phases : List PhaseSpec) → EachPhase PhaseLeavesUnmailed phases → LeavesUnmailed (meaning_of phases) (keeps_of phases)
 leave_together [] each = record {
   readings = λ w c m. refl;

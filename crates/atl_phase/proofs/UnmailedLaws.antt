@@ -82,7 +82,8 @@ still_none : {first : Meaning} {early : Frame} → LeavesUnmailed first early �
 still_none one w c m f g same none = ap (λ (r : FinMap nat_cmp Reading). get r g) (one.readings w c m) ∙ ap (get m.readings) same ∙ none
 
 module _ {first second : Meaning} {early late : Frame} where
-  -- two phases in turn leave units of factions without a mailing what is theirs (`LeavesUnmailed`), if each does
+  -- two phases in turn leave units of factions without a mailing their items, and their men less the starved
+  -- (`LeavesUnmailed`), if each does
   pub both_leave : LeavesUnmailed first early → LeavesUnmailed second late → LeavesUnmailed (then_also first second) (both_keep first early late)
   both_leave one two = record {
     readings = λ w c m. two.readings w (first w c m).0 (first w c m).1 ∙ one.readings w c m;
@@ -94,8 +95,9 @@ module _ {first second : Meaning} {early late : Frame} where
         record { unit = b.unit; there = b.there; spared = less_twice _ _ _ u a.unit b.unit (one.told w c m n) (two.told w between.0 between.1 n) a.spared b.spared };
   }
 
-  -- a phase that leaves units of factions without a mailing what is theirs (`LeavesUnmailed`), and then one that does
-  -- so but may let a unit starve out (`ClosesUnmailed`), are together one of the second kind
+  -- a phase that leaves units of factions without a mailing their items, and their men less the starved
+  -- (`LeavesUnmailed`), and then one that does so but may let a unit starve out (`ClosesUnmailed`), are together one of
+  -- the second kind
   pub then_closes : LeavesUnmailed first early → ClosesUnmailed second late → ClosesUnmailed (then_also first second) (both_keep first early late)
   then_closes one two = record {
     told = λ w c m n. omega (arith, one.told w c m n, two.told w (first w c m).0 (first w c m).1 n);
@@ -231,8 +233,8 @@ module _ {meaning : Meaning} {keeps : Frame} (readings : (w : WorldValue) (c : C
     (nobody : (w : WorldValue) (c : CampaignValue) (m : MonthValue) (n : ℕ) → starved_in (meaning w c m).1.events n ≡ starved_in m.events n)
     (men : (w : WorldValue) (c : CampaignValue) (m : MonthValue) → keeps w m c (meaning w c m).0 → UnmailedAre HasItsMen m c (meaning w c m).0)
     (items : (w : WorldValue) (c : CampaignValue) (m : MonthValue) → keeps w m c (meaning w c m).0 → UnmailedAre HasItsItems m c (meaning w c m).0) where
-  -- A phase in which nobody starves leaves units of factions without a mailing what is theirs (`LeavesUnmailed`), if it
-  -- keeps the mailings, and these units keep their men and items.
+  -- A phase in which nobody starves leaves units of factions without a mailing their items, and their men less the
+  -- starved (`LeavesUnmailed`), if it keeps the mailings, and these units keep their men and items.
   pub whole_leaves : LeavesUnmailed meaning keeps
   whole_leaves = record {
     readings = readings;
@@ -327,8 +329,9 @@ module _ (step : OrderMeaning) where
         let ts = values (orders_of is_of ByUnit m.aliases m.readings) in
         orders_spare spares w c m ts n u there (recursion_from_All (λ t. t.faction ≢ u.faction) ts (none_ordered is_of ByUnit m u.faction none))
 
-    -- A phase leaves units of factions without a mailing what is theirs (`LeavesUnmailed`), if each of its steps leaves
-    -- units of other factions their men (`SparesMen`), and units of factions without a mailing keep their items.
+    -- A phase leaves units of factions without a mailing their items, and their men less the starved
+    -- (`LeavesUnmailed`), if each of its steps leaves units of other factions their men (`SparesMen`), and units of
+    -- factions without a mailing keep their items.
     pub carried_leaves : {keeps : Frame} → SparesMen step → ((w : WorldValue) (c d : CampaignValue) (m : MonthValue) → keeps w m c d → UnmailedAre HasItsItems m c d) → LeavesUnmailed (meaning_by_orders step is_of) keeps
     carried_leaves {keeps} spares items =
         whole_leaves {meaning = meaning_by_orders step is_of} {keeps = keeps} carried_readings carried_starve_none
