@@ -18,17 +18,26 @@ use Rattle.atl_phase.proofs.RefitLaws.{in_range_replaced, named_replaced, number
 
 -- The unit after is the unit before, but for its region, structure and guard flag.
 pub record IsSameUnit (before after : Unit) : Type 0 where
+  -- the unit keeps its faction
   pub faction : after.faction ≡ before.faction
+  -- the unit keeps its name
   pub name : after.holding.name ≡ before.holding.name
+  -- the unit keeps its number of men
   pub men : after.holding.men ≡ before.holding.men
+  -- the unit keeps its money
   pub money : after.holding.money ≡ before.holding.money
+  -- the unit keeps its amount of each item
   pub items : after.holding.items ≡ before.holding.items
+  -- the unit keeps its days of each skill
   pub days : after.holding.days ≡ before.holding.days
 
 -- The structure after is the structure before, but for its region and its owner.
 pub record IsSameStructure (before after : Structure) : Type 0 where
+  -- the structure keeps its kind
   pub kind : after.kind ≡ before.kind
+  -- of the structure as much is built as before
   pub done : after.done ≡ before.done
+  -- the structure keeps its name
   pub name : after.name ≡ before.name
 
 module _ (w : WorldValue) (c : CampaignValue) (units : FinMap nat_cmp Unit) (structures : FinMap nat_cmp Structure) (f : ℕ → Unit → Unit) (g : ℕ → Structure → Structure) where

@@ -1,4 +1,5 @@
--- A law: a unit that studies pays and learns by what it had as the phase began, whoever else studies.
+-- A law: a unit that studies pays and learns by what it had as the phase began, and by how many of its men were taught,
+-- in whichever order units study.
 -- See docs/RULES.md, "Learning".
 use Rattle.std.specs.Prelude.{◌≡◌, ℕ, Option, Some}
 use Rattle.std.specs.List.{Contains}
@@ -33,7 +34,8 @@ pub record IsOwnStudy (m : MonthValue) (n faction skill : ℕ) : Type 0 where
 abbrev pub taught_men : WorldValue → CampaignValue → MonthValue → (n : ℕ) → ℕ
 taught_men w c m n = (after_lessons c (learners w c m) m).0 n
 
--- unit n as its order of STUDY alone makes it, of the campaign as the phase began
+-- what STUDY of this skill makes of unit n, whose value is given, in the campaign as the phase began, with as many of
+-- its men taught as all lessons of the phase teach; None where the unit isn't there
 abbrev pub unit_after_own_study : WorldValue → CampaignValue → MonthValue → (n skill : ℕ) → Unit → Option Unit
 unit_after_own_study w c m n skill u = get (study w (taught_men w c m n) n skill c u).0.units n
 

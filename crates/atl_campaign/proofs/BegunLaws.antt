@@ -25,12 +25,19 @@ use Rattle.atl_campaign.proofs.RegionLaws.{changed-known, get-insert_same, same_
 
 -- a structure that can be begun: on land, of a kind of the world, without owner, and 1 to its kind's size done
 pub record IsFresh (w : WorldValue) (c : CampaignValue) (s : Structure) : Type 0 where
+  -- the structure's kind exists in the world
   pub kind : s.kind < length w.kinds
+  -- the structure's name keeps the rule of names
   pub name : IsTrue (name_ok s.name)
+  -- the structure's region exists
   pub region : IsThere c.regions s.region
+  -- the structure's region is on land
   pub land : is_land_at w s.region ≡ true
+  -- at least 1 of the structure is done
   pub least : 1 ≤ s.done
+  -- at most the size of the structure's kind is done
   pub most : s.done ≤ size_of w s.kind
+  -- the structure has no owner
   pub ownerless : s.owner ≡ 0
 
 module _ (w : WorldValue) (c : CampaignValue) (s : Structure) (fresh : IsFresh w c s) (room : c.next_structure ≤ most_structures) (old : IsSteady w c) where

@@ -156,21 +156,35 @@ module _ (goods : FinSet nat_cmp) (things : Things) (n thing : ℕ) where
 
 -- ---- the parts of a campaign, which are marked each for itself
 
--- the 14 parts of a campaign that have marks of their own: more than its ten tables, as units and goods have several
+-- the 14 parts of a campaign that have marks of their own: more than its ten tables, as units, goods and stocks have several
 pub data MarkedPart : Type 0 where
+  -- factions
   Factions : MarkedPart
+  -- regions without their stocks, whose rows are marked
   Regions : MarkedPart
+  -- regions of which a stock is marked
   Markets : MarkedPart
+  -- stocks of single items in regions
   Stocks : MarkedPart
+  -- structures
   Structures : MarkedPart
+  -- mail of factions
   Mail : MarkedPart
+  -- reports of factions
   Reports : MarkedPart
+  -- units of which something is marked
   Units : MarkedPart
+  -- units without their goods, whose rows are marked
   Rows : MarkedPart
+  -- units all of whose items and days are marked
   Goods : MarkedPart
+  -- single items of units
   Items : MarkedPart
+  -- days of single skills of units
   Skills : MarkedPart
+  -- amounts of the books
   Books : MarkedPart
+  -- the campaign row: month, pass text and next numbers
   Row : MarkedPart
 
 -- what names one mark of a part: region and item for Stocks, unit and thing for Items and Skills, nothing for Row,

@@ -156,9 +156,13 @@ structure_ranges w r h =
 
 -- the number, the men, the money and the guard flag of a row of `unit` are in their ranges
 pub record UnitRanges (r : StoredUnit) : Type 0 where
+  -- the unit's number is from 1 to last_unit
   pub number : is_from 1 last_unit r.number ≡ true
+  -- the unit has from 1 to men_limit men
   pub men : is_from 1 men_limit r.men ≡ true
+  -- the unit's money is from 0 to holding_limit
   pub money : is_from 0 holding_limit r.money ≡ true
+  -- the unit's guard flag is 0 or 1
   pub guard : is_from 0 1 r.guard ≡ true
 
 -- a row of `unit` that passes unit_in_range has number, men, money and guard flag in their ranges (UnitRanges)
@@ -186,13 +190,21 @@ unit_ranges_read has r all h =
 
 -- the campaign row and all rows of the other tables, but for mail and reports, pass the test of their ranges
 pub record NumberRanges (w : WorldValue) (p : Parts) : Type 0 where
+  -- the month and the next numbers of the campaign row are in their ranges
   pub head : campaign_row_in_range (campaign_row_of p) ≡ true
+  -- the number and the flag of each row of `faction` are in their ranges
   pub factions : list_all faction_in_range p.factions ≡ true
+  -- the peasants and the money of each row of `region` are in their ranges
   pub regions : list_all region_in_range p.regions ≡ true
+  -- the number, men, money and guard flag of each row of `unit` are in their ranges
   pub units : list_all unit_in_range p.units ≡ true
+  -- each row of `has` is of sort 1, or of sort 0 with an amount in its range
   pub has : list_all has_in_range p.has ≡ true
+  -- the number of each row of `structure`, and how much of the structure is done, are in their ranges
   pub structures : list_all (structure_in_range w) p.structures ≡ true
+  -- the amount of each row of `books` is not 0, and within the bound for the month and the factions
   pub books : list_all (books_in_range (books_bound p)) p.books ≡ true
+  -- the stock of each row of `market` is from 1 to its limit
   pub markets : list_all (market_in_range w) p.markets ≡ true
 
 -- if rows pass numbers_in_range, all rows but those of mail and reports pass the test of their ranges (NumberRanges)
@@ -218,9 +230,13 @@ number_ranges w p h =
 
 -- the month and the next numbers of a campaign row are in their ranges
 pub record HeadRanges (h : StoredCampaignRow) : Type 0 where
+  -- the month last closed is from 0 to last_month
   pub month : is_from 0 last_month h.month ≡ true
+  -- the next faction number is from 1 to one above last_faction
   pub next_faction : is_from 1 (last_faction + 1) h.next_faction ≡ true
+  -- the next unit number is from 1 to one above last_unit
   pub next_unit : is_from 1 (last_unit + 1) h.next_unit ≡ true
+  -- the next structure number is from 1 to one above most_structures
   pub next_structure : is_from 1 (most_structures + 1) h.next_structure ≡ true
 
 -- a campaign row that passes campaign_row_in_range has its month and next numbers in their ranges (HeadRanges)
@@ -237,9 +253,13 @@ head_ranges h e =
 
 -- the tables of factions, regions, units and structures have no more rows than their limits
 pub record Counts (p : Parts) : Type 0 where
+  -- there are at most last_faction rows of `faction`
   pub factions : length p.factions ≤ last_faction
+  -- there are at most most_regions rows of `region`
   pub regions : length p.regions ≤ most_regions
+  -- there are at most most_units rows of `unit`
   pub units : length p.units ≤ most_units
+  -- there are at most most_structures rows of `structure`
   pub structures : length p.structures ≤ most_structures
 
 -- if rows pass are_few, the tables of factions, regions, units and structures have no more rows than their limits

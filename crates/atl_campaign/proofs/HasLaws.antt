@@ -54,14 +54,20 @@ IsWhole z = z ≡ pos (as_u32 z)
 
 -- a row of `has` whose unit, sort and thing are read as they are: they fit 32 bits
 pub record IsKeyed (h : StoredHas) : Type 0 where
+  -- the row's unit number is read as it is
   pub unit : IsWhole h.unit
+  -- the row's sort is read as it is
   pub sort : IsWhole h.sort
+  -- the number of the row's item or skill is read as it is
   pub thing : IsWhole h.thing
 
 -- a row of `has` whose key and amount are read as they are, with an amount other than 0
 pub record IsExact (h : StoredHas) : Type 0 where
+  -- the row's unit, sort and thing are read as they are
   pub keys : IsKeyed h
+  -- the row's amount is read as it is
   pub amount : IsWhole h.amount
+  -- the row's amount is not 0
   pub some : is_zero h.amount ≡ false
 
 -- the number of the item or skill in a row of `has`, as it is read

@@ -31,11 +31,17 @@ use Rattle.atl_campaign.proofs.RegionLaws.{get-insert_same, same_len}
 
 -- a holding that a unit may get: within the limits, of the world's items and skills, and guarding only if the unit did
 pub record MayHold (w : WorldValue) (u : Unit) (h : HoldingValue) : Type 0 where
+  -- the men, the money and each item of the holding are within their limits
   pub limits : IsHolding h
+  -- the holding's name keeps the rule of names
   pub name : IsTrue (name_ok h.name)
+  -- each listed item exists in the world
   pub items : Every (λ i amount. i < length w.items) h.items
+  -- each listed skill exists in the world
   pub skills : Every (λ s days. s < length w.skills) h.days
+  -- each listed skill has at least 1 day, and at most most_days for each of the men
   pub days : Every (λ s days. (1 ≤ days) × (days ≤ most_days * h.men)) h.days
+  -- the unit guards with the holding only if the unit guarded before
   pub guard : guards (record u { holding = h }) ≡ true → guards u ≡ true
 
 -- a unit of a steady campaign may hold any money up to the limit

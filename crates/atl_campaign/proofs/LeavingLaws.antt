@@ -46,9 +46,13 @@ module _ (w : WorldValue) (c : CampaignValue) (n : ℕ) (u : Unit) (is : get c.u
 
   -- structures that differ from the campaign's at most in owners, who are among the units left
   pub record AreReowned (structures : FinMap nat_cmp Structure) : Type 0 where
+    -- there are as many structures as the campaign has
     pub count : len structures ≡ len c.structures
+    -- each of the structures is the campaign's of the same number, but perhaps for its owner
     pub back : Every (λ k x. (y : Structure) × (o : ℕ) × (get c.structures k ≡ Some y) × (owned_by o y ≡ x)) structures
+    -- each of the campaign's structures is there under its number, but perhaps for its owner
     pub forth : Every (λ k y. (o : ℕ) × (get structures k ≡ Some (owned_by o y))) c.structures
+    -- each of the structures is owned by a unit inside it that is left, or by nobody where none of these is inside
     pub owned : Every (λ k x. IsOwned (reduced structures) k x) structures
 
   module _ (structures : FinMap nat_cmp Structure) (re : AreReowned structures) where
@@ -329,11 +333,17 @@ module _ (w : WorldValue) (c : CampaignValue) (n : ℕ) (u : Unit) (is : get c.u
 
   -- the campaign d has the units of c without n, and the factions, regions, books, month and reports of c
   pub record IsOnlyReduced (d : CampaignValue) : Type 0 where
+    -- the units of d are those of c without n
     pub units : d.units ≡ remove c.units n
+    -- the factions of d are those of c
     pub factions : d.factions ≡ c.factions
+    -- the regions of d are those of c
     pub regions : d.regions ≡ c.regions
+    -- the books of d are those of c
     pub books : d.books ≡ c.books
+    -- the month of d is that of c
     pub month : d.month ≡ c.month
+    -- the reports of d are those of c
     pub reports : d.reports ≡ c.reports
 
   -- removing unit n changes no faction, region, report or amount of the books, and not the month

@@ -16,11 +16,17 @@ digit_ok d h k = grind (arith, nat_tests)
 
 -- bytes of names, the last of which is a digit
 record EndsInDigit (ds : List ℕ) : Type 0 where
+  -- the bytes before the last one
   front : List ℕ
+  -- the last byte
   last : ℕ
+  -- the bytes are those before the last one, and then the last one
   is : ds ≡ front ++ last ∷ []
+  -- each byte before the last one may be in a name
   digits : list_all is_name_byte front ≡ true
+  -- the last byte is not below 48, the digit 0
   least : 48 ≤ last
+  -- the last byte is not above 57, the digit 9
   most : last ≤ 57
 
 -- bytes that end in a digit are all bytes of names
@@ -46,9 +52,13 @@ short bs h k = grind (arith, nat_tests)
 
 -- a word of 1 to 20 bytes of names that does not begin with a space, to be the front of a name
 pub record IsFront (word : List ℕ) : Type 0 where
+  -- each byte of the word may be in a name
   pub bytes : list_all is_name_byte word ≡ true
+  -- the word does not begin with a space
   pub begins : (get_or word 0 0 == 32) ≡ false
+  -- the word has at least 1 byte
   pub some : 1 ≤ length word
+  -- the word has at most 20 bytes
   pub few : length word ≤ 20
 
 module _ (word : List ℕ) (front : IsFront word) where

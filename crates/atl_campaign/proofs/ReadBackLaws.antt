@@ -146,8 +146,11 @@ is_equal Greater h = absurd (false≢true h)
 
 -- two keys have the same three numbers
 pub record SameKey (a b : Key) : Type 0 where
+  -- the keys have the same first number
   pub first : a.0 ≡ b.0
+  -- the keys have the same second number
   pub second : a.1 ≡ b.1
+  -- the keys have the same third number
   pub third : a.2 ≡ b.2
 
 -- keys that compare equal have the same three numbers

@@ -185,7 +185,9 @@ module _ (units : FinMap nat_cmp Unit) (marks rows goods : RoomySet) (items skil
 
 -- a dirty set with the same numbers as another, and room for one unit more
 pub record IsWider (units : FinMap nat_cmp Unit) (marks more : RoomySet) : Type 0 where
+  -- both sets have the same numbers
   pub same : more.numbers ≡ marks.numbers
+  -- the wider set has room for the numbers it has, for all units, and for one unit more
   pub room : set.len marks.numbers + (len units + 1) ≤ more.room
 
 -- a dirty set with room for one unit more (IsWider) has room for the units with a new one

@@ -44,19 +44,27 @@ own_row c = (c.month, (c.pass, (c.next_faction, (c.next_unit, c.next_structure))
 
 -- all that is not marked in m is the same in the campaigns before and after
 pub record Covers (m : Marks) (before after : CampaignValue) : Type 0 where
+  -- a faction that is not marked is the same, or is missing in both
   pub factions : SameBut m.factions before.factions after.factions
   -- A region whose row is not marked is the same but for its stocks, or is missing in both.
   pub regions : (n : ℕ) → contains m.regions n ≡ false → option_map unstocked (get after.regions n) ≡ option_map unstocked (get before.regions n)
   -- A stock that is not marked is the same.
   pub stocks : (n item : ℕ) → is_thing_marked m.stocks m.stock_items n item ≡ false → stock_of after n item ≡ stock_of before n item
+  -- a structure that is not marked is the same, or is missing in both
   pub structures : SameBut m.structures before.structures after.structures
+  -- the mail of a faction whose mail is not marked is the same, or is missing in both
   pub mail : SameBut m.mail before.mail after.mail
+  -- the report of a faction whose report is not marked is the same, or is missing in both
   pub reports : SameBut m.reports before.reports after.reports
   -- A unit whose row is not marked is the same but for its goods, or is missing in both.
   pub units : (n : ℕ) → contains m.rows n ≡ false → option_map bare (get after.units n) ≡ option_map bare (get before.units n)
+  -- what a unit has of an item that is not marked is the same, or is missing in both
   pub items : SameThings m.goods m.items items_under before.units after.units
+  -- the days that a unit has of a skill that is not marked are the same, or are missing in both
   pub days : SameThings m.goods m.skills days_under before.units after.units
+  -- an amount of the books that is not marked is the same
   pub books : (e : Entry) (t : Thing) → contains m.books (amount_number e t) ≡ false → amount_in after.books e t ≡ amount_in before.books e t
+  -- the month, the pass text and the next numbers are the same if the campaign row is not marked
   pub row : m.row ≡ false → own_row after ≡ own_row before
 
 -- each number that was marked before is marked after
@@ -69,22 +77,38 @@ ThingsStayMarked goods things goods_after things_after = (n thing : ℕ) → is_
 
 -- all that was marked before is marked after
 pub record StayMarked (before after : Marks) : Type 0 where
+  -- each faction that was marked is marked after
   pub factions : StaysMarked before.factions after.factions
+  -- each region whose row was marked has its row marked after
   pub regions : StaysMarked before.regions after.regions
+  -- each region of which a stock was marked is in `markets` after
   pub markets : StaysMarked before.markets after.markets
+  -- each stock that was marked, alone or with all of its region, is marked after
   pub stocks : ThingsStayMarked before.stocks before.stock_items after.stocks after.stock_items
+  -- each structure that was marked is marked after
   pub structures : StaysMarked before.structures after.structures
+  -- each faction whose mail was marked has its mail marked after
   pub mail : StaysMarked before.mail after.mail
+  -- each faction whose report was marked has its report marked after
   pub reports : StaysMarked before.reports after.reports
+  -- each unit of which something was marked is in `units` after
   pub units : StaysMarked before.units after.units
+  -- each unit whose row was marked has its row marked after
   pub rows : StaysMarked before.rows after.rows
+  -- each unit all of whose goods were marked has all of its goods marked after
   pub goods : StaysMarked before.goods after.goods
+  -- each item of a unit that was marked, alone or with all goods of the unit, is marked after
   pub items : ThingsStayMarked before.goods before.items after.goods after.items
+  -- each skill of a unit that was marked, alone or with all goods of the unit, is marked after
   pub skills : ThingsStayMarked before.goods before.skills after.goods after.skills
+  -- each amount of the books that was marked is marked after
   pub books : StaysMarked before.books after.books
+  -- the campaign row is marked after if it was marked before
   pub row : before.row ≡ true → after.row ≡ true
 
 -- from one marked campaign to another no mark is lost, and all that changed is marked
 pub record MarksChanges (before after : MarkedCampaign) : Type 0 where
+  -- all that was marked before is marked after
   pub stay : StayMarked before.marks after.marks
+  -- all that is not marked after is the same in both campaigns
   pub covers : Covers after.marks before.value after.value

@@ -41,23 +41,38 @@ AreStocks w n stocks = Every (λ i amount. (1 ≤ amount) × (amount ≤ stock_l
 
 -- region n has at most 999,999,999 peasants, at most 999,999,999 money, and listed stocks in their ranges (AreStocks)
 pub record IsRegion (w : WorldValue) (n : ℕ) (r : Region) : Type 0 where
+  -- the region has at most 999,999,999 peasants
   pub peasants : r.peasants ≤ most_amount
+  -- the region has at most 999,999,999 money
   pub money : r.money ≤ most_amount
+  -- each listed stock of the region is from 1 to its limit
   pub stocks : AreStocks w n r.stocks
 
 -- there are not too many factions, regions, units and structures, and numbers are in range; a unit may have no men
 pub record AreInRange (w : WorldValue) (c : CampaignValue) : Type 0 where
+  -- the month last closed is at most 9,999
   pub month : c.month ≤ last_month
+  -- there are at most 9,999 factions
   pub few_factions : len c.factions ≤ last_faction
+  -- there are at most 10,000 regions
   pub few_regions : len c.regions ≤ most_regions
+  -- there are at most 100,000 units
   pub few_units : len c.units ≤ most_units
+  -- there are at most 10,000 structures
   pub few_structures : len c.structures ≤ most_structures
+  -- the next unit number is at least 1
   pub next_unit_least : 1 ≤ c.next_unit
+  -- the next unit number is at most one above the last that a unit may have
   pub next_unit_most : c.next_unit ≤ last_unit + 1
+  -- each faction is stored under the number that the faction has itself
   pub factions : Every (λ n f. f.number ≡ n) c.factions
+  -- the people, the money and the stocks of each region are in their ranges
   pub regions : Every (λ n r. IsRegion w n r) c.regions
+  -- the number of each unit is at least 1, and its men, money and items are within their limits
   pub units : Every (λ n u. (1 ≤ n) × IsHolding u.holding) c.units
+  -- of each structure at least 1 is done, and at most its kind's size
   pub structures : Every (λ n s. (1 ≤ s.done) × (s.done ≤ size_of w s.kind)) c.structures
+  -- the books have as many things as the world, and each amount they list is of one of these things and not 0
   pub books : AreBooks (things_of w) c.books
 
 -- each amount of the books, without its sign, is at most `amount_bound`
@@ -72,20 +87,30 @@ HaveMen c = Every (λ n u. 1 ≤ u.holding.men) c.units
 
 -- names and pass texts keep their rules, and no two factions joined under the same name
 pub record AreNamed (c : CampaignValue) : Type 0 where
+  -- the moderator's pass text keeps the rule of pass texts
   pub pass : IsTrue (pass_ok c.pass)
+  -- both names and the pass text of each faction keep their rules
   pub factions : Every (λ n f. IsTrue (name_ok f.joined_as) × IsTrue (name_ok f.name) × IsTrue (pass_ok f.pass)) c.factions
+  -- no two factions joined under the same name
   pub joined : Every (λ n f. Every (λ m g. f.joined_as ≡ g.joined_as → n ≡ m) c.factions) c.factions
+  -- the name of each unit keeps the rule of names
   pub units : Every (λ n u. IsTrue (name_ok u.holding.name)) c.units
+  -- the name of each structure keeps the rule of names
   pub structures : Every (λ n s. IsTrue (name_ok s.name)) c.structures
 
 -- ---- of what is named by its number: all of it exists
 
 -- a unit's faction, region, items and skills exist; its structure, unless 0, exists and is in the unit's region
 pub record IsPlacedAmong (w : WorldValue) (factions : FinMap nat_cmp Faction) (regions : FinMap nat_cmp Region) (structures : FinMap nat_cmp Structure) (u : Unit) : Type 0 where
+  -- the unit's faction exists
   pub faction : IsThere factions u.faction
+  -- the unit's region exists
   pub region : IsThere regions u.region
+  -- the structure that the unit is inside, unless 0, exists and is in the unit's region
   pub structure : u.structure ≢ 0 → (s : Structure) × (get structures u.structure ≡ Some s) × (s.region ≡ u.region)
+  -- each item that is listed of the unit exists in the world
   pub items : Every (λ i amount. i < length w.items) u.holding.items
+  -- each skill that is listed of the unit exists in the world
   pub skills : Every (λ s days. s < length w.skills) u.holding.days
 
 -- a unit's faction, region, items and skills exist in a campaign; its structure, unless 0, is in the unit's region
@@ -94,8 +119,11 @@ IsPlaced w c u = IsPlacedAmong w c.factions c.regions c.structures u
 
 -- a structure's kind and region exist, and so does its owner, unless that is 0
 pub record IsBuiltAmong (w : WorldValue) (regions : FinMap nat_cmp Region) (units : FinMap nat_cmp Unit) (s : Structure) : Type 0 where
+  -- the structure's kind exists in the world
   pub kind : s.kind < length w.kinds
+  -- the structure's region exists
   pub region : IsThere regions s.region
+  -- the structure's owner, unless 0, is a unit that exists
   pub owner : s.owner ≢ 0 → IsThere units s.owner
 
 -- a structure's kind and region exist in a campaign, and so does its owner, unless that is 0
@@ -108,7 +136,9 @@ AreOfMarkets w n stocks = Every (λ i amount. IsSome (market_of w n i)) stocks
 
 -- all mail (`sent`) and all reports (`told`) are of the given factions
 pub record AreOfFactions (factions : FinMap nat_cmp Faction) (sent told : FinMap nat_cmp (List ℕ)) : Type 0 where
+  -- each mail is of a faction that exists
   pub mail : Every (λ n text. IsThere factions n) sent
+  -- each report is of a faction that exists
   pub reports : Every (λ n text. IsThere factions n) told
 
 -- all mail and reports of the campaign are of factions that are there
@@ -117,24 +147,35 @@ ArePosted c = AreOfFactions c.factions c.mail c.reports
 
 -- the campaign's regions are the world's, and everything that is named by a number exists
 pub record AreKnown (w : WorldValue) (c : CampaignValue) : Type 0 where
+  -- the numbers of the campaign's regions are those of the world's regions
   pub regions : (n : ℕ) → IsThere c.regions n ↔ IsThere w.regions n
+  -- each stock that is listed of a region is of an item that has a market there in the world
   pub markets : Every (λ n r. AreOfMarkets w n r.stocks) c.regions
+  -- the faction, region, items and skills of each unit exist, and its structure, unless 0, is in the unit's region
   pub units : Every (λ n u. IsPlaced w c u) c.units
+  -- the kind and the region of each structure exist, and so does its owner, unless that is 0
   pub structures : Every (λ n s. IsBuilt w c s) c.structures
+  -- all mail and all reports are of factions that exist
   pub posts : ArePosted c
 
 -- ---- of the numbers that come next
 
 -- the numbers of the map are exactly those from 1 to `next - 1`
 pub record IsNumbered {V : Type 0} (m : FinMap nat_cmp V) (next : ℕ) : Type 0 where
+  -- the number 0 is free
   pub first : get m 0 ≡ None
+  -- the next number is one above how many entries there are
   pub count : next ≡ len m + 1
+  -- the next number and all above it are free
   pub free : (n : ℕ) → next ≤ n → get m n ≡ None
 
 -- factions and structures are numbered from 1 without a gap, and no unit has the next unit number or a greater one
 pub record AreNumbered (c : CampaignValue) : Type 0 where
+  -- the numbers of the factions are exactly those from 1 to one below the next faction number
   pub factions : IsNumbered c.factions c.next_faction
+  -- the numbers of the structures are exactly those from 1 to one below the next structure number
   pub structures : IsNumbered c.structures c.next_structure
+  -- no unit has the next unit number or a greater one
   pub units : (n : ℕ) → c.next_unit ≤ n → get c.units n ≡ None
 
 -- ---- of days: 1 to 450 for each man
@@ -157,7 +198,9 @@ UnitlessAreGone c = Every (λ n f. numbers_of n c.units ≡ [] → f.gone ≡ tr
 
 -- the owner of structure n is a unit inside it; it is 0 where no unit is inside
 pub record IsOwnedAmong (units : FinMap nat_cmp Unit) (n : ℕ) (s : Structure) : Type 0 where
+  -- if the structure has an owner, this is a unit that exists and is inside the structure
   pub owned : s.owner ≢ 0 → (u : Unit) × (get units s.owner ≡ Some u) × (u.structure ≡ n)
+  -- if the structure has no owner, no unit is inside it
   pub ownerless : s.owner ≡ 0 → Every (λ m u. u.structure ≢ n) units
 
 -- the owner of structure n is one of the campaign's units inside it; it is 0 where no unit is inside
@@ -180,7 +223,9 @@ IsAboard w c u = (s : Structure) × (get c.structures u.structure ≡ Some s) ×
 
 -- each unit on water is inside a ship, and each structure on water is a complete ship
 pub record AreAfloat (w : WorldValue) (c : CampaignValue) : Type 0 where
+  -- each unit in a region on water is inside a ship
   pub units : Every (λ n u. is_land_at w u.region ≡ false → IsAboard w c u) c.units
+  -- each structure in a region on water is a ship, and complete
   pub structures : Every (λ n s. is_land_at w s.region ≡ false → (is_ship w s ≡ true) × (s.done ≡ size_of w s.kind)) c.structures
 
 -- ---- of guards
@@ -214,31 +259,50 @@ HasNoStocks c = Every (λ n r. r.stocks ≡ empty) c.regions
 -- a campaign within a month: the rules on numbers, names, days, owners, water and guards hold, and gone factions
 -- have no units. Unlike in a good campaign, a unit may have no men, and a faction without units needn't be gone yet.
 pub record IsSteady (w : WorldValue) (c : CampaignValue) : Type 0 where
+  -- there are not too many factions, regions, units and structures, and all numbers are in their ranges
   pub numbers : AreInRange w c
+  -- names and pass texts keep their rules, and no two factions joined under the same name
   pub names : AreNamed c
+  -- the regions are the world's, and everything that is named by a number exists
   pub known : AreKnown w c
+  -- factions and structures are numbered without a gap, and the next unit number is above all units' numbers
   pub next : AreNumbered c
+  -- each skill that is listed of a unit has at least 1 day, and at most 450 for each of the unit's men
   pub days : AreDays c
+  -- each faction that is gone has no unit
   pub gone : GoneHaveNone c
+  -- each structure is owned by a unit inside it, or by nobody where no unit is inside
   pub owners : AreOwned c
+  -- each unit on water is inside a ship, and each structure on water is a complete ship
   pub water : AreAfloat w c
+  -- all units of a region that guard, which takes the flag and men, are of one faction
   pub guarded : AreOfOneFaction guards c
 
 -- a steady campaign in which all guard flags set in a region are of one faction, also those of units without men
 pub record IsEarly (w : WorldValue) (c : CampaignValue) : Type 0 where
+  -- the campaign is steady
   pub steady : IsSteady w c
+  -- all units of a region whose guard flags are set, with men or without, are of one faction
   pub flags : AreOfOneFaction (λ u. u.holding.guard) c
 
 -- a campaign that keeps all rules of a good one, but that factions may lack reports, as one that has just joined does
 pub record IsSound (w : WorldValue) (c : CampaignValue) : Type 0 where
+  -- the campaign is steady
   pub steady : IsSteady w c
+  -- each unit has at least one man
   pub men : HaveMen c
+  -- each amount of the books, without its sign, is at most `amount_bound`
   pub amounts : AreAmountsWithin c
+  -- each faction without units is gone
   pub gone : UnitlessAreGone c
+  -- the books of the campaign balance
   pub balances : Balances c
+  -- each mail is of a faction that is there and not gone, is short enough, and has the faction's number in its header
   pub mail : IsMail c
 
 -- a good campaign, as it is between commands: a sound one in which each faction has a report
 pub record IsGood (w : WorldValue) (c : CampaignValue) : Type 0 where
+  -- the campaign is sound
   pub sound : IsSound w c
+  -- each faction has a report
   pub reported : AreReported c

@@ -13,11 +13,17 @@ use Rattle.atl_campaign.specs.Marks.{Things, things_code, thing_marked}
 -- The units by number, with marks on units (`marks`), their rows, all goods of a unit, and single items and skills.
 -- A unit is in `marks` if any part of it is marked; `items` and `skills` are by unit.
 pub record Roster : Type 0 where
+  -- the units by their numbers
   pub values : map.FinMap nat_cmp Unit
+  -- the numbers of the units of which something is marked
   pub marks : set.FinSet nat_cmp
+  -- the numbers of the units whose rows are marked
   pub rows : set.FinSet nat_cmp
+  -- the numbers of the units all of whose items and days are marked
   pub goods : set.FinSet nat_cmp
+  -- the items that are marked alone, by unit
   pub items : Things
+  -- the skills whose days are marked alone, by unit
   pub skills : Things
 
 -- for proofs alone: units with marks (Roster) encoded as nested pairs of their fields

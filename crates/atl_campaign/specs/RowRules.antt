@@ -148,14 +148,23 @@ HaveKeys key rows = IsDistinct (eq_by_cmp key_cmp) (map key rows)
 
 -- no two rows of a table have the same key, in each table but `campaign`
 pub record AreKeyed (p : Parts) : Type 0 where
+  -- no two rows of `faction` have the same number
   pub factions : HaveKeys faction_key p.factions
+  -- no two rows of `region` have the same number
   pub regions : HaveKeys region_key p.regions
+  -- no two rows of `unit` have the same number
   pub units : HaveKeys unit_key p.units
+  -- no two rows of `has` have the same unit, sort and thing
   pub has : HaveKeys has_key p.has
+  -- no two rows of `structure` have the same number
   pub structures : HaveKeys structure_key p.structures
+  -- no two rows of `mail` are of the same faction
   pub mail : HaveKeys mail_key p.mail
+  -- no two rows of `report` are of the same faction
   pub reports : HaveKeys report_key p.reports
+  -- no two rows of `books` have the same entry and thing
   pub books : HaveKeys books_key p.books
+  -- no two rows of `market` have the same region and item
   pub markets : HaveKeys market_key p.markets
 
 -- ---- the numbers of all rows
@@ -174,8 +183,11 @@ numbers_in_range w p = (((campaign_row_in_range (campaign_row_of p) && people_in
 
 -- rule 2: no two rows of a table have the same key, there are not too many rows, and each number is in its range
 pub record AreRowsInRange (w : WorldValue) (p : Parts) : Type 0 where
+  -- no two rows of a table other than `campaign` have the same key
   pub keys : AreKeyed p
+  -- there are not too many factions, regions, units and structures
   pub few : IsTrue (are_few p)
+  -- the numbers of the rows are in their ranges
   pub numbers : IsTrue (numbers_in_range w p)
 
 -- ---- names
@@ -194,7 +206,9 @@ AreJoinedNamesDistinct rows = IsDistinct (eq_by_cmp (slice_cmp nat_cmp)) (map (Î
 
 -- rule 3: names and pass texts keep their rules, and no two factions joined under the same name
 pub record AreRowsNamed (p : Parts) : Type 0 where
+  -- each name and each pass text of the rows keeps its rule
   pub texts : IsTrue (are_named p)
+  -- no two factions joined under the same name
   pub joined : AreJoinedNamesDistinct p.factions
 
 -- ---- what rows say of other rows

@@ -90,18 +90,27 @@ takes_report rest =
 
 -- ---- the route of each path
 
--- The router finds the route Join, a route with a number, or nothing for this path, and `route_of` gives the same.
+-- The router finds the route Join, a route with a number, or nothing for this path, and `route_of` gives the same;
+-- if the number is faulty, `route_of` gives none.
 data Leads (path : List ℕ) : Type 0 where
+  -- the router finds the route of `/join`, the path is UTF-8, and `route_of` gives Join
   to_join : first rows path ≡ Some 1 → IsUtf8 path → route_of path ≡ Some route.Join → Leads path
+  -- the router finds a route whose parameter is `rest`, and `route_of` gives that route with the number of `rest`, or
+  -- none; `rest` is UTF-8 if the path is, and a path that has a route is UTF-8
   to_number : (key : ℕ) → (rest : List ℕ) → first rows path ≡ Some key → Takes key path rest → (IsUtf8 path → IsUtf8 rest) → (route_of path ≡ None) ⊎ IsUtf8 path → route_of path ≡ route_in (kept_at key).value (Some rest) → Leads path
+  -- the router finds nothing, and `route_of` gives none
   nowhere : first rows path ≡ None → route_of path ≡ None → Leads path
 
 -- What the lookup needs of the prefix of a route with a number: what follows the prefix in a path is the parameter, is
 -- UTF-8 exactly where the path is, and gives no route where it is no number.
 record Fronted (key : ℕ) (front : List ℕ) : Type 0 where
+  -- the route takes what follows the prefix as its parameter
   takes_rest : (rest : List ℕ) → Takes key (front ++ rest) rest
+  -- what follows the prefix is UTF-8, if the path is
   cut : (rest : List ℕ) → IsUtf8 (front ++ rest) → IsUtf8 rest
+  -- the path is UTF-8, if what follows the prefix is
   joins : (rest : List ℕ) → IsUtf8 rest → IsUtf8 (front ++ rest)
+  -- if what follows the prefix is no number, it gives no route
   without : (rest : List ℕ) → number_of rest ≡ None → route_in (kept_at key).value (Some rest) ≡ None
 
 -- if the rest after a UTF-8 prefix that ends in an ASCII byte is the parameter, the rest is UTF-8 where prefix and rest

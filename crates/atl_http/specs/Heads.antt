@@ -22,8 +22,11 @@ most_fields = 32
 
 -- The input begins with this whole head, within the limits of bytes and fields, and `rest` follows.
 pub record HasHead (input : List ℕ) (head : RequestHead) (rest : List ℕ) : Type 0 where
+  -- the input begins with this whole head, and `rest` follows
   pub reads : ReadsRequest input head rest
+  -- the head has at most 8,192 bytes
   pub bytes : length (print_request head) ≤ most_head
+  -- the head has at most 32 fields
   pub fields : length head.fields ≤ most_fields
 
 -- Whatever bytes follow, the input has no good head: it never becomes one, or it has too many fields.
@@ -36,16 +39,23 @@ IsTooLong input = (most_head ≤ length input) × HasNoRequest (take most_head i
 
 -- The head isn't whole, and may become whole with further bytes; fewer than 8,192 bytes have arrived.
 pub record IsUnfinished (input : List ℕ) : Type 0 where
+  -- fewer than 8,192 bytes have arrived
   pub short : length input < most_head
+  -- the input doesn't begin with a whole head
   pub none : HasNoRequest input
+  -- further bytes can make the input a whole head, or the target is still arriving (`MayBecomeRequest`)
   pub open_end : MayBecomeRequest input
 
 -- The verdict is right for the bytes received so far: the head is whole, too long, refused or unfinished.
 -- While a target or one field too many is still arriving, both `refused` and `unfinished` may apply.
 pub data Judges (input : List ℕ) (verdict : Verdict) : Type 0 where
+  -- a whole head has arrived: the verdict on this head and the bytes after it (`verdict_of`)
   whole : (head : RequestHead) → (rest : List ℕ) → HasHead input head rest → verdict ≡ verdict_of head rest → Judges input verdict
+  -- the first 8,192 bytes hold no whole head: BadRequest
   too_long : IsTooLong input → verdict ≡ Refused BadRequest → Judges input verdict
+  -- whatever bytes follow, the input has no good head: BadRequest
   refused : IsRefused input → verdict ≡ Refused BadRequest → Judges input verdict
+  -- the head may become whole with further bytes: More
   unfinished : IsUnfinished input → verdict ≡ More → Judges input verdict
 
 -- The verdict needs no more bytes: the request is whole, or refused.

@@ -10,9 +10,13 @@ use Rattle.atl_http.specs.Routes.{method_of}
 
 -- a reply: its status, the route for the line `Allow` (with 405 alone), its content type, and its body
 pub record Reply : Type 0 where
+  -- the number of the HTTP status
   pub status : ℕ
+  -- the route whose method the line `Allow` names, else None
   pub allow : Option Route
+  -- the bytes of the content type
   pub kind : List ℕ
+  -- the bytes of the body
   pub body : List ℕ
 
 -- the content type of every reply but a report

@@ -51,7 +51,9 @@ RepliesTo g dice old seen reply new = (outcome : Outcome) × IsReadSoFar seen ×
 
 -- the bytes that a reader has left and those that a writer holds, as far as they are known
 pub record Known : Type 0 where
+  -- the bytes that the reader has left; None if they aren't known
   pub left : Option (List ℕ)
+  -- the bytes that the writer holds; None if they aren't known
   pub held : Option (List ℕ)
 
 -- the number of a fault of HTTP, from 1 to 3; Memory has none

@@ -40,8 +40,11 @@ use Rattle.atl_instant.proofs.MovingLaws.{early-moved, moved, receiver_still, sp
 -- the receiver is in the giver's region, the giver holds n of the gift, and the receiver has room for n more,
 -- unless it is the giver itself: what holds where a gift has no fault
 pub record CanGive (gift : Gift) (n : ℕ) (itself : Bool) (u v : Unit) : Type 0 where
+  -- the receiver is in the giver's region
   pub here : v.region ≡ u.region
+  -- the giver holds at least n of the gift
   pub enough : n ≤ held_of gift u.holding
+  -- a receiver other than the giver has room for n more of the gift
   pub room : itself ≡ false → held_of gift v.holding + n ≤ holding_limit
 
 -- where a gift has no fault, both units are in one region, the giver holds enough, and the receiver has room for it

@@ -204,9 +204,13 @@ moves_what_leaves h e s =
 -- The campaign d is c with `off` of each thing booked as gone, and only the books differ. Campaign d is steady, what
 -- the books have of a thing falls by `off`, and no amount of the books moves further than `moving`.
 pub record BooksOff (w : WorldValue) (off : Thing → ℕ) (moving : BookBound) (c d : CampaignValue) : Type 0 where
+  -- campaign d is steady
   pub steady : IsSteady w d
+  -- the sum of each thing over all entries of the books is less by `off` in d than in c
   pub owed : (s : Thing) → booked c.books s ≡ booked d.books s +ℤ pos (off s)
+  -- no amount of the books moves further than `moving` says
   pub near : (e : Entry) (s : Thing) → IsNear (moving e s) (amount_in c.books e s) (amount_in d.books e s)
+  -- campaign d is c but for the books
   pub same : d ≡ record c { books = d.books }
 
 -- two steps that book something as gone, each within a bound (`BooksOff`), book together the sum of both, within the

@@ -42,9 +42,13 @@ use Rattle.atl_instant.proofs.MovingLaws.{early-moved, moved, receiver_still, sp
 -- Sender and receiver are of one region and faction, the sender has n men, and the receiver has room for n more,
 -- unless it is the sender itself: what holds if a transfer has no fault.
 pub record CanSend (n : ℕ) (itself : Bool) (u v : Unit) : Type 0 where
+  -- the receiver is in the sender's region
   pub here : v.region ≡ u.region
+  -- the receiver is of the sender's faction
   pub own : v.faction ≡ u.faction
+  -- the sender has at least n men
   pub enough : n ≤ u.holding.men
+  -- a receiver other than the sender has room for n more men
   pub room : itself ≡ false → v.holding.men + n ≤ men_limit
 
 -- Where a transfer has no fault, both units are in one region and faction, the sender has enough men, and the receiver

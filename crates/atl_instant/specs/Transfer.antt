@@ -58,7 +58,9 @@ with_more n other h = record h { men = h.men + n; days = amounts_for (raised_of 
 -- after n men went from one unit to another, the one has the days of a skill that stay, and the other those that it had
 -- and those that came
 pub record HaveDaysOf (n : ℕ) (other h : HoldingValue) (skill : ℕ) : Type 0 where
+  -- the unit that the men left has the days of the skill that stay
   pub stay : amount_of (with_fewer n other).days skill ≡ staying_of n other skill
+  -- the unit that the men came to has the days of the skill that it had and those that came
   pub come : amount_of (with_more n other h).days skill ≡ raised_of n other h skill
 
 -- the law that, however many men go from one unit to another, the one keeps the days of each skill that stay, and the

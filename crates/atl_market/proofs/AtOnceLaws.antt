@@ -31,11 +31,17 @@ Around false d u = ⊤
 -- One payment changes its unit by `gets` and its unit's region by `gives`, and no other unit or region; giving 0 is
 -- no change, and giving two amounts in turn is giving their sum.
 pub record Pays (needs : Bool) (step : CampaignValue → ℕ × ℕ → CampaignValue) (gets : ℕ → UnitChange) (gives : RegionChange) : Type 0 where
+  -- a payment makes of its unit what `gets` makes of the unit and its share
   pub mine : (d : CampaignValue) (e : ℕ × ℕ) (u : Unit) → get d.units e.0 ≡ Some u → Around needs d u → get (step d e).units e.0 ≡ Some (gets e.0 u e.1)
+  -- a payment changes no other unit
   pub others : (d : CampaignValue) (e : ℕ × ℕ) (u : Unit) → get d.units e.0 ≡ Some u → Around needs d u → (k : ℕ) → k ≢ e.0 → get (step d e).units k ≡ get d.units k
+  -- a payment makes of the region of its unit what `gives` makes of the region and the share
   pub region : (d : CampaignValue) (e : ℕ × ℕ) (u : Unit) (q : Region) → get d.units e.0 ≡ Some u → get d.regions u.region ≡ Some q → get (step d e).regions u.region ≡ Some (gives q e.1)
+  -- a payment changes no other region
   pub regions : (d : CampaignValue) (e : ℕ × ℕ) (u : Unit) → get d.units e.0 ≡ Some u → Around needs d u → (k : ℕ) → k ≢ u.region → get (step d e).regions k ≡ get d.regions k
+  -- a region that gives 0 stays as it is
   pub nothing : (q : Region) → gives q 0 ≡ q
+  -- a region that gives two amounts in turn becomes what it becomes where it gives their sum
   pub twice : (q : Region) (s t : ℕ) → gives (gives q s) t ≡ gives q (s + t)
 
 module _ {needs : Bool} {step : CampaignValue → ℕ × ℕ → CampaignValue} {gets : ℕ → UnitChange} {gives : RegionChange} (pays : Pays needs step gets gives) where
@@ -58,8 +64,11 @@ module _ {needs : Bool} {step : CampaignValue → ℕ × ℕ → CampaignValue} 
 
     -- in campaign `d` the shares `es` can be paid, in the order of unit numbers: their units are as in `c`, and there
     record AreReady (d : CampaignValue) (es : List (ℕ × ℕ)) : Type 0 where
+      -- the shares are in the order of unit numbers, one for each unit
       rise : Rise es
+      -- the units of the shares are in `d` as they are in `c`
       same : AreUntouched c d es
+      -- each share can be paid in `d`: its unit is there, and so is the unit's region where that is needed
       payable : AllByRecursion (CanBePaid d) es
 
     -- after a payment each unit that could be paid can still be paid

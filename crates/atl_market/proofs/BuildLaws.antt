@@ -80,10 +80,15 @@ limit_by_next c numbered = rw numbered.count (by_count most_structures (len c.st
 
 -- a unit has all that it needs to begin a structure of a kind: men, land, the level, material, and room for a structure
 pub record CanBegin (w : WorldValue) (c : CampaignValue) (u : Unit) (k : Kind) : Type 0 where
+  -- the unit has at least one man
   pub men : 1 ≤ u.holding.men
+  -- the unit's region is land
   pub land : is_land_at w u.region ≡ true
+  -- the unit has at least the level that the kind asks for, in the skill of the kind
   pub skill : k.level ≤ level_in u.holding k.skill
+  -- the unit holds at least one piece of the kind's material
   pub material : 1 ≤ amount_of u.holding.items k.material
+  -- the campaign has fewer than 10,000 structures
   pub room : len c.structures < most_structures
 
 -- a unit without a fault of `BUILD kind` can begin: it has men, level and material, is on land, and has room for it
@@ -107,9 +112,13 @@ can_begin w c u k is =
 
 -- a unit has all that it needs to continue a structure: men, the level and material, and the structure isn't complete
 pub record CanGoOn (u : Unit) (s : Structure) (k : Kind) : Type 0 where
+  -- the unit has at least one man
   pub men : 1 ≤ u.holding.men
+  -- less of the structure is done than the size of its kind
   pub missing : s.done < k.size
+  -- the unit has at least the level that the kind asks for, in the skill of the kind
   pub skill : k.level ≤ level_in u.holding k.skill
+  -- the unit holds at least one piece of the kind's material
   pub material : 1 ≤ amount_of u.holding.items k.material
 
 -- a unit without a fault of `BUILD` in a structure can continue it: it has men, level and material, and size is missing

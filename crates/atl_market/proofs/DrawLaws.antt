@@ -139,8 +139,11 @@ module _ (draws : Drawers) where
 -- Pots by a key: the region of each (`pot_region`), which units draw from it (`draws`), and what is left of it in a
 -- region (`left`).
 pub record DrawnPots (K : Type 0) : Type 0 where
+  -- the number of the region that a pot is in
   pub pot_region : K → ℕ
+  -- which units draw from a pot, by their numbers
   pub draws : K → Drawers
+  -- how much is left of a pot, where its region is as given
   pub left : K → Region → ℕ
 
 module _ {K : Type 0} (pots : DrawnPots K) where
@@ -290,10 +293,15 @@ module _ (c : CampaignValue) where
 -- In campaign `d` the shares still to come can be paid: it is early, the units are as in `c`, which is the campaign as
 -- the phase began, each share is one that its unit can have (`Fits`), and each pot has enough.
 pub record AreReady {K : Type 0} (pots : DrawnPots K) (Fits : ℕ × ℕ → Type 0) (w : WorldValue) (c d : CampaignValue) (es : List (ℕ × ℕ)) : Type 0 where
+  -- the campaign `d` is early
   pub early : IsEarly w d
+  -- the shares are in the order of unit numbers, one for each unit
   pub rise : Rise es
+  -- the units of the shares are in `d` as they are in `c`
   pub same : AreUntouched c d es
+  -- each share is one that its unit can have (`Fits`)
   pub fits : AllByRecursion Fits es
+  -- each pot has enough for the shares of all units that draw from it
   pub enough : HaveEnough pots d es
 
 -- after the first unit was paid, and its share left the pots, the later shares can be paid (`AreReady`)

@@ -69,11 +69,17 @@ use Rattle.atl_market.proofs.WantLaws.{GivesToWants, few_given, given_is_named}
 
 -- the result of a trade is within all limits, keeps the goods of unit and region together, and books the money
 pub record ResultFits (w : WorldValue) (u : Unit) (i before : ℕ) (d : TradeResult) : Type 0 where
+  -- the trade leaves the unit at most 999,999,999 money
   pub money : d.money ≤ holding_limit
+  -- the trade leaves the unit at most 999,999,999 of the item
   pub amount : d.amount ≤ holding_limit
+  -- the stock that the trade leaves is at most the limit of the region's market, 999,999,999 where there is none
   pub stock : d.stock ≤ stock_limit w u.region i
+  -- unit and stock together have as much of the item as before; `before` is the stock before the trade
   pub goods : d.amount + d.stock ≡ amount_of u.holding.items i + before
+  -- the unit's money after the trade is what it was plus what is booked
   pub paid : pos d.money ≡ pos u.holding.money +ℤ d.booked
+  -- the money to book, whether gained or paid, is at most 999,999,999
   pub small : IsWithin holding_limit d.booked
 
 -- a campaign in which unit `n` has the money and the amount of an item that a trade leaves
@@ -144,8 +150,11 @@ module _ (w : WorldValue) (c : CampaignValue) (n : ℕ) (u : Unit) (q : Region) 
 
 -- a market of unit `u`'s region that trades the item which an order names
 pub record IsMarketFor (w : WorldValue) (u : Unit) (item : Option ℕ) (m : Market) : Type 0 where
+  -- the order names the item of the market
   pub told : item ≡ Some m.item
+  -- the market is the one of the unit's region for its item
   pub there : market_of w u.region m.item ≡ Some m
+  -- the market keeps the rules of markets, and its item is one of the world's items
   pub bounds : IsMarket (length w.items) m.item m
 
 -- the market found for a unit's order is of the unit's region and of the order's item, and keeps the rules of markets

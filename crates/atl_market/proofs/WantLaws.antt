@@ -80,8 +80,11 @@ module _ (p : PotMeaning) (w : WorldValue) (c : CampaignValue) where
 
   -- unit `u` carries order `t` out: it is there, its own faction wrote the order, and there is no fault
   pub record CarriesOut (t : Task) (u : Unit) : Type 0 where
+    -- the unit is in the campaign, under the number that the order names
     pub there : get c.units t.unit ≡ Some u
+    -- the unit's own faction wrote the order
     pub own : (u.faction == t.faction) ≡ true
+    -- the phase finds no fault in the order
     pub fine : p.fault w u t ≡ None
 
   -- the unit of an order unless the phase finds a fault, or NotYours without a unit

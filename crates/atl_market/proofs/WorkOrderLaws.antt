@@ -133,9 +133,13 @@ module _ (c : CampaignValue) where
 
     -- an order is the work of a unit that is there and isn't in the map of writers, and is from the unit's own faction
     pub record IsIdle (o : Task) : Type 0 where
+      -- the unit that the order is for
       pub unit : Unit
+      -- the unit is in the campaign, under the number that the order names
       pub there : get c.units o.unit ≡ Some unit
+      -- the order is from the unit's own faction
       pub own : o.faction ≡ unit.faction
+      -- the unit isn't in the map of those that have an order of their own faction
       pub unordered : is_some (get writers o.unit) ≡ false
 
     -- the work that the code adds for a unit, if any, is the work of a unit without an order (`IsIdle`)

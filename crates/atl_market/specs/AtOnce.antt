@@ -36,9 +36,11 @@ paid_unit gets u share = option_map_or (gets u) share u
 -- A phase pays all units at once: after it each unit is `gets` of what it was and its share, and each region `gives` of
 -- what it was and all that its units got.
 pub record PaysAtOnce (p : PotMeaning) (w : WorldValue) (gets : ℕ → UnitChange) (gives : RegionChange) (c : CampaignValue) (os : List Task) : Type 0 where
+  -- each unit is what `gets` makes of it and its share; a unit without a share is as it was
   pub units :
       (n : ℕ) (u : Unit) → get c.units n ≡ Some u
       → get (after_sharing p w c os).units n ≡ Some (paid_unit (gets n) u (get (given_by p w c os) n))
+  -- each region is what `gives` makes of it and of all that its units got
   pub regions :
       (r : ℕ) (q : Region) → get c.regions r ≡ Some q
       → get (after_sharing p w c os).regions r ≡ Some (gives q (given_in (given_by p w c os) c.units r))
@@ -57,17 +59,23 @@ given_of item_of given units region item =
 -- The region `after` is `q` with only its stocks changed: the stock of each item is `becomes` of the old stock and of
 -- the amount of the item that was given.
 pub record HasNewStocks (q : Region) (becomes : (stock given : ℕ) → ℕ) (given : (item : ℕ) → ℕ) (after : Option Region) : Type 0 where
+  -- how many pieces of each item the region `after` has in stock, by the number of the item
   pub stocks : FinMap nat_cmp ℕ
+  -- the region `after` is there, and is `q` with these stocks
   pub region : after ≡ Some (record q { stocks = stocks })
+  -- the new stock of each item is `becomes` of its old stock and of the amount of the item that was given
   pub amounts : (item : ℕ) → amount_of stocks item ≡ becomes (amount_of q.stocks item) (given item)
 
 -- A phase with pots of items pays all units at once: after it each unit is `gets` of what it was and its share, and
 -- each stock of a region `becomes` of what it was and all that those of its units got that ask for the item.
 pub record PaysItemsAtOnce (p : PotMeaning) (w : WorldValue) (item_of : ℕ → Option ℕ) (gets : ℕ → UnitChange)
     (becomes : (stock given : ℕ) → ℕ) (c : CampaignValue) (os : List Task) : Type 0 where
+  -- each unit is what `gets` makes of it and its share; a unit without a share is as it was
   pub units :
       (n : ℕ) (u : Unit) → get c.units n ≡ Some u
       → get (after_sharing p w c os).units n ≡ Some (paid_unit (gets n) u (get (given_by p w c os) n))
+  -- of each region the stocks alone change: each stock is `becomes` of what it was and of all that those units in the
+  -- region got that ask for the item
   pub regions :
       (r : ℕ) (q : Region) → get c.regions r ≡ Some q
       → HasNewStocks q becomes (given_of item_of (given_by p w c os) c.units r) (get (after_sharing p w c os).regions r)

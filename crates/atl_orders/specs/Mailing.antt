@@ -55,6 +55,7 @@ faction_of (w ∷ v ∷ ws) = not_zero (number_of last_faction v.bytes)
 
 -- what a header gives: its faction's number, and the lines after it, of which the first has the number `next`
 pub record HeaderValue : Type 0 where
+  -- the number of the faction that the header names
   pub faction : ℕ
   -- the number of the line after the header
   pub next : ℕ
@@ -75,8 +76,11 @@ header_from n (line ∷ rest) =
 
 -- what reading a mailing gives: its faction, its orders, and its faulty lines
 pub record Reading : Type 0 where
+  -- the number of the faction that the mailing's header names
   pub faction : ℕ
+  -- the orders of the mailing, in the order of their lines
   pub entries : List EntryValue
+  -- the faulty lines of the mailing, each with its number and its fault
   pub faults : List FaultyLine
 
 -- the faction, orders and faulty lines of a mailing, given its header; or the fault of the header

@@ -57,7 +57,9 @@ pub record UsesBound (reserve left : ℕ) (before after : ℤ) : Type 0 where
 pub record StepsWell (holds : Condition) (reserve : RemainingBound) (w : WorldValue) (before after : CampaignValue) : Type 0 where
   -- the condition is true of the campaign after the step
   pub holds_still : holds w after
+  -- the month's number, the reports and the set of factions stay
   pub same_month : IsSameMonth before after
+  -- books that balanced before still balance
   pub balances : Balances before → Balances after
   -- each amount of the books moves by at most what its remaining bound falls
   pub drawn : (e : Entry) (t : Thing) → UsesBound (reserve before e t) (reserve after e t) (amount_in before.books e t) (amount_in after.books e t)

@@ -72,7 +72,9 @@ pub record IsNear (most : ℕ) (before after : ℤ) : Type 0 where
 
 -- The number of the month last closed, the reports and the set of factions (gone ones too) stay the same.
 pub record IsSameMonth (before after : CampaignValue) : Type 0 where
+  -- the number of the month last closed stays the same
   pub month : after.month ≡ before.month
+  -- the reports stay the same
   pub reports : after.reports ≡ before.reports
   -- there are as many factions as before
   pub count : len after.factions ≡ len before.factions

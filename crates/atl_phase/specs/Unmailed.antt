@@ -19,11 +19,15 @@ men_starved_by verb outcome = 0
 abbrev pub starved_in : List Event → (number : ℕ) → ℕ
 starved_in events number = sum_by (λ e. if e.unit == number then men_starved_by e.verb e.outcome else 0) events
 
--- the unit has the same faction and name, exactly `fewer` men less, and no less of any item
+-- the unit has the same faction and name, `fewer` men less (none if it had no more than that), and no less of any item
 pub record IsLessBy (fewer : ℕ) (before after : Unit) : Type 0 where
+  -- the unit keeps its faction
   pub faction : after.faction ≡ before.faction
+  -- the unit keeps its name
   pub name : after.holding.name ≡ before.holding.name
+  -- the unit has `fewer` men less than before, or none if it had no more than that
   pub men : after.holding.men ≡ before.holding.men - fewer
+  -- the unit has no less of any item than before
   pub items : (i : ℕ) → amount_of before.holding.items i ≤ amount_of after.holding.items i
 
 -- a unit of which fewer men starved than it had is still there, with its faction and name, no less of any item,

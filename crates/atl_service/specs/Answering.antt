@@ -39,10 +39,15 @@ IfTextOrRefused (Fault _) P = ⊤
 -- A command was answered without a fault: answer and new campaign are those of `step`. If the disk is clean and the
 -- tables held the old campaign, they hold the new one.
 pub record Answers {S : Type 0} (g : Ghosts S) (w : WorldValue) (before : CampaignValue) (old : Held S) (command : Command) (after : CampaignValue) (new : Held S) (answer : Answer) : Type 0 where
+  -- the campaign after the command and the answer are those of `step`
   pub step_is : step w before command ≡ (after, answer)
+  -- the answer is no fault
   pub sound : IsNoFault answer
+  -- a report or a refusal changes neither campaign nor connection
   pub same : IfTextOrRefused answer ((after ≡ before) × (new ≡ old))
+  -- the campaign after the command is good (`IsGood`)
   pub good : IsGood w after
+  -- if the disk is clean, tables that held the campaign before hold the campaign after, with the same world text
   pub tables : HasCleanDisk (state g new) → (text : List ℕ) → Keeps (state g old) text before → Keeps (state g new) text after
 
 -- A command failed with a fault: on a clean disk, tables that held the campaign before the command still do
@@ -51,10 +56,13 @@ abbrev pub LeavesAfterFailure : {S : Type 0} → Ghosts S → WorldValue → Cam
 LeavesAfterFailure g w before old command new = HasCleanDisk (state g new) → (text : List ℕ) → Keeps (state g old) text before → LeavesAfterFault (state g old).faults (state g new) text before (step w before command).0
 
 -- After any command, answered or failed: the connection is in no transaction, its count of disk failures has not sunk,
--- and other tables are unchanged.
+-- and, if the disk is clean, other tables are unchanged.
 pub record LeavesIdle {S : Type 0} (g : Ghosts S) (old new : Held S) : Type 0 where
+  -- the connection is in no transaction
   pub idle : new.in_transaction ≡ false
+  -- no failure of the disk is forgotten, and reads that are tested stay so (`IsLater`)
   pub later : IsLater (state g old) (state g new)
+  -- if the disk is clean, tables that aren't the campaign's hold what they held (`LeavesOthersAlone`)
   pub others : HasCleanDisk (state g new) → LeavesOthersAlone (state g old) (state g new)
 
 -- the service's fault for a fault of a write to the store: Memory for Memory, Store for Store

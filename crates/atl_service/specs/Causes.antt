@@ -38,8 +38,11 @@ FoundsBy text pass sql params = (w : WorldValue) × (world_of text ≡ Ok w) × 
 -- A call of the transaction that runs the statements `own` gave an error; `memory` says whether the error was out of
 -- memory.
 pub record GivesError {S : Type 0} (g : Ghosts S) (own : Statements) (memory : Bool) (old new : Held S) : Type 0 where
+  -- the error that a call of the transaction gave
   pub error : Error
+  -- the error is out of memory exactly if `memory` is true
   pub memory_is : is_memory error ≡ memory
+  -- a statement of `own`, or the commit, gave the error (`Gives`)
   pub given : Gives g own error old new
 
 -- What the fault Memory means: the connection is unchanged, or, if the disk is clean, a call of the write ran out of
@@ -60,6 +63,9 @@ HasCause g own old new Closed = ⊥
 
 -- The fault of a command has its cause, and, if the disk is clean, the tables before the command held the campaign `c`.
 pub record IsFault {S : Type 0} (g : Ghosts S) (text : List ℕ) (w : WorldValue) (c : CampaignValue) (command : Command) (fault : Fault) (new : Held S) : Type 0 where
+  -- the connection before the command
   pub old : Held S
+  -- if the disk is clean, the tables before the command held the campaign `c` and the text
   pub held : HasCleanDisk (state g new) → Keeps (state g old) text c
+  -- the fault has its cause between the connection before the command and the one after it (`HasCause`)
   pub cause : HasCause g (OfCommand w c command) old new fault

@@ -23,12 +23,19 @@ use Rattle.atl_service.specs.Service.{ServiceValue, text_in}
 -- A campaign was founded: the service is open with the text's world and the founded campaign, and, if the disk is
 -- clean, its tables hold both. There was no table `campaign`.
 pub record Founds {S : Type 0} (g : Ghosts S) (old : Held S) (text pass : List ℕ) (made : ServiceValue S) : Type 0 where
+  -- there was no table `campaign`
   pub fresh : has_campaign old.schema ≡ false
+  -- the text reads as the service's world
   pub world : world_of text ≡ Ok made.world
+  -- the pass text keeps the rule of pass texts (`pass_ok`)
   pub pass_is_good : pass_ok pass ≡ true
+  -- the service is open with the campaign founded in its world
   pub campaign : made.campaign ≡ Some (founded_of made.world pass)
+  -- if the disk is clean, the tables hold the text and the founded campaign
   pub tables : HoldsCampaign g made.conn text (founded_of made.world pass)
+  -- if the disk is clean, the world text that the tables hold is the given text
   pub text_is : HasCleanDisk (state g made.conn) → text_in g made.conn ≡ text
+  -- no failure of the disk is forgotten, and reads that are tested stay so (`IsLater`)
   pub later : IsLater (state g old) (state g made.conn)
 
 -- The text is a world: it parses without a fault.
@@ -53,8 +60,12 @@ MayBeCause text pass is_there Memory = ⊤
 -- left before, or the founded campaign. The facts about tables and crash need a clean disk. If the text is no world, or
 -- the pass text isn't good, nothing is changed at all.
 pub record FailsToFound {S : Type 0} (g : Ghosts S) (old : Held S) (text pass : List ℕ) (new : Held S) : Type 0 where
+  -- if the disk is clean, nothing is changed (`ChangesNothing`)
   pub tables : HasCleanDisk (state g new) → ChangesNothing (state g old) (state g new)
+  -- if the text is no world, or the pass text isn't good, the connection is unchanged
   pub unfounded : (¬ IsWorldText text) ⊎ (pass_ok pass ≡ false) → new ≡ old
+  -- if the disk is clean and the text is a world, a crash leaves what it could have left before, or the founded
+  -- campaign (`MayLeaveCampaign`)
   pub crash : HasCleanDisk (state g new) → (w : WorldValue) → world_of text ≡ Ok w → MayLeaveCampaign (state g old) text (founded_of w pass) (state g new)
 
 -- Why founding fails with Store: the connection isn't ready (`IsReadyToCreate`) and is unchanged, or it is ready and
@@ -79,15 +90,21 @@ LeavesByCause g old text pass new Memory = FailsToFound g old text pass new × L
 
 -- A founding was refused: its cause is the first check that fails, and the connection is left as that cause allows.
 pub record RefusesFounding {S : Type 0} (g : Ghosts S) (old : Held S) (text pass : List ℕ) (why : Cause) (new : Held S) : Type 0 where
+  -- founding may fail with this cause (`MayBeCause`)
   pub cause : MayBeCause text pass (has_campaign old.schema) why
+  -- founding leaves what its cause allows (`LeavesByCause`)
   pub leaves : LeavesByCause g old text pass new why
+  -- no failure of the disk is forgotten, and reads that are tested stay so (`IsLater`)
   pub later : IsLater (state g old) (state g new)
 
 -- What founding builds before it writes: `w` is the world of the text and `c` the campaign founded in it; the pass text
 -- is good.
 pub record Prepares (text pass : List ℕ) (w : WorldValue) (c : CampaignValue) : Type 0 where
+  -- the text reads as the world `w`
   pub world : world_of text ≡ Ok w
+  -- the pass text keeps the rule of pass texts (`pass_ok`)
   pub pass_is_good : pass_ok pass ≡ true
+  -- `c` is the campaign founded in `w` with the pass text
   pub campaign : c ≡ founded_of w pass
 
 -- ---- the cause for a fault of the world text, or of creating the tables

@@ -30,8 +30,11 @@ ReadSoFar w c mailings faults rest =
 -- All mail of the campaign is read: `r` has the mailings in the factions' order, and the faulty lines of each under its
 -- faction's number.
 pub record HasRead (w : WorldValue) (c : CampaignValue) (r : ReadMail) : Type 0 where
+  -- the mailings have the readings of the campaign's mail, in the order of the factions' numbers
   pub readings_are : map reading_of r.mailings.items ≡ readings w c
+  -- each mailing is exactly what its own text gives with the world (`IsReadWith`)
   pub read : All (IsReadWith w) r.mailings.items
+  -- the faulty lines of each stored mailing are under its faction's number
   pub faults : r.faults ≡ mapped (λ text. faults_of (reading w text)) c.mail
 
 -- Each of these numbers is the number of a faction of the campaign.
@@ -45,7 +48,11 @@ reported_to_all w c outcome = fold (reported_to w (λ n. unwrap_or (get outcome.
 -- Closing this month is not refused: `step` answers MonthDone, the month limit isn't reached, and there is one word for
 -- each region of a valid world.
 pub record MayClose (w : WorldValue) (c : CampaignValue) (month : ℕ) (pass words : List ℕ) : Type 0 where
+  -- `step` closes the month and answers MonthDone
   pub step_is : step w c (Close month pass words) ≡ (closed w c words, MonthDone month)
+  -- the number of the month last closed is below that of the last month that can be closed
   pub early : c.month < last_month
+  -- there is one word of the dice for each region of the world
   pub dice : length words ≡ len w.regions
+  -- the world is valid (`IsWorld`)
   pub world : IsWorld w

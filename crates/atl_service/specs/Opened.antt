@@ -18,10 +18,15 @@ use Rattle.atl_service.specs.Service.{ServiceValue, text_in}
 -- A campaign was opened: if the disk is clean, the service has the world and good campaign of the tables, which are
 -- unchanged.
 pub record Opens {S : Type 0} (g : Ghosts S) (old : Held S) (made : ServiceValue S) : Type 0 where
+  -- the campaign that was loaded, with its marks
   pub campaign : MarkedCampaign
+  -- the service is open with the campaign that was loaded
   pub is_open : made.campaign ≡ Some campaign.value
+  -- the loaded campaign is good, and, if the disk is clean, the tables hold it and a text of the world (`Loads`)
   pub loads : Loads g old made.conn made.world campaign
+  -- nothing is changed, if the disk is clean, and a crash leaves only what it could have left before (`LeavesAlone`)
   pub alone : LeavesAlone g old made.conn
+  -- no failure of the disk is forgotten, and reads that are tested stay so (`IsLater`)
   pub later : IsLater (state g old) (state g made.conn)
 
 -- Opening returns the text, world and campaign that were stored. This holds if the disk is clean and the tables held a
@@ -42,8 +47,13 @@ of_loading load.Memory = Memory
 -- Opening was refused for a fault of loading: if the disk is clean, loading gives this fault, and the tables are
 -- unchanged.
 pub record RefusesOpening {S : Type 0} (g : Ghosts S) (old : Held S) (why : Cause) (new : Held S) : Type 0 where
+  -- the fault of loading
   pub fault : StoreFault
+  -- the cause of the refusal is that of the fault of loading, of the same name
   pub why_is : why ≡ of_loading fault
+  -- if the disk is clean, loading may return this fault (`RefusesToLoad`)
   pub cause : HasCleanDisk (state g new) → RefusesToLoad g old fault
+  -- nothing is changed, if the disk is clean, and a crash leaves only what it could have left before (`LeavesAlone`)
   pub alone : LeavesAlone g old new
+  -- no failure of the disk is forgotten, and reads that are tested stay so (`IsLater`)
   pub later : IsLater (state g old) (state g new)

@@ -20,9 +20,13 @@ use Rattle.atl_service.specs.Service.{ServiceValue, text_in}
 -- A command was carried out: campaign and answer are those of `step`, and, if the disk is clean, the tables hold the
 -- new campaign.
 pub record Accepts {S : Type 0} (g : Ghosts S) (c : CampaignValue) (old : ServiceValue S) (command : Command) (answer : Answer) (new : ServiceValue S) : Type 0 where
+  -- the campaign after the command
   pub after : CampaignValue
+  -- the campaign after the command and the answer are those of `step`
   pub step : step old.world c command ≡ (after, answer)
+  -- the service has the campaign after the command; its world is as before
   pub same : new ≡ record old { conn = new.conn; campaign = Some after }
+  -- if the disk is clean, the tables hold the campaign after the command, with the world text that they had before
   pub tables : HoldsCampaign g new.conn (text_in g old.conn) after
 
 -- A command was refused as `step` refuses it, and nothing is changed.
@@ -32,7 +36,10 @@ Refuses c old command answer new = (step old.world c command ≡ (c, answer)) ×
 -- A fault closed the service: if the disk is clean, the tables hold the campaign before the command
 -- (`LeavesAfterFault`). A crash leaves that campaign or the one after `step`.
 pub record Closes {S : Type 0} (g : Ghosts S) (c : CampaignValue) (old : ServiceValue S) (command : Command) (new : ServiceValue S) : Type 0 where
+  -- the service is closed, so has no campaign; its world is as before
   pub same : new ≡ record old { conn = new.conn; campaign = None }
+  -- if the disk is clean, the tables hold the campaign before the command while the connection is open, and a crash
+  -- leaves that campaign or the one after `step` (`LeavesAfterFault`)
   pub tables : HasCleanDisk (state g new.conn) → LeavesAfterFault (state g old.conn).faults (state g new.conn) (text_in g old.conn) c (step old.world c command).0
 
 -- What one command may answer in a service that is open with campaign `c`, and what each answer leaves of the service.
@@ -89,28 +96,44 @@ FollowsAt g old commands answers new None = AreClosed commands answers × (new �
 
 -- Running the list of commands from service `old` may give these answers and leave service `new`.
 pub record RunsAll {S : Type 0} (g : Ghosts S) (old : ServiceValue S) (commands : List Command) (answers : List Answer) (new : ServiceValue S) : Type 0 where
+  -- answers and service are as `Follows` says, or, if the service was closed, each answer is Closed and nothing changes
   pub follows : FollowsAt g old commands answers new old.campaign
+  -- no failure of the disk is forgotten, and reads that are tested stay so (`IsLater`)
   pub later : IsLater (state g old.conn) (state g new.conn)
 
 -- The main theorem: answers and campaign are those of `run_of`, and if the disk has been clean so far, the tables hold
 -- exactly the campaign's rows.
 pub record Headline {S : Type 0} (g : Ghosts S) (text : List ℕ) (w : WorldValue) (c : CampaignValue) (commands : List Command) (answers : List Answer) (new : ServiceValue S) : Type 0 where
+  -- the answers are those of `run_of`
   pub answers_are : answers ≡ (run_of w c commands).1
+  -- the service is open with the campaign that `run_of` ends with
   pub campaign_is : new.campaign ≡ Some (run_of w c commands).0
+  -- if the disk is clean, the tables hold the campaign that `run_of` ends with, and the world text
   pub tables : HoldsCampaign g new.conn text (run_of w c commands).0
 
 -- A command ended in a fault that has its cause: the answers before it are those of `run_of`, and all later answers are
 -- Closed. If the disk is clean, the tables stay at the campaign of the commands before the fault (`LeavesAfterFault`).
 pub record Interrupted {S : Type 0} (g : Ghosts S) (text : List ℕ) (faults : ℕ) (w : WorldValue) (c : CampaignValue) (commands : List Command) (answers : List Answer) (new : ServiceValue S) : Type 0 where
+  -- the number of commands before the command that failed
   pub count : ℕ
+  -- the command that failed
   pub command : Command
+  -- the command that failed is at index `count` of the list
   pub at : slice_get commands count ≡ Some command
+  -- `count` is below the number of commands
   pub within : count < length commands
+  -- the fault that the command ended in
   pub fault : Failure
+  -- the fault isn't Closed, so the service was open until then
   pub first : fault ≢ Closed
+  -- the answers are those of `run_of` up to the command that failed, then its fault, and then Closed each time
   pub answers_are : answers ≡ (run_of w c (take count commands)).1 ++ Answers.Fault fault ∷ map (λ _. Answers.Fault Closed) (drop (count + 1) commands)
+  -- the service is closed, so has no campaign
   pub campaign_is : new.campaign ≡ None
+  -- the fault has its cause, and, if the disk is clean, the tables held the campaign of the commands before it
   pub cause : IsFault g text w (run_of w c (take count commands)).0 command fault new.conn
+  -- if the disk is clean, the tables hold the campaign of the commands before the fault while the connection is open,
+  -- and a crash leaves that campaign or the one after the command that failed (`LeavesAfterFault`)
   pub tables : HasCleanDisk (state g new.conn) → LeavesAfterFault faults (state g new.conn) text (run_of w c (take count commands)).0 (run_of w c (take (count + 1) commands)).0
 
 -- From an open service `Headline` holds, or a command ended in a fault (`Interrupted`). From a closed one every answer

@@ -14,8 +14,11 @@ use Rattle.atl_store.specs.WorldText.{world_text}
 
 -- the value of a service: connection, world, and the campaign while the service is open, else None
 pub record ServiceValue (S : Type 0) : Type 0 where
+  -- the connection to the database
   pub conn : Held S
+  -- the world of the campaign
   pub world : WorldValue
+  -- the campaign while the service is open, else None
   pub campaign : Option CampaignValue
 
 -- for proofs alone: the encoding of a service's value by its parts, which the kit requires of each type
@@ -33,12 +36,18 @@ text_in g conn = world_text (state g conn)
 -- The service is consistent: it is in no transaction and, while it is open, its campaign is good.
 -- While it is open and the disk is clean, its tables hold the campaign and a text of its world.
 pub record IsConsistent {S : Type 0} (g : Ghosts S) (conn : Held S) (w : WorldValue) (c : CampaignValue) (is_open : Bool) : Type 0 where
+  -- the connection is in no transaction
   pub idle : conn.in_transaction ≡ false
+  -- while the service is open, its campaign is good (`IsGood`)
   pub good : is_open ≡ true → IsGood w c
+  -- while the service is open and the disk is clean, its tables hold its campaign
   pub tables : is_open ≡ true → HoldsCampaign g conn (text_in g conn) c
+  -- while the service is open and the disk is clean, the world text that its tables hold reads as its world
   pub text : is_open ≡ true → HasCleanDisk (state g conn) → world_of (text_in g conn) ≡ Ok w
 
 -- The invariant of every service: it is consistent, and while it is open its campaign's dirty set is empty.
 pub record IsService {S : Type 0} (g : Ghosts S) (conn : Held S) (w : WorldValue) (c : MarkedCampaign) (is_open : Bool) : Type 0 where
+  -- the service is consistent (`IsConsistent`)
   pub consistent : IsConsistent g conn w c.value is_open
+  -- while the service is open, nothing of its campaign is marked
   pub unmarked : is_open ≡ true → c.marks ≡ no_marks

@@ -16,10 +16,16 @@ use Rattle.atl_service.specs.Service.{ServiceValue, text_in}
 -- it is the campaign that the tables held, and they now hold it with the new text. The count of disk failures has not
 -- sunk (`later`).
 pub record UpgradesTo {S : Type 0} (g : Ghosts S) (old : Held S) (text : List ℕ) (made : ServiceValue S) : Type 0 where
+  -- the upgraded campaign, with its marks
   pub campaign : MarkedCampaign
+  -- the service is open with the upgraded campaign
   pub is_open : made.campaign ≡ Some campaign.value
+  -- the new text reads as the service's world, and, if the disk is clean, the tables held the upgraded campaign and
+  -- still do (`Upgrades`)
   pub upgrades : Upgrades g text old made.conn made.world campaign
+  -- if the disk is clean, the world text that the tables hold is the new text
   pub text_is : HasCleanDisk (state g made.conn) → text_in g made.conn ≡ text
+  -- no failure of the disk is forgotten, and reads that are tested stay so (`IsLater`)
   pub later : IsLater (state g old) (state g made.conn)
 
 -- the cause that `upgrade` reports for a fault of the store's upgrade, of the same name
@@ -35,7 +41,11 @@ of_upgrading upgrade.Memory = Memory
 -- An upgrade was refused with the store's fault. If the disk is clean, the tables are as before while the connection is
 -- open; a crash leaves them as before, or upgraded.
 pub record RefusesUpgrade {S : Type 0} (g : Ghosts S) (old : Held S) (text : List ℕ) (why : Cause) (new : Held S) : Type 0 where
+  -- the fault of the store's upgrade
   pub fault : UpgradeFault
+  -- the cause of the refusal is that of the store's fault, of the same name
   pub why_is : why ≡ of_upgrading fault
+  -- the store's upgrade may be refused with this fault, and leaves what `RefusesToUpgrade` says
   pub refused : RefusesToUpgrade g text old new fault
+  -- no failure of the disk is forgotten, and reads that are tested stay so (`IsLater`)
   pub later : IsLater (state g old) (state g new)

@@ -175,7 +175,10 @@ splitting_keeps_others pot ahead parts behind =
 
 -- `left` is the remainder of `pot * before / total`, which the code carries from want to want
 pub record IsRemainder (pot total before left : ℕ) : Type 0 where
+  -- the remainder is less than the sum of all wants, `total`
   pub small : left < total
+  -- what the wants up to `before` get together, times the sum of all wants, and the remainder add up to the pot times
+  -- `before`
   pub whole : total * share_upto pot total before + left ≡ pot * before
 
 -- The pot times the next want, plus the running remainder, divided by the sum of all wants and rounded down, is the

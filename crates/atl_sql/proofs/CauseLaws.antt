@@ -84,7 +84,8 @@ module _ {S : Type 0} (g : Ghosts S) (own more : Statements) (among : (sql : Lis
   pub reached_among : (old new : Held S) → IsReached g own old new → IsReached g more old new
   reached_among old new reached = (reached.0, leads_among reached.0 old new reached.1)
 
-  -- an error given by a statement of `own`, or by the commit, is given by one of `more`, or by the commit
+  -- if the statements of `own` are among those of `more`, an error given by one of `own` or by the commit is given by
+  -- one of `more` or by the commit
   given_among : (e : Error) (before after : State) → IsGiven own e before after → IsGiven more e before after
   given_among e before after (inl ran) = inl (ran.0, ran.1, among ran.0 ran.1 ran.2, ran.3)
   given_among e before after (inr fails) = inr fails

@@ -73,7 +73,7 @@ module _ {S : Type 0} (g : Ghosts S) (text : List ℕ) (old mid : Held S) (alone
     was = subst (λ v. HoldsOld (state g old) v c.value) (sym (bare_before ready.before c ready.loads) ∙ sym ready.same) (loaded_old ready.before c ready.loads);
   }
 
-  -- a new world that differs from the old one in more than markets is refused with Differs
+  -- a new world that differs from the old one in more than markets is a check that failed (`HasOtherWorld`)
   pub other_world : (before w : WorldValue) (c : MarkedCampaign) → LoadsIn First g old mid before c → world_of text ≡ Ok w → ¬ (without_markets w ≡ without_markets before) → HasOtherWorld g text old mid
   other_world before w c loads is differs = record {
     world = w;
@@ -84,7 +84,7 @@ module _ {S : Type 0} (g : Ghosts S) (text : List ℕ) (old mid : Held S) (alone
     differs = λ same. differs (same ∙ sym (bare_before before c loads));
   }
 
-  -- the upgrade is refused if there are more tables or indexes than those of the first format (`HasMore`)
+  -- a file with more tables or indexes than those of the first format is a check that failed (`HasMore`)
   pub has_more : (w : WorldValue) (c : MarkedCampaign) → IsReadyToUpgrade g text old mid w c → ¬ IsFirstFormatOnly mid.schema → HasMore g text old mid
   has_more w c ready more =
       let stands = ready.loads.stands clean in
@@ -98,8 +98,8 @@ module _ {S : Type 0} (g : Ghosts S) (text : List ℕ) (old mid : Held S) (alone
       }
 
 -- the connection after two calls is a later state of the one before them (`IsLater`)
-pub later_both : (old mid new : State) (FirstFormatRows SecondFormatRows : Trees → Type 0) → Survives old mid FirstFormatRows → Survives mid new SecondFormatRows → IsLater old new
-later_both old mid new FirstFormatRows SecondFormatRows one two = record { clean = λ clean. omega (arith, one.clean, two.clean, clean); counts = omega (arith, one.counts, two.counts); shield = λ shielded. two.shield (one.shield shielded) }
+pub later_both : (old mid new : State) (FirstMayLeave SecondMayLeave : Trees → Type 0) → Survives old mid FirstMayLeave → Survives mid new SecondMayLeave → IsLater old new
+later_both old mid new FirstMayLeave SecondMayLeave one two = record { clean = λ clean. omega (arith, one.clean, two.clean, clean); counts = omega (arith, one.counts, two.counts); shield = λ shielded. two.shield (one.shield shielded) }
 
 -- ---- before the transaction
 

@@ -169,15 +169,15 @@ module _ {S : Type 0} (g : Ghosts S) (old : Held S) where
     pub shown : Shown sql [] (state g before) (state g during) rows
 
   module _ (selects : List (List ℕ × List Form)) where
-    -- each of these SELECTs shows some rows
+    -- each SELECT of the list `selects` shows some rows
     abbrev pub AllSelectsShow : Type 0
     AllSelectsShow = (select : List ℕ × List Form) → Has selects select → (rows : List Row) × SelectShows select.0 rows
 
-    -- each of these SELECTs shows some rows, in which each value is of its column's form
+    -- each SELECT of the list `selects` shows some rows, in which each value is of its column's form
     abbrev pub AllSelectsShowTyped : Type 0
     AllSelectsShowTyped = (select : List ℕ × List Form) → Has selects select → (rows : List Row) × SelectShows select.0 rows × AreTyped select.1 rows
 
-    -- each of these SELECTs shows some rows, and in those of one of them a value is of another form than its column
+    -- each SELECT of the list `selects` shows some rows, and in those of one of them a value is of another form than its column
     pub record HasOtherType : Type 0 where
       -- each of the SELECTs shows some rows
       pub all : AllSelectsShow
@@ -185,14 +185,14 @@ module _ {S : Type 0} (g : Ghosts S) (old : Held S) where
       pub select : List ℕ × List Form
       -- the SELECT is one of the list
       pub one : Has selects select
-      -- the rows that the SELECT shows
+      -- the rows that the SELECT of `campaign` shows
       pub rows : List Row
       -- the SELECT shows `rows`
       pub told : SelectShows select.0 rows
       -- a value that the SELECT shows is of another form than its column
       pub other : ¬ AreTyped select.1 rows
 
-    -- one of these SELECTs, asked after other reads, is refused, and this is the fault of its error
+    -- a SELECT of the list `selects`, asked after other reads, is refused, and this is the fault of its error
     pub record RefusesOne (fault : ReadFault) : Type 0 where
       -- the SELECT that is refused, with the forms of its columns
       pub select : List ℕ × List Form
@@ -267,7 +267,7 @@ module _ (f : Format) {S : Type 0} (g : Ghosts S) (old : Held S) where
 
   -- The SELECT of `campaign` shows one row, which keeps the first rule (`AreOwnRow`).
   pub record KeepsOneRow : Type 0 where
-    -- the rows that the SELECT shows
+    -- the rows that the SELECT of `campaign` shows
     pub rows : List Row
     -- the SELECT of `campaign` shows `rows`
     pub selects : Selects g (selection campaign_table 1) old rows
@@ -282,7 +282,7 @@ module _ (f : Format) {S : Type 0} (g : Ghosts S) (old : Held S) where
 
   -- The SELECT of `campaign` shows rows that break the first rule and aren't one row of the other format.
   pub record BreaksOneRow : Type 0 where
-    -- the rows that the SELECT shows
+    -- the rows that the SELECT of `campaign` shows
     pub rows : List Row
     -- the SELECT of `campaign` shows `rows`
     pub selects : Selects g (selection campaign_table 1) old rows

@@ -1,4 +1,5 @@
-//! Reads the tables `[[region]]` and looks up their names. See docs/FORMATS.md, "The world file".
+//! Reads the tables `[[region]]` and looks up the terrains and items that they name.
+//! See docs/FORMATS.md, "The world file".
 ghost use Rattle.std.specs.Prelude.{◌≡◌, IfOk, length, map};
 ghost use Rattle.toml.specs.View.{table_view};
 ghost use Rattle.atl_tables.specs.Drafts.{AreRegionBasics, IsOldRegion, IsRegionDraft};

@@ -16,7 +16,9 @@ marked_with marks n (Some v) = set.insert marks n
 
 -- a list has exactly the numbers of a set of marks, in ascending order
 pub record Lists (marks : set.FinSet nat_cmp) (numbers : List ℕ) : Type 0 where
+  -- the numbers of the list are strictly ascending
   pub rising : IsStrictlySortedBy nat_cmp numbers
+  -- the numbers of the list are exactly those of `marks`
   pub all : set.from_list numbers ≡ marks
 
 module _ {V : Type 0} where

@@ -5,6 +5,7 @@ use Rattle.std.proofs.lemmas.List.Sums.{position_or_len_is}
 use Rattle.atl_campaign.proofs.SortedLaws.{parted, not_below, not_above}
 use Rattle.atl_campaign.proofs.numbers.first_not_below.Goals as goal
 
+-- the point to which all numbers are below `number` is the index of the first that is not below it, or the length
 pub returns-clause-place : goal.returns-clause-place
 returns-clause-place c =
     let number = c.args.number in

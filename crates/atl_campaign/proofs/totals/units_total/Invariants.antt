@@ -5,6 +5,8 @@ use Rattle.atl_records.specs.Limits.{most_u32}
 use Rattle.atl_records.specs.Amounts.{unit_amount}
 use Rattle.atl_campaign.proofs.totals.units_total.Given as goal
 
+-- the sum so far and what the units left hold is what all units hold, and the sum so far is at most most_u32 for
+-- each unit counted
 abbrev pub invariant-loop-unit : goal.invariant-loop-unit
 invariant-loop-unit l = record {
   so_far : l.sum + sum_by (λ e. unit_amount l.thing e.1.holding) l.unit-iterator ≡ sum_over (λ u. unit_amount l.thing u.holding) l.units.values;

@@ -5,6 +5,7 @@ use Rattle.atl_campaign.proofs.LeavingLaws.{marks-structure}
 use Rattle.atl_phase.proofs.MarkLaws.{marks_by}
 use Rattle.atl_market.proofs.build.add.Goals as goal
 
+-- all that add changes is marked, of the unit, the books and the structure
 pub returns-clause-marks : goal.returns-clause-marks
 returns-clause-marks c =
     let old = c.args.campaign.now in

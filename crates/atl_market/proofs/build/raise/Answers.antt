@@ -5,6 +5,7 @@ use Rattle.atl_phase.proofs.MarkLaws.{marks_by, on_ok_both}
 use Rattle.atl_campaign.proofs.BegunLaws.{marks-raised}
 use Rattle.atl_market.proofs.build.raise.Goals as goal
 
+-- all that raise changes is marked: the new structure
 pub returns-clause-marks : goal.returns-clause-marks
 returns-clause-marks c =
     let old = c.args.campaign.now in

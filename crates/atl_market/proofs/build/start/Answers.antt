@@ -8,17 +8,20 @@ use Rattle.atl_market.specs.Goods.{with_used}
 use Rattle.atl_market.proofs.BuildUsedLaws.{same_next, same_structures}
 use Rattle.atl_market.proofs.build.start.Goals as goal
 
+-- start may call raise: the number of the next structure is still free after the material was used
 pub raise-requires-clause-fresh : goal.raise-requires-clause-fresh
 raise-requires-clause-fresh c =
     let old = c.args.campaign.now.value in
     let item = c.args.kind.now.material in
     rw (c.in_ok-use_item.ensures.what, same_structures old c.args.unit item c.args.size, same_next old c.args.unit item c.args.size) c.requires.fresh
 
+-- start may call raise: the number of the next structure is at most 10,000
 pub raise-requires-clause-room : goal.raise-requires-clause-room
 raise-requires-clause-room c =
     let old = c.args.campaign.now.value in
     rw (c.in_ok-use_item.ensures.what, same_next old c.args.unit c.args.kind.now.material c.args.size) c.requires.room
 
+-- the material is used, the structure is there, and the unit is inside it (`after_start`)
 pub returns-clause-what : goal.returns-clause-what
 returns-clause-what c =
     let old = c.args.campaign.now.value in
@@ -32,6 +35,7 @@ returns-clause-what c =
     ∙ ap (λ (d : CampaignValue). with_place d n c.args.region next) (c.in_ok-next.ensures.what ∙ ap (λ (d : CampaignValue). with_new_structure d c.args.number k c.args.region c.args.size) c.in_ok-use_item.ensures.what)
     ∙ ap (with_place new n c.args.region) number
 
+-- all that start changes is marked: the material used, the new structure, and the place of the unit
 pub returns-clause-marks : goal.returns-clause-marks
 returns-clause-marks c =
     let old = c.args.campaign.now in

@@ -6,6 +6,8 @@ use Rattle.atl_market.specs.PotPhase.{PotMeaning}
 use Rattle.atl_market.specs.Bounds.{CanInTurn}
 use Rattle.atl_market.proofs.pot_phase.pay_all.Given as goal
 
+-- the shares still to come can be paid in turn, and paying them gives the campaign that paying all shares gives; all
+-- changes so far are marked
 abbrev pub invariant-loop-unit : goal.invariant-loop-unit
 invariant-loop-unit g l = record {
   can : CanInTurn (g.P.PotPhase.can_pay l.phase l.items l.world) (PotMeaning.paid (g.P.PotPhase.meaning l.phase) l.items l.world) l.campaign.value l.unit-iterator;

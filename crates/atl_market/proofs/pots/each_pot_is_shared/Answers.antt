@@ -1,5 +1,6 @@
 use Rattle.atl_market.proofs.PotLaws as laws
 use Rattle.atl_market.proofs.pots.each_pot_is_shared.Goals as goal
 
+-- the three laws of one region's pot are proved in PotLaws
 pub returns : goal.returns
 returns c = record { shares = laws.shares_each_pot; sum = laws.gives_each_pot; alone = laws.other_regions_do_not_count }

@@ -3,6 +3,7 @@ use Rattle.atl_phase.proofs.ChangeLaws.{item_changes, money_changes, then_change
 use Rattle.atl_phase.proofs.MarkLaws.{on_ok_both}
 use Rattle.atl_market.proofs.trade.set_goods.Goals as goal
 
+-- the unit, if it is there, has the new money and amount of the item, and what changed is marked (`ChangesHolding`)
 pub returns : goal.returns
 returns c =
     let old = c.args.campaign.now in

@@ -11,6 +11,7 @@ use Rattle.atl_campaign.specs.Joining.{joined}
 use Rattle.atl_campaign.proofs.JoinLaws.{joining_small}
 use Rattle.atl_campaign.proofs.campaign.Campaign.enroll.Goals as goal
 
+-- enroll may call book_joining: the books have money and people, and what is booked of both under Joining is small
 pub book_joining-requires : goal.book_joining-requires
 book_joining-requires c =
     let books : c.self-2.inside.books ≡ c.args.self.now.value.books = ap (λ (m : MarkedCampaign). m.value.books) c.self-2.view_is ∙ ap (λ (s : CampaignValue). s.books) c.in-Ok.ensures.ok ∙ ap (λ (m : MarkedCampaign). m.value.books) c.self.view_is in
@@ -21,6 +22,7 @@ book_joining-requires c =
       people = small.1;
     }
 
+-- where begin_unit has no memory, the faction is taken out again, and the campaign is as it was
 pub returns-in-Err-clause-err : goal.returns-in-Err-clause-err
 returns-in-Err-clause-err c =
     let fresh : get c.self.inside.factions.values c.self.inside.next_faction ≡ None = rw (← c.self.view_is) at (c.requires.sound.steady.next.factions.free c.args.self.now.value.next_faction (omega arith)) in
@@ -32,12 +34,14 @@ returns-in-Err-clause-err c =
     rw back
     (ap (λ (m : MarkedCampaign). record { value = record m.value { factions = c.self.inside.factions.values }; marks = record m.marks { factions = c.self.inside.factions.marks } }) same ∙ c.self.view_is)
 
+-- enroll may mark the money booked under Joining: the dirty set of the books has room for it
 pub add-requires : goal.add-requires
 add-requires c =
     let books : c.self-2.inside.books ≡ c.args.self.now.value.books = ap (λ (m : MarkedCampaign). m.value.books) c.self-2.view_is ∙ ap (λ (s : CampaignValue). s.books) c.in-Ok.ensures.ok ∙ ap (λ (m : MarkedCampaign). m.value.books) c.self.view_is in
     let rows = ap (λ (b : BooksValue). b.things) books ∙ c.requires.sound.steady.numbers.books.count in
     rw c.amount_number.ensures (fits_amount c.self-2.inside.books.things c.self-2.inside.amounts_marked Joining Money (omega (arith, rows)) c.self-2.invariant.amounts)
 
+-- enroll may mark the people booked under Joining: the dirty set of the books has room for them beside the money
 pub add-requires-2 : goal.add-requires-2
 add-requires-2 c =
     let books : c.self-2.inside.books ≡ c.args.self.now.value.books = ap (λ (m : MarkedCampaign). m.value.books) c.self-2.view_is ∙ ap (λ (s : CampaignValue). s.books) c.in-Ok.ensures.ok ∙ ap (λ (m : MarkedCampaign). m.value.books) c.self.view_is in
@@ -47,6 +51,7 @@ add-requires-2 c =
     rw (c.add.ensures, c.amount_number.ensures, c.amount_number-2.ensures)
     (fits_amount things (record marks { numbers = amount_marked marks.numbers Joining Money }) Joining People (omega (arith, rows)) (more_marked things marks Joining Money (omega (arith, rows)) c.self-2.invariant.amounts))
 
+-- at the end of enroll the lists are those of the units, and there is room to mark each amount of the books
 pub invariant_of-self-3 : goal.invariant_of-self-3
 invariant_of-self-3 c =
     let books : c.self-2.inside.books ≡ c.args.self.now.value.books = ap (λ (m : MarkedCampaign). m.value.books) c.self-2.view_is ∙ ap (λ (s : CampaignValue). s.books) c.in-Ok.ensures.ok ∙ ap (λ (m : MarkedCampaign). m.value.books) c.self.view_is in
@@ -60,6 +65,7 @@ invariant_of-self-3 c =
           (more_marked things (record marks { numbers = amount_marked marks.numbers Joining Money }) Joining People (omega (arith, rows)) (more_marked things marks Joining Money (omega (arith, rows)) c.self-2.invariant.amounts));
     }
 
+-- enroll makes the campaign that joined defines
 pub returns-clause-ok : goal.returns-clause-ok
 unfolding joined
 returns-clause-ok c =

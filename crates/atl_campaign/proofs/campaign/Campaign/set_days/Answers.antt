@@ -11,6 +11,7 @@ same_values : (r s : Roster) (n skill : ℕ) → (s ≡ r) ⊎ (s ≡ skill_mark
 same_values r s n skill (inl e) = ap (λ (t : Roster). t.values) e
 same_values r s n skill (inr e) = ap (λ (t : Roster). t.values) e
 
+-- after set_days the lists are still those of the units, whose places did not change
 pub invariant_of-self : goal.invariant_of-self
 invariant_of-self c = record {
   unit_lists =
@@ -19,6 +20,7 @@ invariant_of-self c = record {
   amounts = c.self.invariant.amounts;
 }
 
+-- where set_days has no memory, the campaign is as it was, or the skill is marked and nothing else changed
 pub returns-clause-err : goal.returns-clause-err
 returns-clause-err c =
     on_err_weaker c.set_days.result (λ either. elim either [

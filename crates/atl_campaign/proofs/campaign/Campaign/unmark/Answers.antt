@@ -2,6 +2,7 @@ use Rattle.std.proofs.Common.{refl}
 use Rattle.atl_campaign.proofs.AmountMarkLaws.{none_marked}
 use Rattle.atl_campaign.proofs.campaign.Campaign.unmark.Goals as goal
 
+-- after unmark the lists are still those of the units, and there is room to mark each amount of the books
 pub invariant_of-self : goal.invariant_of-self
 invariant_of-self c =
     record {
@@ -9,6 +10,7 @@ invariant_of-self c =
       amounts = rw c.clear.ensures (none_marked c.self.inside.books.things c.self.inside.amounts_marked.room c.self.invariant.amounts.room);
     }
 
+-- unmark clears all marks, and leaves the campaign as it is
 pub returns : goal.returns
 returns c =
     rw (← c.self.view_is, c.unmark.ensures, c.unmark-2.ensures, c.unmark-3.ensures, c.unmark-4.ensures, c.unmark-5.ensures, c.unmark-6.ensures, c.clear.ensures) refl

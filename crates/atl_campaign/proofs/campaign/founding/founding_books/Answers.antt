@@ -7,6 +7,7 @@ use Rattle.atl_records.proofs.BookLaws.{amount-no_amounts, other_amount}
 use Rattle.atl_campaign.proofs.FitLaws.{first_fits}
 use Rattle.atl_campaign.proofs.campaign.founding.founding_books.Goals as goal
 
+-- founding_books may book the money: all money of the regions fits 64 bits, and nothing is booked yet
 pub book-requires-clause-fits : goal.book-requires-clause-fits
 book-requires-clause-fits c =
     let money = c.regions_total-money.result in
@@ -14,6 +15,7 @@ book-requires-clause-fits c =
     let read : to_z w64 money ≡ pos money = to_z_pos w64 money (omega (arith, c.regions_total-money.ensures.fits, c.requires.few)) in
     rw (none, read) (first_fits money (omega (arith, c.regions_total-money.ensures.fits, c.requires.few)))
 
+-- founding_books may book the people: all people of the regions fit 64 bits, and none are booked yet
 pub book-requires-2-clause-fits : goal.book-requires-2-clause-fits
 book-requires-2-clause-fits c =
     let people = c.regions_total-people.result in

@@ -10,6 +10,7 @@ use Rattle.atl_campaign.proofs.index.Index.get.Goals as goal
 abbrev none : IndexEntry
 none = record { number = 0; slot = 0 }
 
+-- where the number has an entry, get returns the entry's slot, to which the number leads
 pub returns-in-Ok : goal.returns-in-Ok
 returns-in-Ok c =
     let places = c.self.inside.places in
@@ -17,6 +18,7 @@ returns-in-Ok c =
     let stands : IsAt (index_numbers places) n c.in-Ok.place = rw c.as_slice-places.ensures at c.in-Ok.ensures.found in
     ap (λ (ps : List IndexEntry). Some (get_or ps c.in-Ok.place none).slot) c.as_slice-places.ensures ∙ sym (get-stands places n c.in-Ok.place none c.self.invariant stands) ∙ ap (λ m. get m n) c.self.view_is
 
+-- where the number has no entry, the number leads to no slot
 pub returns-in-Err : goal.returns-in-Err
 returns-in-Err c =
     let places = c.self.inside.places in

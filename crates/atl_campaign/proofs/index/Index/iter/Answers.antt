@@ -4,5 +4,6 @@ use Rattle.atl_campaign.specs.Index.{slots_of}
 use Rattle.atl_campaign.proofs.IndexLaws.{entries-places}
 use Rattle.atl_campaign.proofs.index.Index.iter.Goals as goal
 
+-- iter yields the numbers with their slots, in rising order
 pub returns : goal.returns
 returns c = ap slots_of (c.iter.ensures.rest ∙ c.as_slice.ensures) ∙ sym (entries-places c.self.inside.places c.self.invariant) ∙ ap entries c.self.view_is

@@ -6,6 +6,7 @@ use Rattle.atl_campaign.specs.declared.index.IndexEntry.{IndexEntry}
 use Rattle.atl_campaign.proofs.IndexLaws.{as_map, get-stands, get-belongs, map-without, map-missing, rising-without}
 use Rattle.atl_campaign.proofs.index.Index.remove.Goals as goal
 
+-- once the entry is removed, the numbers of the entries still rise strictly
 pub invariant_of-self : goal.invariant_of-self
 invariant_of-self c =
     let places = c.self.inside.places in
@@ -16,6 +17,7 @@ invariant_of-self c =
 abbrev none : IndexEntry
 none = record { number = 0; slot = 0 }
 
+-- where the number has an entry, remove returns the entry's slot, and the index no longer has the number
 pub returns-in-Ok : goal.returns-in-Ok
 returns-in-Ok c =
     let places = c.self.inside.places in
@@ -26,6 +28,7 @@ returns-in-Ok c =
       taken = ap as_map c.remove.ensures ∙ map-without places n c.in-Ok.place c.self.invariant stands ∙ ap (λ m. remove m n) c.self.view_is;
     }
 
+-- where the number has no entry, remove returns None, and the index is the same as without the number
 pub returns-in-Err : goal.returns-in-Err
 returns-in-Err c =
     let places = c.self.inside.places in

@@ -3,6 +3,7 @@ use Rattle.std.specs.FinMap.{get}
 use Rattle.atl_market.proofs.ProduceLaws.{can_make_item}
 use Rattle.atl_market.proofs.produce.ProducePhasePotPhase.pay.Goals as goal
 
+-- PRODUCE may call make: the unit can make its share of the item that its order names, if the world has it
 pub make-requires : goal.make-requires
 make-requires c = λ x is.
     let told : get c.args.items.now c.args.number ≡ Some c.in-Some.item.now = search rules in
