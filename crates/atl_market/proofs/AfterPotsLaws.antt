@@ -24,7 +24,7 @@ use Rattle.atl_market.proofs.GoodsLaws.{made_unit, used_unit}
 use Rattle.atl_market.proofs.PotLaws.{only_takers_get, pots_give}
 use Rattle.atl_market.proofs.ProduceLaws.{given_can, produced_others}
 use Rattle.atl_market.proofs.MoreMoneyLaws.{others_stay, paid_unit}
-use Rattle.atl_market.proofs.RecruitLaws.{leave, recruited_is, recruited_others}
+use Rattle.atl_market.proofs.RecruitLaws.{with_fewer_peasants, recruited_is, recruited_others}
 use Rattle.atl_market.proofs.TaxLaws.{drain, taxed_is}
 use Rattle.atl_market.proofs.WantLaws.{given_is_wanted}
 use Rattle.atl_market.proofs.ThereLaws.{by_option, by_unit}
@@ -72,11 +72,11 @@ module _ (w : WorldValue) where
         ap (λ (s : CampaignValue). get s.units e.0) (recruited_is w d e u q is around) ∙ get-insert_same d.units e.0 (record u { holding = with_paid_recruits u.holding e.1 (e.1 * w.rules.recruit_price) });
     others = λ d e u is here k apart. recruited_others w d e k apart;
     region = λ d e u q is around.
-        ap (λ (s : CampaignValue). get s.regions u.region) (recruited_is w d e u q is around) ∙ ap (λ m. get m u.region) (changed-known (leave q e.1) d.regions u.region q around)
-        ∙ get-insert_same d.regions u.region (leave q e.1 q);
+        ap (λ (s : CampaignValue). get s.regions u.region) (recruited_is w d e u q is around) ∙ ap (λ m. get m u.region) (changed-known (with_fewer_peasants q e.1) d.regions u.region q around)
+        ∙ get-insert_same d.regions u.region (with_fewer_peasants q e.1 q);
     regions = λ d e u is (q, around) k apart.
-        ap (λ (s : CampaignValue). get s.regions k) (recruited_is w d e u q is around) ∙ ap (λ m. get m k) (changed-known (leave q e.1) d.regions u.region q around)
-        ∙ get-insert_other d.regions u.region k (leave q e.1 q) apart;
+        ap (λ (s : CampaignValue). get s.regions k) (recruited_is w d e u q is around) ∙ ap (λ m. get m k) (changed-known (with_fewer_peasants q e.1) d.regions u.region q around)
+        ∙ get-insert_other d.regions u.region k (with_fewer_peasants q e.1 q) apart;
     nothing = λ q. ap (λ p. record q { peasants = p }) (less_none q.peasants);
     twice = λ q s t. ap (λ p. record q { peasants = p }) (less_both q.peasants s t);
   }

@@ -136,7 +136,8 @@ module _ (trade : Trade) (items : FinMap nat_cmp ℕ) (w : WorldValue) (units : 
     undrawn : (r i stock : ℕ) → draws_item units items (r, i) e.0 ≡ false → stock ≡ stock_after trade stock (drawn_here r i)
     undrawn r i stock other = sym (ap (λ b. stock_after trade stock (cond b e.1 0)) other ∙ none_traded trade stock)
 
-    -- the trade changes the stocks of the unit's own region by the share, as `IsTraded` says
+    -- in the unit's own region the trade changes the stock of the market's item by the share, and no other stock
+    -- (`IsTraded`)
     here : (r : ℕ) (q : Region) → r ≡ u.region → get d.regions r ≡ Some q → IsTraded r q
     here r q same around = record {
       stocks = with_amount_of q.stocks m.item deal.stock;
@@ -180,7 +181,8 @@ module _ (trade : Trade) (items : FinMap nat_cmp ℕ) (w : WorldValue) (units : 
   region_traded : IsWorld w → (market_for w u (get items e.0) ≡ None → e.1 ≡ 0) → (r : ℕ) (q : Region) → get d.regions r ≡ Some q → IsTraded r q
   region_traded world none r q around = by_market (market_for w u (get items e.0)) refl
     where
-      -- the stocks of region `r` change as `IsTraded` says, whether there is a market `o` or not
+      -- the trade changes each stock of region `r` by what the unit draws of the item, and nothing else of the region
+      -- (`IsTraded`); by the two cases of `o`, the market of the unit's order
       by_market : (o : Option Market) → market_for w u (get items e.0) ≡ o → IsTraded r q
       by_market None at = without_market at (none at) r q around
       by_market (Some m) at =

@@ -142,7 +142,8 @@ module _ (c : CampaignValue) where
       -- the unit isn't in the map of those that have an order of their own faction
       pub unordered : is_some (get writers o.unit) ≡ false
 
-    -- the work that the code adds for a unit, if any, is the work of a unit without an order (`IsIdle`)
+    -- the order of WORK that the code adds for unit n, if it adds one, is `IsIdle`: n is there, the order is of n's own
+    -- faction, and that faction wrote none of `os` for n
     idle_if : (n : ℕ) (u : Unit) (b : Bool) → (nat_lt 0 u.holding.men && not (is_some (get writers n))) ≡ b → get c.units n ≡ Some u → AllByRecursion IsIdle (cond b (idle_task n u.faction ∷ []) [])
     idle_if n u true is there = (record { unit = u; there = there; own = refl; unordered = not-true _ (and_parts _ _ is).1 }, tt)
     idle_if n u false is there = tt

@@ -65,8 +65,8 @@ module _ {S : Type 0} (g : Ghosts S) where
     runs_open (Refused r) stands leaves done = (done.step_is ∙ ap (λ d. (d, Refused r)) done.same.0, ap₂ (λ h d. shown h w d true) done.same.1 done.same.0)
     runs_open (Fault f) stands leaves done = absurd done.sound
 
-    -- the answer to an answered command of a consistent service whose field `is_open` is true is one that `run` may
-    -- give (`Runs`)
+    -- what `run` may give (`Runs`): the answer of a command that ended without a fault (`Answered`), in a consistent
+    -- service whose field `is_open` is true
     pub runs_on : (old : ServiceValue S) (answer : Answer) (is_open : Bool) → shown conn w c is_open ≡ old → is_open ≡ true → IsConsistent g conn w c is_open → LeavesIdle g conn conn' → Answered answer → Runs g old command answer (shown conn' w c' is_open)
     runs_on old answer true seen up stands leaves done = subst (λ e. Runs g e command answer (shown conn' w c' true)) seen (runs_open answer stands leaves done)
     runs_on old answer false seen up stands leaves done = absurd (false≢true up)
