@@ -70,6 +70,15 @@ def one_line(text):
     return ' '.join(text.split())
 
 
+def text_in(folder):
+    """The text of the file that a download leaves in the folder, empty as long as the browser hasn't written it."""
+    for name in os.listdir(folder):
+        if name.endswith('.txt'):
+            with open(os.path.join(folder, name), newline='') as file:
+                return file.read()
+    return ''
+
+
 class Page:
     """The page in a browser, with what a player does there."""
 
@@ -268,9 +277,7 @@ class Cases:
         os.mkdir(folder)
         self.browser.devtools('Browser.setDownloadBehavior', behavior='allow', downloadPath=folder)
         self.browser.click('#report-save')
-        name, = until('a text is saved', lambda: [name for name in os.listdir(folder) if name.endswith('.txt')])
-        with open(os.path.join(folder, name), newline='') as file:
-            self.checks.same('the file', self.club.report(1, APPLE), file.read())
+        self.checks.same('the file', self.club.report(1, APPLE), until('a text is saved', lambda: text_in(folder)))
 
     def map(self):
         self.page.tab('map')
