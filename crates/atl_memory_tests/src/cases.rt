@@ -163,6 +163,7 @@ fn is_month_right(campaign: Option<&Campaign>) -> bool {
     }
 }
 
+/// Makes a case, plays it with ample memory and with too little, and judges what came of it.
 impl Case {
     /// A case whose commands haven't been run yet.
     fn new(alloc: Global, call: Call) -> Result<Case, AllocError> {

@@ -29,6 +29,7 @@ impl Drop for Shortage {
     }
 }
 
+/// Makes memory short for a while, and says whether a growth was refused.
 impl Shortage {
     /// A shortage that hasn't begun; None if there is no room for the lists of a drought.
     pub fn new(alloc: Global) -> Option<Shortage> {

@@ -75,6 +75,7 @@ impl Drop for Player {
     }
 }
 
+/// Reads a file of cases line by line, and plays each case once it is read.
 impl Player {
     /// A player with an empty campaign, before the first line is read.
     fn new(alloc: Global, world: World) -> Player {

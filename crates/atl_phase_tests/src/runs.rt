@@ -43,6 +43,7 @@ static RUNS: [(&str, Run); 7] = [
     ("month", Run::Month),
 ];
 
+/// Looks phases up by the name that files of cases give them.
 impl Run {
     /// The phases that files of cases name so; None if the name is not in `RUNS`.
     pub fn of_name(name: &str) -> Option<Run> {

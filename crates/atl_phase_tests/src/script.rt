@@ -1,5 +1,5 @@
 //! Reads the lines of a file of cases (data/README.md has a table of them).
-use crate::settings::{Built, Had, Setting, Stocked, Stood};
+use crate::settings::{GoodSetting, Setting, StockSetting, StructureSetting, UnitSetting};
 use atl_world::{World, let_go};
 use std::alloc::{AllocError, Global};
 
@@ -18,6 +18,7 @@ impl Drop for Case {
     }
 }
 
+/// Makes a case, and adds to it what one line of its file says.
 impl Case {
     /// A case with a title, without mailings, words and lines.
     pub fn new(alloc: Global, title: &str) -> Result<Case, AllocError> {
@@ -60,13 +61,13 @@ fn numbers<const N: usize>(text: &str) -> Option<[i64; N]> {
 
 /// Reads a unit from `FACTION REGION STRUCTURE MEN MONEY`, followed by `guard` if its guard flag is
 /// set.
-fn unit(text: &str) -> Option<Stood> {
+fn unit(text: &str) -> Option<UnitSetting> {
     let (text, guard) = match text.strip_suffix(" guard") {
         Some(front) => (front, true),
         None => (text, false),
     };
     let [faction, region, structure, men, money] = numbers::<5>(text)?;
-    Some(Stood {
+    Some(UnitSetting {
         faction,
         region,
         structure,
@@ -77,7 +78,7 @@ fn unit(text: &str) -> Option<Stood> {
 }
 
 /// Reads what a unit has from `UNIT THING AMOUNT`; the thing is an item or a skill of the world.
-fn had(world: &World, text: &str) -> Option<Had> {
+fn had(world: &World, text: &str) -> Option<GoodSetting> {
     let (unit, rest) = text.split_once(' ')?;
     let (name, amount) = rest.split_once(' ')?;
     let item = world.item_named(name.as_bytes(), false);
@@ -85,7 +86,7 @@ fn had(world: &World, text: &str) -> Option<Had> {
         Some(item) => item,
         None => world.skill_named(name.as_bytes(), false)?,
     };
-    Some(Had {
+    Some(GoodSetting {
         unit: unit.parse::<i64>().ok()?,
         is_skill: item.is_none(),
         thing: i64::from(thing),
@@ -94,10 +95,10 @@ fn had(world: &World, text: &str) -> Option<Had> {
 }
 
 /// Reads a structure from `KIND REGION DONE OWNER`; the kind is one of the world.
-fn structure(world: &World, text: &str) -> Option<Built> {
+fn structure(world: &World, text: &str) -> Option<StructureSetting> {
     let (name, rest) = text.split_once(' ')?;
     let [region, done, owner] = numbers::<3>(rest)?;
-    Some(Built {
+    Some(StructureSetting {
         kind: i64::from(world.kind_named(name.as_bytes(), false)?),
         region,
         done,
@@ -106,10 +107,10 @@ fn structure(world: &World, text: &str) -> Option<Built> {
 }
 
 /// Reads the stock of a region from `REGION ITEM AMOUNT`; the item is one of the world.
-fn stocked(world: &World, text: &str) -> Option<Stocked> {
+fn stocked(world: &World, text: &str) -> Option<StockSetting> {
     let (region, rest) = text.split_once(' ')?;
     let (name, amount) = rest.split_once(' ')?;
-    Some(Stocked {
+    Some(StockSetting {
         region: region.parse::<i64>().ok()?,
         item: i64::from(world.item_named(name.as_bytes(), false)?),
         amount: amount.parse::<i64>().ok()?,

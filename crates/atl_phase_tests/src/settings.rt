@@ -15,7 +15,7 @@ use std::alloc::{AllocError, Global};
 
 /// A unit of the campaign that a case begins with, of faction 1 or 2.
 #[derive(Clone, Copy, Drop)]
-pub(crate) struct Stood {
+pub(crate) struct UnitSetting {
     pub faction: i64,
     pub region: i64,
     pub structure: i64,
@@ -26,7 +26,7 @@ pub(crate) struct Stood {
 
 /// What a unit of a case's campaign has: an amount of an item, or days of a skill.
 #[derive(Clone, Copy, Drop)]
-pub(crate) struct Had {
+pub(crate) struct GoodSetting {
     pub unit: i64,
     pub is_skill: bool,
     pub thing: i64,
@@ -35,7 +35,7 @@ pub(crate) struct Had {
 
 /// A structure of a case's campaign, and how much of it is built.
 #[derive(Clone, Copy, Drop)]
-pub(crate) struct Built {
+pub(crate) struct StructureSetting {
     pub kind: i64,
     pub region: i64,
     pub done: i64,
@@ -44,7 +44,7 @@ pub(crate) struct Built {
 
 /// What a region of a case's campaign has in stock of an item.
 #[derive(Clone, Copy, Drop)]
-pub(crate) struct Stocked {
+pub(crate) struct StockSetting {
     pub region: i64,
     pub item: i64,
     pub amount: i64,
@@ -54,10 +54,10 @@ pub(crate) struct Stocked {
 /// Some units lose their men once the campaign is made.
 /// The next unit's number is at least `next_unit`.
 pub(crate) struct Setting {
-    pub units: Vec<Stood>,
-    pub has: Vec<Had>,
-    pub stocks: Vec<Stocked>,
-    pub structures: Vec<Built>,
+    pub units: Vec<UnitSetting>,
+    pub has: Vec<GoodSetting>,
+    pub stocks: Vec<StockSetting>,
+    pub structures: Vec<StructureSetting>,
     pub menless: Vec<u32>,
     pub next_unit: i64,
 }
@@ -68,6 +68,7 @@ impl Drop for Setting {
     }
 }
 
+/// Makes a setting, and counts what its campaign has.
 impl Setting {
     /// A setting of two factions without units.
     pub fn new(alloc: Global) -> Setting {
@@ -134,7 +135,7 @@ fn faction(
     alloc: Global,
     number: i64,
     name: &str,
-    units: &[Stood],
+    units: &[UnitSetting],
 ) -> Result<StoredFaction, AllocError> {
     let there = units.iter().any(|unit| unit.faction == number);
     Ok(StoredFaction {
@@ -147,7 +148,7 @@ fn faction(
 }
 
 /// The rows of both factions.
-fn factions(alloc: Global, units: &[Stood]) -> Result<Sequence<StoredFaction>, AllocError> {
+fn factions(alloc: Global, units: &[UnitSetting]) -> Result<Sequence<StoredFaction>, AllocError> {
     let mut all = Sequence::new(alloc);
     let mut number: i64 = 0;
     for name in FACTIONS.iter() {
@@ -170,7 +171,7 @@ fn reports(alloc: Global) -> Result<Sequence<StoredReport>, AllocError> {
 }
 
 /// The row of a unit.
-fn unit(alloc: Global, number: i64, stood: &Stood) -> Result<StoredUnit, AllocError> {
+fn unit(alloc: Global, number: i64, stood: &UnitSetting) -> Result<StoredUnit, AllocError> {
     Ok(StoredUnit {
         number,
         faction: stood.faction,
@@ -184,7 +185,7 @@ fn unit(alloc: Global, number: i64, stood: &Stood) -> Result<StoredUnit, AllocEr
 }
 
 /// The rows of the units, numbered from 1.
-fn units_of(alloc: Global, units: &[Stood]) -> Result<Sequence<StoredUnit>, AllocError> {
+fn units_of(alloc: Global, units: &[UnitSetting]) -> Result<Sequence<StoredUnit>, AllocError> {
     let mut all = Sequence::new(alloc);
     let mut number: i64 = 0;
     for stood in units {
@@ -195,7 +196,7 @@ fn units_of(alloc: Global, units: &[Stood]) -> Result<Sequence<StoredUnit>, Allo
 }
 
 /// The rows of what the units have.
-fn has_of(alloc: Global, has: &[Had]) -> Result<Sequence<StoredHas>, AllocError> {
+fn has_of(alloc: Global, has: &[GoodSetting]) -> Result<Sequence<StoredHas>, AllocError> {
     let mut all = Sequence::new(alloc);
     for had in has {
         all.push(StoredHas {
@@ -209,7 +210,10 @@ fn has_of(alloc: Global, has: &[Had]) -> Result<Sequence<StoredHas>, AllocError>
 }
 
 /// The rows of the stocks of markets.
-fn markets_of(alloc: Global, stocks: &[Stocked]) -> Result<Sequence<StoredMarket>, AllocError> {
+fn markets_of(
+    alloc: Global,
+    stocks: &[StockSetting],
+) -> Result<Sequence<StoredMarket>, AllocError> {
     let mut all = Sequence::new(alloc);
     for stock in stocks {
         all.push(StoredMarket {
@@ -222,7 +226,11 @@ fn markets_of(alloc: Global, stocks: &[Stocked]) -> Result<Sequence<StoredMarket
 }
 
 /// The row of a structure.
-fn structure(alloc: Global, number: i64, built: &Built) -> Result<StoredStructure, AllocError> {
+fn structure(
+    alloc: Global,
+    number: i64,
+    built: &StructureSetting,
+) -> Result<StoredStructure, AllocError> {
     Ok(StoredStructure {
         number,
         kind: built.kind,
@@ -236,7 +244,7 @@ fn structure(alloc: Global, number: i64, built: &Built) -> Result<StoredStructur
 /// The rows of the structures, numbered from 1.
 fn structures_of(
     alloc: Global,
-    structures: &[Built],
+    structures: &[StructureSetting],
 ) -> Result<Sequence<StoredStructure>, AllocError> {
     let mut all = Sequence::new(alloc);
     let mut number: i64 = 0;
@@ -260,7 +268,7 @@ fn book(books: &mut Sequence<StoredBooks>, thing: i64, amount: i64) -> Result<()
 }
 
 /// The sum of an item over all units.
-fn all_of(has: &[Had], item: i64) -> i64 {
+fn all_of(has: &[GoodSetting], item: i64) -> i64 {
     let mut sum: i64 = 0;
     for had in has {
         if !had.is_skill && had.thing == item {
@@ -271,7 +279,7 @@ fn all_of(has: &[Had], item: i64) -> i64 {
 }
 
 /// The sum of an item over all stocks.
-fn all_in_stock(stocks: &[Stocked], item: i64) -> i64 {
+fn all_in_stock(stocks: &[StockSetting], item: i64) -> i64 {
     let mut sum: i64 = 0;
     for stock in stocks {
         if stock.item == item {
@@ -282,7 +290,7 @@ fn all_in_stock(stocks: &[Stocked], item: i64) -> i64 {
 }
 
 /// The sums of money and of men over all units.
-fn money_and_men(units: &[Stood]) -> (i64, i64) {
+fn money_and_men(units: &[UnitSetting]) -> (i64, i64) {
     let mut money: i64 = 0;
     let mut men: i64 = 0;
     for unit in units {

@@ -177,6 +177,7 @@ fn rise(before: u64, after: u64) -> i64 {
     after.wrapping_sub(before)
 }
 
+/// Makes the lists of a campaign, looks things up in them, and changes them.
 impl Plain {
     /// The lists of a campaign, without events.
     pub fn of(alloc: Global, campaign: &Campaign) -> Result<Plain, AllocError> {
