@@ -1,5 +1,5 @@
-"""Functions that the Python benches share: they load another bench, run the program, and measure time and memory."""
-import importlib.machinery, importlib.util, os, subprocess, sys, time
+"""Functions that the Python benches share: they load another bench, run the program, and measure time, instructions and memory."""
+import importlib.machinery, importlib.util, os, re, subprocess, sys, tempfile, time
 
 HERE = os.path.dirname(os.path.abspath(__file__))
 
@@ -27,6 +27,16 @@ def seconds(words):
     process = started(words)
     confirm(process, words)
     return time.perf_counter() - begin
+
+
+def instructions(words):
+    """The instructions of a run, in millions, by valgrind's callgrind, which other work on the machine doesn't change."""
+    with tempfile.NamedTemporaryFile() as out:
+        run = ["valgrind", "--tool=callgrind", f"--callgrind-out-file={out.name}", *words]
+        ended = subprocess.run(run, stdout=subprocess.DEVNULL, stderr=subprocess.PIPE, text=True)
+    if ended.returncode != 0:
+        sys.exit(f"status {ended.returncode} of {words}")
+    return int(re.search(r"Collected : (\d+)", ended.stderr)[1]) / 1e6
 
 
 def peak_now(process):
