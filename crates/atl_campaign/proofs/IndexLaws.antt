@@ -18,7 +18,7 @@ use Rattle.std.proofs.lemmas.Map.Keys.{Less-from_sorted}
 use Rattle.std.proofs.lemmas.Option.{get_or_from_slice_get, slice_get_within}
 use Rattle.atl_world.specs.SortedNumbers.{IsAt, BelongsAt}
 use Rattle.atl_world.proofs.GeneralLaws.{key_itself, same_key}
-use Rattle.atl_world.proofs.MarkLaws.{rising-empty, rising-insert, rising-remove, contains-belongs, from_list-remove}
+use Rattle.atl_world.proofs.SortedListLaws.{rising-empty, rising-insert, rising-remove, contains-belongs, from_list-remove}
 use Rattle.atl_world.proofs.Maps.{entries_of, len_of}
 use Rattle.atl_world.proofs.SumLaws.{taken_back}
 use Rattle.atl_world.proofs.TrackLaws.{there_itself, remove_none}

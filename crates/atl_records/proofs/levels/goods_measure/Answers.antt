@@ -2,7 +2,7 @@ use Rattle.std.proofs.Common.{◌≡◌, ℕ, ◌*◌, ap, ◌∙◌, arith}
 use Rattle.std.proofs.lemmas.List.Sums.{sum_by-cons}
 use Rattle.std.specs.FinMap.{entries, entries_sorted}
 use Rattle.atl_world.proofs.TrackLaws.{is_true}
-use Rattle.atl_world.proofs.CountLaws.{begins_zero, sorted_rest}
+use Rattle.atl_world.proofs.EntryOrderLaws.{begins_zero, sorted_rest}
 use Rattle.atl_records.specs.Levels.{measure_of}
 use Rattle.atl_records.proofs.LevelLaws.{added, fits_next, no_more}
 use Rattle.atl_records.proofs.levels.goods_measure.Goals as goal
