@@ -17,6 +17,7 @@ pub(crate) struct UnitLists {
     pub(crate) by_structure: Numbered<Numbers>,
 }
 
+/// Drops all lists of units.
 impl Drop for UnitLists {
     fn drop(self) {
         let_go!(self: UnitLists { by_region, by_faction, by_structure });
@@ -42,6 +43,7 @@ pub(crate) fn list_keys_of(unit: &Unit) -> ListKeys
     }
 }
 
+/// Puts a unit into its lists, takes it out, or moves it between lists when it changes its keys.
 impl UnitLists {
     /// The lists of no units: all are empty.
     pub(crate) fn new(alloc: Global) -> UnitLists

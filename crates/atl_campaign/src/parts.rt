@@ -29,6 +29,7 @@ pub struct Parts {
     pub markets: Sequence<StoredMarket>,
 }
 
+/// Drops the rows of all tables.
 impl Drop for Parts {
     fn drop(self) {
         let_go!(self: Parts { campaign, factions, regions, units, has, structures, mail, reports, books, markets });
@@ -55,6 +56,7 @@ pub struct StoredCampaignRow {
     pub pass: Sequence<u8>,
 }
 
+/// Drops the moderator's pass text.
 impl Drop for StoredCampaignRow {
     fn drop(self) {
         let_go!(self: StoredCampaignRow { id, format, month, next_faction, next_unit, next_structure, pass });
@@ -76,6 +78,7 @@ pub struct StoredFaction {
     pub gone: i64,
 }
 
+/// Drops the faction's two names and its pass text.
 impl Drop for StoredFaction {
     fn drop(self) {
         let_go!(self: StoredFaction { number, joined_as, name, pass, gone });
@@ -115,6 +118,7 @@ pub struct StoredUnit {
     pub guard: i64,
 }
 
+/// Drops the unit's name.
 impl Drop for StoredUnit {
     fn drop(self) {
         let_go!(self: StoredUnit { number, faction, name, region, structure, men, money, guard });
@@ -139,6 +143,7 @@ pub struct StoredStructure {
     pub owner: i64,
 }
 
+/// Drops the structure's name.
 impl Drop for StoredStructure {
     fn drop(self) {
         let_go!(self: StoredStructure { number, kind, name, region, done, owner });
@@ -154,6 +159,7 @@ pub struct StoredMail {
     pub text: Sequence<u8>,
 }
 
+/// Drops the bytes of the mailing.
 impl Drop for StoredMail {
     fn drop(self) {
         let_go!(self: StoredMail { faction, text });
@@ -169,6 +175,7 @@ pub struct StoredReport {
     pub text: Text,
 }
 
+/// Drops the text of the report.
 impl Drop for StoredReport {
     fn drop(self) {
         let_go!(self: StoredReport { faction, text });

@@ -19,8 +19,8 @@ loop-value-preserved g c =
     let value = c.in-Some.value in
     let before = c.pop.new.self.items in
     let taken : c.loop-value.values.items ≡ before ++ value ∷ [] = c.in-Some.ensures.items in
-    let number = g.T.HasNumber.place_of value in
-    let put = c.in_ok-insert.ensures.ok ∙ ap (λ n. insert c.loop-value.numbered n value) c.place.ensures in
+    let number = g.T.HasNumber.own_number_of value in
+    let put = c.in_ok-insert.ensures.ok ∙ ap (λ n. insert c.loop-value.numbered n value) c.own_number.ensures in
     record {
       whole = (value ∷ whole.0, sym (append_assoc before (value ∷ []) whole.0) ∙ ap (λ xs. xs ++ whole.0) (sym taken) ∙ whole.1, put ∙ ap (λ m. insert m number value) whole.2);
       few = omega (arith, ap len put, one_more c.loop-value.numbered number value, ap length taken, length-append before (value ∷ []), c.loop-value.invariant.few);

@@ -21,7 +21,7 @@ loop-i-preserved c =
     let drafts = c.args.drafts.now in
     let i = c.loop-i.i in
     let draft = c.index-drafts-i.result in
-    let back : RegionDraft → Type 0 = λ d. HasNeighbours regions d.place.number d.sides.north d.sides.south d.sides.east d.sides.west in
+    let back : RegionDraft → Type 0 = λ d. HasNeighbours regions d.basics.number d.sides.north d.sides.south d.sides.east d.sides.west in
     let more : take (i + 1) drafts ≡ take i drafts ++ draft ∷ [] = take_more drafts i draft c.loop-i-test.true ∙ ap (λ (d : RegionDraft). take i drafts ++ d ∷ []) (sym c.index-drafts-i.is) in
     record {
       faults = goes_on_at (neighbours_at regions) drafts i draft _ c.loop-i-test.true c.index-drafts-i.is c.loop-i.invariant.faults c.in_ok-neighbours_of.ensures.value.0;
