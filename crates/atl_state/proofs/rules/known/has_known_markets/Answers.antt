@@ -2,7 +2,7 @@ use Rattle.std.proofs.Common.{IsSome, rules}
 use borrow.Author.Tests.{tests}
 use Rattle.atl_world.specs.ByNumber.{market_of}
 use Rattle.atl_campaign.proofs.RuleLaws.{every_by_all}
-use Rattle.atl_state.proofs.rules.known.is_of_markets.Goals as goal
+use Rattle.atl_state.proofs.rules.known.has_known_markets.Goals as goal
 
 -- the function returns true exactly if all stocks of a region are of its markets
 pub returns : goal.returns

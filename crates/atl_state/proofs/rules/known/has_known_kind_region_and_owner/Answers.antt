@@ -1,5 +1,5 @@
 use Rattle.std.proofs.Common.{rules}
-use Rattle.atl_state.proofs.rules.known.is_built.Goals as goal
+use Rattle.atl_state.proofs.rules.known.has_known_kind_region_and_owner.Goals as goal
 
 -- if a structure's kind and region exist, the function returns whether its owner is nobody or exists
 pub returns-then-has_known_kind_and_region : goal.returns-then-has_known_kind_and_region

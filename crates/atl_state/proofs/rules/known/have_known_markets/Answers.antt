@@ -3,7 +3,7 @@ use Rattle.std.proofs.lemmas.Bool.{false≢true}
 use borrow.Author.Tests.{tests}
 use Rattle.atl_campaign.specs.Good.{AreOfMarkets}
 use Rattle.atl_campaign.proofs.RuleLaws.{every_by_all}
-use Rattle.atl_state.proofs.rules.known.are_of_markets.Goals as goal
+use Rattle.atl_state.proofs.rules.known.have_known_markets.Goals as goal
 
 -- the function returns true exactly if all stocks are of markets of their regions
 pub returns : goal.returns

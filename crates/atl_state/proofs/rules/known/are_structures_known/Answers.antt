@@ -2,7 +2,7 @@ use Rattle.std.proofs.Common.{rules}
 use borrow.Author.Tests.{tests}
 use Rattle.atl_campaign.specs.Good.{IsBuilt}
 use Rattle.atl_campaign.proofs.RuleLaws.{every_by_all}
-use Rattle.atl_state.proofs.rules.known.are_built.Goals as goal
+use Rattle.atl_state.proofs.rules.known.are_structures_known.Goals as goal
 
 -- the function returns true exactly if all that structures name exists
 pub returns : goal.returns
