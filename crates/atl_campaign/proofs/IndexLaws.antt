@@ -232,11 +232,11 @@ BelongsAt-above ps p n s is above =
     size : length ns ≡ length ps
     size = length-map ps (λ (p : IndexEntry). p.number)
 
-    -- the place of the last index entry in the list
+    -- the last entry's index in the list of index entries
     last : ℕ
     last = length ps - 1
 
-    -- the place of the last index entry is below the list's length
+    -- the last entry's index is below the length of the list, so there is an entry
     some : last < length ps
     some = slice_get_within ps last p is
 

@@ -491,7 +491,7 @@ module _ (f : Format) (w : WorldValue) (p : Parts) (k : RowsKeep f w p) where
       let range = from_range 1 holding_limit h.amount (omega arith) item.1 in
       (range.0, whole_not_zero h.amount range.0 range.1)
 
-  -- the unit of a row of goods exists, the row is in range (Placed), and its unit, sort and thing fit 32 bits (HasWholeKey)
+  -- the unit of a row of goods exists, the row is in range (Placed), and its key fits 32 bits (HasWholeKey)
   abbrev KeyedPlaced : StoredHas → Type 0
   KeyedPlaced h = HasWholeKey h × Placed h
 

@@ -17,7 +17,7 @@ loop-item-init c =
       fits = (0, omega arith, omega arith, begins_zero (entries c.args.holding.now.items));
     }
 
--- the loop's invariant still holds after one more item is counted
+-- after one more item `sum` and what the items left count are still the whole sum, and `sum` is within its new bound
 pub loop-item-preserved : goal.loop-item-preserved
 loop-item-preserved c =
     let e : ℕ × ℕ = (c.in-Some.item, c.in-Some.amount.now) in
