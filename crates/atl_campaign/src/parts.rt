@@ -66,11 +66,11 @@ impl Drop for StoredCampaignRow {
 /// A row of the table `faction`: a faction's number, names and pass text, and whether it is gone.
 #[derive(Debug)]
 pub struct StoredFaction {
-    /// From 1 to atl_orders' LAST_FACTION.
+    /// The faction's number, from 1 to atl_orders' LAST_FACTION.
     pub number: i64,
     /// The name that the faction joined under, which no other faction has.
     pub joined_as: Sequence<u8>,
-    /// The name that is shown.
+    /// The name that the faction shows.
     pub name: Sequence<u8>,
     /// The faction's pass text.
     pub pass: Sequence<u8>,
@@ -90,9 +90,9 @@ impl Drop for StoredFaction {
 pub struct StoredRegion {
     /// The number that the world gives the region.
     pub number: i64,
-    /// From 0 to atl_world's MOST_AMOUNT.
+    /// How many peasants the region has, from 0 to atl_world's MOST_AMOUNT.
     pub peasants: i64,
-    /// From 0 to atl_world's MOST_AMOUNT.
+    /// The money of the region, from 0 to atl_world's MOST_AMOUNT.
     pub money: i64,
 }
 
@@ -100,19 +100,19 @@ pub struct StoredRegion {
 /// guard flag. Items and days of study are rows of `has`.
 #[derive(Debug)]
 pub struct StoredUnit {
-    /// From 1 to LAST_UNIT.
+    /// The unit's number, from 1 to LAST_UNIT.
     pub number: i64,
     /// The number of the unit's faction.
     pub faction: i64,
-    /// The name that is shown.
+    /// The name that the unit shows.
     pub name: Sequence<u8>,
-    /// The number of the region where it is.
+    /// The number of the region where the unit is.
     pub region: i64,
     /// The number of the structure that it is inside, or 0 where it is inside none.
     pub structure: i64,
-    /// From 1 to MEN_LIMIT.
+    /// How many men the unit has, from 1 to MEN_LIMIT.
     pub men: i64,
-    /// From 0 to HOLDING_LIMIT.
+    /// The unit's money, from 0 to HOLDING_LIMIT.
     pub money: i64,
     /// 1 where the guard flag is set, else 0.
     pub guard: i64,
@@ -129,13 +129,13 @@ impl Drop for StoredUnit {
 /// it is done.
 #[derive(Debug)]
 pub struct StoredStructure {
-    /// From 1 to MOST_STRUCTURES.
+    /// The structure's number, from 1 to MOST_STRUCTURES.
     pub number: i64,
     /// The index of the structure's kind in the world's list of kinds, from 0.
     pub kind: i64,
-    /// The name that is shown.
+    /// The name that the structure shows.
     pub name: Sequence<u8>,
-    /// The number of the region where it is.
+    /// The number of the region where the structure is.
     pub region: i64,
     /// How much of the structure is built, from 1 to the size of its kind.
     pub done: i64,

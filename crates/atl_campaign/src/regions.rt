@@ -47,7 +47,7 @@ impl Model for Regions {
     ghost invariant = { λ a. AreRegions a.values a.rows a.markets a.stocks a.items };
 }
 
-/// Reads and changes regions and their stocks with the marks for each change, and clears all marks.
+/// Reads and changes regions and their stocks, marks what changed, and clears all marks.
 impl Regions {
     ghost use Rattle.std.specs.Option.{option_copied_mut};
     ghost use Rattle.std.specs.Borrow.{sem};

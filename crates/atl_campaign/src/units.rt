@@ -50,7 +50,7 @@ impl Model for Units {
     ghost invariant = { λ a. AreUnits a.units a.marks a.rows a.goods a.items a.skills };
 }
 
-/// Reads, adds, changes and removes units with the marks for each change, and clears all marks.
+/// Reads, adds, changes and removes units, marks what changed, and clears all marks.
 impl Units {
     ghost use Rattle.std.specs.Option.{option_copied_mut};
     ghost use Rattle.std.specs.Borrow.{sem};

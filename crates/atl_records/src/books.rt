@@ -171,7 +171,7 @@ impl Model for Books {
     ghost invariant = { λ a. IsGrid a.rows.items };
 }
 
-/// Makes books of amounts 0, reads and sums amounts, and changes them.
+/// Makes books whose amounts are all 0, and reads, sums, sets and adds to amounts.
 impl Books {
     /// Books of as many things as `things`, with all amounts 0. Things are money, people, and at
     /// most one item for each number of 16 bits. AllocError without memory.

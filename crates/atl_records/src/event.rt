@@ -15,7 +15,7 @@ pub enum EventVerb {
     Upkeep,
 }
 
-/// Says how reports print what an event is of.
+/// Gives the word that reports print for an order, or for upkeep.
 impl EventVerb {
     ghost use Rattle.atl_records.specs.Events.{event_keyword};
 
