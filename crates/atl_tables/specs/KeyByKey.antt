@@ -5,7 +5,7 @@ use Rattle.toml.specs.Data.{Members}
 use Rattle.atl_tables.specs.Faults.{Conditions, fault_of, first_fault, value_or}
 use Rattle.atl_tables.specs.Keys.{Key, number_at, name_at, text_at, flag_at, number_or_at, optional_text_at}
 
--- what reading a table gives: the conditions on its keys in order, and the value if they hold
+-- what reading a table gives: the conditions on its keys in order, and its value, with defaults where they fail
 pub record TableReading (A : Type 0) : Type 0 where
   -- the conditions on the keys, in order
   pub conditions : Conditions

@@ -30,7 +30,7 @@ use Rattle.atl_tables.specs.declared.region_table.RegionDraft.{RegionDraft}
 use Rattle.atl_tables.specs.declared.world_draft.WorldDraft.{WorldDraft}
 use Rattle.atl_world.specs.declared.world.RegionPlan.{RegionPlan}
 
--- the items, skills and kinds of a document, read with a default in place of each fault
+-- the items, skills and kinds of a document, none where their array is missing, read with a default for each fault
 unfoldable pub optional_tables_of : Members → OptionalTables
 optional_tables_of doc = record {
   items = list_of item_from (codes "item") (optional_array_at most_items (codes "item") (codes "item") doc);
