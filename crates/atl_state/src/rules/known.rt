@@ -199,7 +199,11 @@ fn is_owner_there(campaign: &Campaign, structure: &Structure) -> bool
 }
 
 /// Whether a structure's kind and region exist, and its owner is nobody or an existing unit.
-fn has_known_kind_region_and_owner(world: &World, campaign: &Campaign, structure: &Structure) -> bool
+fn has_known_kind_region_and_owner(
+    world: &World,
+    campaign: &Campaign,
+    structure: &Structure,
+) -> bool
     ensures { IsTrue result ↔ (IsBuilt world.now campaign.now.value structure.now) }
 {
     has_known_kind_and_region(world, campaign, structure) && is_owner_there(campaign, structure)
