@@ -24,7 +24,7 @@ or_there n k there P h itself others = elim (nat_cmp k n) as (λ r. nat_cmp k n 
   | Greater ↦ λ _ yes. others yes
 ] refl h
 
--- the number of an amount is below entry_count times the number of things
+-- the number of an amount of one of the first `things` things is below entry_count * things
 number_small : (things : ℕ) (e : Entry) (t : Thing) → thing_index t < things → amount_number e t < entry_count * things
 number_small things e t small = omega (arith, small, entry_small e)
 

@@ -455,11 +455,12 @@ module _ (c : MarkedCampaign) (n item amount : ℕ) where
       equal : (a b : ℕ) → (a == b) ≡ true → a ≡ b
       equal a b same = grind (arith, nat_tests)
 
-      -- if the stock passes the test of being the amount, region n, which is there, has that amount in stock
+      -- if the stock of the item in region n, which is v, passes the test of being the new amount, v has that amount
       was : (v : Region) → get c.value.regions n ≡ Some v → (stock_of c.value n item == amount) ≡ true → amount_of v.stocks item ≡ amount
       was v is same = sym (ap (in_stock item) is) ∙ equal (stock_of c.value n item) amount same
 
-      -- either mark of setting the stock marks all that changes, whether the amount changes or not
+      -- marking that stock alone marks all that changes, and so does marking all stocks of its region; where the stock
+      -- has the new amount already (b), nothing changes, and nothing is marked
       either : (b : Bool) → (stock_of c.value n item == amount) ≡ b → after_regions (changed stocked c.value.regions n) (item_alone (to_restock b)) × after_regions (changed stocked c.value.regions n) (all_of_region (to_restock b))
       either true same =
           let still = changed_there (λ regions o. after_regions regions c.marks) stocked c.value.regions n (marks-refl c) (λ v is. stock_stays v is (was v is same)) in
@@ -469,7 +470,7 @@ module _ (c : MarkedCampaign) (n item amount : ℕ) where
         changed_there (λ regions o. after_regions regions (all_of_region o)) stocked c.value.regions n (marks-refl c) stocks_change,
       )
 
-      -- setting the stock marks all that changes, whether the amount changes or not
+      -- the marks m, which are one of these two (MarksStock), mark all that changes, whether the amount changes or not
       by_amount : (b : Bool) → (stock_of c.value n item == amount) ≡ b → after_regions (changed stocked c.value.regions n) m
       by_amount b is = elim how [
         | inl e ↦ subst (after_regions (changed stocked c.value.regions n)) (sym (e ∙ ap (λ k. item_alone (to_restock k)) is)) (either b is).0

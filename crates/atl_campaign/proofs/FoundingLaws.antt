@@ -45,7 +45,7 @@ use Rattle.atl_records.proofs.BookLaws.{booked-after_booking, booked-no_amounts,
 pub AreKept-without_marks : (things : ℕ) (units : FinMap nat_cmp Unit) (lists : UnitLists) → AreUnitLists units lists → AreKept units lists things (record { numbers = set.empty; room = entry_count * things })
 AreKept-without_marks things units lists listed = record { unit_lists = listed; amounts = none_marked things (entry_count * things) (omega arith) }
 
--- the books after both bookings of founding are books of the same number of things
+-- books of at least two things (money and people) are books of as many things after both bookings of founding
 AreBooks-founding : (things money people : ℕ) → 2 ≤ things → AreBooks things (after_booking (after_booking (no_amounts things) Founding Money (pos money)) Founding People (pos people))
 AreBooks-founding things money people l =
     AreBooks-after_booking things (after_booking (no_amounts things) Founding Money (pos money)) Founding People (pos people) (AreBooks-after_booking things (no_amounts things) Founding Money (pos money) (AreBooks-no_amounts things) (omega arith)) (omega arith)

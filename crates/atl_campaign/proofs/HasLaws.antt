@@ -53,7 +53,7 @@ abbrev pub IsWhole : ℤ → Type 0
 IsWhole z = z ≡ pos (as_u32 z)
 
 -- a row of `has` whose unit, sort and thing are read as they are: they fit 32 bits
-pub record IsKeyed (h : StoredHas) : Type 0 where
+pub record HasWholeKey (h : StoredHas) : Type 0 where
   -- the row's unit number is read as it is
   pub unit : IsWhole h.unit
   -- the row's sort is read as it is
@@ -64,7 +64,7 @@ pub record IsKeyed (h : StoredHas) : Type 0 where
 -- a row of `has` whose key and amount are read as they are, with an amount other than 0
 pub record IsExact (h : StoredHas) : Type 0 where
   -- the row's unit, sort and thing are read as they are
-  pub keys : IsKeyed h
+  pub keys : HasWholeKey h
   -- the row's amount is read as it is
   pub amount : IsWhole h.amount
   -- the row's amount is not 0
@@ -80,7 +80,7 @@ amount_of h = as_u32 h.amount
 
 -- a row of unit n and of one sort (0 items, 1 days), whose key is read as it is
 abbrev IsHadBy : ℕ → ℕ → StoredHas → Type 0
-IsHadBy n sort h = IsKeyed h × (is_of n sort h ≡ true)
+IsHadBy n sort h = HasWholeKey h × (is_of n sort h ≡ true)
 
 -- a row that is read as one of unit n, and whose key is read as it is, has the unit number n
 its_unit : (n sort : ℕ) (h : StoredHas) → IsHadBy n sort h → h.unit ≡ pos n
@@ -111,13 +111,13 @@ pub ties_itself : (k : Key) → same k k ≡ true
 ties_itself k = (eq_by_cmp_equiv (then_total (then_total (on_total (λ (t : Key). t.0) int_cmp_total) (on_total (λ (t : Key). t.1) int_cmp_total)) (on_total (λ (t : Key). t.2) int_cmp_total))).refl k
 
 -- no two rows of `has` of one unit and sort are of one thing, if keys differ
-pub things_apart : (n sort : ℕ) (has : List StoredHas) → AllByRecursion IsKeyed has → IsDistinct same (map has_key has) → Apart thing_of (filter (is_of n sort) has)
-things_apart n sort = group.things_apart has_key same ties_itself thing_of (is_of n sort) IsKeyed (same_key n sort)
+pub things_apart : (n sort : ℕ) (has : List StoredHas) → AllByRecursion HasWholeKey has → IsDistinct same (map has_key has) → Apart thing_of (filter (is_of n sort) has)
+things_apart n sort = group.things_apart has_key same ties_itself thing_of (is_of n sort) HasWholeKey (same_key n sort)
 
 -- the goods of one sort read for unit n are written as the rows of unit n and that sort, in some order, if keys differ
 sort_order : (n sort : ℕ) (has : List StoredHas) → AllByRecursion IsExact has → IsDistinct same (map has_key has) → IsPermutation (rows_of_sort n sort (entries (things_had n sort has))) (filter (is_of n sort) has)
 sort_order n sort has all d =
-    lines_order thing_of amount_of (has_row n sort) (λ h. not (is_zero h.amount)) (filter (is_of n sort) has) (things_apart n sort has (each_so IsExact IsKeyed (λ h one. one.keys) has all) d)
+    lines_order thing_of amount_of (has_row n sort) (λ h. not (is_zero h.amount)) (filter (is_of n sort) has) (things_apart n sort has (each_so IsExact HasWholeKey (λ h one. one.keys) has all) d)
     (each_so (λ h. IsExact h × (is_of n sort h ≡ true)) (λ h. (has_row n sort (thing_of h) (amount_of h) ≡ h) × (not (is_zero h.amount) ≡ true)) (λ h had. (same_row n sort h (had.0.keys, had.1) had.0.amount, ap not had.0.some)) (filter (is_of n sort) has) (group.all_mine has_key same ties_itself thing_of (is_of n sort) IsExact has all))
 
 -- the items and days read for unit n are written as the rows of unit n, in some order, if keys differ

@@ -18,7 +18,7 @@ use Rattle.std.proofs.lemmas.Map.Keys.{Less-from_sorted}
 use Rattle.std.proofs.lemmas.Option.{get_or_from_slice_get, slice_get_within}
 use Rattle.atl_world.specs.SortedNumbers.{IsAt, BelongsAt}
 use Rattle.atl_world.proofs.GeneralLaws.{key_itself, same_key}
-use Rattle.atl_world.proofs.MarkLaws.{rising-empty, rising-insert, rising-remove, contains-belongs, from_list-remove}
+use Rattle.atl_world.proofs.SortedListLaws.{rising-empty, rising-insert, rising-remove, contains-belongs, from_list-remove}
 use Rattle.atl_world.proofs.Maps.{entries_of, len_of}
 use Rattle.atl_world.proofs.SumLaws.{taken_back}
 use Rattle.atl_world.proofs.TrackLaws.{there_itself, remove_none}
@@ -232,11 +232,11 @@ BelongsAt-above ps p n s is above =
     size : length ns ≡ length ps
     size = length-map ps (λ (p : IndexEntry). p.number)
 
-    -- the place of the last index entry in the list
+    -- the last entry's index in the list of index entries
     last : ℕ
     last = length ps - 1
 
-    -- the place of the last index entry is below the list's length
+    -- the last entry's index is below the length of the list, so there is an entry
     some : last < length ps
     some = slice_get_within ps last p is
 

@@ -181,7 +181,7 @@ module _ (w : WorldValue) (name pass : List ℕ) (word : ℕ) (c : CampaignValue
   home_there : IsWorld w → (p : RegionPlan) × (get w.regions (home_of w word) ≡ Some p) × (is_land w.terrains p ≡ true)
   home_there world = passes-listed (is_land w.terrains) w.regions (word % length (land_of w)) 0 (omega (arith, world.some_land))
 
-  -- everything that a campaign names by number exists once a faction joined
+  -- everything that a campaign names by number still exists once a faction joined
   joined-known : IsWorld w → AreKnown w c → AreKnown w (joined w name pass word c)
   unfolding joined
   joined-known world old =

@@ -209,7 +209,7 @@ module _ (w : WorldValue) (c : CampaignValue) (n : ℕ) (u : Unit) (is : get c.u
             owner_in (Some z) d = z.owner
             owner_in None d = d.owner
 
-        -- no structure is owned by unit n
+        -- if unit n does not own the structure that it is inside (`free`), it owns no structure
         not_owner : (k : ℕ) (x : Structure) → get c.structures k ≡ Some x → x.owner ≡ n → ⊥
         not_owner k x there own = owner_test (get c.structures u.structure) x (ap (get c.structures) (owns_own k x there own) ∙ there) own free
 

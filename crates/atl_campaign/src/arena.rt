@@ -15,6 +15,7 @@ pub(crate) struct Arena<V> {
     slots: Slab<V>,
 }
 
+/// Drops the index and all values.
 impl<V: Drop> Drop for Arena<V> {
     fn drop(self) {
         let Arena { index: _, slots: _ } = self;
@@ -38,6 +39,7 @@ impl<V> Model for Arena<V> {
     ghost invariant = { λ a. IsArena a.index a.slots };
 }
 
+/// Looks up, lends, puts and removes values by number, and yields them in the order of the numbers.
 impl<V: Drop> Arena<V> {
     ghost use Rattle.std.specs.Option.{option_copied_mut};
     ghost use Rattle.std.specs.Borrow.{sem};

@@ -54,6 +54,7 @@ pub struct Campaign {
     lists: UnitLists,
 }
 
+/// Drops all that the campaign holds.
 impl Drop for Campaign {
     fn drop(self) {
         let_go!(self: Campaign {
@@ -96,6 +97,7 @@ impl Model for Campaign {
     ghost invariant = { λ a. AreKept a.units.values a.lists a.books.things a.amounts_marked };
 }
 
+/// Reads the campaign, lends a unit's holding, and stores mail and reports.
 impl Campaign {
     ghost use Rattle.atl_campaign.specs.Lending.{LendsHolding};
     ghost use Rattle.std.specs.Borrow.{sem};

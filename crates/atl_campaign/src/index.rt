@@ -44,6 +44,7 @@ impl Model for Index {
     ghost invariant = { λ a. IsStrictlySortedBy nat_cmp (index_numbers a.places) };
 }
 
+/// Looks up, adds and removes numbers with their slots, and yields them in rising order.
 impl Index {
     /// An empty index. It takes no memory.
     pub(crate) fn new(alloc: Global) -> Index

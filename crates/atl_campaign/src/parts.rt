@@ -29,6 +29,7 @@ pub struct Parts {
     pub markets: Sequence<StoredMarket>,
 }
 
+/// Drops the rows of all tables.
 impl Drop for Parts {
     fn drop(self) {
         let_go!(self: Parts { campaign, factions, regions, units, has, structures, mail, reports, books, markets });
@@ -55,6 +56,7 @@ pub struct StoredCampaignRow {
     pub pass: Sequence<u8>,
 }
 
+/// Drops the moderator's pass text.
 impl Drop for StoredCampaignRow {
     fn drop(self) {
         let_go!(self: StoredCampaignRow { id, format, month, next_faction, next_unit, next_structure, pass });
@@ -64,11 +66,11 @@ impl Drop for StoredCampaignRow {
 /// A row of the table `faction`: a faction's number, names and pass text, and whether it is gone.
 #[derive(Debug)]
 pub struct StoredFaction {
-    /// From 1 to atl_orders' LAST_FACTION.
+    /// The faction's number, from 1 to atl_orders' LAST_FACTION.
     pub number: i64,
     /// The name that the faction joined under, which no other faction has.
     pub joined_as: Sequence<u8>,
-    /// The name that is shown.
+    /// The name that the faction shows.
     pub name: Sequence<u8>,
     /// The faction's pass text.
     pub pass: Sequence<u8>,
@@ -76,6 +78,7 @@ pub struct StoredFaction {
     pub gone: i64,
 }
 
+/// Drops the faction's two names and its pass text.
 impl Drop for StoredFaction {
     fn drop(self) {
         let_go!(self: StoredFaction { number, joined_as, name, pass, gone });
@@ -87,9 +90,9 @@ impl Drop for StoredFaction {
 pub struct StoredRegion {
     /// The number that the world gives the region.
     pub number: i64,
-    /// From 0 to atl_world's MOST_AMOUNT.
+    /// How many peasants the region has, from 0 to atl_world's MOST_AMOUNT.
     pub peasants: i64,
-    /// From 0 to atl_world's MOST_AMOUNT.
+    /// The money of the region, from 0 to atl_world's MOST_AMOUNT.
     pub money: i64,
 }
 
@@ -97,24 +100,25 @@ pub struct StoredRegion {
 /// guard flag. Items and days of study are rows of `has`.
 #[derive(Debug)]
 pub struct StoredUnit {
-    /// From 1 to LAST_UNIT.
+    /// The unit's number, from 1 to LAST_UNIT.
     pub number: i64,
     /// The number of the unit's faction.
     pub faction: i64,
-    /// The name that is shown.
+    /// The name that the unit shows.
     pub name: Sequence<u8>,
-    /// The number of the region where it is.
+    /// The number of the region where the unit is.
     pub region: i64,
     /// The number of the structure that it is inside, or 0 where it is inside none.
     pub structure: i64,
-    /// From 1 to MEN_LIMIT.
+    /// How many men the unit has, from 1 to MEN_LIMIT.
     pub men: i64,
-    /// From 0 to HOLDING_LIMIT.
+    /// The unit's money, from 0 to HOLDING_LIMIT.
     pub money: i64,
     /// 1 where the guard flag is set, else 0.
     pub guard: i64,
 }
 
+/// Drops the unit's name.
 impl Drop for StoredUnit {
     fn drop(self) {
         let_go!(self: StoredUnit { number, faction, name, region, structure, men, money, guard });
@@ -125,13 +129,13 @@ impl Drop for StoredUnit {
 /// it is done.
 #[derive(Debug)]
 pub struct StoredStructure {
-    /// From 1 to MOST_STRUCTURES.
+    /// The structure's number, from 1 to MOST_STRUCTURES.
     pub number: i64,
     /// The index of the structure's kind in the world's list of kinds, from 0.
     pub kind: i64,
-    /// The name that is shown.
+    /// The name that the structure shows.
     pub name: Sequence<u8>,
-    /// The number of the region where it is.
+    /// The number of the region where the structure is.
     pub region: i64,
     /// How much of the structure is built, from 1 to the size of its kind.
     pub done: i64,
@@ -139,6 +143,7 @@ pub struct StoredStructure {
     pub owner: i64,
 }
 
+/// Drops the structure's name.
 impl Drop for StoredStructure {
     fn drop(self) {
         let_go!(self: StoredStructure { number, kind, name, region, done, owner });
@@ -154,6 +159,7 @@ pub struct StoredMail {
     pub text: Sequence<u8>,
 }
 
+/// Drops the bytes of the mailing.
 impl Drop for StoredMail {
     fn drop(self) {
         let_go!(self: StoredMail { faction, text });
@@ -169,6 +175,7 @@ pub struct StoredReport {
     pub text: Text,
 }
 
+/// Drops the text of the report.
 impl Drop for StoredReport {
     fn drop(self) {
         let_go!(self: StoredReport { faction, text });

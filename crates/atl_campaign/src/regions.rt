@@ -26,6 +26,7 @@ pub(crate) struct Regions {
     items: Numbered<Numbered<()>>,
 }
 
+/// Drops the regions and their marks.
 impl Drop for Regions {
     fn drop(self) {
         let_go!(self: Regions { values, rows, markets, stocks, items });
@@ -46,6 +47,7 @@ impl Model for Regions {
     ghost invariant = { λ a. AreRegions a.values a.rows a.markets a.stocks a.items };
 }
 
+/// Reads and changes regions and their stocks, marks what changed, and clears all marks.
 impl Regions {
     ghost use Rattle.std.specs.Option.{option_copied_mut};
     ghost use Rattle.std.specs.Borrow.{sem};

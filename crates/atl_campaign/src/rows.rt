@@ -372,6 +372,7 @@ fn books_rows(alloc: Global, books: &Books) -> Result<Sequence<StoredBooks>, All
     Ok(rows)
 }
 
+/// Writes the whole campaign as rows of its tables.
 impl Campaign {
     /// The rows of the campaign in the second format, in the order of their keys. See
     /// docs/FORMATS.md, "Tables".

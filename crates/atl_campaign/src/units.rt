@@ -28,6 +28,7 @@ pub(crate) struct Units {
     skills: Numbered<Numbered<()>>,
 }
 
+/// Drops the units and their marks.
 impl Drop for Units {
     fn drop(self) {
         let_go!(self: Units { units, marks, rows, goods, items, skills });
@@ -49,6 +50,7 @@ impl Model for Units {
     ghost invariant = { λ a. AreUnits a.units a.marks a.rows a.goods a.items a.skills };
 }
 
+/// Reads, adds, changes and removes units, marks what changed, and clears all marks.
 impl Units {
     ghost use Rattle.std.specs.Option.{option_copied_mut};
     ghost use Rattle.std.specs.Borrow.{sem};

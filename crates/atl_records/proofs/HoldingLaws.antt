@@ -79,12 +79,12 @@ module _ (items : FinMap nat_cmp ℕ) (i amount : ℕ) where
       by_zero false = get-insert_other items i j amount apart
 
 -- ---- a unit's amounts stay within the limits, whether there was memory or not
--- each listed amount of an item stays from 1 to holding_limit when one is set, with memory or without
+-- each listed amount of an item stays from 1 to holding_limit when one of at most that is set, with memory or without
 pub AreAmounts-set : {E : Type 0} (r : Result (Unit {0}) E) (old new : FinMap nat_cmp ℕ) (item amount : ℕ) → amount ≤ holding_limit → OnOk r (new ≡ with_amount_of old item amount) → OnErr r (new ≡ old) → AreAmounts old → AreAmounts new
 AreAmounts-set (Ok u) old new item amount h put same is = subst AreAmounts (sym put) (every_amount (λ i n. (1 ≤ n) × (n ≤ holding_limit)) old item amount (λ some. (some, h)) is)
 AreAmounts-set (Err e) old new item amount h put same is = subst AreAmounts (sym same) is
 
--- each listed amount of an item stays from 1 to holding_limit when one of at least 1 is put in, with memory or without
+-- each listed amount of an item stays from 1 to holding_limit when one of these is put in, with memory or without
 pub AreAmounts-put : {E : Type 0} (r : Result (Unit {0}) E) (old new : FinMap nat_cmp ℕ) (item amount : ℕ) → (1 ≤ amount) × (amount ≤ holding_limit) → OnOk r (new ≡ insert old item amount) → OnErr r (new ≡ old) → AreAmounts old → AreAmounts new
 AreAmounts-put (Ok u) old new item amount h put same is = subst AreAmounts (sym put) (every-insert (λ i n. (1 ≤ n) × (n ≤ holding_limit)) old item amount h is)
 AreAmounts-put (Err e) old new item amount h put same is = subst AreAmounts (sym same) is

@@ -6,7 +6,7 @@ use Rattle.std.specs.FinMap.{is_sorted}
 use Rattle.std.proofs.lemmas.Bool.{cases_lt}
 use Rattle.std.proofs.lemmas.Bool.Decides.{nat_tests}
 use Rattle.atl_world.specs.Limits.{most_items, most_weight}
-use Rattle.atl_world.proofs.CountLaws.{BeginsFrom, begins_later, begins_same}
+use Rattle.atl_world.proofs.EntryOrderLaws.{BeginsFrom, begins_later, begins_same}
 use Rattle.atl_records.specs.Limits.{most_u32}
 use Rattle.atl_records.specs.Levels.{greatest, days_for}
 

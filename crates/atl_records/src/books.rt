@@ -59,6 +59,7 @@ pub enum Thing {
     Item(u16),
 }
 
+/// Converts between entries, their numbers and their indices in a row of the books.
 impl Entry {
     /// All entries, in the order of their numbers.
     pub const ALL: [Entry; 16] = variants!(
@@ -93,6 +94,7 @@ impl Entry {
     }
 }
 
+/// Converts between things, their numbers and the indices of their rows in the books.
 impl Thing {
     /// The number of a thing: 0 for money, 1 for people, 2 + i for the world's item with index i.
     pub fn number(self) -> u32
@@ -169,6 +171,7 @@ impl Model for Books {
     ghost invariant = { λ a. IsGrid a.rows.items };
 }
 
+/// Makes books whose amounts are all 0, and reads, sums, sets and adds to amounts.
 impl Books {
     /// Books of as many things as `things`, with all amounts 0. Things are money, people, and at
     /// most one item for each number of 16 bits. AllocError without memory.

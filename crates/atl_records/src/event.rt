@@ -15,6 +15,7 @@ pub enum EventVerb {
     Upkeep,
 }
 
+/// Gives the word that reports print for an order, or for upkeep.
 impl EventVerb {
     ghost use Rattle.atl_records.specs.Events.{event_keyword};
 
@@ -90,6 +91,7 @@ const FAULTS: [EventFault; 24] = variants!(
     NotComplete NoCrew NotLearning CannotTeach NoFee NoMarket
 );
 
+/// Converts between faults, their numbers and their names in reports.
 impl EventFault {
     ghost use Rattle.std.specs.Prelude.{find, ◌==◌};
     ghost use Rattle.atl_records.specs.Events.{event_fault_number, event_fault_name, event_faults};

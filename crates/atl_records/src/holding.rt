@@ -68,6 +68,7 @@ pub fn put_amount(amounts: &mut Numbered<u32>, number: u32, amount: u32) -> Resu
     amounts.insert(number, amount)
 }
 
+/// Makes a holding, and reads and sets its parts.
 impl Holding {
     /// A holding without the guard flag, of at most MEN_LIMIT men and HOLDING_LIMIT of money. It
     /// has the pieces of each item and the days of each skill over all men, where they are not 0.

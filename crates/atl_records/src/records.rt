@@ -63,6 +63,7 @@ impl Drop for Region {
     }
 }
 
+/// Reads how much of an item is in a region's stock.
 impl Region {
     ghost use Rattle.std.specs.Prelude.{◌≡◌};
     ghost use Rattle.atl_records.specs.Holdings.{amount_of};

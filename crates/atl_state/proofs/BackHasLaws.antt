@@ -17,7 +17,7 @@ use Rattle.atl_campaign.specs.Rows.{is_zero, has_row, rows_of_sort, held_rows, h
 use Rattle.atl_campaign.proofs.ReadBackLaws.{each_permuted, read_whole, written_whole, apart_keys, append_each, each_appended, append_apart, flat_apart, entries_rise, keys_permuted, same_size}
 use Rattle.atl_campaign.proofs.AssemblyLaws.{is_same}
 use Rattle.atl_state.proofs.BackGroupLaws.{groups_each, each_group, lines_each, each_line, lines_apart, amounts_back}
-use Rattle.atl_campaign.proofs.HasLaws.{IsKeyed, same, things_apart}
+use Rattle.atl_campaign.proofs.HasLaws.{HasWholeKey, same, things_apart}
 
 -- a unit's items for sort 0, and its days of study for any other
 abbrev pub goods_of : ℕ → Unit → FinMap nat_cmp ℕ
@@ -91,10 +91,10 @@ module _ (units : FinMap nat_cmp Unit) where
     pub has_keys : HaveKeys has_key rows
     has_keys = keys_permuted has_key (has_rows (entries units)) rows h has_apart
 
-    -- the numbers in the keys of the rows of `has`, in any order, are read as themselves (IsKeyed)
-    pub all_keyed : AllByRecursion IsKeyed rows
+    -- the numbers in the keys of the rows of `has`, in any order, are read as themselves (HasWholeKey)
+    pub all_keyed : AllByRecursion HasWholeKey rows
     all_keyed =
-        each_permuted IsKeyed (has_rows (entries units)) rows h (has_each IsKeyed (λ n u there s few i a is some. record {
+        each_permuted HasWholeKey (has_rows (entries units)) rows h (has_each HasWholeKey (λ n u there s few i a is some. record {
           unit = written_whole n (had.numbers n u there);
           sort = written_whole s (omega arith);
           thing = written_whole i (had.goods n u there s few i a is).0;

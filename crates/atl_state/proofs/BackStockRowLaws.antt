@@ -18,7 +18,7 @@ use Rattle.atl_campaign.proofs.AssemblyLaws.{is_same}
 use Rattle.atl_state.proofs.BackGroupLaws.{groups_each, each_group, lines_each, each_line, lines_apart, amounts_back}
 use Rattle.atl_campaign.proofs.ReadBackLaws.{each_permuted, read_whole, written_whole, apart_keys, flat_apart, entries_rise, keys_permuted, same_size}
 use Rattle.atl_campaign.proofs.HasLaws.{same}
-use Rattle.atl_state.proofs.StockRowLaws.{IsKeyed, is_in, items_apart}
+use Rattle.atl_state.proofs.StockRowLaws.{HasWholeKey, is_in, items_apart}
 
 -- whether a row's stock is 0
 abbrev none : StoredMarket → Bool
@@ -73,10 +73,10 @@ module _ (regions : FinMap nat_cmp Region) where
     pub market_keys : HaveKeys market_key rows
     market_keys = keys_permuted market_key (market_rows Second (entries regions)) rows h stocks_apart
 
-    -- the numbers in the keys of the rows of `market`, in any order, are read as themselves (IsKeyed)
-    all_keyed : AllByRecursion IsKeyed rows
+    -- the numbers in the keys of the rows of `market`, in any order, are read as themselves (HasWholeKey)
+    all_keyed : AllByRecursion HasWholeKey rows
     all_keyed =
-        each_permuted IsKeyed (market_rows Second (entries regions)) rows h (stocks_each IsKeyed (λ n r there i a is some. record { region = written_whole n (few.numbers n r there); item = written_whole i (few.stocks n r there i a is).0 }))
+        each_permuted HasWholeKey (market_rows Second (entries regions)) rows h (stocks_each HasWholeKey (λ n r there i a is some. record { region = written_whole n (few.numbers n r there); item = written_whole i (few.stocks n r there i a is).0 }))
 
     -- the stocks that the rows of `market`, in any order, give a region are those that the region has
     pub stocks_back : (n : ℕ) (r : Region) → get regions n ≡ Some r → stocks_of n rows ≡ r.stocks

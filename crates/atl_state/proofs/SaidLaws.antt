@@ -44,7 +44,7 @@ use Rattle.atl_records.proofs.BookLaws.{not_zero}
 use Rattle.atl_state.proofs.BooksRowLaws.{IsBooked, booked_row, books_order}
 use Rattle.atl_campaign.proofs.FromRowLaws.{in_range, from_le, by_number-every, unit_ranges, number_ranges, head_ranges, NumberRanges}
 use Rattle.atl_campaign.proofs.GroupLaws.{unkept}
-use Rattle.atl_campaign.proofs.HasLaws.{IsWhole, IsKeyed, IsExact, IsOfUnits, same, ties_itself, things_apart, has_order}
+use Rattle.atl_campaign.proofs.HasLaws.{IsWhole, HasWholeKey, IsExact, IsOfUnits, same, ties_itself, things_apart, has_order}
 use Rattle.atl_campaign.proofs.MarketLaws.{market_known}
 use Rattle.atl_state.proofs.StockRowLaws as market
 use Rattle.atl_campaign.proofs.OrderLaws.{Apart, HasNumber, Apart-keys, rows_order, rows_there, rows_found, each_row, row_of, each_passes, each_with, each_so}
@@ -448,8 +448,8 @@ module _ (f : Format) (w : WorldValue) (p : Parts) (k : RowsKeep f w p) where
   either_sort h (inl skill) = inl skill
   either_sort h (inr item) = inr item.0
 
-  -- the unit, sort and thing of a row of goods in range, whose unit exists, fit 32 bits (IsKeyed)
-  keyed : (h : StoredHas) → (IsThere units (as_u32 h.unit)) × (has_in_range h ≡ true) → ((n : ℕ) → (sort : ℕ) → is_of n sort h ≡ true → ThingThere n sort h) → IsKeyed h
+  -- the unit, sort and thing of a row of goods in range, whose unit exists, fit 32 bits (HasWholeKey)
+  keyed : (h : StoredHas) → (IsThere units (as_u32 h.unit)) × (has_in_range h ≡ true) → ((n : ℕ) → (sort : ℕ) → is_of n sort h ≡ true → ThingThere n sort h) → HasWholeKey h
   keyed h (there, range) thing =
       let unit_few = there_below units (as_u32 h.unit) last_unit few_units there in
       let sort = sort_of h range in
@@ -464,9 +464,9 @@ module _ (f : Format) (w : WorldValue) (p : Parts) (k : RowsKeep f w p) where
   all_placed : AllByRecursion Placed p.has
   all_placed = each_with (λ h. IsThere units (as_u32 h.unit)) (λ h. has_in_range h ≡ true) Placed (λ h a b. (a, b)) p.has held_units (each_passes has_in_range (λ h. has_in_range h ≡ true) (λ h e. e) p.has ranges.has)
 
-  -- the unit, sort and thing of each row of goods fit 32 bits (IsKeyed)
-  all_keyed : AllByRecursion IsKeyed p.has
-  all_keyed = each_with Placed (λ h. (n : ℕ) → (sort : ℕ) → is_of n sort h ≡ true → ThingThere n sort h) IsKeyed keyed p.has all_placed things_there
+  -- the unit, sort and thing of each row of goods fit 32 bits (HasWholeKey)
+  all_keyed : AllByRecursion HasWholeKey p.has
+  all_keyed = each_with Placed (λ h. (n : ℕ) → (sort : ℕ) → is_of n sort h ≡ true → ThingThere n sort h) HasWholeKey keyed p.has all_placed things_there
 
   -- the amount of a row of goods is found under its item or skill among what all rows of this sort give unit n
   abbrev IsFound : ℕ → ℕ → StoredHas → Type 0
@@ -491,9 +491,9 @@ module _ (f : Format) (w : WorldValue) (p : Parts) (k : RowsKeep f w p) where
       let range = from_range 1 holding_limit h.amount (omega arith) item.1 in
       (range.0, whole_not_zero h.amount range.0 range.1)
 
-  -- the unit of a row of goods exists, the row is in range (Placed), and its unit, sort and thing fit 32 bits (IsKeyed)
+  -- the unit of a row of goods exists, the row is in range (Placed), and its key fits 32 bits (HasWholeKey)
   abbrev KeyedPlaced : StoredHas → Type 0
-  KeyedPlaced h = IsKeyed h × Placed h
+  KeyedPlaced h = HasWholeKey h × Placed h
 
   -- the unit, sort, thing and amount of a row of goods fit 32 bits, and the amount is not 0 (IsExact)
   exact : (h : StoredHas) → KeyedPlaced h → ((n : ℕ) → (sort : ℕ) → is_of n sort h ≡ true → IsFound n sort h) → IsExact h
@@ -501,7 +501,7 @@ module _ (f : Format) (w : WorldValue) (p : Parts) (k : RowsKeep f w p) where
 
   -- the unit, sort, thing and amount of each row of goods fit 32 bits, and the amount is not 0 (IsExact)
   all_exact : AllByRecursion IsExact p.has
-  all_exact = each_with KeyedPlaced (λ h. (n : ℕ) → (sort : ℕ) → is_of n sort h ≡ true → IsFound n sort h) IsExact exact p.has (each_with IsKeyed Placed KeyedPlaced (λ h a b. (a, b)) p.has all_keyed all_placed) all_found
+  all_exact = each_with KeyedPlaced (λ h. (n : ℕ) → (sort : ℕ) → is_of n sort h ≡ true → IsFound n sort h) IsExact exact p.has (each_with HasWholeKey Placed KeyedPlaced (λ h a b. (a, b)) p.has all_keyed all_placed) all_found
 
   -- a row of goods in range is of a unit that has a row, and of sort 0 (items) or 1 (skills)
   of_units : (h : StoredHas) → Placed h → IsOfUnits p.units h

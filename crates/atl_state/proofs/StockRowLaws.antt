@@ -19,7 +19,7 @@ use Rattle.atl_campaign.proofs.HasLaws.{IsWhole, same, ties_itself}
 use Rattle.atl_campaign.proofs.OrderLaws.{Apart, HasNumber, each_so, flat_order}
 
 -- the region and the item of a row of a market fit 32 bits, so both are read as they are
-pub record IsKeyed (m : StoredMarket) : Type 0 where
+pub record HasWholeKey (m : StoredMarket) : Type 0 where
   -- the region's number fits 32 bits
   pub region : IsWhole m.region
   -- the item's number fits 32 bits
@@ -28,7 +28,7 @@ pub record IsKeyed (m : StoredMarket) : Type 0 where
 -- the region, the item and the stock of a row of a market fit 32 bits, and the stock is not 0
 pub record IsExact (m : StoredMarket) : Type 0 where
   -- the region and the item fit 32 bits
-  pub keys : IsKeyed m
+  pub keys : HasWholeKey m
   -- the stock fits 32 bits
   pub stock : IsWhole m.stock
   -- the stock is not 0
@@ -46,9 +46,9 @@ stock_of m = as_u32 m.stock
 abbrev pub is_in : ℕ → StoredMarket → Bool
 is_in n m = as_u32 m.region == n
 
--- a row of a market is of region n, and its region and item fit 32 bits (IsKeyed)
+-- a row of a market is of region n, and its region and item fit 32 bits (HasWholeKey)
 abbrev IsStockIn : ℕ → StoredMarket → Type 0
-IsStockIn n m = IsKeyed m × (is_in n m ≡ true)
+IsStockIn n m = HasWholeKey m × (is_in n m ≡ true)
 
 -- a row of a market that is of region n (IsStockIn) has n as its region
 its_region : (n : ℕ) (m : StoredMarket) → IsStockIn n m → m.region ≡ pos n
@@ -67,13 +67,13 @@ same_key n m k a b e =
     λ i. (region i, item i, pos 0)
 
 -- no two rows of region n are of one item, if the keys of all rows differ
-pub items_apart : (n : ℕ) (markets : List StoredMarket) → AllByRecursion IsKeyed markets → IsDistinct same (map market_key markets) → Apart item_of (filter (is_in n) markets)
-items_apart n = group.things_apart market_key same ties_itself item_of (is_in n) IsKeyed (same_key n)
+pub items_apart : (n : ℕ) (markets : List StoredMarket) → AllByRecursion HasWholeKey markets → IsDistinct same (map market_key markets) → Apart item_of (filter (is_in n) markets)
+items_apart n = group.things_apart market_key same ties_itself item_of (is_in n) HasWholeKey (same_key n)
 
 -- the stocks read for region n are written as the rows of region n, in some order, if all keys differ
 stock_order : (n : ℕ) (markets : List StoredMarket) → AllByRecursion IsExact markets → IsDistinct same (map market_key markets) → IsPermutation (stock_rows n (entries (stocks_of n markets))) (filter (is_in n) markets)
 stock_order n markets all d =
-    lines_order item_of stock_of (market_row n) (λ m. not (is_zero m.stock)) (filter (is_in n) markets) (items_apart n markets (each_so IsExact IsKeyed (λ m one. one.keys) markets all) d)
+    lines_order item_of stock_of (market_row n) (λ m. not (is_zero m.stock)) (filter (is_in n) markets) (items_apart n markets (each_so IsExact HasWholeKey (λ m one. one.keys) markets all) d)
     (each_so (λ m. IsExact m × (is_in n m ≡ true)) (λ m. (market_row n (item_of m) (stock_of m) ≡ m) × (not (is_zero m.stock) ≡ true)) (λ m here. (same_row n m (here.0.keys, here.1) here.0.stock, ap not here.0.some)) (filter (is_in n) markets) (group.all_mine market_key same ties_itself item_of (is_in n) IsExact markets all))
 
 -- the rows of `market` that are written for a region's stocks

@@ -20,16 +20,16 @@ is_some-put v false (Some w) = refl
 
 -- a map with exactly the numbers of the first i regions has those of the first i + 1 once the i-th one's is put in
 pub seen_more : {V : Type 0} (m : FinMap nat_cmp V) (v : V) (ds : List RegionDraft) (i : ℕ) (d : RegionDraft) → i < length ds → d ≡ get_or ds i d → ((n : ℕ) → is_some (get m n) ≡ has_number n (take i ds))
-    → (n : ℕ) → is_some (get (insert m d.place.number v) n) ≡ has_number n (take (i + 1) ds)
+    → (n : ℕ) → is_some (get (insert m d.basics.number v) n) ≡ has_number n (take (i + 1) ds)
 seen_more m v ds i d below here seen n =
-    ap is_some (get-insert nat_cmp_total m d.place.number v n)
-    ∙ is_some-put v (eq_by_cmp nat_cmp n d.place.number) (get m n)
-    ∙ ap (λ b. b || eq_by_cmp nat_cmp n d.place.number) (seen n)
-    ∙ ap (λ b. has_number n (take i ds) || b) (unsigned_tied n d.place.number ∙ ap (λ (e : RegionDraft). n == e.place.number) here)
-    ∙ sym (list_any_more (λ e. n == e.place.number) ds i d below)
+    ap is_some (get-insert nat_cmp_total m d.basics.number v n)
+    ∙ is_some-put v (eq_by_cmp nat_cmp n d.basics.number) (get m n)
+    ∙ ap (λ b. b || eq_by_cmp nat_cmp n d.basics.number) (seen n)
+    ∙ ap (λ b. has_number n (take i ds) || b) (unsigned_tied n d.basics.number ∙ ap (λ (e : RegionDraft). n == e.basics.number) here)
+    ∙ sym (list_any_more (λ e. n == e.basics.number) ds i d below)
 
 -- the fault of a region's number: TwoNames if a region before it has the number, else none
-pub by_map : (all : List RegionDraft) (i : ℕ) (d : RegionDraft) (b : Bool) → has_number d.place.number (take i all) ≡ b → first_fault (duplicate_number_at all i d) ≡ cond b (Some (TwoNames (path (element_path (codes "region") i) (codes "number")))) None
+pub by_map : (all : List RegionDraft) (i : ℕ) (d : RegionDraft) (b : Bool) → has_number d.basics.number (take i all) ≡ b → first_fault (duplicate_number_at all i d) ≡ cond b (Some (TwoNames (path (element_path (codes "region") i) (codes "number")))) None
 unfolding duplicate_number_at
 by_map all i d true h = rw h
 by_map all i d false h = rw h

@@ -30,7 +30,7 @@ mapped_indices P Q f then (x ∷ xs) all zero y h = let same : f x ≡ y = cc in
 mapped_indices P Q f then (x ∷ xs) all (suc i) y h = mapped_indices P Q f then xs (All-tail P x xs all) i y h
 
 -- tables in their ranges give a world that keeps `IsWorld`, if names differ, neighbours are mutual, and there is land
-pub is_world : (all : WorldDraft) → IsWorldDraft all → AreWorldPartsOf all (world_parts_of all) → ThingNamesDiffer all → All (λ d. HasNeighbours (regions_of all) d.place.number d.sides.north d.sides.south d.sides.east d.sides.west) all.regions → 0 < length (land_of (world_of_tables all)) → IsWorld (world_of_tables all)
+pub is_world : (all : WorldDraft) → IsWorldDraft all → AreWorldPartsOf all (world_parts_of all) → ThingNamesDiffer all → All (λ d. HasNeighbours (regions_of all) d.basics.number d.sides.north d.sides.south d.sides.east d.sides.west) all.regions → 0 < length (land_of (world_of_tables all)) → IsWorld (world_of_tables all)
 unfolding world_of_tables regions_of region_of terrain_of item_of kind_of
 is_world all tables parts names back land =
     let regions = regions_of all in
@@ -47,7 +47,7 @@ is_world all tables parts names back land =
       regions = at_number (λ p. p.number) (λ n p. IsRegionPlan (length (map (terrain_of all) all.terrains)) (length (map (item_of all) all.items)) n p) (map (region_of all) all.regions)
           (subst (λ n. EachIndex (λ i x. IsRegionPlan n (length (map (item_of all) all.items)) x.number x) (map (region_of all) all.regions)) (sym terrain_count) (subst (λ n. EachIndex (λ i x. IsRegionPlan (length all.terrains) n x.number x) (map (region_of all) all.regions)) (sym item_count) parts.regions));
       neighbours = at_number (λ p. p.number) (λ n p. HasNeighbours regions n p.north p.south p.east p.west) (map (region_of all) all.regions)
-          (mapped_indices (λ d. HasNeighbours regions d.place.number d.sides.north d.sides.south d.sides.east d.sides.west) (λ p. HasNeighbours regions p.number p.north p.south p.east p.west) (region_of all) (λ d h. h) all.regions back);
+          (mapped_indices (λ d. HasNeighbours regions d.basics.number d.sides.north d.sides.south d.sides.east d.sides.west) (λ p. HasNeighbours regions p.number p.north p.south p.east p.west) (region_of all) (λ d h. h) all.regions back);
       terrain_names = subst NamesDiffer (sym (names_kept (terrain_of all) (λ d. d.name) (λ t. t.name) (λ d. refl) all.terrains)) names.terrains;
       item_names = subst NamesDiffer (sym (names_kept (item_of all) (λ d. d.name) (λ x. x.name) (λ d. refl) all.items)) names.items;
       skill_names = names.skills;

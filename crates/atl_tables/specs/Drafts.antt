@@ -11,7 +11,7 @@ use Rattle.atl_tables.specs.declared.kind_table.KindDraft.{KindDraft}
 use Rattle.atl_tables.specs.declared.kind_table.Purpose.{Purpose}
 use Rattle.atl_tables.specs.declared.market_table.MarketDraft.{MarketDraft}
 use Rattle.atl_tables.specs.declared.output_table.Output.{Output}
-use Rattle.atl_tables.specs.declared.reading.ThingDrafts.{ThingDrafts}
+use Rattle.atl_tables.specs.declared.reading.OptionalTables.{OptionalTables}
 use Rattle.atl_tables.specs.declared.region_table.OldRegion.{OldRegion}
 use Rattle.atl_tables.specs.declared.region_table.RegionBasics.{RegionBasics}
 use Rattle.atl_tables.specs.declared.region_table.RegionDraft.{RegionDraft}
@@ -158,7 +158,7 @@ pub record AreRegionBasics (p : RegionBasics) : Type 0 where
 -- a table `[[region]]` of the first format has its basics (number, name, peasants, money) in their ranges
 pub record IsOldRegion (r : OldRegion) : Type 0 where
   -- the number, name, peasants and money of the region are in their ranges
-  pub place : AreRegionBasics r.place
+  pub basics : AreRegionBasics r.basics
 
 -- a table `[[region.market]]` has its numbers in their ranges
 pub record IsMarketDraft (d : MarketDraft) : Type 0 where
@@ -178,12 +178,12 @@ pub record IsMarketDraft (d : MarketDraft) : Type 0 where
 -- a table `[[region]]` of the second format has its basics, and the numbers of its markets, in their ranges
 pub record IsRegionDraft (d : RegionDraft) : Type 0 where
   -- the number, name, peasants and money of the region are in their ranges
-  pub place : AreRegionBasics d.place
+  pub basics : AreRegionBasics d.basics
   -- each market of the region has its numbers in their ranges
   pub markets : All IsMarketDraft d.markets
 
 -- items, skills and kinds as read: names by the rule, numbers in range, and no more of each than a world may have
-pub record AreThingDrafts (t : ThingDrafts) : Type 0 where
+pub record AreOptionalTables (t : OptionalTables) : Type 0 where
   -- each table `[[item]]` has a name by the rule, and numbers in their ranges
   pub items : All IsItemDraft t.items
   -- each table `[[skill]]` has a name by the rule, and a fee in its range

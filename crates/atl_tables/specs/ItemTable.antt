@@ -3,7 +3,7 @@
 use Rattle.std.specs.Prelude.{ℕ, ◌==◌, if◌then◌else◌, List, [], ◌∷◌, codes, Option, Some, None, option_and_then}
 use Rattle.toml.specs.Data.{Members}
 use Rattle.atl_tables.specs.Faults.{Conditions}
-use Rattle.atl_tables.specs.KeyByKey.{Table, conditions_of, value_of, ◌>>=◌, says, part, number_key, number_or_key, name_key, optional_text_key}
+use Rattle.atl_tables.specs.KeyByKey.{Table, conditions_of, value_of, ◌>>=◌, value_only, part, number_key, number_or_key, name_key, optional_text_key}
 use Rattle.atl_tables.specs.Keys.{path, element_path}
 use Rattle.atl_world.specs.Limits.{most_weight, last_level, most_raw_count}
 use Rattle.atl_tables.specs.Titles.{known_number_or_none, skill_number, item_number}
@@ -19,7 +19,7 @@ making_at = do
   level ← number_or_key 1 1 last_level (codes "level")
   raw ← optional_text_key (codes "raw")
   raw_count ← number_or_key 1 1 most_raw_count (codes "raw_count")
-  says (record { skill = skill; level = level; raw = raw; raw_count = raw_count })
+  value_only (record { skill = skill; level = level; raw = raw; raw_count = raw_count })
 
 -- all keys of a table `[[item]]`, in order: name, weight, what it carries, and what making one takes
 unfoldable pub item_at : Table ItemDraft
@@ -28,7 +28,7 @@ item_at = do
   weight ← number_key 0 most_weight (codes "weight")
   carry ← number_key 0 most_weight (codes "carry")
   making ← part making_at
-  says (record { name = name; weight = weight; carry = carry; making = making })
+  value_only (record { name = name; weight = weight; carry = carry; making = making })
 
 -- the conditions on the keys of a table `[[item]]`
 abbrev pub item_keys : List ℕ → Members → Conditions

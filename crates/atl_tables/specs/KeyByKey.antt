@@ -5,8 +5,8 @@ use Rattle.toml.specs.Data.{Members}
 use Rattle.atl_tables.specs.Faults.{Conditions, fault_of, first_fault, value_or}
 use Rattle.atl_tables.specs.Keys.{Key, number_at, name_at, text_at, flag_at, number_or_at, optional_text_at}
 
--- what reading a table gives: the conditions on its keys in order, and the value if they hold
-pub record Says (A : Type 0) : Type 0 where
+-- what reading a table gives: the conditions on its keys in order, and its value, with defaults where they fail
+pub record TableReading (A : Type 0) : Type 0 where
   -- the conditions on the keys, in order
   pub conditions : Conditions
   -- the value that the table gives; with defaults where keys have a fault
@@ -14,7 +14,7 @@ pub record Says (A : Type 0) : Type 0 where
 
 -- a way to read a table: from its path and its members, the conditions on its keys and its value
 abbrev pub Table : Type 0 → Type 0
-Table A = List ℕ → Members → Says A
+Table A = List ℕ → Members → TableReading A
 
 -- the conditions on the keys of a table with members t, at the path `at`
 abbrev pub conditions_of : {A : Type 0} → Table A → List ℕ → Members → Conditions
@@ -33,8 +33,8 @@ first >>= next = λ at t. record {
 }
 
 -- a way to read a table that reads no key and has no condition, and gives the value x
-abbrev pub says : {A : Type 0} → A → Table A
-says x = λ at t. record { conditions = []; value = x }
+abbrev pub value_only : {A : Type 0} → A → Table A
+value_only x = λ at t. record { conditions = []; value = x }
 
 -- reads keys as one part of a table: all conditions on them become one, whose fault is the first of theirs
 abbrev pub part : {A : Type 0} → Table A → Table A

@@ -3,7 +3,7 @@
 use Rattle.std.specs.Prelude.{ℕ, List, [], ◌∷◌, codes, unwrap_or, option_and_then}
 use Rattle.toml.specs.Data.{Members}
 use Rattle.atl_tables.specs.Faults.{Conditions}
-use Rattle.atl_tables.specs.KeyByKey.{Table, conditions_of, value_of, ◌>>=◌, says, part, number_key, number_or_key, name_key, text_key, optional_text_key, flag_key}
+use Rattle.atl_tables.specs.KeyByKey.{Table, conditions_of, value_of, ◌>>=◌, value_only, part, number_key, number_or_key, name_key, text_key, optional_text_key, flag_key}
 use Rattle.atl_tables.specs.Keys.{path, element_path}
 use Rattle.atl_world.specs.Limits.{most_amount, last_level, most_size}
 use Rattle.atl_tables.specs.Titles.{known, known_number_or_none, skill_number, item_number}
@@ -20,7 +20,7 @@ building_at = do
   size ← number_key 1 most_size (codes "size")
   skill ← text_key (codes "skill")
   level ← number_key 1 last_level (codes "level")
-  says (record { material = material; size = size; skill = skill; level = level })
+  value_only (record { material = material; size = size; skill = skill; level = level })
 
 -- the keys for what a structure is good for: capacity, crew and the skill that it helps
 unfoldable pub purpose_at : Table Purpose
@@ -28,7 +28,7 @@ purpose_at = do
   capacity ← number_or_key 0 0 most_amount (codes "capacity")
   crew ← number_or_key 0 0 most_size (codes "crew")
   helps ← optional_text_key (codes "helps")
-  says (record { capacity = capacity; crew = crew; helps = helps })
+  value_only (record { capacity = capacity; crew = crew; helps = helps })
 
 -- all keys of a table `[[kind]]`, in order: name, whether it is a ship, what building takes, what it is good for
 unfoldable pub kind_at : Table KindDraft
@@ -37,7 +37,7 @@ kind_at = do
   ship ← flag_key (codes "ship")
   building ← part building_at
   purpose ← part purpose_at
-  says (record { name = name; ship = ship; building = building; purpose = purpose })
+  value_only (record { name = name; ship = ship; building = building; purpose = purpose })
 
 -- the conditions on the keys of a table `[[kind]]`
 abbrev pub kind_keys : List ℕ → Members → Conditions

@@ -40,10 +40,10 @@ market_keys at t =
     ∷ fault_of (restock_at at t)
     ∷ []
 
--- the market that a table `[[region.market]]` gives, with its item by name; `place` is the path of the table
+-- the market that a table `[[region.market]]` gives, with its item by name; `table_path` is the path of the table
 unfoldable pub market_from : List ℕ → Members → MarketDraft
 market_from at t = record {
-  place = at;
+  table_path = at;
   item = value_or [] (text_at (codes "item") at t);
   price = value_or 0 (price_at at t);
   pays = value_or 0 (pays_at at t);
@@ -69,7 +69,7 @@ duplicate_items at ds = no_twins (λ d. d.item) (market_path at) (codes "item") 
 
 -- the condition that the key `item` of a market names an item of the world; else the fault UnknownName
 unfoldable pub market_known : WorldDraft → MarketDraft → Conditions
-market_known all d = known (path d.place (codes "item")) (item_number all d.item) ∷ []
+market_known all d = known (path d.table_path (codes "item")) (item_number all d.item) ∷ []
 
 -- the market that a table `[[region.market]]` describes, with its item by number
 unfoldable pub market_of : WorldDraft → MarketDraft → Market

@@ -27,8 +27,8 @@ neighbour p regions opposite number (Some m) = if is_number number (option_and_t
 -- the conditions that each of the four neighbours of the i-th region of the file has this region on its opposite side
 unfoldable pub neighbours_at : FinMap nat_cmp RegionPlan → ℕ → RegionDraft → Conditions
 neighbours_at regions i d =
-    neighbour (path (element_path (codes "region") i) (codes "north")) regions South d.place.number d.sides.north
-    ∷ neighbour (path (element_path (codes "region") i) (codes "south")) regions North d.place.number d.sides.south
-    ∷ neighbour (path (element_path (codes "region") i) (codes "east")) regions West d.place.number d.sides.east
-    ∷ neighbour (path (element_path (codes "region") i) (codes "west")) regions East d.place.number d.sides.west
+    neighbour (path (element_path (codes "region") i) (codes "north")) regions South d.basics.number d.sides.north
+    ∷ neighbour (path (element_path (codes "region") i) (codes "south")) regions North d.basics.number d.sides.south
+    ∷ neighbour (path (element_path (codes "region") i) (codes "east")) regions West d.basics.number d.sides.east
+    ∷ neighbour (path (element_path (codes "region") i) (codes "west")) regions East d.basics.number d.sides.west
     ∷ []

@@ -87,11 +87,11 @@ old_region_keys at t = first_fault (basics_keys at t) ∷ side_keys at t
 
 -- the region that a table `[[region]]` gives in the first format, with its terrain by name
 unfoldable pub old_region_from : List ℕ → Members → OldRegion
-old_region_from at t = record { place = basics_from at t; sides = sides_from at t }
+old_region_from at t = record { basics = basics_from at t; sides = sides_from at t }
 
 -- a region of the first format as one of the second format without markets
 abbrev pub as_draft : OldRegion → RegionDraft
-as_draft r = record { place = r.place; sides = r.sides; markets = [] }
+as_draft r = record { basics = r.basics; sides = r.sides; markets = [] }
 
 -- the conditions on a whole table `[[region]]` of the second format, with its markets
 unfoldable pub region_keys : List ℕ → Members → Conditions
@@ -99,7 +99,7 @@ region_keys at t = first_fault (old_region_keys at t) ∷ markets_keys at t
 
 -- the region that a table `[[region]]` gives in the second format, with its terrain and its markets' items by name
 unfoldable pub region_from : List ℕ → Members → RegionDraft
-region_from at t = record { place = basics_from at t; sides = sides_from at t; markets = markets_from at t }
+region_from at t = record { basics = basics_from at t; sides = sides_from at t; markets = markets_from at t }
 
 -- the conditions that no two markets of the i-th region are of the same item
 unfoldable pub duplicate_market_items : ℕ → RegionDraft → Conditions
@@ -108,17 +108,17 @@ duplicate_market_items i d = duplicate_items (element_path (codes "region") i) d
 -- the conditions on the names in the i-th region: `terrain` names a terrain, and each market's `item` an item
 unfoldable pub region_known : WorldDraft → ℕ → RegionDraft → Conditions
 region_known all i d =
-    known (path (element_path (codes "region") i) (codes "terrain")) (terrain_number all d.place.terrain)
+    known (path (element_path (codes "region") i) (codes "terrain")) (terrain_number all d.basics.terrain)
     ∷ each (λ k m. market_known all m) 0 d.markets
 
 -- the region that a table `[[region]]` describes, with its terrain and its markets' items by number
 unfoldable pub region_of : WorldDraft → RegionDraft → RegionPlan
 region_of all d = record {
-  number = d.place.number;
-  name = d.place.name;
-  terrain = unwrap_or (terrain_number all d.place.terrain) 0;
-  peasants = d.place.peasants;
-  money = d.place.money;
+  number = d.basics.number;
+  name = d.basics.name;
+  terrain = unwrap_or (terrain_number all d.basics.terrain) 0;
+  peasants = d.basics.peasants;
+  money = d.basics.money;
   north = d.sides.north;
   south = d.sides.south;
   east = d.sides.east;

@@ -9,11 +9,11 @@ use Rattle.atl_tables.specs.Keys.{path, element_path}
 
 -- whether some region of a list has the number n
 abbrev pub has_number : ℕ → List RegionDraft → Bool
-has_number n ds = list_any (λ d. n == d.place.number) ds
+has_number n ds = list_any (λ d. n == d.basics.number) ds
 
 -- the condition that no region before the i-th has the number of the i-th; else the fault TwoNames
 unfoldable pub duplicate_number_at : List RegionDraft → ℕ → RegionDraft → Conditions
-duplicate_number_at all i d = (if has_number d.place.number (take i all) then Some (TwoNames (path (element_path (codes "region") i) (codes "number"))) else None) ∷ []
+duplicate_number_at all i d = (if has_number d.basics.number (take i all) then Some (TwoNames (path (element_path (codes "region") i) (codes "number"))) else None) ∷ []
 
 -- the conditions that no two regions of the file have the same number
 abbrev pub duplicate_numbers : List RegionDraft → Conditions

@@ -3,7 +3,7 @@
 use Rattle.std.specs.Prelude.{[], ◌∷◌, codes, option_and_then}
 use Rattle.toml.specs.Data.{Members, no_members}
 use Rattle.atl_tables.specs.Faults.{Conditions, fault_of, value_or}
-use Rattle.atl_tables.specs.KeyByKey.{Table, conditions_of, value_of, ◌>>=◌, says, part, number_key, optional_text_key}
+use Rattle.atl_tables.specs.KeyByKey.{Table, conditions_of, value_of, ◌>>=◌, value_only, part, number_key, optional_text_key}
 use Rattle.atl_tables.specs.Keys.{path, table_at}
 use Rattle.atl_world.specs.Limits.{most_amount, most_per_head, most_price, most_fraction, most_growth, most_weight}
 use Rattle.atl_tables.specs.Titles.{known_number_or_none, skill_number}
@@ -21,7 +21,7 @@ prices_at = do
   maintenance ← number_key 1 most_per_head (codes "maintenance")
   tax_per_man ← number_key 0 most_per_head (codes "tax_per_man")
   recruit_price ← number_key 1 most_price (codes "recruit_price")
-  says (record { maintenance = maintenance; tax_per_man = tax_per_man; recruit_price = recruit_price })
+  value_only (record { maintenance = maintenance; tax_per_man = tax_per_man; recruit_price = recruit_price })
 
 -- the keys for recruits, births and income of peasants
 unfoldable pub peasants_at : Table PeasantRules
@@ -29,7 +29,7 @@ peasants_at = do
   recruit_fraction ← number_key 1 most_fraction (codes "recruit_fraction")
   growth ← number_key 0 most_growth (codes "growth")
   income ← number_key 0 most_per_head (codes "income")
-  says (record { recruit_fraction = recruit_fraction; growth = growth; income = income })
+  value_only (record { recruit_fraction = recruit_fraction; growth = growth; income = income })
 
 -- the keys for the money of a new faction, and for what men weigh and carry
 unfoldable pub men_at : Table MenRules
@@ -37,7 +37,7 @@ men_at = do
   start_money ← number_key 0 most_amount (codes "start_money")
   man_weight ← number_key 0 most_weight (codes "man_weight")
   man_carry ← number_key 0 most_weight (codes "man_carry")
-  says (record { start_money = start_money; man_weight = man_weight; man_carry = man_carry })
+  value_only (record { start_money = start_money; man_weight = man_weight; man_carry = man_carry })
 
 -- the keys that name the skills of observation, stealth and sailing
 unfoldable pub skill_names_at : Table SkillNames
@@ -45,7 +45,7 @@ skill_names_at = do
   observation ← optional_text_key (codes "observation")
   stealth ← optional_text_key (codes "stealth")
   sailing ← optional_text_key (codes "sailing")
-  says (record { observation = observation; stealth = stealth; sailing = sailing })
+  value_only (record { observation = observation; stealth = stealth; sailing = sailing })
 
 -- all keys of the table `[rules]`, in order: those on prices, on peasants, on men, and the names of skills
 unfoldable pub rules_at : Table RulesDraft
@@ -54,7 +54,7 @@ rules_at = do
   peasants ← part peasants_at
   men ← part men_at
   skills ← part skill_names_at
-  says (record { prices = prices; peasants = peasants; men = men; skills = skills })
+  value_only (record { prices = prices; peasants = peasants; men = men; skills = skills })
 
 -- the table `[rules]` of the document, empty if it is missing
 abbrev pub rules_table : Members → Members

@@ -3,7 +3,7 @@
 use Rattle.std.specs.Prelude.{ℕ, List, codes}
 use Rattle.toml.specs.Data.{Members}
 use Rattle.atl_tables.specs.Faults.{Conditions}
-use Rattle.atl_tables.specs.KeyByKey.{Table, conditions_of, value_of, ◌>>=◌, says, number_key, name_key}
+use Rattle.atl_tables.specs.KeyByKey.{Table, conditions_of, value_of, ◌>>=◌, value_only, number_key, name_key}
 use Rattle.atl_world.specs.Limits.{most_price}
 use Rattle.atl_world.specs.declared.world.Skill.{Skill}
 
@@ -12,7 +12,7 @@ unfoldable pub skill_at : Table Skill
 skill_at = do
   name ← name_key (codes "name")
   fee ← number_key 0 most_price (codes "fee")
-  says (record { name = name; fee = fee })
+  value_only (record { name = name; fee = fee })
 
 -- the conditions on the keys of a table `[[skill]]`
 abbrev pub skill_keys : List ℕ → Members → Conditions

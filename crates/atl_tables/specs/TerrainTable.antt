@@ -4,7 +4,7 @@ use Rattle.std.specs.Prelude.{ℕ, List, codes, map}
 use Rattle.toml.specs.Data.{Members}
 use Rattle.atl_tables.specs.Each.{each}
 use Rattle.atl_tables.specs.Faults.{Conditions}
-use Rattle.atl_tables.specs.KeyByKey.{Table, conditions_of, value_of, ◌>>=◌, says, part, number_key, name_key, flag_key}
+use Rattle.atl_tables.specs.KeyByKey.{Table, conditions_of, value_of, ◌>>=◌, value_only, part, number_key, name_key, flag_key}
 use Rattle.atl_tables.specs.Keys.{element_path}
 use Rattle.atl_world.specs.Limits.{most_amount, most_price}
 use Rattle.atl_tables.specs.OutputTable.{output_path, output_at, duplicate_key_at, known_key_at, amount_of}
@@ -20,7 +20,7 @@ economy_at = do
   places ← number_key 0 most_amount (codes "places")
   money_limit ← number_key 0 most_amount (codes "money_limit")
   peasant_limit ← number_key 0 most_amount (codes "peasant_limit")
-  says (record { wage = wage; places = places; money_limit = money_limit; peasant_limit = peasant_limit })
+  value_only (record { wage = wage; places = places; money_limit = money_limit; peasant_limit = peasant_limit })
 
 -- all keys of a table `[[terrain]]`, in order: name, whether it is land, wage, work places and limits, and output
 unfoldable pub terrain_at : Table TerrainDraft
@@ -29,7 +29,7 @@ terrain_at = do
   land ← flag_key (codes "land")
   economy ← part economy_at
   output ← part output_at
-  says (record { name = name; land = land; economy = economy; output = output })
+  value_only (record { name = name; land = land; economy = economy; output = output })
 
 -- the conditions on the keys of a table `[[terrain]]`
 abbrev pub terrain_keys : List ℕ → Members → Conditions

@@ -25,14 +25,14 @@ use Rattle.atl_tables.specs.declared.fault.WorldFault.{WorldFault}
 use Rattle.atl_tables.specs.declared.fault.WorldFault.TheVariants.{NotToml, NoLand}
 use Rattle.atl_world.specs.declared.format.Format.{Format}
 use Rattle.atl_world.specs.declared.format.Format.TheVariants.{First, Second}
-use Rattle.atl_tables.specs.declared.reading.ThingDrafts.{ThingDrafts}
+use Rattle.atl_tables.specs.declared.reading.OptionalTables.{OptionalTables}
 use Rattle.atl_tables.specs.declared.region_table.RegionDraft.{RegionDraft}
 use Rattle.atl_tables.specs.declared.world_draft.WorldDraft.{WorldDraft}
 use Rattle.atl_world.specs.declared.world.RegionPlan.{RegionPlan}
 
--- the items, skills and kinds of a document, read with a default in place of each fault
-unfoldable pub things_of : Members → ThingDrafts
-things_of doc = record {
+-- the items, skills and kinds of a document, none where their array is missing, read with a default for each fault
+unfoldable pub optional_tables_of : Members → OptionalTables
+optional_tables_of doc = record {
   items = list_of item_from (codes "item") (optional_array_at most_items (codes "item") (codes "item") doc);
   skills = list_of skill_from (codes "skill") (optional_array_at most_skills (codes "skill") (codes "skill") doc);
   kinds = list_of kind_from (codes "kind") (optional_array_at most_kinds (codes "kind") (codes "kind") doc);
@@ -48,9 +48,9 @@ unfoldable pub tables_of : Format → Members → WorldDraft
 tables_of format doc = record {
   rules = rules_in doc;
   terrains = list_of terrain_from (codes "terrain") (array_at most_terrains (codes "terrain") doc);
-  items = (things_of doc).items;
-  skills = (things_of doc).skills;
-  kinds = (things_of doc).kinds;
+  items = (optional_tables_of doc).items;
+  skills = (optional_tables_of doc).skills;
+  kinds = (optional_tables_of doc).kinds;
   regions = regions_in format doc;
 }
 
@@ -71,8 +71,8 @@ world_of_tables all = record {
 
 -- ---- the conditions, in the order in which their faults count
 -- the conditions on the keys of items, skills and kinds: each has its type and range, and is not missing if needed
-unfoldable pub things_conditions : Members → Conditions
-things_conditions doc =
+unfoldable pub optional_conditions : Members → Conditions
+optional_conditions doc =
     list_conditions item_keys (codes "item") (optional_array_at most_items (codes "item") (codes "item") doc)
     ++ (list_conditions skill_keys (codes "skill") (optional_array_at most_skills (codes "skill") (codes "skill") doc)
     ++ list_conditions kind_keys (codes "kind") (optional_array_at most_kinds (codes "kind") (codes "kind") doc))
@@ -87,7 +87,7 @@ unfoldable pub keys_conditions : Format → Members → Conditions
 keys_conditions format doc =
     rules_conditions doc
     ++ (list_conditions terrain_keys (codes "terrain") (array_at most_terrains (codes "terrain") doc)
-    ++ (things_conditions doc
+    ++ (optional_conditions doc
     ++ regions_conditions format doc))
 
 -- the conditions that no two terrains, no two items, no two skills and no two kinds have the same name

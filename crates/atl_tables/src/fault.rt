@@ -34,6 +34,7 @@ pub enum WorldFault {
     Memory,
 }
 
+/// Gives the fault's number, its name, and the path in the file that it is about.
 impl WorldFault {
     /// The number of the fault, if it has one, and its name.
     fn number_and_name(&self) -> (Option<u8>, &'static str)

@@ -9,11 +9,11 @@ use std::alloc::{AllocError, Global};
 /// A value with a number of its own, under which a map stores it.
 pub(crate) trait HasNumber: Drop {
     // The number under which the value is stored.
-    ghost place_of: { Self → ℕ };
+    ghost own_number_of: { Self → ℕ };
 
     /// The value's own number, under which a map stores the value.
-    fn place(&self) -> u32
-        ensures { result ≡ place_of self.now };
+    fn own_number(&self) -> u32
+        ensures { result ≡ own_number_of self.now };
 }
 
 /// Makes a map of a vector's values, each under its own number; of those with the same number the
@@ -22,13 +22,13 @@ pub(crate) fn by_number<T: HasNumber>(
     alloc: Global,
     values: Vec<T>,
 ) -> Result<Numbered<T>, AllocError>
-    ensures value { IfOk result (λ m. m ≡ by_number T.place_of values.items) }
+    ensures value { IfOk result (λ m. m ≡ by_number T.own_number_of values.items) }
     ensures len { IfOk result (λ m. len m ≤ length values.items) }
 {
     let mut values = values;
     let mut numbered = Numbered::new(alloc);
     while let Some(value) = values.pop() {
-        numbered.insert(value.place(), value)?;
+        numbered.insert(value.own_number(), value)?;
     }
     Ok(numbered)
 }

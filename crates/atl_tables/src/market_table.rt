@@ -23,7 +23,7 @@ use toml::Table;
 /// A table `[[region.market]]` as read, with its item by name.
 pub struct MarketDraft {
     /// The path of its table, as `region[0].market[1]`.
-    pub place: Text,
+    pub table_path: Text,
     /// The name of the item that the market trades.
     pub item: Text,
     /// Money that a unit pays the market for one item, from 1 to `MOST_PRICE`.
@@ -39,7 +39,7 @@ pub struct MarketDraft {
 /// Drops the path of the market's table and the name of its item.
 impl Drop for MarketDraft {
     fn drop(self) {
-        let_go!(self: MarketDraft { place, item, price, pays, limit, restock });
+        let_go!(self: MarketDraft { table_path, item, price, pays, limit, restock });
     }
 }
 
@@ -60,7 +60,7 @@ impl Element for MarketDraft {
         let restock = keys::number(alloc, 0, MOST_AMOUNT, "restock", at, table)?;
         let own_path = Text::from_str(alloc, at)?;
         Ok(MarketDraft {
-            place: own_path,
+            table_path: own_path,
             item,
             price,
             pays,
@@ -109,7 +109,7 @@ impl Draft for MarketDraft {
 
     #[tactic(auto, unfolding(crate::specs::MarketTable::market_known, crate::specs::MarketTable::market_of))]
     fn resolve(&self, alloc: Global, all: &WorldDraft, _i: usize) -> Result<Market, WorldFault> {
-        let at = self.place.as_str();
+        let at = self.table_path.as_str();
         let item = known(alloc, all.items.as_slice(), "item", at, &self.item)?;
         Ok(Market {
             item,
@@ -123,9 +123,9 @@ impl Draft for MarketDraft {
 
 /// A market is stored under the number of its item.
 impl HasNumber for Market {
-    ghost place_of = { λ m. m.item };
+    ghost own_number_of = { λ m. m.item };
 
-    fn place(&self) -> u32 {
+    fn own_number(&self) -> u32 {
         u32::from(self.item)
     }
 }

@@ -74,12 +74,12 @@ fn neighbours_of(
     ensures value { Gives (λ u. u) result (first_fault (neighbours_at regions.now i draft.now))
         (tt {0}) }
     ensures back { OnOk result
-        (HasNeighbours regions.now draft.now.place.number draft.now.sides.north
+        (HasNeighbours regions.now draft.now.basics.number draft.now.sides.north
         draft.now.sides.south draft.now.sides.east draft.now.sides.west) }
 {
     let place = element_path(alloc, "region", i)?;
     let at = place.as_str();
-    let number = draft.place.number;
+    let number = draft.basics.number;
     let sides = &draft.sides;
     neighbour(alloc, "north", at, regions, South, number, sides.north)?;
     neighbour(alloc, "south", at, regions, North, number, sides.south)?;
@@ -97,8 +97,8 @@ pub(crate) fn mutual_neighbours(
     ensures value { Gives (λ u. u) result
         (first_fault (each (neighbours_at regions.now) 0 drafts.now)) (tt {0}) }
     ensures back { OnOk result
-        (All (λ d. HasNeighbours regions.now d.place.number d.sides.north d.sides.south d.sides.east
-        d.sides.west) drafts.now) }
+        (All (λ d. HasNeighbours regions.now d.basics.number d.sides.north d.sides.south
+        d.sides.east d.sides.west) drafts.now) }
 {
     for i in 0..drafts.len() {
         neighbours_of(alloc, regions, i, &drafts[i])?;

@@ -2,7 +2,7 @@
 ghost use Rattle.std.specs.Prelude.{◌≡◌, ◌≤◌, ◌<◌, ◌++◌, length, IfOk};
 ghost use Rattle.std.specs.List.{All};
 ghost use Rattle.toml.specs.View.{table_view};
-ghost use Rattle.atl_tables.specs.Drafts.{IsRegionDraft, AreThingDrafts, IsWorldDraft, ThingNamesDiffer};
+ghost use Rattle.atl_tables.specs.Drafts.{IsRegionDraft, AreOptionalTables, IsWorldDraft, ThingNamesDiffer};
 ghost use Rattle.atl_tables.specs.Faults.{first_fault, Reads};
 ghost use Rattle.atl_tables.specs.Results.{Gives};
 ghost use Rattle.atl_world.specs.Limits.{most_regions};
@@ -10,7 +10,7 @@ ghost use Rattle.atl_tables.specs.OldWorlds.{OldWorldsAreBare};
 ghost use Rattle.atl_tables.specs.Parts.{AreWorldPartsOf, world_parts_of};
 ghost use Rattle.atl_world.specs.Worlds.{IsWorld, is_land, land_of, world_of_parts};
 ghost use Rattle.atl_world.specs.Sums.{numbers_where};
-ghost use Rattle.atl_tables.specs.World.{things_of, regions_in, tables_of, world_of_tables, things_conditions, regions_conditions, keys_conditions, titles_differ, names_differ, names_are_known, neighbours_are_mutual, is_some_land, table_conditions, conditions, world_by, world_of, old_world_of};
+ghost use Rattle.atl_tables.specs.World.{optional_tables_of, regions_in, tables_of, world_of_tables, optional_conditions, regions_conditions, keys_conditions, titles_differ, names_differ, names_are_known, neighbours_are_mutual, is_some_land, table_conditions, conditions, world_by, world_of, old_world_of};
 
 use crate::elements::{list, optional_list};
 use crate::fault::WorldFault;
@@ -42,7 +42,7 @@ pub struct WorldParts {
 
 /// The tables of items, skills and kinds as read, each of which a world file may leave out.
 #[derive(Drop)]
-pub struct ThingDrafts {
+pub struct OptionalTables {
     pub items: Sequence<ItemDraft>,
     pub skills: Sequence<Skill>,
     pub kinds: Sequence<KindDraft>,
@@ -50,16 +50,17 @@ pub struct ThingDrafts {
 
 /// The tables of items, skills and kinds of the document, else the first fault of an array or a
 /// key.
-#[tactic(auto, unfolding(crate::specs::World::things_conditions, crate::specs::World::things_of))]
-fn read_thing_drafts(alloc: Global, document: &Table) -> Result<ThingDrafts, WorldFault>
-    ensures value { Gives (λ t. t) result (first_fault (things_conditions (table_view document.now)))
-        (things_of (table_view document.now)) }
-    ensures sound { IfOk result AreThingDrafts }
+#[tactic(auto, unfolding(crate::specs::World::optional_conditions, crate::specs::World::optional_tables_of))]
+fn read_optional_tables(alloc: Global, document: &Table) -> Result<OptionalTables, WorldFault>
+    ensures value { Gives (λ t. t) result
+        (first_fault (optional_conditions (table_view document.now)))
+        (optional_tables_of (table_view document.now)) }
+    ensures sound { IfOk result AreOptionalTables }
 {
     let items = optional_list::<ItemDraft>(alloc, MOST_ITEMS, "item", "item", document)?;
     let skills = optional_list::<Skill>(alloc, MOST_SKILLS, "skill", "skill", document)?;
     let kinds = optional_list::<KindDraft>(alloc, MOST_KINDS, "kind", "kind", document)?;
-    Ok(ThingDrafts {
+    Ok(OptionalTables {
         items,
         skills,
         kinds,
@@ -100,14 +101,14 @@ fn tables(alloc: Global, format: Format, document: &Table) -> Result<WorldDraft,
 {
     let rules = rules(alloc, document)?;
     let terrains = list::<TerrainDraft>(alloc, MOST_TERRAINS, "terrain", document)?;
-    let things = read_thing_drafts(alloc, document)?;
+    let optional_tables = read_optional_tables(alloc, document)?;
     let regions = read_regions(alloc, format, document)?;
     Ok(WorldDraft {
         rules,
         terrains,
-        items: things.items,
-        skills: things.skills,
-        kinds: things.kinds,
+        items: optional_tables.items,
+        skills: optional_tables.skills,
+        kinds: optional_tables.kinds,
         regions,
     })
 }

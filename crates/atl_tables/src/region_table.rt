@@ -55,7 +55,7 @@ pub struct Sides {
 #[derive(Drop)]
 pub struct OldRegion {
     /// The region's number, name, terrain, peasants and money.
-    pub place: RegionBasics,
+    pub basics: RegionBasics,
     /// The numbers of the region's neighbours on its four sides.
     pub sides: Sides,
 }
@@ -64,7 +64,7 @@ pub struct OldRegion {
 /// name; by the first it has no markets.
 pub struct RegionDraft {
     /// The region's number, name, terrain, peasants and money.
-    pub place: RegionBasics,
+    pub basics: RegionBasics,
     /// The numbers of the region's neighbours on its four sides.
     pub sides: Sides,
     /// The region's markets, in the order of the file.
@@ -74,7 +74,7 @@ pub struct RegionDraft {
 /// Drops the region's basics, its sides and its markets.
 impl Drop for RegionDraft {
     fn drop(self) {
-        let_go!(self: RegionDraft { place, sides, markets });
+        let_go!(self: RegionDraft { basics, sides, markets });
     }
 }
 
@@ -132,9 +132,9 @@ impl Element for OldRegion {
 
     #[tactic(auto, unfolding(crate::specs::RegionTable::old_region_keys, crate::specs::RegionTable::old_region_from))]
     fn read(alloc: Global, at: &str, table: &Table) -> Result<OldRegion, WorldFault> {
-        let place = RegionBasics::read(alloc, at, table)?;
+        let basics = RegionBasics::read(alloc, at, table)?;
         let sides = read_sides(alloc, at, table)?;
-        Ok(OldRegion { place, sides })
+        Ok(OldRegion { basics, sides })
     }
 }
 
@@ -148,10 +148,10 @@ impl Element for RegionDraft {
 
     #[tactic(auto, unfolding(crate::specs::RegionTable::region_keys, crate::specs::RegionTable::region_from))]
     fn read(alloc: Global, at: &str, table: &Table) -> Result<RegionDraft, WorldFault> {
-        let OldRegion { place, sides } = OldRegion::read(alloc, at, table)?;
+        let OldRegion { basics, sides } = OldRegion::read(alloc, at, table)?;
         let markets = markets(alloc, at, table)?;
         Ok(RegionDraft {
-            place,
+            basics,
             sides,
             markets,
         })
@@ -167,9 +167,9 @@ pub(crate) fn without_markets(
 {
     let mut drafts = Sequence::new(alloc);
     for region in regions.into_vec() {
-        let OldRegion { place, sides } = region;
+        let OldRegion { basics, sides } = region;
         drafts.push(RegionDraft {
-            place,
+            basics,
             sides,
             markets: Sequence::new(alloc),
         })?;
@@ -211,17 +211,17 @@ impl Draft for RegionDraft {
             all.terrains.as_slice(),
             "terrain",
             place.as_str(),
-            &self.place.terrain,
+            &self.basics.terrain,
         )?;
         let markets = resolve_all(alloc, all, self.markets.as_slice())?;
         let markets = by_number(alloc, markets.into_vec())?;
-        let name = self.place.name.copy(alloc)?;
+        let name = self.basics.name.copy(alloc)?;
         Ok(RegionPlan {
-            number: self.place.number,
+            number: self.basics.number,
             name,
             terrain,
-            peasants: self.place.peasants,
-            money: self.place.money,
+            peasants: self.basics.peasants,
+            money: self.basics.money,
             north: self.sides.north,
             south: self.sides.south,
             east: self.sides.east,
@@ -233,9 +233,9 @@ impl Draft for RegionDraft {
 
 /// A region is stored under its own number.
 impl HasNumber for RegionPlan {
-    ghost place_of = { λ p. p.number };
+    ghost own_number_of = { λ p. p.number };
 
-    fn place(&self) -> u32 {
+    fn own_number(&self) -> u32 {
         self.number
     }
 }

@@ -16,7 +16,7 @@ pub(crate) fn no_duplicate_numbers(alloc: Global, drafts: &[RegionDraft]) -> Res
 {
     let mut seen: Numbered<()> = Numbered::new(alloc);
     for i in 0..drafts.len() {
-        let number = drafts[i].place.number;
+        let number = drafts[i].basics.number;
         if let Some(()) = seen.get(number) {
             let place = element_path(alloc, "region", i)?;
             return Err(WorldFault::TwoNames(path(alloc, place.as_str(), "number")?));

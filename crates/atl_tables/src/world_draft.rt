@@ -28,6 +28,7 @@ pub struct WorldDraft {
     pub regions: Sequence<RegionDraft>,
 }
 
+/// Takes tables that need no look-up out of those read.
 impl WorldDraft {
     /// The skills, which need no look-up, taken out of the tables.
     pub(crate) fn into_skills(self) -> Sequence<Skill>

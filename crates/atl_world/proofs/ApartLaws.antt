@@ -9,7 +9,7 @@ use Rattle.atl_world.specs.RoomySets.{RoomySet}
 use Rattle.atl_world.specs.SortedNumbers.{AreApart, AreMarks}
 use Rattle.atl_world.proofs.GeneralLaws.{key_itself, same_key}
 use Rattle.atl_world.proofs.SetLaws.{same, remove_absent, union-empty, union-insert, len-within, len-below, without_first, rest_holds}
-use Rattle.atl_world.proofs.MarkLaws.{contains-stands}
+use Rattle.atl_world.proofs.SortedListLaws.{contains-stands}
 
 -- a finite set of natural numbers
 abbrev Numbers : Type 0

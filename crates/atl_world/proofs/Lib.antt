@@ -2,10 +2,10 @@ pub mod GeneralLaws
 pub mod Maps
 pub mod Lent
 pub mod SetLaws
-pub mod MarkLaws
+pub mod SortedListLaws
 pub mod MergeLaws
 pub mod ApartLaws
-pub mod CountLaws
+pub mod EntryOrderLaws
 pub mod LookupLaws
 pub mod SumLaws
 pub mod NameLaws

@@ -21,6 +21,7 @@ fn first_other(numbers: &[u32], leaving: u32) -> u32
     0
 }
 
+/// Moves and removes units, and hands the structures that they owned to their next owners.
 impl Campaign {
     /// The owner of a structure once a unit has left it; 0 where there is no such structure. If the
     /// unit didn't own it, the owner stays; else it is the lowest-numbered other unit inside, or 0

@@ -78,7 +78,7 @@ fn has_market(world: &World, region: u32, item: u32) -> bool
 }
 
 /// Whether the world has a market in a region for each item that is in stock there.
-fn is_of_markets(world: &World, number: u32, region: &Region) -> bool
+fn has_known_markets(world: &World, number: u32, region: &Region) -> bool
     ensures { IsTrue result ↔ (AreOfMarkets world.now number region.now.stocks) }
 {
     region
@@ -88,13 +88,13 @@ fn is_of_markets(world: &World, number: u32, region: &Region) -> bool
 }
 
 /// Whether the world has a market for each item that is in stock in a region of the campaign.
-fn are_of_markets(world: &World, campaign: &Campaign) -> bool
+fn have_known_markets(world: &World, campaign: &Campaign) -> bool
     ensures { IsTrue result ↔
         (Every (λ n r. AreOfMarkets world.now n r.stocks) campaign.now.value.regions) }
 {
     campaign
         .regions()
-        .all(|(number, region)| is_of_markets(world, number, region))
+        .all(|(number, region)| has_known_markets(world, number, region))
 }
 
 /// Whether the campaign's regions are exactly the world's, and their stocks are of their markets.
@@ -103,7 +103,7 @@ fn are_stocks_known(world: &World, campaign: &Campaign) -> bool
         (((n : ℕ) → IsThere campaign.now.value.regions n ↔ IsThere world.now.regions n)
         × Every (λ n r. AreOfMarkets world.now n r.stocks) campaign.now.value.regions) }
 {
-    are_regions_known(world, campaign) && are_of_markets(world, campaign)
+    are_regions_known(world, campaign) && have_known_markets(world, campaign)
 }
 
 /// Whether the numbers of all given items or skills are below `count`.
@@ -199,20 +199,24 @@ fn is_owner_there(campaign: &Campaign, structure: &Structure) -> bool
 }
 
 /// Whether a structure's kind and region exist, and its owner is nobody or an existing unit.
-fn is_built(world: &World, campaign: &Campaign, structure: &Structure) -> bool
+fn has_known_kind_region_and_owner(
+    world: &World,
+    campaign: &Campaign,
+    structure: &Structure,
+) -> bool
     ensures { IsTrue result ↔ (IsBuilt world.now campaign.now.value structure.now) }
 {
     has_known_kind_and_region(world, campaign, structure) && is_owner_there(campaign, structure)
 }
 
 /// Whether each structure's kind and region exist, and its owner is nobody or an existing unit.
-fn are_built(world: &World, campaign: &Campaign) -> bool
+fn are_structures_known(world: &World, campaign: &Campaign) -> bool
     ensures { IsTrue result ↔
         (Every (λ n s. IsBuilt world.now campaign.now.value s) campaign.now.value.structures) }
 {
     campaign
         .structures()
-        .all(|(_, structure)| is_built(world, campaign, structure))
+        .all(|(_, structure)| has_known_kind_region_and_owner(world, campaign, structure))
 }
 
 /// Whether all mail is of factions that exist.
@@ -244,7 +248,8 @@ fn are_things_known(world: &World, campaign: &Campaign) -> bool
         × (Every (λ n u. IsPlaced world.now campaign.now.value u) campaign.now.value.units
         × Every (λ n s. IsBuilt world.now campaign.now.value s) campaign.now.value.structures)) }
 {
-    are_stocks_known(world, campaign) && (are_placed(world, campaign) && are_built(world, campaign))
+    are_stocks_known(world, campaign)
+        && (are_placed(world, campaign) && are_structures_known(world, campaign))
 }
 
 /// Whether all mail and all reports are of factions that exist.

@@ -2,10 +2,10 @@ use Rattle.std.proofs.Common.{arith}
 use Rattle.atl_campaign.proofs.GapVecLaws.{closed, removed}
 use Rattle.atl_campaign.proofs.gap_vec.close.Goals as goal
 
--- where the elements before the place moved back, the list is the old one without the element at the place
+-- where the elements before the index moved towards it, the list is the old one without the element at the index
 pub returns-then-place-len-clause-part : goal.returns-then-place-len-clause-part
 returns-then-place-len-clause-part g c = rw c.copy_within.ensures.items (closed c.args.items.now.items c.args.free c.args.place c.requires)
 
--- where the elements after the place moved to the front, the list is the old one without the element at the place
+-- where the elements after the index moved towards it, the list is the old one without the element at the index
 pub returns-clause-part : goal.returns-clause-part
 returns-clause-part g c = rw c.remove.ensures.items (removed c.args.items.now.items c.args.free c.args.place (omega arith))

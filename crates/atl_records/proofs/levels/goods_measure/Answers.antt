@@ -2,7 +2,7 @@ use Rattle.std.proofs.Common.{◌≡◌, ℕ, ◌*◌, ap, ◌∙◌, arith}
 use Rattle.std.proofs.lemmas.List.Sums.{sum_by-cons}
 use Rattle.std.specs.FinMap.{entries, entries_sorted}
 use Rattle.atl_world.proofs.TrackLaws.{is_true}
-use Rattle.atl_world.proofs.CountLaws.{begins_zero, sorted_rest}
+use Rattle.atl_world.proofs.EntryOrderLaws.{begins_zero, sorted_rest}
 use Rattle.atl_records.specs.Levels.{measure_of}
 use Rattle.atl_records.proofs.LevelLaws.{added, fits_next, no_more}
 use Rattle.atl_records.proofs.levels.goods_measure.Goals as goal
@@ -17,7 +17,7 @@ loop-item-init c =
       fits = (0, omega arith, omega arith, begins_zero (entries c.args.holding.now.items));
     }
 
--- the loop's invariant still holds after one more item is counted
+-- after one more item `sum` and what the items left count are still the whole sum, and `sum` is within its new bound
 pub loop-item-preserved : goal.loop-item-preserved
 loop-item-preserved c =
     let e : ℕ × ℕ = (c.in-Some.item, c.in-Some.amount.now) in

@@ -2,7 +2,7 @@ use Rattle.std.proofs.Common.{◌≡◌, ℕ, ◌+◌, ◌*◌, ◌≤◌, true,
 use Rattle.std.specs.Ordering.{nat_cmp}
 use Rattle.std.specs.FinMap.{is_sorted}
 use Rattle.atl_world.specs.Limits.{most_items, most_weight}
-use Rattle.atl_world.proofs.CountLaws.{BeginsFrom}
+use Rattle.atl_world.proofs.EntryOrderLaws.{BeginsFrom}
 use Rattle.atl_records.specs.Limits.{most_u32}
 use Rattle.atl_records.specs.Levels.{goods_measure, measure_of}
 use Rattle.atl_records.proofs.levels.goods_measure.Given as goal

@@ -6,7 +6,7 @@ use Rattle.atl_records.proofs.LevelLaws.{greatest_here, greatest_below, unreache
 use Rattle.atl_records.proofs.EveryLaws.{other_number}
 use Rattle.atl_records.proofs.levels.level.Goals as goal
 
--- the loop's invariant still holds at the next lower level
+-- if the days do not reach `level`, the greatest level that they reach is the greatest up to the next lower one
 pub loop-level-preserved : goal.loop-level-preserved
 loop-level-preserved c =
     let passes : ℕ → Bool = λ n. nat_le (days_for n c.args.men) c.args.days in

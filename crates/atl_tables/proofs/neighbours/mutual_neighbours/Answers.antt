@@ -14,14 +14,14 @@ pub returns-in_err-neighbours_of-clause-value : goal.returns-in_err-neighbours_o
 returns-in_err-neighbours_of-clause-value c =
     exits _ _ _ _ _ c.from_residual.ensures.1 (ends_at (neighbours_at c.args.regions.now) c.args.drafts.now c.loop-i.i c.index-drafts-i.result _ c.loop-i-test.true c.index-drafts-i.is c.loop-i.invariant.faults c.in_err-neighbours_of.field-0.0 c.in_err-neighbours_of.ensures.value)
 
--- the loop's invariant still holds after one more region is checked
+-- after one more region the first fault left is that of all, and each region checked is opposite each of its neighbours
 pub loop-i-preserved : goal.loop-i-preserved
 loop-i-preserved c =
     let regions = c.args.regions.now in
     let drafts = c.args.drafts.now in
     let i = c.loop-i.i in
     let draft = c.index-drafts-i.result in
-    let back : RegionDraft → Type 0 = λ d. HasNeighbours regions d.place.number d.sides.north d.sides.south d.sides.east d.sides.west in
+    let back : RegionDraft → Type 0 = λ d. HasNeighbours regions d.basics.number d.sides.north d.sides.south d.sides.east d.sides.west in
     let more : take (i + 1) drafts ≡ take i drafts ++ draft ∷ [] = take_more drafts i draft c.loop-i-test.true ∙ ap (λ (d : RegionDraft). take i drafts ++ d ∷ []) (sym c.index-drafts-i.is) in
     record {
       faults = goes_on_at (neighbours_at regions) drafts i draft _ c.loop-i-test.true c.index-drafts-i.is c.loop-i.invariant.faults c.in_ok-neighbours_of.ensures.value.0;

@@ -11,5 +11,5 @@ use Rattle.atl_tables.proofs.neighbours.mutual_neighbours.Given as goal
 abbrev pub invariant-loop-i : goal.invariant-loop-i
 invariant-loop-i l = record {
   faults : first_fault (each (neighbours_at l.regions) l.i (drop l.i l.drafts)) ≡ first_fault (each (neighbours_at l.regions) 0 l.drafts);
-  back : All (λ d. HasNeighbours l.regions d.place.number d.sides.north d.sides.south d.sides.east d.sides.west) (take l.i l.drafts);
+  back : All (λ d. HasNeighbours l.regions d.basics.number d.sides.north d.sides.south d.sides.east d.sides.west) (take l.i l.drafts);
 }

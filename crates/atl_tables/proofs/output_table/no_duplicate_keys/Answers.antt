@@ -27,7 +27,7 @@ returns-then-not-branch c =
     let test = came_before (λ p. p.item) all i o c.loop-output.seen c.loop-output.invariant.seen _ c.in_ok-is_new.ensures.new c.if-not-branch.true in
     rw (c.in_ok-path.ensures, c.as_str.ensures) (ends_at (duplicate_key_at at all) all i o (first_fault (each (duplicate_key_at at all) 0 all)) c.loop-output-test.true c.output-item.is c.loop-output.invariant.faults (TwoNames (path at o.item)) (by_test at all i o true test))
 
--- the loop's invariant still holds after one more key that is new
+-- after a new key `seen` has all keys checked so far, and the first fault of the keys left is that of all keys
 pub loop-output-preserved : goal.loop-output-preserved
 loop-output-preserved c =
     let o = c.output-item.result in

@@ -7,7 +7,7 @@ use Rattle.atl_tables.specs.Keys.{array_at}
 use Rattle.atl_world.specs.Limits.{most_terrains}
 use Rattle.atl_tables.specs.RulesTable.{rules_conditions}
 use Rattle.atl_tables.specs.TerrainTable.{terrain_keys}
-use Rattle.atl_tables.specs.World.{things_conditions, regions_conditions, keys_conditions, tables_of}
+use Rattle.atl_tables.specs.World.{optional_conditions, regions_conditions, keys_conditions, tables_of}
 use Rattle.atl_world.specs.declared.format.Format.{Format}
 use Rattle.atl_tables.proofs.FaultLaws.{exits, stops_on, stops_after, passes_both}
 use Rattle.atl_tables.proofs.reading.tables.Goals as goal
@@ -21,8 +21,8 @@ abbrev terrains : Members → Conditions
 terrains doc = list_conditions terrain_keys (codes "terrain") (array_at most_terrains (codes "terrain") doc)
 
 -- the conditions on the keys of the tables of items, skills and kinds
-abbrev things : Members → Conditions
-things doc = things_conditions doc
+abbrev optional_tables : Members → Conditions
+optional_tables doc = optional_conditions doc
 
 -- the conditions on the keys of the tables of regions in a format
 abbrev regions : Format → Members → Conditions
@@ -34,7 +34,7 @@ unfolding keys_conditions
 returns-in_err-rules-clause-value c =
     let t = table_view c.args.document.now in
     let e = c.in_err-rules.field-0.0 in
-    exits _ _ _ _ _ c.from_residual.ensures.1 (stops_on e (rules t) (terrains t ++ (things t ++ regions c.args.format t)) c.in_err-rules.ensures.value)
+    exits _ _ _ _ _ c.from_residual.ensures.1 (stops_on e (rules t) (terrains t ++ (optional_tables t ++ regions c.args.format t)) c.in_err-rules.ensures.value)
 
 -- an error in reading terrains is the first fault of `keys_conditions`, or Memory
 pub returns-in_err-terrains-clause-value : goal.returns-in_err-terrains-clause-value
@@ -42,15 +42,15 @@ unfolding keys_conditions
 returns-in_err-terrains-clause-value c =
     let t = table_view c.args.document.now in
     let e = c.in_err-terrains.field-0.0 in
-    exits _ _ _ _ _ c.from_residual-in_err-terrains.ensures.1 (stops_after e (rules t) (terrains t ++ (things t ++ regions c.args.format t)) c.in_ok-rules.ensures.value.0 (stops_on e (terrains t) (things t ++ regions c.args.format t) c.in_err-terrains.ensures.value))
+    exits _ _ _ _ _ c.from_residual-in_err-terrains.ensures.1 (stops_after e (rules t) (terrains t ++ (optional_tables t ++ regions c.args.format t)) c.in_ok-rules.ensures.value.0 (stops_on e (terrains t) (optional_tables t ++ regions c.args.format t) c.in_err-terrains.ensures.value))
 
 -- an error in reading items, skills or kinds is the first fault of `keys_conditions`, or Memory
-pub returns-in_err-things-clause-value : goal.returns-in_err-things-clause-value
+pub returns-in_err-optional_tables-clause-value : goal.returns-in_err-optional_tables-clause-value
 unfolding keys_conditions
-returns-in_err-things-clause-value c =
+returns-in_err-optional_tables-clause-value c =
     let t = table_view c.args.document.now in
-    let e = c.in_err-things.field-0.0 in
-    exits _ _ _ _ _ c.from_residual-in_err-things.ensures.1 (stops_after e (rules t) (terrains t ++ (things t ++ regions c.args.format t)) c.in_ok-rules.ensures.value.0 (stops_after e (terrains t) (things t ++ regions c.args.format t) c.in_ok-terrains.ensures.value.0 (stops_on e (things t) (regions c.args.format t) c.in_err-things.ensures.value)))
+    let e = c.in_err-optional_tables.field-0.0 in
+    exits _ _ _ _ _ c.from_residual-in_err-optional_tables.ensures.1 (stops_after e (rules t) (terrains t ++ (optional_tables t ++ regions c.args.format t)) c.in_ok-rules.ensures.value.0 (stops_after e (terrains t) (optional_tables t ++ regions c.args.format t) c.in_ok-terrains.ensures.value.0 (stops_on e (optional_tables t) (regions c.args.format t) c.in_err-optional_tables.ensures.value)))
 
 -- an error in reading regions is the first fault of `keys_conditions`, or Memory
 pub returns-in_err-regions-clause-value : goal.returns-in_err-regions-clause-value
@@ -58,27 +58,27 @@ unfolding keys_conditions
 returns-in_err-regions-clause-value c =
     let t = table_view c.args.document.now in
     let e = c.in_err-regions.field-0.0 in
-    exits _ _ _ _ _ c.from_residual-in_err-regions.ensures.1 (stops_after e (rules t) (terrains t ++ (things t ++ regions c.args.format t)) c.in_ok-rules.ensures.value.0 (stops_after e (terrains t) (things t ++ regions c.args.format t) c.in_ok-terrains.ensures.value.0 (stops_after e (things t) (regions c.args.format t) c.in_ok-things.ensures.value.0 c.in_err-regions.ensures.value)))
+    exits _ _ _ _ _ c.from_residual-in_err-regions.ensures.1 (stops_after e (rules t) (terrains t ++ (optional_tables t ++ regions c.args.format t)) c.in_ok-rules.ensures.value.0 (stops_after e (terrains t) (optional_tables t ++ regions c.args.format t) c.in_ok-terrains.ensures.value.0 (stops_after e (optional_tables t) (regions c.args.format t) c.in_ok-optional_tables.ensures.value.0 c.in_err-regions.ensures.value)))
 
 -- if all tables are read, no condition on their keys is broken, and they are those that `tables_of` gives
 pub returns-clause-value : goal.returns-clause-value
 unfolding keys_conditions tables_of
 returns-clause-value c =
     let t = table_view c.args.document.now in
-    rw (c.in_ok-rules.ensures.value.1, c.in_ok-terrains.ensures.value.1, c.in_ok-things.ensures.value.1, c.in_ok-regions.ensures.value.1) (passes_both (rules t) (terrains t ++ (things t ++ regions c.args.format t)) c.in_ok-rules.ensures.value.0 (passes_both (terrains t) (things t ++ regions c.args.format t) c.in_ok-terrains.ensures.value.0 (passes_both (things t) (regions c.args.format t) c.in_ok-things.ensures.value.0 c.in_ok-regions.ensures.value.0)), refl)
+    rw (c.in_ok-rules.ensures.value.1, c.in_ok-terrains.ensures.value.1, c.in_ok-optional_tables.ensures.value.1, c.in_ok-regions.ensures.value.1) (passes_both (rules t) (terrains t ++ (optional_tables t ++ regions c.args.format t)) c.in_ok-rules.ensures.value.0 (passes_both (terrains t) (optional_tables t ++ regions c.args.format t) c.in_ok-terrains.ensures.value.0 (passes_both (optional_tables t) (regions c.args.format t) c.in_ok-optional_tables.ensures.value.0 c.in_ok-regions.ensures.value.0)), refl)
 
 -- the tables read have names by the rule and numbers in their ranges (`IsWorldDraft`)
 pub returns-clause-sound : goal.returns-clause-sound
 returns-clause-sound c = record {
   rules = c.in_ok-rules.ensures.sound;
   terrains = c.in_ok-terrains.ensures.sound;
-  items = c.in_ok-things.ensures.sound.items;
-  skills = c.in_ok-things.ensures.sound.skills;
-  kinds = c.in_ok-things.ensures.sound.kinds;
+  items = c.in_ok-optional_tables.ensures.sound.items;
+  skills = c.in_ok-optional_tables.ensures.sound.skills;
+  kinds = c.in_ok-optional_tables.ensures.sound.kinds;
   regions = c.in_ok-regions.ensures.sound;
   few_terrains = c.in_ok-terrains.ensures.most;
-  few_items = c.in_ok-things.ensures.sound.few_items;
-  few_skills = c.in_ok-things.ensures.sound.few_skills;
-  few_kinds = c.in_ok-things.ensures.sound.few_kinds;
+  few_items = c.in_ok-optional_tables.ensures.sound.few_items;
+  few_skills = c.in_ok-optional_tables.ensures.sound.few_skills;
+  few_kinds = c.in_ok-optional_tables.ensures.sound.few_kinds;
   few_regions = c.in_ok-regions.ensures.most;
 }

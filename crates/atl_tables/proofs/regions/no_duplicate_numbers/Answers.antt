@@ -10,7 +10,7 @@ use Rattle.atl_tables.proofs.EachLaws.{goes_on_at, ends_at}
 use Rattle.atl_tables.proofs.RegionLaws.{seen_more, by_map}
 use Rattle.atl_tables.proofs.regions.no_duplicate_numbers.Goals as goal
 
--- the loop's invariant holds at first, where no number was seen
+-- before the loop `seen` is empty, as no region is checked yet, and all regions are left
 pub loop-i-init : goal.loop-i-init
 loop-i-init c = record { faults = refl; seen = λ n. rw (c.new-seen.ensures, get-empty nat_cmp n) refl }
 
@@ -19,15 +19,15 @@ pub returns-in-Some : goal.returns-in-Some
 returns-in-Some c =
     let d = c.index-drafts-i.result in
     let ds = c.args.drafts.now in
-    let test : has_number d.place.number (take c.loop-i.i ds) ≡ true = sym (c.loop-i.invariant.seen d.place.number) ∙ ap (λ (e : RegionDraft). is_some (get c.loop-i.seen e.place.number)) c.index-drafts-i.is ∙ ap is_some (sym c.in-Some.ensures) in
+    let test : has_number d.basics.number (take c.loop-i.i ds) ≡ true = sym (c.loop-i.invariant.seen d.basics.number) ∙ ap (λ (e : RegionDraft). is_some (get c.loop-i.seen e.basics.number)) c.index-drafts-i.is ∙ ap is_some (sym c.in-Some.ensures) in
     rw (c.in_ok-path.ensures, c.as_str.ensures, c.in_ok-place.ensures) (ends_at (duplicate_number_at ds) ds c.loop-i.i d _ c.loop-i-test.true c.index-drafts-i.is c.loop-i.invariant.faults (TwoNames (path (element_path (codes "region") c.loop-i.i) (codes "number"))) (by_map ds c.loop-i.i d true test))
 
--- the loop's invariant still holds after one more region with a new number
+-- after a new number `seen` has the numbers of all regions checked, and the first fault left is that of all regions
 pub loop-i-preserved : goal.loop-i-preserved
 loop-i-preserved c =
     let d = c.index-drafts-i.result in
     let ds = c.args.drafts.now in
-    let test : has_number d.place.number (take c.loop-i.i ds) ≡ false = sym (c.loop-i.invariant.seen d.place.number) ∙ ap (λ (e : RegionDraft). is_some (get c.loop-i.seen e.place.number)) c.index-drafts-i.is ∙ ap is_some (sym c.in_default.ensures) in
+    let test : has_number d.basics.number (take c.loop-i.i ds) ≡ false = sym (c.loop-i.invariant.seen d.basics.number) ∙ ap (λ (e : RegionDraft). is_some (get c.loop-i.seen e.basics.number)) c.index-drafts-i.is ∙ ap is_some (sym c.in_default.ensures) in
     record {
       faults = goes_on_at (duplicate_number_at ds) ds c.loop-i.i d _ c.loop-i-test.true c.index-drafts-i.is c.loop-i.invariant.faults (by_map ds c.loop-i.i d false test);
       seen = rw (c.in_ok-insert.ensures.ok, ← c.index-drafts-i.is) (seen_more c.loop-i.seen _ ds c.loop-i.i d c.loop-i-test.true c.index-drafts-i.is c.loop-i.invariant.seen);

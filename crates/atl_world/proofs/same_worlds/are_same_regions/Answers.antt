@@ -2,7 +2,7 @@ use Rattle.std.proofs.Common.{sym, ap, ◌∙◌}
 use Rattle.atl_world.proofs.SameLaws.{bare, same_maps, same_entries, same_rest, one_more}
 use Rattle.atl_world.proofs.same_worlds.are_same_regions.Goals as goal
 
--- the invariant of the loop over the regions holds before the first one
+-- before the loop the lists of all regions of both maps are equal but for markets exactly if the maps are
 pub loop-number-init : goal.loop-number-init
 loop-number-init c =
     let plans = c.args.plans.now in
@@ -14,7 +14,7 @@ loop-number-init c =
       part = λ same. mine ∙ same_entries plans others same ∙ sym theirs;
     }
 
--- the invariant of the loop over the regions holds after one more region of both maps is found to be equal
+-- after two regions that are equal but for markets, those still to come are so exactly if the maps are
 pub loop-number-preserved : goal.loop-number-preserved
 loop-number-preserved c =
     let k = c.in-Some.number in

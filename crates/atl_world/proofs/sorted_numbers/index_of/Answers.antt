@@ -1,4 +1,4 @@
-use Rattle.atl_world.proofs.MarkLaws.{searched-found, searched-missing}
+use Rattle.atl_world.proofs.SortedListLaws.{searched-found, searched-missing}
 use Rattle.atl_world.proofs.sorted_numbers.index_of.Goals as goal
 
 -- where the binary search finds the number, the number is at the index that it returns

@@ -41,7 +41,7 @@ add-requires c =
     let rows = ap (λ (b : BooksValue). b.things) books ∙ c.requires.sound.steady.numbers.books.count in
     rw c.amount_number.ensures (fits_amount c.self-2.inside.books.things c.self-2.inside.amounts_marked Joining Money (omega (arith, rows)) c.self-2.invariant.amounts)
 
--- enroll may mark the people booked under Joining: the dirty set of the books has room for them beside the money
+-- enroll may mark the people booked under Joining: the dirty set of the books has room for them after the money
 pub add-requires-2 : goal.add-requires-2
 add-requires-2 c =
     let books : c.self-2.inside.books ≡ c.args.self.now.value.books = ap (λ (m : MarkedCampaign). m.value.books) c.self-2.view_is ∙ ap (λ (s : CampaignValue). s.books) c.in-Ok.ensures.ok ∙ ap (λ (m : MarkedCampaign). m.value.books) c.self.view_is in

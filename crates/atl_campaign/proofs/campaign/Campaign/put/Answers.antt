@@ -7,7 +7,7 @@ use Rattle.atl_campaign.proofs.campaign.Campaign.put.Goals as goal
 pub invariant_of-self : goal.invariant_of-self
 invariant_of-self c = record { unit_lists = c.in_err-relist.ensures.err c.self.inside.units.values c.self.invariant.unit_lists; amounts = c.self.invariant.amounts }
 
--- once put has moved the unit, the lists are those of the units with the unit in its new place
+-- once put has moved the unit, the lists are those of the units with the unit in its new region and structure
 pub invariant_of-self-2 : goal.invariant_of-self-2
 invariant_of-self-2 c =
     let u = c.in-Some.unit.now in

@@ -11,7 +11,7 @@ same_values : (r s : Roster) (n skill : ℕ) → (s ≡ r) ⊎ (s ≡ skill_mark
 same_values r s n skill (inl e) = ap (λ (t : Roster). t.values) e
 same_values r s n skill (inr e) = ap (λ (t : Roster). t.values) e
 
--- after set_days the lists are still those of the units, whose places did not change
+-- after set_days the lists are still those of the units, as no region, faction or structure of a unit changed
 pub invariant_of-self : goal.invariant_of-self
 invariant_of-self c = record {
   unit_lists =

@@ -8,6 +8,6 @@ use Rattle.atl_state.proofs.rules.days.has_days.Goals as goal
 abbrev AreFew : ℕ → ℕ → Type 0
 AreFew men days = (1 ≤ days) × (days ≤ most_days * men)
 
--- the function returns true exactly if the days of each skill listed of the unit are in their bounds
+-- has_days returns true exactly if each skill listed of the unit has at least 1 day, and at most 450 for each man
 pub returns : goal.returns
 returns c = every_by_all (λ _ days. AreFew c.args.holding.now.men days) _ _ _ c.all.ensures.ran c.args.holding.now.days (search rules) (λ x q k. search (rules, tests)) (λ x q k. search (rules, tests))

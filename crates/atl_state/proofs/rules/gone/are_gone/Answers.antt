@@ -23,7 +23,7 @@ apart c every = (λ n f is. (every n f is).0, λ n f is. (every n f is).1)
 together : (c : CampaignValue) → GoneHaveNone c × UnitlessAreGone c → Every (IsGoneWithout c.units) c.factions
 together c both n f is = (both.0 n f is, both.1 n f is)
 
--- the function returns true exactly if rule 7 is kept: the factions that are gone are those without units
+-- are_gone returns true exactly if rule 7 is kept: the factions that are gone are those without units
 pub returns : goal.returns
 returns c =
     let what = c.args.campaign.now.value in

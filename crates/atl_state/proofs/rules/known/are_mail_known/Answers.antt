@@ -4,6 +4,6 @@ use Rattle.atl_records.specs.Every.{IsThere}
 use Rattle.atl_campaign.proofs.RuleLaws.{every_by_all}
 use Rattle.atl_state.proofs.rules.known.are_mail_known.Goals as goal
 
--- the function returns true exactly if all mail is of factions that exist
+-- are_mail_known returns true exactly if all mail is of factions that exist
 pub returns : goal.returns
 returns c = every_by_all (λ n text. IsThere c.args.campaign.now.value.factions n) _ _ _ c.all.ensures.ran c.args.campaign.now.value.mail (search rules) (λ x q k. search (rules, tests)) (λ x q k. search (rules, tests))

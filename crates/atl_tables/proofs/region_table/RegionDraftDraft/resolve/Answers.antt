@@ -38,11 +38,11 @@ returns-clause-sound c =
     let made = c.in_ok-markets-2.ensures.value ∙ ap (by_number (λ (m : Market). m.item)) c.into_vec.ensures in
     record {
       number_is = refl;
-      number_least = c.requires.draft.place.number_least;
-      number_most = c.requires.draft.place.number_most;
-      name = rw c.in_ok-name.ensures c.requires.draft.place.name;
+      number_least = c.requires.draft.basics.number_least;
+      number_most = c.requires.draft.basics.number_most;
+      name = rw c.in_ok-name.ensures c.requires.draft.basics.name;
       terrain = rw c.as_slice.ensures at c.in_ok-terrain.ensures.below;
-      peasants = c.requires.draft.place.peasants;
-      money = c.requires.draft.place.money;
+      peasants = c.requires.draft.basics.peasants;
+      money = c.requires.draft.basics.money;
       markets = λ i m h. at_number (λ (x : Market). x.item) (IsMarket (length c.args.all.now.items)) read c.in_ok-markets.ensures.sound i m (sym (ap (λ (ms : FinMap nat_cmp Market). get ms i) made) ∙ h);
     }

@@ -5,19 +5,19 @@ use Rattle.atl_tables.proofs.FaultLaws.{exits, stops_here}
 use Rattle.atl_tables.proofs.region_table.RegionDraftElement.read.Goals as goal
 
 -- an error in reading the basics or the sides is the first fault of the region's keys (`region_keys`), or Memory
-pub returns-in_err-place-clause-value : goal.returns-in_err-place-clause-value
+pub returns-in_err-basics-clause-value : goal.returns-in_err-basics-clause-value
 unfolding region_keys region_from
-returns-in_err-place-clause-value c = exits _ _ _ _ _ c.from_residual.ensures.1 (stops_here c.in_err-place.field-0.0 _ _ c.in_err-place.ensures.value)
+returns-in_err-basics-clause-value c = exits _ _ _ _ _ c.from_residual.ensures.1 (stops_here c.in_err-basics.field-0.0 _ _ c.in_err-basics.ensures.value)
 
 -- an error in reading the markets is the first fault of the region's keys (`region_keys`), or Memory
 pub returns-in_err-markets-clause-value : goal.returns-in_err-markets-clause-value
 unfolding region_keys region_from
-returns-in_err-markets-clause-value c = rw c.in_ok-place.ensures.value.0 (exits _ _ _ _ _ c.from_residual-in_err-markets.ensures.1 c.in_err-markets.ensures.value)
+returns-in_err-markets-clause-value c = rw c.in_ok-basics.ensures.value.0 (exits _ _ _ _ _ c.from_residual-in_err-markets.ensures.1 c.in_err-markets.ensures.value)
 
 -- if all keys are read, no condition on them is broken, and the region is the one that `region_from` gives
 pub returns-clause-value : goal.returns-clause-value
 unfolding region_keys region_from old_region_from
 returns-clause-value c =
-    let place = ap (λ (r : OldRegion). r.place) c.in_ok-place.ensures.value.1 in
-    let sides = ap (λ (r : OldRegion). r.sides) c.in_ok-place.ensures.value.1 in
-    rw (c.in_ok-place.ensures.value.0, place, sides, c.in_ok-markets.ensures.value.0, c.in_ok-markets.ensures.value.1) (refl, refl)
+    let basics = ap (λ (r : OldRegion). r.basics) c.in_ok-basics.ensures.value.1 in
+    let sides = ap (λ (r : OldRegion). r.sides) c.in_ok-basics.ensures.value.1 in
+    rw (c.in_ok-basics.ensures.value.0, basics, sides, c.in_ok-markets.ensures.value.0, c.in_ok-markets.ensures.value.1) (refl, refl)

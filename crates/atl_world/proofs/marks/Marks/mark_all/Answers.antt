@@ -5,7 +5,7 @@ use Rattle.atl_world.specs.RoomySets.{held}
 use Rattle.atl_world.proofs.SetLaws.{union-empty, union-next, len-next}
 use Rattle.atl_world.proofs.marks.Marks.mark_all.Goals as goal
 
--- the invariant of the loop over the numbers of the map holds before the first one
+-- before the loop the marks are the old ones, and all numbers of the map are still to come
 pub loop-number-init : goal.loop-number-init
 loop-number-init g c =
     let all : c.into_iter-number-iterator.result ≡ entries c.args.values.now = c.into_iter-number-iterator.ensures.into_iter_gives ∙ c.iter-number-items.ensures in
@@ -18,7 +18,7 @@ add-requires g c =
     let l = len-next c.loop-number.self.numbers (held c.args.values.now c.args.self.now.numbers) c.in-Some.number (map (λ (e : ℕ × g.row.V.Denot). e.0) c.next.new.self) so_far in
     omega (arith, l, c.loop-number.invariant.room, c.requires)
 
--- the invariant of the loop over the numbers of the map holds after one more is marked
+-- after one more mark the marks and the numbers still to come are together still the old marks and all numbers
 pub loop-number-preserved : goal.loop-number-preserved
 loop-number-preserved g c =
     let so_far = rw c.in-Some.ensures.steps at c.loop-number.invariant.all in

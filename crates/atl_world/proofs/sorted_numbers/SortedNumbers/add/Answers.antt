@@ -3,7 +3,7 @@ use Rattle.std.specs.FinSet as set
 use Rattle.atl_world.specs.RoomySets.{RoomySet}
 use Rattle.atl_world.specs.SortedNumbers.{IsAt, BelongsAt}
 use Rattle.atl_world.proofs.SetLaws.{insert_twice}
-use Rattle.atl_world.proofs.MarkLaws.{rising-insert, from_list-insert, len-belongs, contains-stands}
+use Rattle.atl_world.proofs.SortedListLaws.{rising-insert, from_list-insert, len-belongs, contains-stands}
 use Rattle.atl_world.proofs.sorted_numbers.SortedNumbers.add.Goals as goal
 
 -- the list has room for the new number

@@ -1,7 +1,7 @@
 use Rattle.std.proofs.Common.{◌≡◌, ap, ◌∙◌}
 use Rattle.std.specs.FinSet as set
 use Rattle.atl_world.specs.RoomySets.{RoomySet}
-use Rattle.atl_world.proofs.MarkLaws.{rising-empty}
+use Rattle.atl_world.proofs.SortedListLaws.{rising-empty}
 use Rattle.atl_world.proofs.sorted_numbers.SortedNumbers.clear.Goals as goal
 
 -- the empty list is sorted

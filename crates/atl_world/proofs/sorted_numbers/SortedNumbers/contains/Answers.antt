@@ -2,7 +2,7 @@ use Rattle.std.proofs.Common.{sym, ap, ◌∙◌}
 use Rattle.std.specs.FinSet as set
 use Rattle.atl_world.specs.RoomySets.{RoomySet}
 use Rattle.atl_world.specs.SortedNumbers.{IsAt, BelongsAt}
-use Rattle.atl_world.proofs.MarkLaws.{contains-stands, contains-belongs}
+use Rattle.atl_world.proofs.SortedListLaws.{contains-stands, contains-belongs}
 use Rattle.atl_world.proofs.sorted_numbers.SortedNumbers.contains.Goals as goal
 
 -- a number that the search finds is in the set

@@ -5,7 +5,7 @@ use Rattle.std.specs.Cmp.{nat_cmp_total}
 use Rattle.std.proofs.lemmas.Map.Keys.{non_decreasing_from_sorted}
 use Rattle.atl_world.specs.Limits.{number_count}
 use Rattle.atl_world.specs.RoomySets.{RoomySet}
-use Rattle.atl_world.proofs.MarkLaws.{len-rising}
+use Rattle.atl_world.proofs.SortedListLaws.{len-rising}
 use Rattle.atl_world.proofs.MergeLaws.{listed_below}
 use Rattle.atl_world.proofs.sorted_numbers.SortedNumbers.len.Goals as goal
 

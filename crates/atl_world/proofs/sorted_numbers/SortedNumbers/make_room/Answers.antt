@@ -2,7 +2,7 @@ use Rattle.std.proofs.Common.{ap, arith}
 use Rattle.std.proofs.lemmas.Result.{on_ok_weaker}
 use Rattle.std.specs.FinSet as set
 use Rattle.atl_world.specs.RoomySets.{RoomySet}
-use Rattle.atl_world.proofs.MarkLaws.{len-rising}
+use Rattle.atl_world.proofs.SortedListLaws.{len-rising}
 use Rattle.atl_world.proofs.sorted_numbers.SortedNumbers.make_room.Goals as goal
 
 -- where there is memory, there is room for the numbers and as many further ones as asked for

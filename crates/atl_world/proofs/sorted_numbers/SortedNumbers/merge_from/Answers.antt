@@ -1,7 +1,7 @@
 use Rattle.std.proofs.Common.{◌≡◌, length, ap, ◌∙◌, arith}
 use Rattle.std.specs.FinSet as set
 use Rattle.atl_world.specs.RoomySets.{RoomySet}
-use Rattle.atl_world.proofs.MarkLaws.{rising-empty, len-rising}
+use Rattle.atl_world.proofs.SortedListLaws.{rising-empty, len-rising}
 use Rattle.atl_world.proofs.MergeLaws.{rising-merged, from_list-merged}
 use Rattle.atl_world.proofs.sorted_numbers.SortedNumbers.merge_from.Goals as goal
 

@@ -3,7 +3,7 @@ use Rattle.std.specs.FinSet as set
 use Rattle.atl_world.specs.RoomySets.{RoomySet}
 use Rattle.atl_world.specs.SortedNumbers.{IsAt, BelongsAt}
 use Rattle.atl_world.proofs.SetLaws.{remove_absent}
-use Rattle.atl_world.proofs.MarkLaws.{rising-remove, from_list-remove, contains-belongs}
+use Rattle.atl_world.proofs.SortedListLaws.{rising-remove, from_list-remove, contains-belongs}
 use Rattle.atl_world.proofs.sorted_numbers.SortedNumbers.take.Goals as goal
 
 -- the list is still sorted after the number is taken out

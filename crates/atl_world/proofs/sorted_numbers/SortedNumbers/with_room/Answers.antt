@@ -1,4 +1,4 @@
-use Rattle.atl_world.proofs.MarkLaws.{rising-empty}
+use Rattle.atl_world.proofs.SortedListLaws.{rising-empty}
 use Rattle.atl_world.proofs.sorted_numbers.SortedNumbers.with_room.Goals as goal
 
 -- the empty list is sorted

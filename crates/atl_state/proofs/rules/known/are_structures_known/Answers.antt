@@ -2,8 +2,8 @@ use Rattle.std.proofs.Common.{rules}
 use borrow.Author.Tests.{tests}
 use Rattle.atl_campaign.specs.Good.{IsBuilt}
 use Rattle.atl_campaign.proofs.RuleLaws.{every_by_all}
-use Rattle.atl_state.proofs.rules.known.are_built.Goals as goal
+use Rattle.atl_state.proofs.rules.known.are_structures_known.Goals as goal
 
--- the function returns true exactly if all that structures name exists
+-- are_structures_known returns true exactly if all that structures name exists
 pub returns : goal.returns
 returns c = every_by_all (λ n s. IsBuilt c.args.world.now c.args.campaign.now.value s) _ _ _ c.all.ensures.ran c.args.campaign.now.value.structures (search rules) (λ x q k. search (rules, tests)) (λ x q k. search (rules, tests))
