@@ -33,7 +33,7 @@ use Rattle.atl_sql.specs.Reading.{Selects, RefusesToSelect, listing_of}
 use Rattle.atl_sql.specs.Rows.{HoldsIn}
 use Rattle.atl_sql.specs.Shown.{int, campaign_row_stored, faction_stored, region_stored, unit_stored, structure_stored, mail_stored, report_stored, campaign_forms, faction_forms, region_forms, unit_forms, has_forms, structure_forms, mail_forms, report_forms, books_forms, market_forms}
 use Rattle.atl_sql.specs.Statements.{selection}
-use Rattle.atl_sql.specs.Sets.{rows_in, IsKeyed}
+use Rattle.atl_sql.specs.Sets.{rows_in, AreKeyedByRowid}
 use Rattle.atl_sql.specs.Stored.{Form, first_columns, AreTyped}
 use Rattle.atl_sql.specs.Tables.{Part, Own, Factions, Regions, Units, Goods, Structures, Mail, Reports, Books, Markets, campaign_table, table_of, parts_in, HasTablesOf}
 use Rattle.atl_store.specs.WorldText.{world_text}
@@ -245,7 +245,7 @@ module _ (f : Format) {S : Type 0} (g : Ghosts S) (old : Held S) where
     -- the schema begins with the tables of the format
     pub begins : HasTablesOf f old.schema
     -- the rowids of each table without an INTEGER PRIMARY KEY are integers, no two alike
-    pub keyed : (table : Table) → Has (tables_with_rowids f) table → IsKeyed ((state g old).now.trees table.tree)
+    pub keyed : (table : Table) → Has (tables_with_rowids f) table → AreKeyedByRowid ((state g old).now.trees table.tree)
 
   -- The tables are made as the format has them (`AreMade`), and `rule` is the first rule that their rows break.
   -- The world text reads as a world.
@@ -351,7 +351,7 @@ pub record StandsIn (f : Format) (s : State) (text : List ℕ) (c : CampaignValu
   -- the trees list the schema and obey it
   pub listed : IsSound s.now.schema s.now.trees
   -- in each table of the format the rowids are integers, no two alike
-  pub keyed : (table : Table) → Has (map table_of (parts_in f)) table → IsKeyed (s.now.trees table.tree)
+  pub keyed : (table : Table) → Has (map table_of (parts_in f)) table → AreKeyedByRowid (s.now.trees table.tree)
   -- the tables of the format hold exactly the rows of the text and the campaign
   pub rows : HoldsIn f s.now.trees text c
 
