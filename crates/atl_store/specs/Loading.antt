@@ -147,11 +147,12 @@ pub record Stays (old new : State) : Type 0 where
   pub same : IsTrue new.is_open → (new.now ≡ old.now) × (new.committed ≡ old.committed)
 
 -- The connection after reads: it is in no transaction, and its tables are as they were, if the disk is clean (`Stays`).
--- A crash leaves only what it could have left before.
+-- What `Survives` says holds too, with nothing committed: a crash leaves only what it could have left before.
 pub record AfterReads {S : Type 0} (g : Ghosts S) (old new : Held S) : Type 0 where
   -- the tables are as they were, if the disk is clean
   pub stays : HasCleanDisk (state g new) → Stays (state g old) (state g new)
-  -- a crash leaves only what it could have left before
+  -- a disk in doubt stays so, no failure is forgotten, and shield and step limit stay; if the disk is clean, only a
+  -- failure closes the connection, and a crash leaves only what it could have left before (`Survives`)
   pub survives : Survives (state g old) (state g new) (λ _. ⊥)
   -- the connection is in no transaction
   pub idle : new.in_transaction ≡ false
@@ -393,11 +394,12 @@ module _ {S : Type 0} (g : Ghosts S) (old : Held S) where
     pub unmarked : c.marks ≡ no_marks
 
   -- Whatever is answered, nothing is changed (`ChangesNothing`), if the disk is clean.
-  -- A crash leaves only what it could have left before, and the connection is in a transaction if it was in one.
+  -- What `Survives` says holds too, with nothing committed, and the connection is in a transaction if it was in one.
   pub record LeavesAlone (new : Held S) : Type 0 where
     -- nothing is changed, if the disk is clean
     pub spares : HasCleanDisk (state g new) → ChangesNothing (state g old) (state g new)
-    -- a crash leaves only what it could have left before
+    -- a disk in doubt stays so, no failure is forgotten, and shield and step limit stay; if the disk is clean, only a
+    -- failure closes the connection, and a crash leaves only what it could have left before (`Survives`)
     pub survives : Survives (state g old) (state g new) (λ _. ⊥)
     -- the connection is in a transaction exactly if it was in one
     pub mode : new.in_transaction ≡ old.in_transaction
