@@ -53,6 +53,7 @@ impl<S: Alter> Model for Service<S> {
     ghost invariant = { λ a. IsService S.Store a.conn a.world a.campaign a.is_open };
 }
 
+/// Makes a service, runs commands, gives its campaign, books and world, and ends it.
 impl<S: Alter> Service<S> {
     ghost use Rattle.atl_campaign.specs.Good.{IsGood};
     ghost use Rattle.atl_campaign.specs.Marks.{no_marks};
