@@ -83,11 +83,11 @@ made_at i d small =
 
 -- ---- of all, one after another
 
--- the text is the CREATE text of some part, and running it makes the schema one table longer
+-- the text is the CREATE text of some part, and running it turns empty tables of `before` into those of `after`
 abbrev pub MakesNextTable : Schema → Schema → List ℕ → Type 1
 MakesNextTable before after text = Has (map creation_of all_parts) text × ((old new : State) → RunsStatement text [] old new → Extends before after old new)
 
--- a text of one of the ten tables that makes a table (`IsCreate`) makes the schema one table longer (`MakesNextTable`)
+-- the CREATE text of a part for these schemas (`IsCreate`) makes the next table (`MakesNextTable`)
 makes : (before after : Schema) (table : Table) (text : List ℕ) → Has (map creation_of all_parts) text → IsCreate before after table text → MakesNextTable before after text
 makes before after table text listed is = (listed, run)
   where

@@ -113,7 +113,7 @@ module _ (p : Row → Bool) (rows found : List Row) (keyed : AreKeyedByRowid row
 
 -- ---- an edit keeps the rowids apart
 
--- removing rows keeps the rowids different
+-- removing rows keeps the rowids different integers
 pub keyed_without : (ids : List ℤ) (rows : List Row) → AreKeyedByRowid rows → AreKeyedByRowid (without_all rows ids)
 keyed_without [] rows keyed = keyed
 keyed_without (id ∷ ids) rows keyed = keyed_without ids (without_rowid id rows) (record {
@@ -141,6 +141,6 @@ apart_put new (r ∷ rows) apart free = go (value_cmp (rowid r) (rowid new)) ref
     go Equal is more = absurd (true≢false (sym (ap is_eq is) ∙ (or_parts _ _ free).0))
     go Greater is more = (all_from _ (r ∷ rows) untaken, apart)
 
--- putting a row with a new rowid keeps the rowids different
+-- putting a row whose rowid is an integer that no row has keeps the rowids different integers
 pub keyed_put : (new : Row) (rows : List Row) → AreKeyedByRowid rows → is_taken rows new ≡ false → is_int (rowid new) ≡ true → AreKeyedByRowid (put_row new rows)
 keyed_put new rows keyed free int = record { apart = apart_put new rows keyed.apart free; ints = all-put_row _ new rows int keyed.ints }
