@@ -104,7 +104,7 @@ later_both old mid new FirstMayLeave SecondMayLeave one two = record { clean = �
 -- ---- before the transaction
 
 module _ {S : Type 0} (g : Ghosts S) (text : List ℕ) (old new : Held S) where
-  -- a fault of loading in the first format is a check that failed (`FailsCheck`)
+  -- an upgrade that ends with a fault of loading in the first format is one of which a check failed (`FailsCheck`)
   pub fails_to_load : (fault : LoadFault) → RefusesToLoadIn First g old fault → FailsCheck g text old new (first_fault fault)
   fails_to_load load.Store refused = inl refused
   fails_to_load (load.Damaged rule) refused = refused
