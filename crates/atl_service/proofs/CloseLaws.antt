@@ -179,7 +179,7 @@ mail_marked c d is m = marked_as c d (without_mail c.value) (mark_all_mail c) is
 pub report_marked : (w : WorldValue) (c d : MarkedCampaign) (n : ℕ) (faults : List FaultyLine) (events : List Event) → d.value ≡ reported_with w c.value n faults events → d.marks ≡ mark_report c n → MarksChanges c d
 report_marked w c d n faults events is m = marked_as c d (reported_with w c.value n faults events) (mark_report c n) is m (marks-report c n (report_of w (view_of w c.value n) faults events))
 
--- with the phases run, the month counted and the mail removed, no mark is lost and all that changed is marked (`MarksChanges`)
+-- with phases run, month counted and mail removed, no mark is lost and all that changed is marked (`MarksChanges`)
 pub turned_marked : (a b c d : MarkedCampaign) (n : ℕ) → MarksChanges a b → c.value ≡ with_month b.value n → c.marks ≡ mark_campaign_row b → d.value ≡ without_mail c.value → d.marks ≡ mark_all_mail c → MarksChanges a d
 turned_marked a b c d n run is m taken t = marks-trans a b d run (marks-trans b c d (month_marked b c n is m) (mail_marked c d taken t))
 
