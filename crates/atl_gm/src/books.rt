@@ -10,10 +10,10 @@ use sqlite::Alter;
 use std::alloc::{AllocError, Global};
 
 /// The work of `books`: makes the text of the campaign's books. A closed service gives Store.
-struct Asking;
+struct MakeBooksText;
 
 /// Makes the text of the campaign's books; a closed service gives Store.
-impl Work for Asking {
+impl Work for MakeBooksText {
     // The text of the books.
     type Done = String;
 
@@ -44,7 +44,7 @@ impl Subcommand for Books {
     /// Prints the text of the books.
     fn run(rt: &HostRuntime, options: &ArgMatches<'_>) -> Result<(), Failure> {
         let path = options::text_of(options, options::DB)?;
-        let text = work_on(rt, path, Opening::Kept, &Asking)?;
+        let text = work_on(rt, path, Opening::Kept, &MakeBooksText)?;
         print_result(rt.print(text.as_str()))
     }
 }

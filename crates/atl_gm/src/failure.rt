@@ -147,6 +147,7 @@ fn print_world_fault<R: Eprint>(rt: &R, fault: &WorldFault) -> io::Result<()> {
     }
 }
 
+/// Makes the failure for an error of the system, and prints a failure.
 impl Failure {
     /// The failure for an error of the system: Memory if the system ran out of memory, else
     /// `other`.

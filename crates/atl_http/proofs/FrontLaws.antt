@@ -116,7 +116,7 @@ stepped : (key b : ℕ) (p : List ℕ) (t : Bool) → IsAt key (seek 0 (cond t (
 stepped key b p true = end_alone key p
 stepped key b p false = inr (seek-empty 0 p)
 
--- after a parameter at the end of its row, the lookup finds the key or nothing, by whether the rest has a slash
+-- after a parameter at the end of its row, the lookup finds the key or nothing, whether the rest has a slash or not
 after_by : (key b : ℕ) (p : List ℕ) (t : Bool) → has_slash (b ∷ p) ≡ t → IsAt key (after_param (([], key) ∷ []) (b ∷ p))
 after_by key b p true h = inr (after_param-stop [] (Some key) b p refl h)
 after_by key b p false h = inl (after_param-end [] (Some key) b p tt refl h)

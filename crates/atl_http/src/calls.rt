@@ -81,6 +81,7 @@ fn write_outcome(returned: io::Result<usize>) -> WriteOutcome
     }
 }
 
+/// Starts the counters of a request's reads, reads once, and gives the count.
 impl Reads {
     ghost use Rattle.atl_http.specs.Calls.{most_reads, no_reads, ReadsOnce};
 
@@ -115,6 +116,7 @@ impl Reads {
     }
 }
 
+/// Starts the counters of a reply's writes, writes once, and gives the count of interruptions.
 impl Writes {
     ghost use Rattle.atl_http.specs.Calls.{most_interrupted, no_writes, WritesOnce};
 

@@ -30,6 +30,7 @@ pub enum HttpFault {
     Memory,
 }
 
+/// Numbers the faults of HTTP; callers know them by these numbers.
 impl HttpFault {
     ghost use Rattle.atl_http.specs.Serving.{fault_number};
 

@@ -27,6 +27,7 @@ impl<'a, C: Clock> Drop for Patience<'a, C> {
     }
 }
 
+/// Starts with all of the time, gives the limit of each call, and subtracts what it took.
 impl<'a, C: Clock> Patience<'a, C> {
     /// The patience with a new connection: all of `WHOLE_SECONDS` is left.
     pub fn new(clock: &'a C) -> Patience<'a, C> {

@@ -30,6 +30,7 @@ pub enum Problem {
     BadJson,
 }
 
+/// Gives the name of a problem, and the status of the reply to it.
 impl Problem {
     /// The problem's name, as `NoRoute` in the body of the reply.
     pub fn name(self) -> &'static str

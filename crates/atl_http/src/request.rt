@@ -51,6 +51,7 @@ impl Drop for Request {
     }
 }
 
+/// Turns a request into the command that it asks for.
 impl Request {
     ghost use Rattle.atl_http.specs.Serving.{command_of};
 
@@ -122,6 +123,7 @@ pub enum Progress {
     Ends(Outcome),
 }
 
+/// Gives the verdict of a progress.
 impl Progress {
     ghost use Rattle.atl_http.specs.Heads.{verdict_by};
 

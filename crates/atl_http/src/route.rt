@@ -36,6 +36,7 @@ pub enum RouteKey {
     Report,
 }
 
+/// Gives the HTTP method of a route.
 impl Route {
     /// The one method of the route.
     pub fn method(self) -> Method

@@ -15,7 +15,7 @@ none_passes : (p : Event → Bool) (es : List Event) → list_any p es ≡ false
 none_passes p [] h = refl
 none_passes p (e ∷ es) h = by_test (p e) h (none_passes p es)
   where
-    -- the text is `None.`, by whether the first event passes
+    -- with the event `e` in front the text is still `None.`: `t`, whether `e` passes, is false, as no event passes
     by_test : (t : Bool) → (t || list_any p es) ≡ false → (list_any p es ≡ false → results_text [] (filter p es) ≡ codes "None.\n") → results_text [] (cond t (e ∷ filter p es) (filter p es)) ≡ codes "None.\n"
     by_test true h rest = absurd (false≢true (sym h))
     by_test false h rest = rest h
@@ -25,7 +25,7 @@ some_passes : (p : Event → Bool) (es : List Event) → list_any p es ≡ true 
 some_passes p [] h = absurd (false≢true h)
 some_passes p (e ∷ es) h = by_test (p e) h (some_passes p es)
   where
-    -- the text is the lines of the passing events, by whether the first event passes
+    -- with the event `e` in front the text is the lines of the passing events, whether `e` is one of them (`t`) or not
     by_test : (t : Bool) → (t || list_any p es) ≡ true → (list_any p es ≡ true → results_text [] (filter p es) ≡ event_lines (filter p es)) → results_text [] (cond t (e ∷ filter p es) (filter p es)) ≡ event_lines (cond t (e ∷ filter p es) (filter p es))
     by_test true h rest = refl
     by_test false h rest = rest h
@@ -40,7 +40,7 @@ pub results_none : (faction : ℕ) (faults : List FaultyLine) (events : List Eve
 results_none faction (f ∷ fs) events h = absurd (false≢true (sym (ap (λ b. b && not (list_any (λ (e : Event). e.faction == faction) events)) (some_length f fs)) ∙ h))
 results_none faction [] events h = by_test (list_any (λ (e : Event). e.faction == faction) events) h (none_passes (λ (e : Event). e.faction == faction) events)
   where
-    -- without own events the text is `None.`
+    -- if `t`, whether some event is the faction's own, is false, the text is `None.`
     by_test : (t : Bool) → not t ≡ true → (t ≡ false → results_text [] (own_events faction events) ≡ codes "None.\n") → results_text [] (own_events faction events) ≡ codes "None.\n"
     by_test true h rest = absurd (false≢true h)
     by_test false h rest = rest refl
@@ -51,7 +51,7 @@ pub results_lines : (faction : ℕ) (faults : List FaultyLine) (events : List Ev
 results_lines faction (f ∷ fs) events h = refl
 results_lines faction [] events h = by_test (list_any (λ (e : Event). e.faction == faction) events) h (some_passes (λ (e : Event). e.faction == faction) events)
   where
-    -- with own events the text is their lines
+    -- if `t`, whether some event is the faction's own, is true, the text is the lines of the own events
     by_test : (t : Bool) → not t ≡ false → (t ≡ true → results_text [] (own_events faction events) ≡ event_lines (own_events faction events)) → results_text [] (own_events faction events) ≡ event_lines (own_events faction events)
     by_test true h rest = rest refl
     by_test false h rest = absurd (false≢true (sym h))

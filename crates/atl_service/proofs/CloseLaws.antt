@@ -1,5 +1,5 @@
 -- Laws on closing a month: the mail is read, the reports are stored, the result is the campaign of `closed`, and the
--- dirty set has all changes.
+-- marks have all changes.
 use Rattle.std.proofs.Common.{◌≡◌, ◌≤◌, ◌<◌, ℕ, Bool, true, false, cond, List, [], ◌∷◌, ◌++◌, ◌+◌, drop, get_or, map, length, Option, Some, None, option_map, Result, Ok, Err, refl, sym, ap, ap₂, ◌∙◌, subst, arith}
 use Rattle.std.specs.Prelude.{All, OnOk, filter, fold, nat_lt, not, unwrap_or}
 use Rattle.std.proofs.lemmas.Bool.Decides.{nat_tests}
@@ -161,29 +161,29 @@ closed_is w c after events words faults is wrong =
     same_reports w events (λ n. unwrap_or (get faults n) []) (λ n. faults_in w (get c.mail n)) (λ n. ap (λ m. unwrap_or (get m n) []) wrong ∙ faulty_lines_under w c.mail n) (after_month after) (active c)
     ∙ ap (with_month_reports w c) is
 
--- ---- the dirty set
+-- ---- the marks
 
--- if the dirty set of a campaign has all changes, so has that of a campaign with equal value and equal dirty set
+-- what `MarksChanges` says of a campaign of this value and these marks, it says of the campaign `d`, which has them
 marked_as : (c d : MarkedCampaign) (what : CampaignValue) (marks : Marks) → d.value ≡ what → d.marks ≡ marks → MarksChanges c (record { value = what; marks = marks }) → MarksChanges c d
 marked_as c d what marks is m h = subst (MarksChanges c) (sym (ap₂ (λ s n. record { value = s; marks = n }) is m)) h
 
--- after counting the month, with the campaign row added to the dirty set, the dirty set has all changes
+-- with the month counted and the campaign row marked, no mark is lost and all that changed is marked (`MarksChanges`)
 pub month_marked : (c d : MarkedCampaign) (n : ℕ) → d.value ≡ with_month c.value n → d.marks ≡ mark_campaign_row c → MarksChanges c d
 month_marked c d n is m = marked_as c d (with_month c.value n) (mark_campaign_row c) is m (marks-month c n)
 
--- after removing the mail, with all mail added to the dirty set, the dirty set has all changes
+-- with the mail removed and all mail marked, no mark is lost and all that changed is marked (`MarksChanges`)
 pub mail_marked : (c d : MarkedCampaign) → d.value ≡ without_mail c.value → d.marks ≡ mark_all_mail c → MarksChanges c d
 mail_marked c d is m = marked_as c d (without_mail c.value) (mark_all_mail c) is m (marks-no_mail c)
 
--- after storing a report, with the report added to the dirty set, the dirty set has all changes
+-- with a report stored and marked, no mark is lost and all that changed is marked (`MarksChanges`)
 pub report_marked : (w : WorldValue) (c d : MarkedCampaign) (n : ℕ) (faults : List FaultyLine) (events : List Event) → d.value ≡ reported_with w c.value n faults events → d.marks ≡ mark_report c n → MarksChanges c d
 report_marked w c d n faults events is m = marked_as c d (reported_with w c.value n faults events) (mark_report c n) is m (marks-report c n (report_of w (view_of w c.value n) faults events))
 
--- after the phases, counting the month and removing the mail, the dirty set has all changes
+-- with phases run, month counted and mail removed, no mark is lost and all that changed is marked (`MarksChanges`)
 pub turned_marked : (a b c d : MarkedCampaign) (n : ℕ) → MarksChanges a b → c.value ≡ with_month b.value n → c.marks ≡ mark_campaign_row b → d.value ≡ without_mail c.value → d.marks ≡ mark_all_mail c → MarksChanges a d
 turned_marked a b c d n run is m taken t = marks-trans a b d run (marks-trans b c d (month_marked b c n is m) (mail_marked c d taken t))
 
--- after storing a report without an error, the dirty set has all changes
+-- with a report stored and marked without an error, no mark is lost and all that changed is marked (`MarksChanges`)
 pub stored_marked : {A E : Type 0} (w : WorldValue) (c d : MarkedCampaign) (n : ℕ) (faults : List FaultyLine) (events : List Event) (r : Result A E) → OnOk r (d.value ≡ reported_with w c.value n faults events) → OnOk r (d.marks ≡ mark_report c n)
     → OnOk r (MarksChanges c d)
 stored_marked w c d n faults events (Ok a) is m = report_marked w c d n faults events is m

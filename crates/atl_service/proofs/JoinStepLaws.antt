@@ -53,8 +53,8 @@ accepted false false x y e = cc
 is_there : {V : Type 0} (o : Option V) (v : V) → o ≡ Some v → IsSome o
 is_there o v is = ap is_some is
 
--- a join in a good campaign, with its first report, adds the faction, its unit and its report, and raises the next
--- numbers (`HasArrival`)
+-- after a join in a good campaign, with its first report, the faction, its unit, which came last, and its report are
+-- there, and the books have money and people among their things (`HasArrival`)
 arrival : (w : WorldValue) (name pass : List ℕ) (word : ℕ) (c : CampaignValue) → IsGood w c → HasArrival (reported w (joined w name pass word c) c.next_faction) c.next_faction
 unfolding joined
 arrival w name pass word c good =

@@ -1,4 +1,4 @@
--- Laws on `run`: what `answer_to` promises (`Answers`, `LeavesAfterFailure`) implies what `run` promises (`Runs`).
+-- Laws on `run`: what `answer_to` promises (`Answers`, `CommandLeavesAfterFault`) implies what `run` promises (`Runs`).
 -- An answered command keeps the service consistent.
 use Rattle.std.proofs.Common.{◌≡◌, Bool, true, false, cond, Some, None, IfSome, refl, sym, ap, ap₂, ◌∙◌, subst}
 use Rattle.std.proofs.lemmas.Bool.{false≢true}
@@ -17,7 +17,7 @@ use Rattle.atl_store.specs.declared.fault.WriteFault.{WriteFault}
 use Rattle.atl_store.specs.declared.fault.WriteFault.TheVariants as write
 use Rattle.atl_store.specs.Keeps.{HoldsCampaign}
 use Rattle.atl_service.specs.Service.{ServiceValue, text_in, IsConsistent}
-use Rattle.atl_service.specs.Answering.{Answers, LeavesAfterFailure, LeavesIdle, of_write}
+use Rattle.atl_service.specs.Answering.{Answers, CommandLeavesAfterFault, LeavesIdle, of_write}
 use Rattle.atl_service.specs.Causes.{OfCommand, HasCause}
 use Rattle.atl_service.specs.Runs.{Runs, RunsOpen, Closes}
 
@@ -71,9 +71,9 @@ module _ {S : Type 0} (g : Ghosts S) where
     runs_on old answer true seen up stands leaves done = subst (λ e. Runs g e command answer (shown conn' w c' true)) seen (runs_open answer stands leaves done)
     runs_on old answer false seen up stands leaves done = absurd (false≢true up)
 
-    -- The command ended in a fault, and left what `LeavesAfterFailure` allows.
+    -- The command ended in a fault, and left what `CommandLeavesAfterFault` allows.
     abbrev pub GaveUp : Type 0
-    GaveUp = LeavesAfterFailure g w c conn command conn'
+    GaveUp = CommandLeavesAfterFault g w c conn command conn'
 
     -- a command of a consistent open service that ended in a fault closes the service, and on a clean disk the tables
     -- hold the campaign before it (`Closes`)

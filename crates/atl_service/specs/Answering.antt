@@ -50,17 +50,17 @@ pub record Answers {S : Type 0} (g : Ghosts S) (w : WorldValue) (before : Campai
   -- if the disk is clean, tables that held the campaign before hold the campaign after, with the same world text
   pub tables : HasCleanDisk (state g new) → (text : List ℕ) → Keeps (state g old) text before → Keeps (state g new) text after
 
--- A command failed with a fault: on a clean disk, tables that held the campaign before the command still do
+-- A command ended in a fault: on a clean disk, tables that held the campaign before the command still do
 -- (`LeavesAfterFault`). A crash leaves that campaign or the one after `step`.
-abbrev pub LeavesAfterFailure : {S : Type 0} → Ghosts S → WorldValue → CampaignValue → Held S → Command → Held S → Type 0
-LeavesAfterFailure g w before old command new = HasCleanDisk (state g new) → (text : List ℕ) → Keeps (state g old) text before → LeavesAfterFault (state g old).faults (state g new) text before (step w before command).0
+abbrev pub CommandLeavesAfterFault : {S : Type 0} → Ghosts S → WorldValue → CampaignValue → Held S → Command → Held S → Type 0
+CommandLeavesAfterFault g w before old command new = HasCleanDisk (state g new) → (text : List ℕ) → Keeps (state g old) text before → LeavesAfterFault (state g old).faults (state g new) text before (step w before command).0
 
--- After any command, answered or failed: the connection is in no transaction, its count of disk failures has not sunk,
--- and, if the disk is clean, other tables are unchanged.
+-- After any command, answered or failed: the connection is in no transaction; no doubt of the disk, no failure and no
+-- test of reads is lost (`IsLater`); and, if the disk is clean, other tables are unchanged.
 pub record LeavesIdle {S : Type 0} (g : Ghosts S) (old new : Held S) : Type 0 where
   -- the connection is in no transaction
   pub idle : new.in_transaction ≡ false
-  -- no failure of the disk is forgotten, and reads that are tested stay so (`IsLater`)
+  -- no doubt of the disk, no failure and no test of reads is lost (`IsLater`)
   pub later : IsLater (state g old) (state g new)
   -- if the disk is clean, tables that aren't the campaign's hold what they held (`LeavesOthersAlone`)
   pub others : HasCleanDisk (state g new) → LeavesOthersAlone (state g old) (state g new)

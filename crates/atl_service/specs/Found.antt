@@ -35,7 +35,7 @@ pub record Founds {S : Type 0} (g : Ghosts S) (old : Held S) (text pass : List �
   pub tables : HoldsCampaign g made.conn text (founded_of made.world pass)
   -- if the disk is clean, the world text that the tables hold is the given text
   pub text_is : HasCleanDisk (state g made.conn) → text_in g made.conn ≡ text
-  -- no failure of the disk is forgotten, and reads that are tested stay so (`IsLater`)
+  -- no doubt of the disk, no failure and no test of reads is lost (`IsLater`)
   pub later : IsLater (state g old) (state g made.conn)
 
 -- The text is a world: it parses without a fault.
@@ -94,7 +94,7 @@ pub record RefusesFounding {S : Type 0} (g : Ghosts S) (old : Held S) (text pass
   pub cause : MayBeCause text pass (has_campaign old.schema) why
   -- founding leaves what its cause allows (`LeavesByCause`)
   pub leaves : LeavesByCause g old text pass new why
-  -- no failure of the disk is forgotten, and reads that are tested stay so (`IsLater`)
+  -- no doubt of the disk, no failure and no test of reads is lost (`IsLater`)
   pub later : IsLater (state g old) (state g new)
 
 -- What founding builds before it writes: `w` is the world of the text and `c` the campaign founded in it; the pass text

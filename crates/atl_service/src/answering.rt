@@ -7,7 +7,7 @@ ghost use Rattle.atl_campaign.specs.Good.{IsGood, IsActive};
 ghost use Rattle.atl_campaign.specs.Marks.{no_marks};
 ghost use Rattle.atl_campaign.specs.Campaign.{with_mail};
 ghost use Rattle.atl_service.specs.Step.{faction_with_pass, step};
-ghost use Rattle.atl_service.specs.Answering.{Answers, Denies, LeavesAfterFailure, IsNoFault, LeavesIdle, of_write, mail_error};
+ghost use Rattle.atl_service.specs.Answering.{Answers, Denies, CommandLeavesAfterFault, IsNoFault, LeavesIdle, of_write, mail_error};
 ghost use Rattle.atl_service.specs.Causes.{OfCommand, HasCause};
 
 use crate::closing::close;
@@ -37,7 +37,7 @@ fn join<S: Alter>(
         (Answers S.Store world.now campaign.old.value conn.old
         (Command.Join name.now pass.now word) campaign.new.value conn.new) }
     ensures err { OnErr result
-        (LeavesAfterFailure S.Store world.now campaign.old.value conn.old
+        (CommandLeavesAfterFault S.Store world.now campaign.old.value conn.old
         (Command.Join name.now pass.now word) conn.new) }
     ensures cause { IfErr result
         (λ fault. HasCause S.Store (OfCommand world.now campaign.old.value
@@ -167,7 +167,7 @@ fn mail<S: Alter>(
         (Answers S.Store world.now campaign.old.value conn.old
         (Command.Mail faction pass.now text.now) campaign.new.value conn.new) }
     ensures err { OnErr result
-        (LeavesAfterFailure S.Store world.now campaign.old.value conn.old
+        (CommandLeavesAfterFault S.Store world.now campaign.old.value conn.old
         (Command.Mail faction pass.now text.now) conn.new) }
     ensures cause { IfErr result
         (λ fault. HasCause S.Store (OfCommand world.now campaign.old.value
@@ -228,7 +228,8 @@ pub(crate) fn answer_to<S: Alter>(
         (Answers S.Store world.now campaign.old.value conn.old command.now campaign.new.value
         conn.new) }
     ensures err { OnErr result
-        (LeavesAfterFailure S.Store world.now campaign.old.value conn.old command.now conn.new) }
+        (CommandLeavesAfterFault S.Store world.now campaign.old.value conn.old command.now
+        conn.new) }
     ensures cause { IfErr result
         (λ fault. HasCause S.Store (OfCommand world.now campaign.old.value command.now) conn.old
         conn.new (of_write fault)) }

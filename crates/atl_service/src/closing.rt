@@ -9,7 +9,7 @@ ghost use Rattle.atl_campaign.specs.Good.{IsGood};
 ghost use Rattle.atl_records.specs.Limits.{last_month};
 ghost use Rattle.atl_campaign.specs.Marks.{no_marks};
 ghost use Rattle.atl_service.specs.declared.command.Command.TheVariants as command;
-ghost use Rattle.atl_service.specs.Answering.{Answers, LeavesAfterFailure, LeavesIdle, of_write};
+ghost use Rattle.atl_service.specs.Answering.{Answers, CommandLeavesAfterFault, LeavesIdle, of_write};
 ghost use Rattle.atl_service.specs.Causes.{OfCommand, HasCause};
 ghost use Rattle.atl_service.specs.Closing.{closed};
 ghost use Rattle.atl_service.specs.Months.{AreThere, HasRead, MayClose, reported_to_all};
@@ -71,8 +71,8 @@ fn read_mail(alloc: Global, world: &World, campaign: &Campaign) -> Result<ReadMa
 }
 
 /// Runs the month's phases, counts the month, removes the mail, and returns what the reports need.
-/// The dirty set has all changes. If memory runs out, the campaign in memory is lost, and a blank
-/// one is in its place.
+/// No mark is lost, and all that changed is marked. If memory runs out, the campaign in memory is
+/// lost, and a blank one is in its place.
 fn turn_month(
     alloc: Global,
     world: &World,
@@ -151,7 +151,7 @@ pub(crate) fn close<S: Alter>(
         (Answers S.Store world.now campaign.old.value conn.old
         (command.Close month pass.now words.now) campaign.new.value conn.new) }
     ensures err { OnErr result
-        (LeavesAfterFailure S.Store world.now campaign.old.value conn.old
+        (CommandLeavesAfterFault S.Store world.now campaign.old.value conn.old
         (command.Close month pass.now words.now) conn.new) }
     ensures cause { IfErr result
         (λ fault. HasCause S.Store (OfCommand world.now campaign.old.value

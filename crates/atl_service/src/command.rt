@@ -116,6 +116,7 @@ pub enum Refusal {
     WrongDice = 14,
 }
 
+/// Gives the number and the name of a refusal, as answers have them.
 impl Refusal {
     /// The refusal's number, from 1 to 14, as answers have it. See docs/FORMATS.md, "Refusals".
     pub fn number(self) -> u8
@@ -157,6 +158,7 @@ pub enum Fault {
     Closed,
 }
 
+/// Gives the name of a fault, as answers have it.
 impl Fault {
     /// The fault's name, as answers have it. See docs/FORMATS.md, "Refusals".
     pub fn name(self) -> &'static str

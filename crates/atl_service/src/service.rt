@@ -53,6 +53,7 @@ impl<S: Alter> Model for Service<S> {
     ghost invariant = { λ a. IsService S.Store a.conn a.world a.campaign a.is_open };
 }
 
+/// Makes a service, runs commands, gives its campaign, books and world, and ends it.
 impl<S: Alter> Service<S> {
     ghost use Rattle.atl_campaign.specs.Good.{IsGood};
     ghost use Rattle.atl_campaign.specs.Marks.{no_marks};
@@ -223,10 +224,10 @@ pub fn found<S: Alter>(
 /// Opens the campaign that the tables hold, with its world; on a clean disk both are as they were
 /// stored. The tables are unchanged, also after a refusal, which returns the connection.
 /// NotACampaign: there is no table `campaign`, or it lacks a column. OldFormat: the table
-/// `campaign` has one row, whose format is the first, and `upgrade` accepts it. Damaged: this is
-/// the first rule that the rows of the tables break. Store: the connection is in a transaction, the
-/// tables are not made as those of a campaign, or the database failed for another cause than
-/// memory. See docs/FORMATS.md, "Rules of the tables".
+/// `campaign` has one row, whose format is the first, whatever else it says; `upgrade` is for such
+/// tables. Damaged: this is the first rule that the rows of the tables break. Store: the connection
+/// is in a transaction, the tables are not made as those of a campaign, or the database failed for
+/// another cause than memory. See docs/FORMATS.md, "Rules of the tables".
 pub fn open<S: Alter>(alloc: Global, mut conn: Connection<S>) -> Result<Service<S>, Refused<S>>
     ensures ok { IfOk result (Opens S.Store conn) }
     ensures back { IfOk result (ComesBack S.Store conn) }
@@ -254,10 +255,11 @@ pub fn open<S: Alter>(alloc: Global, mut conn: Connection<S>) -> Result<Service<
 /// returns the connection; if the disk is clean, the tables are as they were while the connection
 /// is open, and a crash leaves what it left before or the upgraded campaign. NotACampaign: there is
 /// no table `campaign`, or it lacks a column. NotOld: the table `campaign` has one row, whose
-/// format is the second. Damaged: this is the first rule of the first format that the rows break.
-/// World: the new world text has this fault. Differs: the worlds differ in more than markets.
-/// Store: the connection is in a transaction, the tables are not exactly those of the first format,
-/// or the database failed for another cause than memory. See docs/FORMATS.md, "Upgrading a file".
+/// format is the second, whatever else it says. Damaged: this is the first rule of the first format
+/// that the rows break. World: the new world text has this fault. Differs: the worlds differ in
+/// more than markets. Store: the connection is in a transaction, the tables are not exactly those
+/// of the first format, or the database failed for another cause than memory. See docs/FORMATS.md,
+/// "Upgrading a file".
 pub fn upgrade<S: Alter>(
     alloc: Global,
     mut conn: Connection<S>,

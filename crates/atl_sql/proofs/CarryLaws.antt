@@ -73,11 +73,11 @@ module _ (t : Table) (old new : Database) (has : HasTables old) (ours : Has all_
         others = λ u there free. others u (subst (λ (s : Schema). Has s.tables u) has.begins.is there) (λ same. free (subst (Has all_trees) (sym same) (has_map (λ (x : Table). x.tree) all_tables t ours)));
       }
 
-  -- a write of one table alters that table alone (`Alters`)
+  -- a write that makes the rows of `t` the set `S` (`Makes`) leaves each other table of a campaign (`Alters`)
   pub altered : (S : Set) → Makes schema t old new S → Alters t S old new
   altered S makes = record { rows = makes.rows; others = λ u listed apart. makes.others u (among_all has.begins.tables u listed) apart }
 
-  -- a write of one table does `Does`, if `Does` follows from the table's new rows
+  -- a write that makes the rows of `t` the set `S` (`Makes`) has done `Does` (`Done`), if `Does` follows from just that
   pub done_with : (Does : Database → Database → Type 0) (S : Set) → (Alters t S old new → Does old new) → Makes schema t old new S → Done Does old new
   done_with Does S is makes = record { does = is (altered S makes); tables = stays_there makes.schema_is makes.sound; carries = carried makes.schema_is makes.others }
 

@@ -35,7 +35,7 @@ module _ (old new : State) where
   no_memory : (e : Error) → e ≡ SqliteFailure code.OutOfMemory → is_memory e ≡ false → ⊥
   no_memory e is other = true≢false (sym (ap is_memory is) ∙ other)
 
-  -- an error of the store, other than lack of memory, has a cause: a broken connection, or a refusal (`Caused`)
+  -- an error of the store, other than lack of memory, has a cause: disk or connection broke, or a refusal (`Caused`)
   by_cause : (too_big : Type 0) (e : Error) (cause : StoreError) → e ≡ store_error cause → HasCause old new too_big cause → is_memory e ≡ false → Caused e
   by_cause too_big e OutOfMemory is has other = absurd (no_memory e is other)
   by_cause too_big e Io is has other = inl (inl has)
@@ -112,7 +112,8 @@ module _ {S : Type 0} (g : Ghosts S) (own : Statements) (e : Error) where
   pub gives : (old new : Held S) → IsTrue (state g old).in_transaction → IsGiven own e (state g old) (state g new) → Gives g own e old new
   gives old new inside given = record { before = old; after = new; reached = (0, as_begun old inside); kept = record { was_open = λ up. up; committed = λ _. refl }; given = given; cause = by_call (state g old) (state g new) own e given }
 
-  -- an error that a transaction gave after some of its calls is one given since the start of these calls (`Gives`)
+  -- after statements of a transaction that committed nothing, on a clean disk, an error that it gives is one given
+  -- since before these statements (`Gives`)
   pub gives_after : (old mid new : Held S) → IsTrue (state g old).in_transaction → IsTrue (state g mid).in_transaction → IsReached g own old mid → HasCleanDisk (state g mid) → KeepsCommit (state g old) (state g mid) → Survives (state g old) (state g mid) (λ _. ⊥) → (state g mid).faults ≤ (state g new).faults → Gives g own e mid new → Gives g own e old new
   gives_after old mid new was is reached clean kept survives counts gave = record {
     before = gave.before;

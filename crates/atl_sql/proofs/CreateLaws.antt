@@ -1,4 +1,4 @@
--- Law on CREATE TABLE inside a transaction: it adds one table without rows.
+-- Law on CREATE TABLE: a statement that ran added one table without rows.
 use Rattle.std.proofs.Common.{◌≡◌, ℕ, false, List, [], None, Ok, sym, ap, ◌∙◌, subst}
 use Rattle.sqlite.specs.Table.{Table}
 use Rattle.sqlite.specs.Schema.{Schema}
@@ -14,7 +14,7 @@ use Rattle.sqlite.proofs.Callers.{IsPlain, command_of, statement_of, runs_as}
 use Rattle.atl_sql.proofs.Made.{Creates}
 use Rattle.atl_sql.proofs.EditLaws.{went, same_value}
 
--- a CREATE TABLE that ran inside a transaction has added its table, without rows (`Creates`)
+-- a CREATE TABLE that ran on the schema `before` has added its table, without rows (`Creates`)
 pub creates : (before : Schema) (table : Table) (text : List ℕ) (old new : State) (count : ℕ) → command_of (understood before text) ≡ CreateTable → statement_of text (understood before text) ≡ text
     → table_defined_by text ≡ Ok table → IsPlain (understood before text) → lacks_sequence (created before table) ≡ false → old.now.schema ≡ before → Executes text [] old new (Ok count)
     → Creates before (created before table) (next_tree before) old.now new.now

@@ -83,12 +83,12 @@ made_at i d small =
 
 -- ---- of all, one after another
 
--- the text is the CREATE text of some part, and running it makes the schema one table longer
-abbrev pub Makes : Schema → Schema → List ℕ → Type 1
-Makes before after text = Has (map creation_of all_parts) text × ((old new : State) → RunsStatement text [] old new → Extends before after old new)
+-- the text is the CREATE text of some part, and running it turns empty tables of `before` into those of `after`
+abbrev pub MakesNextTable : Schema → Schema → List ℕ → Type 1
+MakesNextTable before after text = Has (map creation_of all_parts) text × ((old new : State) → RunsStatement text [] old new → Extends before after old new)
 
--- a text of one of the ten tables that makes a table (`IsCreate`) makes the schema one table longer (`Makes`)
-makes : (before after : Schema) (table : Table) (text : List ℕ) → Has (map creation_of all_parts) text → IsCreate before after table text → Makes before after text
+-- the CREATE text of a part for these schemas (`IsCreate`) makes the next table (`MakesNextTable`)
+makes : (before after : Schema) (table : Table) (text : List ℕ) → Has (map creation_of all_parts) text → IsCreate before after table text → MakesNextTable before after text
 makes before after table text listed is = (listed, run)
   where
     -- running the text inside a transaction turns empty tables of `before` into empty tables of `after`
@@ -101,22 +101,22 @@ module _ {X : Type 0} (text : X → List ℕ) (xs : List X) (all : map text xs �
   pub as_many : length xs ≡ table_count
   as_many = sym (length-map xs text) ∙ ap length all
 
-  -- the text at index `i` of the list makes the table at index `i` of the ten (`Makes`)
-  pub makes_next : (i : ℕ) (d : X) → i < length xs → Makes (schema_of_first i) (schema_of_first (i + 1)) (text (get_or xs i d))
+  -- the text at index `i` of the list makes the table at index `i` of the ten (`MakesNextTable`)
+  pub makes_next : (i : ℕ) (d : X) → i < length xs → MakesNextTable (schema_of_first i) (schema_of_first (i + 1)) (text (get_or xs i d))
   makes_next i d small =
       let part = get_or all_parts i Own in
       let few : i < length all_parts = subst (λ n. i < n) as_many small in
       let is : text (get_or xs i d) ≡ creation_of part = sym (get_or-map text xs i d [] small) ∙ ap (λ (l : List (List ℕ)). get_or l i []) all ∙ get_or-map creation_of all_parts i Own [] few in
       let listed : Has (map creation_of all_parts) (creation_of part) = has_map creation_of all_parts part (all_among all_parts refl part) in
-      subst (Makes (schema_of_first i) (schema_of_first (i + 1))) (sym is) (makes (schema_of_first i) (schema_of_first (i + 1)) (table_of part) (creation_of part) listed (made_at i Own few))
+      subst (MakesNextTable (schema_of_first i) (schema_of_first (i + 1))) (sym is) (makes (schema_of_first i) (schema_of_first (i + 1)) (table_of part) (creation_of part) listed (made_at i Own few))
 
 -- ---- in a transaction
 
 module _ {S A : Type 0} (g : Ghosts S) {r : Result A Error} {a b : MutBor (Held S)} where
   -- a write by the text of a part's table is one by the CREATE statements (`Creations`)
-  pub creating : {Does : State → State → Type 0} {before after : Schema} (text : List ℕ) → Makes before after text → Writes g (Only text []) Does r a b → Writes g Creations Does r a b
+  pub creating : {Does : State → State → Type 0} {before after : Schema} (text : List ℕ) → MakesNextTable before after text → Writes g (Only text []) Does r a b → Writes g Creations Does r a b
   creating text makes one = among_only g text [] (makes.0, refl) one
 
   -- running the text of a part's table is a write by the CREATE statements that makes one more table
-  pub made_by : {before after : Schema} (text : List ℕ) → Makes before after text → Writes g (Only text []) (RunsStatement text []) r a b → Writes g Creations (Extends before after) r a b
+  pub made_by : {before after : Schema} (text : List ℕ) → MakesNextTable before after text → Writes g (Only text []) (RunsStatement text []) r a b → Writes g Creations (Extends before after) r a b
   made_by text makes one = weaker g makes.1 (creating text makes one)

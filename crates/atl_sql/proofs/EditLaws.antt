@@ -28,7 +28,7 @@ use Rattle.sqlite_rules.proofs.TableLemmas.{has_put, put_has, put_all_keeps}
 use Rattle.sqlite.specs.Effect.{Answers}
 use Rattle.sqlite.specs.Rows.{Edited, Written, Task, Deletes, Tries, Puts, Clears, Judged}
 use Rattle.sqlite.proofs.Callers.{one_step}
-use Rattle.atl_sql.specs.Sets.{IsKeyed}
+use Rattle.atl_sql.specs.Sets.{AreKeyedByRowid}
 use Rattle.atl_sql.proofs.ListLaws.{keyed_without, keyed_put, has_map, map_has, AreFound, stays, was_there}
 
 -- a step whose result is Ok went on, and didn't stop with an error
@@ -47,7 +47,7 @@ pub record Loses (schema : Schema) (table : Table) (p : Row → Bool) (db next :
   -- each row that fails the test is left
   pub kept : (r : Row) → Has (db table.tree) r → p r ≡ false → Has (next table.tree) r
   -- the rowids of the table are different integers
-  pub keyed : IsKeyed (next table.tree)
+  pub keyed : AreKeyedByRowid (next table.tree)
   -- each other table is as it was
   pub others : (t : Table) → Has schema.tables t → t.tree ≢ table.tree → next t.tree ≡ db t.tree
 
@@ -60,27 +60,27 @@ pub record Swaps (schema : Schema) (table : Table) (p : Row → Bool) (new : Row
   -- each row that was there and fails the test is still there
   pub kept : (r : Row) → Has (db table.tree) r → p r ≡ false → Has (next table.tree) r
   -- the rowids of the table are different integers
-  pub keyed : IsKeyed (next table.tree)
+  pub keyed : AreKeyedByRowid (next table.tree)
   -- each other table is as it was
   pub others : (t : Table) → Has schema.tables t → t.tree ≢ table.tree → next t.tree ≡ db t.tree
 
 module _ (schema : Schema) (table : Table) (unlinked : (olds news : List Row) → works schema Enforced 0 table.tree olds news ≡ []) where
   -- an edit that removes the rows found by a test leaves exactly the rows that fail the test (`Loses`)
-  loses : (p : Row → Bool) (db next : Trees) (found : List Row) → IsKeyed (db table.tree) → AreFound p (db table.tree) found
+  loses : (p : Row → Bool) (db next : Trees) (found : List Row) → AreKeyedByRowid (db table.tree) → AreFound p (db table.tree) found
       → Edited schema Enforced db (edit_of db table (ids_of found) Given 0 []) (Ok next) → Loses schema table p db next
   loses p db next found keyed are h =
       let done = one_step schema Enforced db next (edit_of db table (ids_of found) Given 0 []) (unlinked (taken_by db (edit_of db table (ids_of found) Given 0 [])) []) h in
       record {
         from = λ r there. was_there p (db table.tree) found keyed are r (subst (λ l. Has l r) done.rows there);
         kept = λ r there fails. subst (λ l. Has l r) (sym done.rows) (stays p (db table.tree) found keyed are r there fails);
-        keyed = subst IsKeyed (sym done.rows) (keyed_without (ids_of found) (db table.tree) keyed);
+        keyed = subst AreKeyedByRowid (sym done.rows) (keyed_without (ids_of found) (db table.tree) keyed);
         others = λ t listed other. all_has _ schema.tables t done.tables listed other;
       }
 
   -- ---- DELETE
 
   -- a DELETE that ran removed exactly the rows that pass its test (`Loses`)
-  pub deletes : (limit : Option ℕ) (params : Row) (q : _) (p : Row → Bool) (db : Trees) (w : Written) → IsKeyed (db table.tree)
+  pub deletes : (limit : Option ℕ) (params : Row) (q : _) (p : Row → Bool) (db : Trees) (w : Written) → AreKeyedByRowid (db table.tree)
       → ((rows : List Row) → Answers (record { schema = schema; trees = db }) q params rows → AreFound p (db table.tree) rows)
       → Deletes (record { limit = limit; keys = Enforced; schema = schema; table = table; params = params }) q db (Ok w) → Loses schema table p db w.trees
   deletes limit params q p db w keyed found h =
@@ -97,12 +97,12 @@ module _ (schema : Schema) (table : Table) (unlinked : (olds news : List Row) �
     task = record { limit = limit; keys = Enforced; schema = schema; table = table; params = params }
 
     -- putting one row (`Puts`) adds it to the table: no row goes, rowids stay different, and other tables stay
-    pub puts : (new : Row) (db : Trees) (w : Written) → IsKeyed (db table.tree) → Puts task new db (Ok w)
+    pub puts : (new : Row) (db : Trees) (w : Written) → AreKeyedByRowid (db table.tree) → Puts task new db (Ok w)
         → Has (w.trees table.tree) (cast_row table new)
         × ((r : Row) → Has (w.trees table.tree) r → (r ≡ cast_row table new) ⊎ Has (db table.tree) r)
         × ((r : Row) → Has (db table.tree) r → Has (w.trees table.tree) r)
         × ((t : Table) → Has schema.tables t → t.tree ≢ table.tree → w.trees t.tree ≡ db t.tree)
-        × IsKeyed (w.trees table.tree)
+        × AreKeyedByRowid (w.trees table.tree)
     puts new db w keyed h =
         let wrote = went h in
         let done = one_step schema Enforced db wrote.0 (edit_of db table [] Given 0 (new ∷ [])) (unlinked (taken_by db (edit_of db table [] Given 0 (new ∷ []))) (cast_row table new ∷ [])) wrote.1 in
@@ -112,7 +112,7 @@ module _ (schema : Schema) (table : Table) (unlinked : (olds news : List Row) �
           λ r there. put_has (cast_row table new) (db table.tree) r (subst (λ l. Has l r) rows there),
           λ r there. subst (λ l. Has l r) (sym rows) (put_all_keeps (cast_row table new ∷ []) (db table.tree) r done.fresh there),
           λ t listed other. ap (λ (f : Trees). f t.tree) is ∙ all_has _ schema.tables t done.tables listed other,
-          subst IsKeyed (sym rows) (keyed_put (cast_row table new) (db table.tree) keyed (not-true _ (and_parts _ _ done.fresh).0) (and_parts _ _ done.keyed).0),
+          subst AreKeyedByRowid (sym rows) (keyed_put (cast_row table new) (db table.tree) keyed (not-true _ (and_parts _ _ done.fresh).0) (and_parts _ _ done.keyed).0),
         )
 
     -- whether a row of the table conflicts with the new row in a key
@@ -120,7 +120,7 @@ module _ (schema : Schema) (table : Table) (unlinked : (olds news : List Row) �
     p new r = conflicts None schema.indexes table new r
 
     -- removing the rows that conflict with the new row, and putting the new row, swaps them for it (`Swaps`)
-    clears : (new : Row) (db : Trees) (w : Written) (found : List Row) → IsKeyed (db table.tree) → AreConflicts None schema.indexes table (db table.tree) new found
+    clears : (new : Row) (db : Trees) (w : Written) (found : List Row) → AreKeyedByRowid (db table.tree) → AreConflicts None schema.indexes table (db table.tree) new found
         → Clears task Replace new db found (Ok w) → Swaps schema table (p new) (cast_row table new) db w.trees
     clears new db w [] keyed are h =
         let put = puts new db w keyed h in
@@ -145,7 +145,7 @@ module _ (schema : Schema) (table : Table) (unlinked : (olds news : List Row) �
         }
 
     -- one attempt to put a row by INSERT OR REPLACE swaps the rows with its keys for the row (`Swaps`)
-    pub tries : (new : Row) (db : Trees) (w : Written) → IsKeyed (db table.tree) → Tries task Replace [] new db (Ok w)
+    pub tries : (new : Row) (db : Trees) (w : Written) → AreKeyedByRowid (db table.tree) → Tries task Replace [] new db (Ok w)
         → Swaps schema table (p new) (cast_row table new) db w.trees
     tries new db w keyed (inl refused) = absurd (let e = refused.1 in cc)
     tries new db w keyed (inr check_own_rows) = go check_own_rows.0 check_own_rows.2

@@ -90,7 +90,7 @@ abbrev of_key : ℕ → List Term
 of_key count = map (λ at. op2 (Compare Eq Binary) (col 1 (at + 1)) (col 0 at)) (range_with_len 0 count)
 
 -- what the three texts of a part mean: the upsert, the DELETE by the whole key, and the DELETE by its first number
-record Statements (part : Part) : Type 0 where
+record StatementMeanings (part : Part) : Type 0 where
   -- the upsert's text means an INSERT of a row, with an UPDATE of the row that has its key
   puts : IsPutUnder (table_of part).tree (place_in part) (table_of part).primary (upsert (table_of part) (key_of part)) (width_of part + 1) (given (width_of part)) (width_of part) (taken_over (key_of part) (width_of part))
   -- the upsert has no RETURNING and doesn't read the time
@@ -105,7 +105,7 @@ record Statements (part : Part) : Type 0 where
   clears_plain : AlwaysPlain (deletion (table_of part) 1)
 
 -- the texts for `has`, `books` and `market` mean their upsert and their two DELETEs, whatever other tables follow
-means : (k : Keyed) → Statements (part_of k)
+means : (k : Keyed) → StatementMeanings (part_of k)
 unfolding understood everything
 means InHas = record { puts = λ more indexes. refl; puts_plain = λ more indexes. (refl, refl); drops = λ more indexes. refl; drops_plain = λ more indexes. (refl, refl); clears = λ more indexes. refl; clears_plain = λ more indexes. (refl, refl) }
 means k = record { puts = λ more indexes. refl; puts_plain = λ more indexes. (refl, refl); drops = λ more indexes. refl; drops_plain = λ more indexes. (refl, refl); clears = λ more indexes. refl; clears_plain = λ more indexes. (refl, refl) }

@@ -21,7 +21,7 @@ use Rattle.sqlite_rules.specs.Edit.{is_taken}
 use Rattle.sqlite_rules.proofs.ListLemmas.{all_from, some_from}
 use Rattle.sqlite_trees.proofs.TreeLemmas.{all-put_row}
 use Rattle.sqlite_catalog.proofs.LayoutLemmas.{ascending_filter}
-use Rattle.atl_sql.specs.Sets.{IsKeyed}
+use Rattle.atl_sql.specs.Sets.{AreKeyedByRowid}
 
 -- ---- membership in a map
 
@@ -84,7 +84,7 @@ pub record AreFound (p : Row → Bool) (rows found : List Row) : Type 0 where
 pub is_int_at : (rows : List Row) (r : Row) → AllByRecursion (λ r. is_int (rowid r) ≡ true) rows → Has rows r → rowid r ≡ Int (id_in (rowid r))
 is_int_at rows r ints h = int_is (rowid r) (all_has _ rows r ints h)
 
-module _ (p : Row → Bool) (rows found : List Row) (keyed : IsKeyed rows) (are : AreFound p rows found) where
+module _ (p : Row → Bool) (rows found : List Row) (keyed : AreKeyedByRowid rows) (are : AreFound p rows found) where
   -- a row that fails the test stays when the rows with the found rowids are removed
   pub stays : (r : Row) → Has rows r → p r ≡ false → Has (without_all rows (ids_of found)) r
   stays r h fails = without_keeps (ids_of found) rows r h (λ id there.
@@ -113,15 +113,15 @@ module _ (p : Row → Bool) (rows found : List Row) (keyed : IsKeyed rows) (are 
 
 -- ---- an edit keeps the rowids apart
 
--- removing rows keeps the rowids different
-pub keyed_without : (ids : List ℤ) (rows : List Row) → IsKeyed rows → IsKeyed (without_all rows ids)
+-- removing rows keeps the rowids different integers
+pub keyed_without : (ids : List ℤ) (rows : List Row) → AreKeyedByRowid rows → AreKeyedByRowid (without_all rows ids)
 keyed_without [] rows keyed = keyed
 keyed_without (id ∷ ids) rows keyed = keyed_without ids (without_rowid id rows) (record {
   apart = ascending_filter _ _ rows keyed.apart;
   ints = all_from _ _ (λ r there. all_has _ rows r keyed.ints (has_filtered _ rows r there).0);
 })
 
--- putting a row whose rowid is not taken keeps the rowids different, in the form that `IsKeyed` asks for
+-- putting a row whose rowid is not taken keeps the rowids different, in the form that `AreKeyedByRowid` asks for
 apart_put : (new : Row) (rows : List Row) → IsAscending (λ a b. is_eq (value_cmp (rowid a) (rowid b)) ≡ false) rows → is_taken rows new ≡ false
     → IsAscending (λ a b. is_eq (value_cmp (rowid a) (rowid b)) ≡ false) (put_row new rows)
 apart_put new [] apart free = (tt, tt)
@@ -141,6 +141,6 @@ apart_put new (r ∷ rows) apart free = go (value_cmp (rowid r) (rowid new)) ref
     go Equal is more = absurd (true≢false (sym (ap is_eq is) ∙ (or_parts _ _ free).0))
     go Greater is more = (all_from _ (r ∷ rows) untaken, apart)
 
--- putting a row with a new rowid keeps the rowids different
-pub keyed_put : (new : Row) (rows : List Row) → IsKeyed rows → is_taken rows new ≡ false → is_int (rowid new) ≡ true → IsKeyed (put_row new rows)
+-- putting a row whose rowid is an integer that no row has keeps the rowids different integers
+pub keyed_put : (new : Row) (rows : List Row) → AreKeyedByRowid rows → is_taken rows new ≡ false → is_int (rowid new) ≡ true → AreKeyedByRowid (put_row new rows)
 keyed_put new rows keyed free int = record { apart = apart_put new rows keyed.apart free; ints = all-put_row _ new rows int keyed.ints }

@@ -20,7 +20,7 @@ pub record Makes (schema : Schema) (table : Table) (old new : Database) (S : Set
   -- the database is sound under its schema
   pub sound : IsSoundDatabase schema new.trees
 
--- a CREATE TABLE inside a transaction added one table without rows
+-- a CREATE TABLE turned the schema `before` into `after`, with one table more, without rows; the others are as before
 pub record Creates (before after : Schema) (tree : ℕ) (old new : Database) : Type 0 where
   -- the schema is now `after`
   pub schema_is : new.schema ≡ after

@@ -18,7 +18,7 @@ use Rattle.sqlite_sql.specs.Program.{overlay}
 use Rattle.sqlite.specs.Effect.{Database, IsDatabase}
 use Rattle.sqlite.specs.State.{State, Writes}
 use Rattle.sqlite.specs.Does.{Does}
-use Rattle.atl_sql.specs.Sets.{visible, rows_in, Is, put, drop_key, IsKeyed}
+use Rattle.atl_sql.specs.Sets.{visible, rows_in, Is, put, drop_key, AreKeyedByRowid}
 use Rattle.atl_sql.specs.Tables.{all_tables, IsSoundDatabase}
 use Rattle.atl_sql.proofs.Made.{Makes}
 use Rattle.atl_sql.proofs.ListLaws.{has_map, map_has, one_rowid}
@@ -26,7 +26,7 @@ use Rattle.atl_sql.proofs.EditLaws.{Swaps, Loses}
 use Rattle.atl_sql.proofs.UpsertLaws.{hits, given, Upserted}
 use Rattle.atl_sql.proofs.StatementLaws.{mode}
 
--- a statement of one command that ran has done what the command means
+-- a statement that wrote (`Writes`) under this schema did to the trees what its command means under it (`Does`)
 pub did : (schema : Schema) (old new : State) (command : Command) (text : List ℕ) (params : Row) (count : ℕ) → old.now.schema ≡ schema → (w : Writes old new None command text params count)
     → Does old.step_limit mode params (record { schema = schema; trees = old.now.trees }) text None command (Ok (w.tally, new.now))
 did schema old new command text params count has w =
@@ -81,12 +81,12 @@ module _ (schema : Schema) (among : (u : Table) → Has all_tables u → Has sch
   )
 
   -- the trees stay sound if the schema is unchanged and the written table's rowids are still different integers
-  pub stays_sound : (old new : Database) → IsSoundDatabase schema old.trees → IsDatabase new → new.schema ≡ schema → IsKeyed (new.trees t.tree)
+  pub stays_sound : (old new : Database) → IsSoundDatabase schema old.trees → IsDatabase new → new.schema ≡ schema → AreKeyedByRowid (new.trees t.tree)
       → ((u : Table) → Has schema.tables u → u.tree ≢ t.tree → new.trees u.tree ≡ old.trees u.tree) → IsSoundDatabase schema new.trees
   stays_sound old new sound base is keyed others = record {
     keyed = λ u listed. elim (cases_Bool (eqb u.tree t.tree)) [
-      | inl same ↦ let e : u.tree ≡ t.tree = grind (arith, nat_tests) in subst (λ n. IsKeyed (new.trees n)) (sym e) keyed
-      | inr apart ↦ let other : u.tree ≢ t.tree = λ e. grind (arith, nat_tests) in subst IsKeyed (sym (others u (among u listed) other)) (sound.keyed u listed)
+      | inl same ↦ let e : u.tree ≡ t.tree = grind (arith, nat_tests) in subst (λ n. AreKeyedByRowid (new.trees n)) (sym e) keyed
+      | inr apart ↦ let other : u.tree ≢ t.tree = λ e. grind (arith, nat_tests) in subst AreKeyedByRowid (sym (others u (among u listed) other)) (sound.keyed u listed)
     ];
     listed = subst (λ s. IsSound s new.trees) is base;
   }
@@ -114,8 +114,8 @@ module _ (schema : Schema) (among : (u : Table) → Has all_tables u → Has sch
   module _ (unlinked : (olds news : List Row) → works schema Enforced 0 t.tree olds news ≡ []) (limit : Option ℕ) (params : Row) (target : List ℕ) (place : ℕ) (project : List Term)
       (plain : (db : Trees) → overlay db [] t.tree ≡ db t.tree) (new v : Row) (old next : Database) where
     -- where a row has the key, the UPDATE of the upsert changes it to one that shows the values `v`
-    abbrev pub Changes : Type 0
-    Changes = (r : Row) → Has (old.trees t.tree) r → take key (visible t r) ≡ take key v → visible t (cast_row t (eval_all project (given schema t unlinked limit params target place project plain new r ∷ r ∷ []))) ≡ v
+    abbrev pub UpdateShowsValues : Type 0
+    UpdateShowsValues = (r : Row) → Has (old.trees t.tree) r → take key (visible t r) ≡ take key v → visible t (cast_row t (eval_all project (given schema t unlinked limit params target place project plain new r ∷ r ∷ []))) ≡ v
 
     -- two rows of the table with the same key have the same rowid, so they are one row
     abbrev pub OneRow : Type 0
@@ -124,7 +124,7 @@ module _ (schema : Schema) (among : (u : Table) → Has all_tables u → Has sch
     -- once an upsert has changed the row with the key, the table is the old one with the row `v` put (`Makes`)
     over_make : (r : Row) → Has (old.trees t.tree) r → hits schema t unlinked limit params target place project plain new r ≡ true
         → Swaps schema t (λ x. is_eq (value_cmp (rowid x) (rowid r))) (cast_row t (eval_all project (given schema t unlinked limit params target place project plain new r ∷ r ∷ []))) old.trees next.trees
-        → Changes → Tests (hits schema t unlinked limit params target place project plain new) (take key v) (old.trees t.tree) → OneRow
+        → UpdateShowsValues → Tests (hits schema t unlinked limit params target place project plain new) (take key v) (old.trees t.tree) → OneRow
         → Has all_tables t → IsSoundDatabase schema old.trees → IsDatabase next → next.schema ≡ schema → Makes schema t old next (put key v (Has (rows_in t old.trees)))
     over_make r there hit over changed tests alone listed sound base is =
         let same : take key (visible t r) ≡ take key v = (tests r there).0 hit in
@@ -134,14 +134,14 @@ module _ (schema : Schema) (among : (u : Table) → Has all_tables u → Has sch
         )) sound base is
 
     -- after an upsert, whether it inserts or updates, the table is the old one with the row `v` put (`Makes`)
-    pub upserts_make : Upserted schema t unlinked limit params target place project plain new old.trees next.trees → visible t (cast_row t new) ≡ v → Changes
+    pub upserts_make : Upserted schema t unlinked limit params target place project plain new old.trees next.trees → visible t (cast_row t new) ≡ v → UpdateShowsValues
         → Tests (hits schema t unlinked limit params target place project plain new) (take key v) (old.trees t.tree) → OneRow
         → Has all_tables t → IsSoundDatabase schema old.trees → IsDatabase next → next.schema ≡ schema → Makes schema t old next (put key v (Has (rows_in t old.trees)))
     upserts_make (inl put_in) shows changed tests alone listed sound base is = swaps_make _ _ v old next put_in.1 shows tests sound base is
     upserts_make (inr over) shows changed tests alone listed sound base is = over_make over.0 over.1 over.2 over.3 changed tests alone listed sound base is
 
     -- if a row with the key is there, an upsert puts the row that its UPDATE makes, whatever its INSERT would have made
-    pub updates_make : Upserted schema t unlinked limit params target place project plain new old.trees next.trees → (r : Row) → Has (old.trees t.tree) r → take key (visible t r) ≡ take key v → Changes
+    pub updates_make : Upserted schema t unlinked limit params target place project plain new old.trees next.trees → (r : Row) → Has (old.trees t.tree) r → take key (visible t r) ≡ take key v → UpdateShowsValues
         → Tests (hits schema t unlinked limit params target place project plain new) (take key v) (old.trees t.tree) → OneRow
         → Has all_tables t → IsSoundDatabase schema old.trees → IsDatabase next → next.schema ≡ schema → Makes schema t old next (put key v (Has (rows_in t old.trees)))
     updates_make (inl put_in) r there same changed tests alone listed sound base is = absurd (true≢false (sym ((tests r there).1 same) ∙ put_in.0 r there))

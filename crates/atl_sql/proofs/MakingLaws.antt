@@ -8,7 +8,7 @@ use Rattle.sqlite.specs.Table.{Table}
 use Rattle.sqlite.specs.State.{State}
 use Rattle.sqlite_rules.specs.Lists.{Has}
 use Rattle.sqlite_rules.proofs.ListLemmas.{has_either}
-use Rattle.atl_sql.specs.Sets.{IsKeyed, visible}
+use Rattle.atl_sql.specs.Sets.{AreKeyedByRowid, visible}
 use Rattle.atl_sql.proofs.Made.{Creates, AreBare, Extends}
 use Rattle.atl_sql.specs.Tables.{all_indexes, all_tables, no_tables, table_count}
 use Rattle.atl_sql.specs.Inside.{Inside, IsBlank}
@@ -58,7 +58,7 @@ makes_more count a b c first next = (next.0 ∙ first.0, λ bare. let made = nex
 -- ---- all ten tables
 
 -- in a table without rows all rowids are different integers
-no_rows : IsKeyed []
+no_rows : AreKeyedByRowid []
 no_rows = record { apart = tt; ints = tt }
 
 -- making at least `table_count` tables in a blank database makes all of them, empty
@@ -74,7 +74,7 @@ makes_all count enough a b all = (
         tables = record {
           begins = record { tables = []; indexes = []; is = bare.schema_is; free = tt; plain = λ i none. absurd none };
           sound = record {
-            keyed = λ t listed. subst IsKeyed (sym (bare.empty t listed)) no_rows;
+            keyed = λ t listed. subst AreKeyedByRowid (sym (bare.empty t listed)) no_rows;
             listed = made.1 (omega (arith, some, enough));
           };
         };

@@ -14,7 +14,7 @@ tree_of part = (table_of part).tree
 
 -- ---- a part by the tree of its table
 
--- looking up a tree among all parts finds the part
+-- looking up the tree of a part's table among all parts finds the part
 found_part : (part : Part) → find (λ p. nat_eq (tree_of p) (tree_of part)) all_parts ≡ Some part
 found_part Own = refl
 found_part part = refl

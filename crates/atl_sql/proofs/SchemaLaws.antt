@@ -38,7 +38,7 @@ spares i (t ∷ tables) unique spared =
     let rest = spares i tables unique (λ u there. spared u (inr there)) in
     rw (first, rest) refl
 
--- an index of another table makes nothing unique in these tables
+-- an index that is of none of these tables makes nothing unique in any of them
 pub guards_not : (i : Index) (tables : List Table) → list_any (λ t. i.table == t.tree) tables ≡ false → (t : Table) → Has tables t
     → guards i t ≡ false
 guards_not i [] none t there = absurd there

@@ -27,7 +27,7 @@ use Rattle.atl_sql.specs.Tables.{all_and}
 use Rattle.sqlite.specs.Effect.{Database, Answers, value_rows}
 use Rattle.sqlite.specs.Rows.{Written, Task, Then, Gives, TriesEach, Counts, InsertsOr, count_of, nothing, mended, shown}
 use Rattle.sqlite.specs.Does.{Tally, Does, AtPlace, OnRows, Concludes}
-use Rattle.atl_sql.specs.Sets.{table, IsKeyed}
+use Rattle.atl_sql.specs.Sets.{table, AreKeyedByRowid}
 use Rattle.sqlite_trees.specs.declared.store.Store.{Ghosts}
 use Rattle.sqlite.specs.declared.error.Error.{Error}
 use Rattle.sqlite.specs.Held.{Held}
@@ -74,13 +74,13 @@ module _ (schema : Schema) (tree : ℕ) (name : List ℕ) (columns : List Column
 
   -- a DELETE that ran removed exactly the rows that pass its filter (`Loses`)
   pub removes : (limit : Option ℕ) (params : Row) (text : List ℕ) (q : Program) (p : Row → Bool) (db : Trees) (out : Tally × Database)
-      → IsKeyed (db tree)
+      → AreKeyedByRowid (db tree)
       → ((rows : List Row) → Answers (record { schema = schema; trees = db }) q params rows → AreFound p (db tree) rows)
       → Does limit mode params (record { schema = schema; trees = db }) text None (Delete at q) (Ok out)
       → Loses schema t p db out.1.trees × (out.1.schema ≡ schema)
   removes limit params text q p db out keyed found h =
-      let did = subst (λ o. AtPlace (λ (u : Table). OnRows (task limit params u) mode None (Delete at q) db) o (Ok out)) place h in
-      let wrote = went did in
+      let on_rows = subst (λ o. AtPlace (λ (u : Table). OnRows (task limit params u) mode None (Delete at q) db) o (Ok out)) place h in
+      let wrote = went on_rows in
       let end = concluded limit params wrote.0 out wrote.2 in
       (subst (Loses schema t p db) (sym end.0) (deletes schema t unlinked limit params q p db wrote.0 keyed found wrote.1), end.1)
 
@@ -100,7 +100,7 @@ module _ (schema : Schema) (tree : ℕ) (name : List ℕ) (columns : List Column
     Changed new db next = Upserted schema t unlinked limit params target hole project plain new db next
 
     -- trying the one row of an upsert puts it, or changes the row with its key (`Changed`)
-    each_upserts : (src : Row) (top : ℤ) (db : Trees) (done : Written × ℤ) → IsKeyed (db tree)
+    each_upserts : (src : Row) (top : ℤ) (db : Trees) (done : Written × ℤ) → AreKeyedByRowid (db tree)
         → ((r : Row) → Has (db tree) r → column (params ++ rowid r ∷ shown t (made_up db src)) hole ≡ rowid r)
         → TriesEach (task limit params t) Abort (clause_on target q ∷ []) (src ∷ []) top (nothing db) (Ok done)
         → Changed (made_up db src) db done.0.trees
@@ -110,7 +110,7 @@ module _ (schema : Schema) (tree : ℕ) (name : List ℕ) (columns : List Column
         subst (Changed (made_up db src) db) (sym is) (upserts schema t unlinked limit params target hole project plain (made_up db src) db one.0 keyed aimed one.1)
 
     -- an upsert whose terms make one row puts it, or changes the row with its key (`Changed`)
-    rows_upsert : (terms : List Term) (width : ℕ) (src : Row) (db : Trees) (w : Written) → IsKeyed (db tree)
+    rows_upsert : (terms : List Term) (width : ℕ) (src : Row) (db : Trees) (w : Written) → AreKeyedByRowid (db tree)
         → ((r : Row) → Has (db tree) r → column (params ++ rowid r ∷ shown t (made_up db src)) hole ≡ rowid r)
         → value_rows (params ++ []) width (length terms / width) terms ≡ src ∷ []
         → InsertsOr (task limit params t) Abort (clause_on target q ∷ []) (Values terms width) db (Ok w) → Changed (made_up db src) db w.trees
@@ -123,14 +123,14 @@ module _ (schema : Schema) (tree : ℕ) (name : List ℕ) (columns : List Column
         (each_upserts src (count_of counter.0) db each.0 keyed aimed (subst (λ l. TriesEach (task limit params t) Abort (clause_on target q ∷ []) l (count_of counter.0) (nothing db) (Ok each.0)) given each.1))
 
     -- an upsert that ran put its row, or changed the row with its key (`Changed`)
-    pub upserting : (text : List ℕ) (terms : List Term) (width : ℕ) (src : Row) (db : Trees) (out : Tally × Database) → IsKeyed (db tree)
+    pub upserting : (text : List ℕ) (terms : List Term) (width : ℕ) (src : Row) (db : Trees) (out : Tally × Database) → AreKeyedByRowid (db tree)
         → ((r : Row) → Has (db tree) r → column (params ++ rowid r ∷ shown t (made_up db src)) hole ≡ rowid r)
         → value_rows (params ++ []) width (length terms / width) terms ≡ src ∷ []
         → Does limit mode params (record { schema = schema; trees = db }) text None (InsertOr at Abort (Values terms width) (clause_on target q ∷ [])) (Ok out)
         → Changed (made_up db src) db out.1.trees × (out.1.schema ≡ schema)
     upserting text terms width src db out keyed aimed source h =
-        let did = subst (λ o. AtPlace (λ (u : Table). OnRows (task limit params u) mode None (InsertOr at Abort (Values terms width) (clause_on target q ∷ [])) db) o (Ok out)) place h in
-        let wrote = went did in
+        let on_rows = subst (λ o. AtPlace (λ (u : Table). OnRows (task limit params u) mode None (InsertOr at Abort (Values terms width) (clause_on target q ∷ [])) db) o (Ok out)) place h in
+        let wrote = went on_rows in
         let end = concluded limit params wrote.0 out wrote.2 in
         (subst (Changed (made_up db src) db) (sym end.0) (rows_upsert terms width src db wrote.0 keyed aimed source wrote.1), end.1)
 
@@ -158,7 +158,7 @@ pub done_by : (sql : List ℕ) (values : Row) (What : Database → Database → 
     → DoneBy sql values What
 done_by sql values What does old new count params inside h same = does old new count inside (subst (λ p. ExecutesInside 0 sql p old new (Ok count)) same h)
 
--- a statement that ran with these values as parameters did what its text does with them
+-- a write that ran a statement with these values as parameters does `What`, if its text does so with them (`DoneBy`)
 pub runs_with : {S A : Type 0} (g : Ghosts S) {r : Result A Error} {a b : MutBor (Held S)} (sql : List ℕ) (values params : Row) (What : Database → Database → Type 0)
     → DoneBy sql values What → params ≡ values → Writes g (Only sql params) (RunsStatement sql params) r a b → Writes g (Only sql values) (Inside HasTables What) r a b
 runs_with g sql values params What done same ran = among g (λ s p only. (only.0, only.1 ∙ same)) (weaker g (λ old new did. done old new did.1 params did.0 did.2 same) ran)

@@ -95,7 +95,7 @@ map_at_end f (y ∷ xs) x = ap (λ ys. f y ∷ ys) (map_at_end f xs x)
 pub record IsGiving {S : Type 0} (g : Ghosts S) (sql : List ℕ) (old : Held S) (given : List Row) (now : Held S) : Type 0 where
   -- the connection is in no transaction
   pub idle : now.in_transaction ≡ false
-  -- a crash leaves only what it could have left before the query
+  -- the query has so far done what `Survives` says, with nothing committed: a crash leaves only what it could before
   pub survives : Survives (state g old) (state g now) (λ _. ⊥)
   -- if the disk is clean, the query has given these rows, and the connection is unchanged
   pub given_so : HasCleanDisk (state g now) → HasGiven g sql [] now given × IsUnchanged (state g old) (state g now)
@@ -131,7 +131,7 @@ module _ {S : Type 0} (g : Ghosts S) (sql : List ℕ) (old : Held S) where
     clean_before : HasCleanDisk (state g now) → HasCleanDisk (state g mid)
     clean_before clean = omega (arith, survives.clean, clean)
 
-    -- a crash up to the next row leaves only what it could have left before the query
+    -- up to the next row the query does what `Survives` says, with nothing committed
     survived : Survives (state g old) (state g now) (λ _. ⊥)
     survived = survives_more (state g old) (state g mid) (state g now) giving.survives survives
 

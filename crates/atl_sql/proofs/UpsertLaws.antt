@@ -40,7 +40,7 @@ use Rattle.sqlite_schema.specs.declared.command.Conflict.TheVariants.{Abort}
 use Rattle.sqlite_rules.specs.Action.{works}
 use Rattle.sqlite_rules.specs.declared.error.Rowids.TheVariants.{Given}
 use Rattle.sqlite.specs.Rows.{Written, Task, Updates, Tries, Judged, Upserts, Meets, Clears, Puts, Edited, shown}
-use Rattle.atl_sql.specs.Sets.{IsKeyed}
+use Rattle.atl_sql.specs.Sets.{AreKeyedByRowid}
 use Rattle.atl_sql.proofs.ListLaws.{eq_sym, AreFound, stays, was_there, keyed_put, keyed_without}
 use Rattle.atl_sql.proofs.EditLaws.{delete_query, Swaps, puts, went, same_value}
 
@@ -142,7 +142,7 @@ module _ (p : Row → Bool) (f : Row → Env) where
       rw (is x (inl refl) ∙ all_has _ rows r apart.0 h, one_chosen rows apart.1 r h (λ y k. is y (inr k)))
 
 -- the query of the UPDATE has one answer: the row with the given rowid, and the values to set
-pub row_by : (tree place : ℕ) (project : List Term) (db db' : Trees) (given : Row) (rows : List Row) (r : Row) → IsKeyed (db tree) → Has (db tree) r → column given place ≡ rowid r → db' tree ≡ db tree
+pub row_by : (tree place : ℕ) (project : List Term) (db db' : Trees) (given : Row) (rows : List Row) (r : Row) → AreKeyedByRowid (db tree) → Has (db tree) r → column given place ≡ rowid r → db' tree ≡ db tree
     → IsAnswer (update_query tree place project) db' given rows → rows ≡ (rowid r ∷ eval_all project (given ∷ r ∷ [])) ∷ []
 row_by tree place project db db' given rows r keyed there aimed same a =
     let q = update_query tree place project in
@@ -191,7 +191,7 @@ module _ (schema : Schema) (t : Table) (unlinked : (olds news : List Row) → wo
       ⊎ ((r : Row) × Has (db t.tree) r × (hits new r ≡ true) × Swaps schema t (λ x. is_eq (value_cmp (rowid x) (rowid r))) (cast_row t (eval_all project (given new r ∷ r ∷ []))) db next)
 
   -- an edit that takes out a row that is there, and puts another in, exchanges the row with that rowid for the other
-  replaced_at : (r n : Row) (db next : Trees) → IsKeyed (db t.tree) → Has (db t.tree) r → Edited schema Enforced db (record { table = t; gone = id_in (rowid r) ∷ []; news = n ∷ [] }) (Ok next)
+  replaced_at : (r n : Row) (db next : Trees) → AreKeyedByRowid (db t.tree) → Has (db t.tree) r → Edited schema Enforced db (record { table = t; gone = id_in (rowid r) ∷ []; news = n ∷ [] }) (Ok next)
       → Swaps schema t (λ x. is_eq (value_cmp (rowid x) (rowid r))) n db next
   replaced_at r n db next keyed there h =
       let p = λ (x : Row). is_eq (value_cmp (rowid x) (rowid r)) in
@@ -210,12 +210,12 @@ module _ (schema : Schema) (t : Table) (unlinked : (olds news : List Row) → wo
         there = subst (λ l. Has l n) (sym is) (has_put n left);
         from = λ x k. elim (put_has n left x (subst (λ l. Has l x) is k)) [ inl same ↦ inl same | inr was ↦ inr (was_there p rows found keyed are x was) ];
         kept = λ x k misses. subst (λ l. Has l x) (sym is) (put_all_keeps (n ∷ []) left x done.fresh (stays p rows found keyed are x k misses));
-        keyed = subst IsKeyed (sym is) (keyed_put n left (keyed_without (ids_of found) rows keyed) (not-true _ (and_parts _ _ done.fresh).0) (and_parts _ _ done.keyed).0);
+        keyed = subst AreKeyedByRowid (sym is) (keyed_put n left (keyed_without (ids_of found) rows keyed) (not-true _ (and_parts _ _ done.fresh).0) (and_parts _ _ done.keyed).0);
         others = λ u listed other. all_has _ schema.tables u done.tables listed other;
       }
 
   -- the UPDATE of an upsert exchanges the row that it hits for the one that it computes
-  updates : (new : Row) (db : Trees) (r x : Row) (w : Written) → IsKeyed (db t.tree) → Has (db t.tree) r → x ≡ rowid r ∷ [] → column (given new r) place ≡ rowid r
+  updates : (new : Row) (db : Trees) (r x : Row) (w : Written) → AreKeyedByRowid (db t.tree) → Has (db t.tree) r → x ≡ rowid r ∷ [] → column (given new r) place ≡ rowid r
       → Updates upsert_task q (params ++ rowid x ∷ shown t new) db (Ok w) → Swaps schema t (λ x. is_eq (value_cmp (rowid x) (rowid r))) (cast_row t (eval_all project (given new r ∷ r ∷ []))) db w.trees
   updates new db r x w keyed there is aimed h =
       let select_of = went (subst (λ (y : Row). Updates upsert_task q (params ++ rowid y ∷ shown t new) db (Ok w)) is h) in
@@ -226,7 +226,7 @@ module _ (schema : Schema) (t : Table) (unlinked : (olds news : List Row) → wo
       subst (Swaps schema t (λ x. is_eq (value_cmp (rowid x) (rowid r))) (cast_row t (eval_all project (given new r ∷ r ∷ []))) db) (sym trees) (replaced_at r _ db wrote.0 keyed there edit)
 
   -- the clause ON CONFLICT puts the new row where no row has its key, and else changes the row that has it
-  met : (new : Row) (db : Trees) (w : Written) (found : List Row) → IsKeyed (db t.tree) → ((r : Row) → Has (db t.tree) r → column (given new r) place ≡ rowid r)
+  met : (new : Row) (db : Trees) (w : Written) (found : List Row) → AreKeyedByRowid (db t.tree) → ((r : Row) → Has (db t.tree) r → column (given new r) place ≡ rowid r)
       → AreConflicts (Some target) schema.indexes t (db t.tree) new found → Meets upsert_task (Upserts upsert_task Abort new db []) new db (clause_on target q) found (Ok w) → Upserted new db w.trees
   met new db w [] keyed aimed are h =
       let put = puts schema t unlinked limit params new db w keyed (either h.0 h.2) in
@@ -251,7 +251,7 @@ module _ (schema : Schema) (t : Table) (unlinked : (olds news : List Row) → wo
       inr (hit.0, hit.1, hit.2, updates new db hit.0 x w keyed hit.1 hit.3 (aimed hit.0 hit.1) h)
 
   -- an upsert that ran put the new row, or changed the row with its key (`Upserted`)
-  pub upserts : (new : Row) (db : Trees) (w : Written) → IsKeyed (db t.tree) → ((r : Row) → Has (db t.tree) r → column (given new r) place ≡ rowid r)
+  pub upserts : (new : Row) (db : Trees) (w : Written) → AreKeyedByRowid (db t.tree) → ((r : Row) → Has (db t.tree) r → column (given new r) place ≡ rowid r)
       → Tries upsert_task Abort (clause_on target q ∷ []) new db (Ok w) → Upserted new db w.trees
   upserts new db w keyed aimed (inl refused) = absurd (let e = refused.1 in cc)
   upserts new db w keyed aimed (inr check_own_rows) = go check_own_rows.0 check_own_rows.2

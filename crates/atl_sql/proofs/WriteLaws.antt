@@ -29,7 +29,7 @@ HandsOn e r = IsErr r × IsErrAnd r (λ f. f ≡ e)
 abbrev pub SoFar : {S : Type 0} → Ghosts S → Statements → (State → State → Type 0) → MutBor (Held S) → MutBor (Held S) → Type 0
 SoFar g own Does old new = Writes g own Does {A = Unit {0}} (Ok (tt {0})) old new
 
--- where nothing is done, a crash leaves only what it could have left before
+-- where nothing is done, `Survives` holds with nothing committed: each field compares a state with itself
 survives_start : (s : State) → Survives s s (λ _. ⊥)
 survives_start s = record { clean = omega arith; shield = λ h. h; counts = omega arith; limit = refl; closes = λ clean up. inl up; crash = λ clean db may. inl may }
 
@@ -49,7 +49,7 @@ module _ {S : Type 0} (g : Ghosts S) where
     abbrev Ran : Result ℕ Error → Type 0
     Ran r = HasCleanDisk (state g new.now) → IsTrue (state g old.now).in_transaction → ExecutesInside 0 sql params (state g old.now) (state g new.now) r
 
-    -- a statement inside a transaction keeps the last commit
+    -- a statement that ran inside a transaction, or was refused outside one, keeps the last commit on a clean disk
     keeps : (r : Result ℕ Error) → Ended r → Ran r → HasCleanDisk (state g new.now) → KeepsCommit (state g old.now) (state g new.now)
     keeps r ended ran clean = elim (cases_Bool (state g old.now).in_transaction) [
       | inl inside ↦ inside_keeps (state g old.now) (state g new.now) 0 false sql params r (ran clean inside)
@@ -131,7 +131,7 @@ module _ {S : Type 0} (g : Ghosts S) where
         survives = survives_more _ _ _ one.survives two.survives;
       }
 
-  -- a write whose first step fails has that step's error
+  -- a write whose first step fails is one that ends with that step's error, whatever it was to do (`Does`)
   pub stops : {own : Statements} {First Does : State → State → Type 0} {A X : Type 0} {e : Error} {r : Result A Error} {a b : MutBor (Held S)} → Writes g own First {A = X} (Err e) a b → HandsOn e r → Writes g own Does r a b
   stops {e = e} {r = r} one failed = record {
     same_reference = one.same_reference;
@@ -143,7 +143,7 @@ module _ {S : Type 0} (g : Ghosts S) where
     survives = one.survives;
   }
 
-  -- a write whose second step fails has that step's error
+  -- a write whose first step is done and whose second step fails ends with the second step's error
   pub stops_second : {own : Statements} {First Second Does : State → State → Type 0} {A X Z : Type 0} {x : X} {e : Error} {r : Result A Error} {a b c : MutBor (Held S)}
       → Writes g own First (Ok x) a b → Writes g own Second {A = Z} (Err e) b c → HandsOn e r → Writes g own Does r a c
   stops_second {e = e} one two failed = stops (two_steps {Does = Any} {r = Err e} (λ old mid new first second. tt) one two) failed

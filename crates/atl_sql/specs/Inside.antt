@@ -32,7 +32,7 @@ pub record Carries (old new : Database) : Type 0 where
 
 -- `Does` is done, the tables of a campaign are there afterwards, and all others are carried along (`Carries`)
 pub record Done (Does : Database → Database → Type 0) (old new : Database) : Type 0 where
-  -- `Does` is done
+  -- the database before and the one after are as `Does` says
   pub does : Does old new
   -- the tables of a campaign are there afterwards
   pub tables : HasTables new

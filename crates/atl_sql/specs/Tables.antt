@@ -18,7 +18,7 @@ use Rattle.sqlite_catalog.specs.Listing.{IsSound}
 use Rattle.sqlite_trees.specs.Tree.{Trees}
 use Rattle.atl_world.specs.declared.format.Format.{Format}
 use Rattle.atl_world.specs.declared.format.Format.TheVariants.{First, Second}
-use Rattle.atl_sql.specs.Sets.{field, table, IsKeyed}
+use Rattle.atl_sql.specs.Sets.{field, table, AreKeyedByRowid}
 
 -- a column of integers of this name, STRICT and NOT NULL
 abbrev pub number : List ℕ → Column
@@ -277,6 +277,6 @@ all_trees = map (λ t. t.tree) all_tables
 -- The trees list the schema and obey it (`IsSound`). In each of the ten tables the rowids are integers, no two alike.
 pub record IsSoundDatabase (schema : Schema) (db : Trees) : Type 0 where
   -- in each of the ten tables the rowids are integers, no two alike
-  pub keyed : (table : Table) → Has all_tables table → IsKeyed (db table.tree)
+  pub keyed : (table : Table) → Has all_tables table → AreKeyedByRowid (db table.tree)
   -- the trees list the schema and obey it
   pub listed : IsSound schema db

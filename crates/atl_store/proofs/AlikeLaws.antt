@@ -1,4 +1,4 @@
--- Law: two good campaigns whose rows one database holds are equal.
+-- Law: two good campaigns of one world whose rows one database holds are equal, and so are the world texts.
 use Rattle.std.proofs.Common.{◌≡◌, ◌≢◌, ◌+◌, ◌∙◌, ℕ, ℤ, zero, suc, pos, negsuc, Bool, true, false, List, Some, inl, inr, refl, sym, ap, arith}
 use Rattle.std.specs.Prelude.{◌⊎◌}
 use Rattle.std.specs.Ordering.{nat_cmp}
@@ -223,7 +223,7 @@ module _ (db : Trees) (one other : List ℕ) (c d : CampaignValue) (h : Holds db
   pub one_text : one ≡ other
   one_text = let own = one_row in cc
 
--- two good campaigns whose rows one database holds are equal
+-- two world texts, and two good campaigns of one world, whose rows one database holds are equal (`HoldsOne`)
 pub holds_one : HoldsOne
 holds_one w db one other c d good sound h j =
     let own : campaign_line one c ≡ campaign_line other d = one_row db one other c d h j in

@@ -99,7 +99,7 @@ module _ (c : CampaignValue) (e : Entry) (t : Thing) where
   abbrev row : Row
   row = books_row (entry_index e + 1) (thing_index t) (amount_in c.books e t)
 
-  -- writing one amount turns the rows of books `A` into those of books `B`, if the books differ in this amount alone
+  -- writing the campaign's amount turns the rows of books `A` into those of `B`, if `B` has it and is else as `A`
   pub settled_rows : (A B : BooksValue) (S : Set) → amount_in B e t ≡ amount_in c.books e t
       → ((f : Entry) (u : Thing) → (entry_index f ≢ entry_index e) ⊎ (thing_index u ≢ thing_index t) → amount_in B f u ≡ amount_in A f u)
       → ((r : Row) → S r ↔ BooksRowsOf A r) → (r : Row) → settled c e t S r ↔ BooksRowsOf B r

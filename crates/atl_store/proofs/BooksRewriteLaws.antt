@@ -1,4 +1,4 @@
--- Laws on writing the dirty amounts of the books: one entry and one thing after another, until all are written.
+-- Laws on writing the marked amounts of the books: one entry and one thing after another, until all are written.
 use Rattle.std.proofs.Common.{◌≡◌, ◌≢◌, ◌+◌, ◌*◌, ◌<◌, ◌≤◌, ◌&&◌, ◌||◌, nat_le, ℕ, zero, suc, pos, Bool, true, false, List, [], ◌∷◌, map, take, refl, sym, ap, ◌∙◌, subst, inl, inr, true≢false, arith}
 use Rattle.std.specs.List.{range_with_len}
 use Rattle.std.specs.Ordering.{nat_cmp, int_eq, eq_by_cmp}
@@ -54,11 +54,11 @@ and_or : (p a b c : Bool) → (p && ((a || b) && c)) ≡ ((p && (a && c)) || (p 
 and_or p a b c = ap (λ q. p && q) (and-or_distrib_right a b c) ∙ and-or_distrib_left p (a && c) (b && c)
 
 module _ (marks : FinSet nat_cmp) where
-  -- whether the amount of this entry and thing is dirty
+  -- whether the amount of this entry and thing is marked
   abbrev marked : ℕ → ℕ → Bool
   marked e t = contains marks (entry_count * t + e)
 
-  -- a row of a dirty amount is of one of the entries `e ∷ es` exactly if it is of `e` or of one of `es`
+  -- a row of a marked amount is of one of the entries `e ∷ es` exactly if it is of `e` or of one of `es`
   pub next_entry : (e : ℕ) (es : List ℕ) (things : ℕ → Bool) (r : Row)
       → of_amounts marks (is_among (e ∷ es)) things r ≡ (of_amounts marks (is_number e) things r || of_amounts marks (is_among es) things r)
   next_entry e es things r =
@@ -66,7 +66,7 @@ module _ (marks : FinSet nat_cmp) where
       let rest : ℕ → ℕ → Bool = λ k t. is_among es k && (things t && marked k t) in
       accounts_same (λ k t. is_among (e ∷ es) k && (things t && marked k t)) (λ k t. one k t || rest k t) (λ k t. and-or_distrib_right (is_number e k) (is_among es k) (things t && marked k t)) r ∙ accounts_either one rest r
 
-  -- a row of a dirty amount is of one of the things `t ∷ ts` exactly if it is of `t` or of one of `ts`
+  -- a row of a marked amount is of one of the things `t ∷ ts` exactly if it is of `t` or of one of `ts`
   pub next_thing : (entries : ℕ → Bool) (t : ℕ) (ts : List ℕ) (r : Row)
       → of_amounts marks entries (is_among (t ∷ ts)) r ≡ (of_amounts marks entries (is_number t) r || of_amounts marks entries (is_among ts) r)
   next_thing entries t ts r =
@@ -74,11 +74,11 @@ module _ (marks : FinSet nat_cmp) where
       let rest : ℕ → ℕ → Bool = λ e k. entries e && (is_among ts k && marked e k) in
       accounts_same (λ e k. entries e && (is_among (t ∷ ts) k && marked e k)) (λ e k. one e k || rest e k) (λ e k. and_or (entries e) (is_number t k) (is_among ts k) (marked e k)) r ∙ accounts_either one rest r
 
-  -- no row of a dirty amount is of one of these entries, if there are none
+  -- no row of a marked amount is of one of these entries, if there are none
   pub no_entry : (es : List ℕ) (things : ℕ → Bool) → es ≡ [] → (r : Row) → of_amounts marks (is_among es) things r ≡ false
   no_entry es things none r = ap (λ l. of_amounts marks (is_among l) things r) none ∙ accounts_none (λ e t. false) (λ e t. refl) r
 
-  -- no row of a dirty amount is of one of these things, if there are none
+  -- no row of a marked amount is of one of these things, if there are none
   pub no_thing : (entries : ℕ → Bool) (ts : List ℕ) → ts ≡ [] → (r : Row) → of_amounts marks entries (is_among ts) r ≡ false
   no_thing entries ts none r = ap (λ l. of_amounts marks entries (is_among l) r) none ∙ accounts_none (λ e t. entries e && false) (λ e t. and-false (entries e)) r
 
@@ -123,7 +123,7 @@ module _ (marks : FinSet nat_cmp) where
   each_entry : (e : ℕ) → is_among (map entry_index all_entries) e ≡ nat_le (suc e) entry_count
   each_entry e = among_first entry_count e
 
-  -- the dirty rows of all entries and all things are all dirty rows of `books`
+  -- the marked rows of all entries and all things are all marked rows of `books`
   pub all_amounts : (things : ℕ) → AreOfThings things marks → (r : Row)
       → of_amounts marks (is_among (map entry_index all_entries)) (is_among (range_with_len 0 things)) r ≡ amount_marked marks r
   all_amounts things few r = accounts_same (λ e t. is_among (map entry_index all_entries) e && (is_among (range_with_len 0 things) t && marked e t)) (is_marked_amount marks) same r
@@ -132,7 +132,7 @@ module _ (marks : FinSet nat_cmp) where
       inside : (e t n : ℕ) → entry_count * t + e < entry_count * n → t < n
       inside e t n h = omega (arith, h)
 
-      -- the test for dirty amounts of all entries and things is the test for dirty amounts (`is_marked_amount`)
+      -- the test for marked amounts of all entries and things is the test for marked amounts (`is_marked_amount`)
       same : (e t : ℕ)
           → (is_among (map entry_index all_entries) e && (is_among (range_with_len 0 things) t && marked e t)) ≡ is_marked_amount marks e t
       same e t = elim (cases_Bool (marked e t)) [
@@ -145,7 +145,7 @@ module _ (marks : FinSet nat_cmp) where
 -- ---- one amount
 
 module _ (c : MarkedCampaign) (e : Entry) (t : Thing) where
-  -- whether a row of `books` is of this entry and thing, and their amount is dirty
+  -- whether a row of `books` is of this entry and thing, and their amount is marked
   abbrev is_here : Row → Bool
   is_here r = of_amounts c.marks.books (is_number (entry_index e)) (is_number (thing_index t)) r
 
@@ -162,14 +162,14 @@ module _ (c : MarkedCampaign) (e : Entry) (t : Thing) where
       let row_is : r ≡ row = is ∙ ap (λ k. books_row (k + 1) (thing_index u) (amount_in books f u)) entries ∙ ap (λ k. books_row (entry_index e + 1) k (amount_in books f u)) things ∙ ap (books_row (entry_index e + 1) (thing_index t)) same in
       subst (Has (amount_lines c.value e t)) (sym row_is) (has_optional (int_eq (amount_in books e t) (pos 0)) row (is_differing (amount_in books e t) (λ none. some (same ∙ none))))
 
-  -- if the amount of this entry and thing isn't dirty, no row of `books` is to be written for it (`is_here`)
+  -- if the amount of this entry and thing isn't marked, no row of `books` is to be written for it (`is_here`)
   pub unmarked_none : contains c.marks.books (amount_number e t) ≡ false → (r : Row) → is_here r ≡ false
   unmarked_none unmarked r = accounts_none _ (λ k j. false_from_ne_true _ (λ is.
       let one = and_parts _ _ is in
       let two = and_parts _ _ one.1 in
       true≢false (sym two.1 ∙ ap (λ x. contains c.marks.books (entry_count * x + k)) (tied j (thing_index t) two.0) ∙ ap (λ x. contains c.marks.books (entry_count * thing_index t + x)) (tied k (entry_index e) one.0) ∙ unmarked))) r
 
-  -- a row of this entry and thing, whose amount is dirty (`is_here`), has their key
+  -- a row of this entry and thing, whose amount is marked (`is_here`), has their key
   key_of : (r : Row) → is_here r ≡ true → take 2 r ≡ books_key (entry_index e + 1) (thing_index t)
   key_of (Int (pos (suc place)) ∷ Int (pos thing) ∷ row) is =
       let one = and_parts _ _ is in
@@ -182,7 +182,7 @@ module _ (c : MarkedCampaign) (e : Entry) (t : Thing) where
   key_of row is = absurd (true≢false (sym is))
 
   module _ (marked : contains c.marks.books (amount_number e t) ≡ true) where
-    -- if the amount of this entry and thing is dirty, a row with their key is to be written (`is_here`)
+    -- if the amount of this entry and thing is marked, a row with their key is to be written (`is_here`)
     of_key : (r : Row) → take 2 r ≡ books_key (entry_index e + 1) (thing_index t) → is_here r ≡ true
     of_key [] key = absurd cc
     of_key (v ∷ []) key = absurd cc
@@ -193,7 +193,7 @@ module _ (c : MarkedCampaign) (e : Entry) (t : Thing) where
         ap (λ x. is_here (x ∷ w ∷ row)) (first ∙ ap int place) ∙ ap (λ x. is_here (int (suc (entry_index e)) ∷ x ∷ row)) second
         ∙ ap (λ b. b && (is_number (thing_index t) (thing_index t) && contains c.marks.books (amount_number e t))) (is_itself (entry_index e)) ∙ ap (λ b. b && contains c.marks.books (amount_number e t)) (is_itself (thing_index t)) ∙ marked
 
-    -- writing a dirty amount (`WritesAmount`) rewrites the row of its entry and thing and no other (`RewritesAmounts`)
+    -- writing a marked amount (`WritesAmount`) rewrites the row of its entry and thing and no other (`RewritesAmounts`)
     settle_rewrite : (old new : Database) → WritesAmount c.value e t old new
         → RewritesAmounts c (is_number (entry_index e)) (is_number (thing_index t)) old new
     settle_rewrite old new did = rewrites_key is_here (λ r. take 2 r ≡ books_key (entry_index e + 1) (thing_index t)) (Has (amount_lines c.value e t)) (BooksRowsOf c.value.books) key_of of_key
@@ -203,7 +203,7 @@ module _ (c : MarkedCampaign) (e : Entry) (t : Thing) where
         same_place of.0 of.1 of.2 (omega (arith, keys.0)) keys.1 r of.3)
         books_table old new did.rows did.others
 
-    -- inside a transaction, writing a dirty amount (`WritesAmount`) rewrites the row of its entry and thing alone
+    -- inside a transaction, writing a marked amount (`WritesAmount`) rewrites the row of its entry and thing alone
     pub settle_done : (old new : State) → Inside HasTables (WritesAmount c.value e t) old new
         → Inside HasTables (RewritesAmounts c (is_number (entry_index e)) (is_number (thing_index t))) old new
     settle_done old new did = inside_weaker HasTables (WritesAmount c.value e t) (RewritesAmounts c (is_number (entry_index e)) (is_number (thing_index t))) old new (λ has settles. settle_rewrite old.now new.now settles) did
@@ -215,29 +215,29 @@ module _ (c : MarkedCampaign) where
   abbrev wanted : Row → Type 0
   wanted r = BooksRowsOf c.value.books r
 
-  -- The dirty amounts of some entries are rewritten: once the `rest` is rewritten too, all these entries are.
+  -- The marked amounts of some entries are rewritten: once the `rest` is rewritten too, all these entries are.
   abbrev pub NearingEntries : (ℕ → Bool) → List Entry → List Entry → Database → Database → Type 0
   NearingEntries things rest all old new = Remaining books_table wanted (λ r. of_amounts c.marks.books (is_among (map entry_index rest)) things r) (λ r. of_amounts c.marks.books (is_among (map entry_index all)) things r) old new
 
-  -- rewriting one more entry's dirty amounts leaves one entry fewer to rewrite
+  -- rewriting one more entry's marked amounts leaves one entry fewer to rewrite
   pub entry_nearer : (things : ℕ → Bool) (x : Entry) (now rest all : List Entry) → now ≡ x ∷ rest → (old mid new : State)
       → Inside HasTables (NearingEntries things now all) old mid → Inside HasTables (RewritesAmounts c (is_number (entry_index x)) things) mid new
       → Inside HasTables (NearingEntries things rest all) old new
   entry_nearer things x now rest all is = one_less_remaining books_table wanted (λ r. of_amounts c.marks.books (is_number (entry_index x)) things r) (λ r. of_amounts c.marks.books (is_among (map entry_index now)) things r) (λ r. of_amounts c.marks.books (is_among (map entry_index rest)) things r) (λ r. of_amounts c.marks.books (is_among (map entry_index all)) things r)
       (λ r. ap (λ es. of_amounts c.marks.books (is_among (map entry_index es)) things r) is ∙ next_entry c.marks.books (entry_index x) (map entry_index rest) things r)
 
-  -- when no entry is left, the dirty amounts of all these entries are rewritten
+  -- when no entry is left, the marked amounts of all these entries are rewritten
   pub entries_rewritten : (things : ℕ → Bool) (rest all : List Entry) → rest ≡ [] → (old new : State)
       → Inside HasTables (NearingEntries things rest all) old new
       → Inside HasTables (RewritesAmounts c (is_among (map entry_index all)) things) old new
   entries_rewritten things rest all none = all_rewritten books_table wanted (λ r. of_amounts c.marks.books (is_among (map entry_index rest)) things r) (λ r. of_amounts c.marks.books (is_among (map entry_index all)) things r) (λ r. of_amounts c.marks.books (is_among (map entry_index all)) things r)
       (no_entry c.marks.books (map entry_index rest) things (ap (map entry_index) none)) (λ r. refl)
 
-  -- The dirty amounts of some things are rewritten: once the `rest` is rewritten too, all these things are.
+  -- The marked amounts of some things are rewritten: once the `rest` is rewritten too, all these things are.
   abbrev pub NearingThings : List ℕ → List ℕ → Database → Database → Type 0
   NearingThings rest all old new = Remaining books_table wanted (λ r. of_amounts c.marks.books (is_among (map entry_index all_entries)) (is_among rest) r) (λ r. of_amounts c.marks.books (is_among (map entry_index all_entries)) (is_among all) r) old new
 
-  -- rewriting one more thing's dirty amounts leaves one thing fewer to rewrite
+  -- rewriting one more thing's marked amounts leaves one thing fewer to rewrite
   pub thing_nearer : (t : ℕ) (now rest all : List ℕ) → now ≡ t ∷ rest → (old mid new : State) → Inside HasTables (NearingThings now all) old mid
       → Inside HasTables (RewritesAmounts c (is_among (map entry_index all_entries)) (is_number t)) mid new
       → Inside HasTables (NearingThings rest all) old new
@@ -245,7 +245,7 @@ module _ (c : MarkedCampaign) where
       (λ r. of_amounts c.marks.books (is_among (map entry_index all_entries)) (is_among rest) r) (λ r. of_amounts c.marks.books (is_among (map entry_index all_entries)) (is_among all) r)
       (λ r. ap (λ ts. of_amounts c.marks.books (is_among (map entry_index all_entries)) (is_among ts) r) is ∙ next_thing c.marks.books (is_among (map entry_index all_entries)) t rest r)
 
-  -- when no thing is left, all dirty amounts of the books are rewritten
+  -- when no thing is left, all marked amounts of the books are rewritten
   pub things_rewritten : (rest : List ℕ) (count : ℕ) → AreOfThings count c.marks.books → rest ≡ [] → (old new : State)
       → Inside HasTables (NearingThings rest (range_with_len 0 count)) old new → Inside HasTables (RewritesBooks c) old new
   things_rewritten rest count few none = all_rewritten books_table wanted (λ r. of_amounts c.marks.books (is_among (map entry_index all_entries)) (is_among rest) r) (λ r. of_amounts c.marks.books (is_among (map entry_index all_entries)) (is_among (range_with_len 0 count)) r) (λ r. amount_marked c.marks.books r)

@@ -1,4 +1,4 @@
--- Laws on `write_changes`: tables that hold a campaign's clean rows hold all of it once its dirty rows are written.
+-- Laws on `write_changes`: tables that hold a campaign's unmarked rows hold all of it once its marked rows are written.
 use Rattle.std.proofs.Common.{◌≡◌, ◌+◌, ◌<◌, ◌&&◌, ◌||◌, ℕ, suc, ℤ, Bool, true, false, List, Option, Some, None, unwrap_or, nat_le, refl, sym, ap, subst, ◌∙◌, true≢false, arith}
 use Rattle.std.proofs.lemmas.Bool.Decides.{nat_tests}
 use Rattle.std.proofs.Math.Bool.{or-false}
@@ -36,7 +36,7 @@ use Rattle.atl_store.proofs.MarketLaws.{stock_had, had_stock}
 
 -- ---- a table whose unmarked rows are the campaign's
 
--- a table whose clean rows are the wanted ones has exactly the wanted rows once the dirty rows are written
+-- a table whose unmarked rows are the wanted ones has exactly the wanted rows once the marked rows are written
 all_held : (is_marked : Row → Bool) (After : Row → Type 0) (old new : List Row) → ((r : Row) → is_marked r ≡ false → Has old r ↔ After r) → Is new (rows_after_rewrite is_marked After (Has old)) → Is new After
 all_held is_marked After old new rest now r = (λ there. from (is_marked r) refl ((now r).0 there), λ of. (now r).1 (to (is_marked r) refl of))
   where
@@ -50,7 +50,7 @@ all_held is_marked After old new rest now r = (λ there. from (is_marked r) refl
     to true is of = of
     to false is of = (rest r is).1 of
 
--- a table of the campaign before has the clean rows of the campaign after, if the two differ only under dirty keys
+-- a table of the campaign before has the unmarked rows of the campaign after, if the two differ only under marked keys
 rest_of : (is_marked : Row → Bool) (Before After : Row → Type 0) (old : List Row) → ((r : Row) → is_marked r ≡ false → Before r → After r) → ((r : Row) → is_marked r ≡ false → After r → Before r) → Is old Before
     → (r : Row) → is_marked r ≡ false → Has old r ↔ After r
 rest_of is_marked Before After old ahead back was r is = (λ there. ahead r is ((was r).0 there), λ of. (was r).1 (back r is of))
@@ -58,31 +58,31 @@ rest_of is_marked Before After old ahead back was r is = (λ there. ahead r is (
 -- ---- one row for each number
 
 module _ {V : Type 0} (line : ℕ → V → Row) (marks : FinSet nat_cmp) (heads : (n : ℕ) (v : V) → begins_marked marks (line n v) ≡ contains marks n) where
-  -- Under each clean number under which the first map has a value, the second has one with the same row.
+  -- Under each unmarked number under which the first map has a value, the second has one with the same row.
   abbrev pub Follows : FinMap nat_cmp V → FinMap nat_cmp V → Type 0
   Follows one other = (n : ℕ) (v : V) → contains marks n ≡ false → get one n ≡ Some v → (w : V) × (get other n ≡ Some w) × (line n w ≡ line n v)
 
-  -- the number of a clean row is not dirty
+  -- the number of an unmarked row is not marked
   unmarked : (n : ℕ) (v : V) (r : Row) → r ≡ line n v → begins_marked marks r ≡ false → contains marks n ≡ false
   unmarked n v r is not_marked = sym (heads n v) ∙ ap (begins_marked marks) (sym is) ∙ not_marked
 
-  -- a clean row of one map is a row of the other, if the other has the same rows under clean numbers (`Follows`)
+  -- an unmarked row of one map is a row of the other, if the other has the same rows under unmarked numbers (`Follows`)
   follow : (one other : FinMap nat_cmp V) (r : Row) → begins_marked marks r ≡ false → Follows one other → RowsOf line one r → RowsOf line other r
   follow one other r not_marked follows of = let found = follows of.0 of.1 (unmarked of.0 of.1 r of.3 not_marked) of.2 in (of.0, found.0, found.1, of.3 ∙ sym found.2)
 
-  -- a table of one map's rows has the clean rows of another, if both have the same under clean numbers (`Follows`)
+  -- a table of one map's rows has the unmarked rows of another, if both have these under unmarked numbers (`Follows`)
   rest_numbered : (before after : FinMap nat_cmp V) (old : List Row) → Follows before after → Follows after before → Is old (RowsOf line before) → (r : Row) → begins_marked marks r ≡ false → Has old r ↔ RowsOf line after r
   rest_numbered before after old ahead back = rest_of (begins_marked marks) (RowsOf line before) (RowsOf line after) old (λ r is. follow before after r is ahead) (λ r is. follow after before r is back)
 
-  -- maps that differ only under dirty numbers have the same clean rows, from before to after
+  -- maps that differ only under marked numbers have the same unmarked rows, from before to after
   same_follows : (before after : FinMap nat_cmp V) → SameBut marks before after → Follows before after
   same_follows before after same n v not_marked there = (v, same n not_marked ∙ there, refl)
 
-  -- maps that differ only under dirty numbers have the same clean rows, from after to before
+  -- maps that differ only under marked numbers have the same unmarked rows, from after to before
   same_followed : (before after : FinMap nat_cmp V) → SameBut marks before after → Follows after before
   same_followed before after same n v not_marked there = (v, sym (same n not_marked) ∙ there, refl)
 
-  -- a table of one map's rows has the clean rows of another, if the maps differ only under dirty numbers
+  -- a table of one map's rows has the unmarked rows of another, if the maps differ only under marked numbers
   rest_same : (before after : FinMap nat_cmp V) (old : List Row) → SameBut marks before after → Is old (RowsOf line before) → (r : Row) → begins_marked marks r ≡ false → Has old r ↔ RowsOf line after r
   rest_same before after old same = rest_numbered before after old (same_follows before after same) (same_followed before after same)
 
@@ -102,17 +102,17 @@ bare_same n o (Some w) v same there = (w, refl, let e : bare w ≡ bare v = (let
 
 -- ---- goods
 
--- a row of `has` is dirty exactly if its unit's item or skill is
+-- a row of `has` is marked exactly if its unit's item or skill is
 goods_heads : (marks : Marks) (n : ℕ) (sort : ThingKind) (thing amount : ℕ) → goods_marked marks (has_row n (sort_number sort) thing amount) ≡ is_thing_marked marks.goods (marked_things marks sort) n thing
 goods_heads marks n Item thing amount = or-false (is_thing_marked marks.goods marks.items n thing)
 goods_heads marks n Skill thing amount = ap (λ b. b || has_thing marks.skills n thing) (or-false (contains marks.goods n))
 
--- a dirty set that covers all changes covers those of items and skills
+-- marks that cover all changes cover those of items and skills
 goods_same : (m : Marks) (before after : CampaignValue) → Covers m before after → (sort : ThingKind) → SameThings m.goods (marked_things m sort) (things_under sort) before.units after.units
 goods_same m before after covers Item = covers.items
 goods_same m before after covers Skill = covers.days
 
--- a clean row of `has` of one campaign is one of the other, if the two differ only in dirty items and skills
+-- an unmarked row of `has` of one campaign is one of the other, if the two differ only in marked items and skills
 goods_follow : (one other : FinMap nat_cmp Unit) (marks : Marks) (r : Row) → ((sort : ThingKind) → SameThings marks.goods (marked_things marks sort) (things_under sort) one other) → goods_marked marks r ≡ false → HasRowsOf one r → HasRowsOf other r
 goods_follow one other marks r same not_marked of =
     let had = had_of one r of in
@@ -122,7 +122,7 @@ goods_follow one other marks r same not_marked of =
 
 -- ---- stocks
 
--- a clean row of `market` of one campaign is one of the other, if the two differ only in dirty stocks
+-- an unmarked row of `market` of one campaign is one of the other, if the two differ only in marked stocks
 stocks_follow : (one other : FinMap nat_cmp Region) (marks : Marks) (r : Row) → ((n item : ℕ) → is_thing_marked marks.stocks marks.stock_items n item ≡ false → stock_in other n item ≡ stock_in one n item) → stocks_marked marks r ≡ false → MarketRowsOf one r → MarketRowsOf other r
 stocks_follow one other marks r same not_marked of =
     let had = stock_had one r of in
@@ -131,7 +131,7 @@ stocks_follow one other marks r same not_marked of =
 
 -- ---- amounts
 
--- a row of `books` is dirty exactly if its amount is
+-- a row of `books` is marked exactly if its amount is
 amount_heads : (marks : FinSet nat_cmp) (e : Entry) (t : Thing) (amount : ℤ) → amount_marked marks (books_row (entry_index e + 1) (thing_index t) amount) ≡ contains marks (amount_number e t)
 amount_heads marks e t amount =
     ap (λ number. amount_marked marks (books_row number (thing_index t) amount)) (next (entry_index e)) ∙ ap (λ (b : Bool). b && contains marks (amount_number e t)) (there (entry_index e) (entry_small e))
@@ -144,7 +144,7 @@ amount_heads marks e t amount =
     there : (n : ℕ) → n < entry_count → nat_le (suc n) entry_count ≡ true
     there n small = grind (arith, nat_tests, small)
 
--- a clean row of `books` of one campaign is one of the other, if the two differ only in dirty amounts
+-- an unmarked row of `books` of one campaign is one of the other, if the two differ only in marked amounts
 amounts_follow : (one other : BooksValue) (marks : FinSet nat_cmp) (r : Row) → ((e : Entry) (t : Thing) → contains marks (amount_number e t) ≡ false → amount_in other e t ≡ amount_in one e t) → amount_marked marks r ≡ false → BooksRowsOf one r → BooksRowsOf other r
 amounts_follow one other marks r same not_marked of =
     let is = same of.0 of.1 (sym (amount_heads marks of.0 of.1 (amount_in one of.0 of.1)) ∙ ap (amount_marked marks) (sym of.3) ∙ not_marked) in
@@ -156,14 +156,14 @@ amounts_follow one other marks r same not_marked of =
 abbrev head_in : ℕ × (List ℕ × (ℕ × (ℕ × ℕ))) → CampaignRowValue
 head_in row = record { month = row.0; pass = row.1.0; next_faction = row.1.1.0; next_unit = row.1.1.1.0; next_structure = row.1.1.1.1 }
 
--- a campaign row written over the one before is that of the campaign after, if the row is dirty or unchanged
+-- a campaign row written over the one before is that of the campaign after, if the row is marked or unchanged
 head_held : (b : Bool) (before after : CampaignValue) → (b ≡ false → own_row after ≡ own_row before) → campaign_row_after b after (campaign_row_of before) ≡ campaign_row_of after
 head_held true before after same = refl
 head_held false before after same = ap head_in (sym (same refl))
 
 -- ---- the whole
 
--- writing all dirty rows makes tables with the clean rows hold the campaign, whatever was under dirty keys
+-- writing all marked rows makes tables with the unmarked rows hold the campaign, whatever was under marked keys
 pub unmarked_held : (c : MarkedCampaign) (old new : Database) → WritesChanges c old new → (text : List ℕ) → HoldsUnmarked old.trees text c → Holds new.trees text c.value
 unmarked_held c old new changes text rest =
     let did = changes rest.before text rest.campaign in
@@ -172,11 +172,11 @@ unmarked_held c old new changes text rest =
           (subst (λ (h : CampaignRowValue). Is (rows_in (table_of part) new.trees) (rows_after_rewrite (is_marked c.marks part) (rows_for (campaign_row h text) c.value part) (Has (rows_in (table_of part) old.trees)))) rest.head (did.rows part));
     }
 
--- tables of the campaign before hold the clean rows of the one after, if the dirty set covers all changes
+-- tables of the campaign before hold the unmarked rows of the one after, if the marks cover all changes
 pub covers_unmarked : (c : MarkedCampaign) (db : Trees) (text : List ℕ) (before : CampaignValue) → Covers c.marks before c.value → Holds db text before → HoldsUnmarked db text c
 covers_unmarked c db text before covers held = record { before = campaign_row_of before; campaign = held.rows Own; head = head_held c.marks.row before c.value covers.row; rest = rest }
   where
-    -- in each part's table the clean rows are those of the campaign after
+    -- in each part's table the unmarked rows are those of the campaign after
     rest : (part : Part) → HasUnmarked (table_of part) (is_marked c.marks part) (rows_for (campaign_line text c.value) c.value part) db
     rest Own = λ r is. absurd (true≢false is)
     rest Factions = rest_same faction_line c.marks.factions (λ n v. refl) before.factions c.value.factions _ covers.factions (held.rows Factions)
@@ -200,6 +200,6 @@ covers_unmarked c db text before covers held = record { before = campaign_row_of
         rest_of (stocks_marked c.marks) (MarketRowsOf before.regions) (MarketRowsOf c.value.regions) _ (λ r is. stocks_follow before.regions c.value.regions c.marks r covers.stocks is)
         (λ r is. stocks_follow c.value.regions before.regions c.marks r (λ n item not_marked. sym (covers.stocks n item not_marked)) is) (held.rows Markets)
 
--- tables that hold the campaign before hold the one after, once all dirty rows are written
+-- tables that hold the campaign before hold the one after, once all marked rows are written
 pub changes_held : (c : MarkedCampaign) (old new : Database) → WritesChanges c old new → (text : List ℕ) (before : CampaignValue) → Covers c.marks before c.value → Holds old.trees text before → Holds new.trees text c.value
 changes_held c old new changes text before covers held = unmarked_held c old new changes text (covers_unmarked c old.trees text before covers held)

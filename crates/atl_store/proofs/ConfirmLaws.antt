@@ -19,8 +19,9 @@ use Rattle.atl_store.specs.declared.fault.LoadFault.{LoadFault}
 use Rattle.atl_store.specs.declared.fault.LoadFault.TheVariants as load
 use Rattle.atl_sql.proofs.StreamLaws.{fails_stay}
 
+-- a query that is plain, without RETURNING and not reading the time (`IsPlain`), from the state `old` to `new`
 module _ (sql : List ℕ) (old new : State) (plain : IsPlain (understood old.now.schema sql)) where
-  -- a query without RETURNING that doesn't read the time (`IsPlain`) commits nothing
+  -- if `Survives` holds of a plain query with `CommitsShowing`, it holds with nothing committed
   pub commits_none : Survives old new (CommitsShowing sql [] old) → Survives old new (λ _. ⊥)
   commits_none = survives_weaker old new _ _ (λ _ db. never_commits sql [] old db plain)
 

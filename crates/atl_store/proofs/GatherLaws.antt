@@ -52,7 +52,7 @@ store_no_memory is = cc
 refused_no_memory : read.Refused ≢ read.Memory
 refused_no_memory is = cc
 
--- doing nothing commits nothing
+-- where nothing is done, `Survives` holds with nothing committed: each field compares a state with itself
 survives_start : (s : State) → Survives s s (λ _. ⊥)
 survives_start s = record { clean = omega arith; shield = λ k. k; counts = omega arith; limit = refl; closes = λ clean up. inl up; crash = λ clean db may. inl may }
 

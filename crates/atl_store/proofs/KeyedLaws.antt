@@ -22,7 +22,7 @@ use Rattle.atl_store.specs.Gathering.{AreApart, AreAllApart, HaveKeys, IsMadeOf,
 use Rattle.atl_store.specs.Loading.{shows_rowids, has_values, books_values, market_values, other_parts, rows_read}
 use Rattle.atl_sql.specs.Reading.{listing_of}
 use Rattle.atl_sql.specs.Rows.{lines_of}
-use Rattle.atl_sql.specs.Sets.{IsKeyed, visible, rows_in}
+use Rattle.atl_sql.specs.Sets.{AreKeyedByRowid, visible, rows_in}
 use Rattle.atl_sql.specs.Shown.{has_stored, books_stored, market_stored}
 use Rattle.atl_sql.specs.Tables.{Part, Own, Goods, Books, Markets, table_of}
 use Rattle.atl_store.specs.declared.fault.LoadFault.{LoadFault}
@@ -154,15 +154,15 @@ module _ (part : Part) (db : Trees) (rows : List Row) where
     same_placed = subst (λ l. IsPermutation l rows) (in_places part is db) same
 
     -- if the rowids that are shown are different integers, so are the tree's rowids
-    pub places_keyed : HaveKeys (width part) rows → IsKeyed (db (table_of part).tree)
+    pub places_keyed : HaveKeys (width part) rows → AreKeyedByRowid (db (table_of part).tree)
     places_keyed keys = keyed_by (placed_row part) (width part) (db (table_of part).tree) rows (row_place part) same_placed keys
 
     -- if the tree's rowids are different integers, so are the rowids that are shown
-    pub keyed_places : IsKeyed (db (table_of part).tree) → HaveKeys (width part) rows
+    pub keyed_places : AreKeyedByRowid (db (table_of part).tree) → HaveKeys (width part) rows
     keyed_places keyed = keyed_shown (placed_row part) (width part) (db (table_of part).tree) rows (row_place part) same_placed keyed
 
   -- if the first column, which shows the rowid, has different integers, so have the tree's rowids
-  pub numbers_keyed : shows_rowids part ≡ false → IsPermutation (rows_in (table_of part) db) rows → HaveKeys 0 rows → IsKeyed (db (table_of part).tree)
+  pub numbers_keyed : shows_rowids part ≡ false → IsPermutation (rows_in (table_of part) db) rows → HaveKeys 0 rows → AreKeyedByRowid (db (table_of part).tree)
   numbers_keyed is same keys = keyed_by (visible (table_of part)) 0 (db (table_of part).tree) rows (row_number part is) same keys
 
   -- all rows that the listing shows, without their rowids, are all rows of the table

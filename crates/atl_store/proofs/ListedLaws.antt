@@ -51,7 +51,7 @@ one_list R (r ∷ rows) (x ∷ xs) (y ∷ ys) same one two =
 
 -- ---- indexes
 
--- two numbers below 65536 with the same decimal text are equal
+-- two numbers below 65536 are equal, if the decimal texts of the numbers one above them are
 same_number : (m n : ℕ) → m < 65536 → n < 65536 → decimal (m + 1) ≡ decimal (n + 1) → m ≡ n
 same_number m n small low is =
     let first = (decimal_is_IsNumeral (m + 1) (omega (arith, small))).1 in
@@ -105,7 +105,7 @@ no_views (r ∷ rows) none views is one two = absurd (subst (AllZip IsViewRow (r
 
 -- ---- the whole
 
--- two sound schemas of one database without views are equal
+-- two sound schemas of one database are equal, if the first has no views
 pub one_schema : (db : Trees) (s t : Schema) → IsSound s db → IsSound t db → s.views ≡ [] → t ≡ s
 one_schema db s t one two none =
     let first = one.lists.listed in

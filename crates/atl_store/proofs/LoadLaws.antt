@@ -11,7 +11,7 @@ use Rattle.sqlite_trees.specs.Tree.{rowid, IsAscending}
 use Rattle.sqlite_trees.specs.View.{is_int}
 use Rattle.sqlite_trees.proofs.ListLemmas.{all-permutation}
 use Rattle.atl_store.specs.Gathering.{HaveKeys}
-use Rattle.atl_sql.specs.Sets.{IsKeyed}
+use Rattle.atl_sql.specs.Sets.{AreKeyedByRowid}
 
 -- what is true of each image of the rows is true of each row, if it carries over from image to row
 all_mapped : (f : Row → Row) (P Q : Row → Type 0) (rows : List Row) → ((r : Row) → P (f r) → Q r) → AllByRecursion P (map f rows) → AllByRecursion Q rows
@@ -28,7 +28,7 @@ distinct_mapped f at (r ∷ rows) is apart = (
   distinct_mapped f at rows is apart.1,
 )
 
--- pairwise different rowids are different in the form that `IsKeyed` asks for
+-- pairwise different rowids are different in the form that `AreKeyedByRowid` asks for
 ascending_from : (rows : List Row) → IsDistinct (λ a b. is_eq (value_cmp (rowid a) (rowid b))) rows → IsAscending (λ a b. is_eq (value_cmp (rowid a) (rowid b)) ≡ false) rows
 unfolding IsDistinct
 ascending_from [] apart = tt
@@ -60,14 +60,14 @@ mapped_distinct f at (r ∷ rows) is apart = (
 )
 
 -- if the rowids of a tree are different integers, so are the values of the column that shows the rowids
-pub keyed_shown : (f : Row → Row) (at : ℕ) (tree shown : List Row) → ((r : Row) → column (f r) at ≡ rowid r) → IsPermutation (map f tree) shown → IsKeyed tree → HaveKeys at shown
+pub keyed_shown : (f : Row → Row) (at : ℕ) (tree shown : List Row) → ((r : Row) → column (f r) at ≡ rowid r) → IsPermutation (map f tree) shown → AreKeyedByRowid tree → HaveKeys at shown
 keyed_shown f at tree shown is same keyed = record {
   apart = IsDistinct-IsPermutation _ (flips at) (map f tree) shown same (mapped_distinct f at tree is keyed.apart);
   ints = all-permutation _ (map f tree) shown same (mapped_all f _ _ tree (λ r h. ap is_int (is r) ∙ h) keyed.ints);
 }
 
 -- if the values of the column that shows the rowids are different integers, so are the rowids of the tree
-pub keyed_by : (f : Row → Row) (at : ℕ) (tree shown : List Row) → ((r : Row) → column (f r) at ≡ rowid r) → IsPermutation (map f tree) shown → HaveKeys at shown → IsKeyed tree
+pub keyed_by : (f : Row → Row) (at : ℕ) (tree shown : List Row) → ((r : Row) → column (f r) at ≡ rowid r) → IsPermutation (map f tree) shown → HaveKeys at shown → AreKeyedByRowid tree
 keyed_by f at tree shown is same have =
     let back = IsPermutation-sym (map f tree) shown same in
     record {

@@ -32,7 +32,7 @@ use Rattle.atl_store.specs.Loading.{HaveRows, rows_read, own_stored, KeepsOneRow
 use Rattle.atl_sql.specs.Rows.{HoldsIn}
 use Rattle.atl_sql.specs.Statements.{selection}
 use Rattle.atl_sql.specs.Reading.{listing_of}
-use Rattle.atl_sql.specs.Sets.{IsKeyed, rows_in}
+use Rattle.atl_sql.specs.Sets.{AreKeyedByRowid, rows_in}
 use Rattle.atl_sql.specs.Tables.{Part, Own, IsSoundDatabase, HasTablesOf, campaign_table, table_of, parts_in}
 use Rattle.atl_store.specs.WorldText.{world_text}
 use Rattle.atl_store.specs.declared.fault.LoadFault.{LoadFault}
@@ -105,12 +105,12 @@ module _ (f : Format) {S : Type 0} (g : Ghosts S) (old : Held S) (reads : ReadRo
   all_of read there has begins = elim (are.each read there) [ inl all ↦ all.1 (has_since f old.schema begins read.0 has) | inr none ↦ absurd (none.0 has) ]
 
   -- if the rowids that were read are different integers, so are those of the tables, if the schema is the format's
-  all_keyed : map (λ read. read.0) reads ≡ other_parts Second → AreAllApart reads → HasTablesOf f old.schema → (table : Table) → Has (tables_with_rowids f) table → IsKeyed (db table.tree)
+  all_keyed : map (λ read. read.0) reads ≡ other_parts Second → AreAllApart reads → HasTablesOf f old.schema → (table : Table) → Has (tables_with_rowids f) table → AreKeyedByRowid (db table.tree)
   all_keyed parts apart begins table there =
       let part = map_has table_of (filter shows_rowids (parts_in f)) table there in
       let kept = has_filtered shows_rowids (parts_in f) part.0 part.1 in
       let read = read_of reads parts part.0 (not_own part.0 kept.1) in
-      subst (λ (t : Table). IsKeyed (db t.tree)) (sym (part.2 ∙ ap table_of read.2))
+      subst (λ (t : Table). AreKeyedByRowid (db t.tree)) (sym (part.2 ∙ ap table_of read.2))
       (places_keyed read.0.0 db read.0.1 (subst (λ p. shows_rowids p ≡ true) read.2 kept.1) (all_of read.0 read.1 (subst (Has (parts_in f)) read.2 kept.0) begins) (apart.each read.0 read.1 (subst (λ p. shows_rowids p ≡ true) read.2 kept.1)))
 
   -- the rowids that were read are different integers, if the tables are made as the format has them (`AreMade`)
@@ -242,7 +242,7 @@ module _ (f : Format) {S : Type 0} (g : Ghosts S) where
 -- what was read of the other tables after the campaign row was read
 module _ (f : Format) {S : Type 0} (g : Ghosts S) {A : Type 0} (rows : A → ReadRows) (old mid new : Held S) (own : StoredCampaign) (w : WorldValue) (row : OwnRead g old f own w) (before : AfterReads g old mid) (r : Result (Option A) LoadFault)
     (reads : ReadsSome g mid (other_selects f) (λ a. AreOfFormat f (state g mid).now (rows a)) r new) (o : Option A) (was : r ≡ Ok o) (clean : HasCleanDisk (state g new)) where
-  -- what was read of the other tables is what their SELECTs find before the campaign row is read (`Found`)
+  -- what was read of the other tables is what their SELECTs find in them as before the campaign row was read (`Found`)
   found : (told : Option A) → o ≡ told → Found g old (other_selects f) (λ a. AreOfFormat f (state g old).now (rows a)) told
   found told is = subst (Found g old (other_selects f) (λ a. AreOfFormat f (state g old).now (rows a))) is (format_before g f rows old mid new before (other_selects f) r reads o was clean)
 
@@ -321,7 +321,7 @@ module _ (f : Format) {S : Type 0} (g : Ghosts S) (old new : Held S) (w : WorldV
         settled = same.1 ∙ sym back ∙ sym same.0;
         begins = subst (λ (d : Database). HasTablesOf f d.schema) (sym same.0) confirmed.begins;
         listed = subst (λ (d : Database). IsSound d.schema d.trees) (sym same.0) confirmed.sound;
-        keyed = λ table there. subst (λ (d : Database). IsKeyed (d.trees table.tree)) (sym same.0) (rows_keyed f db all.text loaded.parts c.value rows loaded.checked.rows _ loaded.checked.good.sound.steady.numbers.books (all.keyed confirmed.begins) table there);
+        keyed = λ table there. subst (λ (d : Database). AreKeyedByRowid (d.trees table.tree)) (sym same.0) (rows_keyed f db all.text loaded.parts c.value rows loaded.checked.rows _ loaded.checked.good.sound.steady.numbers.books (all.keyed confirmed.begins) table there);
         rows = subst (λ (d : Database). HoldsIn f d.trees all.text c.value) (sym same.0) (rows_hold f db all.text loaded.parts c.value rows loaded.checked.rows _ loaded.checked.good.sound.steady.numbers.books);
       }
 

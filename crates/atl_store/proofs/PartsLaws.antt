@@ -39,7 +39,7 @@ use Rattle.atl_sql.specs.declared.rows.has.ThingKind.TheVariants.{Item, Skill}
 use Rattle.atl_store.specs.Gathering.{HaveKeys}
 use Rattle.atl_store.specs.Loading.{HaveRows, rows_read, own_stored, has_values, books_values, market_values, shows_rowids, tables_with_rowids}
 use Rattle.atl_sql.specs.Rows.{RowsOf, lines_of, HasRowsOf, BooksRowsOf, MarketRowsOf, rows_for, Holds, HoldsIn, campaign_row_of, faction_line, region_line, unit_line, structure_line, things_of}
-use Rattle.atl_sql.specs.Sets.{Is, IsKeyed, rows_in}
+use Rattle.atl_sql.specs.Sets.{Is, AreKeyedByRowid, rows_in}
 use Rattle.atl_sql.specs.Shown.{flag, campaign_row_in, mail_row, report_row, faction_stored, region_stored, unit_stored, structure_stored, mail_stored, report_stored}
 use Rattle.atl_sql.specs.Tables.{Part, Own, Factions, Regions, Units, Goods, Structures, Mail, Reports, Books, Markets, table_of, all_parts, parts_in}
 use Rattle.atl_sql.specs.Written.{sort_number}
@@ -269,10 +269,10 @@ module _ (f : Format) (db : Trees) (text : List ℕ) (p : Parts) (c : CampaignVa
   rows_hold = record { rows = λ part there. (by_part part there).0 }
 
   -- the rowids of each table are different integers, if those of the tables without an INTEGER PRIMARY KEY are
-  pub rows_keyed : ((table : Table) → Has (tables_with_rowids f) table → IsKeyed (db table.tree)) → (table : Table) → Has (map table_of (parts_in f)) table → IsKeyed (db table.tree)
+  pub rows_keyed : ((table : Table) → Has (tables_with_rowids f) table → AreKeyedByRowid (db table.tree)) → (table : Table) → Has (map table_of (parts_in f)) table → AreKeyedByRowid (db table.tree)
   rows_keyed placed table there =
       let part = map_has table_of (parts_in f) table there in
-      subst (λ (t : Table). IsKeyed (db t.tree)) (sym part.2) (elim (cases_Bool (shows_rowids part.0)) [
+      subst (λ (t : Table). AreKeyedByRowid (db t.tree)) (sym part.2) (elim (cases_Bool (shows_rowids part.0)) [
         | inl is ↦ placed (table_of part.0) (has_map table_of (filter shows_rowids (parts_in f)) part.0 (has_kept shows_rowids (parts_in f) part.0 part.1 is))
         | inr is ↦ let keys = (by_part part.0 part.1).1 is in numbers_keyed part.0 db keys.0 is keys.1 keys.2
       ])

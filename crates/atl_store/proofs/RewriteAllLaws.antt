@@ -1,4 +1,4 @@
--- Laws on `write_changes`: the dirty rows of each table are written, one table after another.
+-- Laws on `write_changes`: the marked rows of each table are written, one table after another.
 use Rattle.std.proofs.Common.{◌≡◌, ◌≢◌, ◌++◌, ◌⊎◌, Bool, true, false, List, [], ◌∷◌, take, refl, sym, ap, ◌∙◌, subst, inl, inr}
 use Rattle.std.specs.List.{list_all}
 use Rattle.sqlite.specs.Effect.{Database}
@@ -23,7 +23,7 @@ use Rattle.atl_store.proofs.WholeLaws.{inside_weaker}
 -- ---- the campaign's own row
 
 module _ (c : MarkedCampaign) where
-  -- in the database, putting the campaign row rewrites it (`RewritesCampaignRow`), if it is dirty
+  -- in the database, putting the campaign row rewrites it (`RewritesCampaignRow`), if it is marked
   head_put : (b : Bool) → c.marks.row ≡ b → b ≡ true → (old new : Database) → PutsCampaignRow (campaign_row_of c.value) [] old new → RewritesCampaignRow c old new
   head_put b is set old new did before text was =
       let puts = did.again before text was in
@@ -38,11 +38,11 @@ module _ (c : MarkedCampaign) where
       only r (inl same) = same
       only r (inr kept) = absurd (kept.1 (ap (take 1) ((was r).0 kept.0)))
 
-  -- putting the campaign row rewrites it (`RewritesCampaignRow`), if it is dirty
+  -- putting the campaign row rewrites it (`RewritesCampaignRow`), if it is marked
   pub head_done : c.marks.row ≡ true → (old new : State) → Inside HasTables (PutsCampaignRow (campaign_row_of c.value) []) old new → Inside HasTables (RewritesCampaignRow c) old new
   head_done is old new did = inside_weaker HasTables (PutsCampaignRow (campaign_row_of c.value) []) (RewritesCampaignRow c) old new (λ has puts. head_put true is refl old.now new.now puts) did
 
-  -- doing nothing rewrites the campaign row (`RewritesCampaignRow`), if it is not dirty
+  -- doing nothing rewrites the campaign row (`RewritesCampaignRow`), if it is not marked
   pub head_left : c.marks.row ≡ false → (s : State) → Inside HasTables (RewritesCampaignRow c) s s
   head_left is s = (
     refl,

@@ -1,4 +1,4 @@
--- Laws on writing single dirty amounts, of items, skills or stocks: writing each of them writes all of them.
+-- Laws on writing single marked amounts, of items, skills or stocks: writing each of them writes all of them.
 use Rattle.std.proofs.Common.{◌≡◌, ◌&&◌, ◌||◌, ℕ, Bool, true, false, cond, List, [], ◌∷◌, map, is_some, unwrap_or, Some, Less, Equal, Greater, refl, sym, ap, ◌∙◌, inl, inr, true≢false}
 use Rattle.std.specs.List.{list_any}
 use Rattle.std.specs.Ordering.{nat_cmp, is_eq, is_lt, eq_by_cmp}
@@ -109,7 +109,7 @@ module _ (table : Table) (Wanted : Set) (finds : (ℕ → ℕ → Bool) → Row 
           → Inside HasTables (NearingSingles (is_listed rest) (is_listed all)) old new
       owner_nearer x now rest all is = nearer (is_of x.0 x.1) (is_listed now) (is_listed rest) (is_listed all) (λ n t. ap (λ es. is_listed es n t) is)
 
-    -- when no owner is left, all single dirty amounts are rewritten
+    -- when no owner is left, all single marked amounts are rewritten
     pub owners_rewritten : (things : Things) (rest all : List (ℕ × FinMap nat_cmp (Unit {0}))) → rest ≡ [] → all ≡ entries things → (old new : State)
         → Inside HasTables (NearingSingles (is_listed rest) (is_listed all)) old new → Inside HasTables (RewritesFound (has_thing things)) old new
     owners_rewritten things rest all none is = none_remaining (is_listed rest) (is_listed all) (has_thing things)

@@ -115,7 +115,7 @@ not_there g conn schema found shown is none = ap has_campaign (sym shown) ∙ sy
 pub spares_itself : (s : State) → ChangesNothing s s
 spares_itself s = record { same = λ up. (refl, refl, refl); shuts = λ up. inl up }
 
--- after a call (`Survives`) no failure of the disk is forgotten, and a shielded connection stays so (`IsLater`)
+-- after a call (`Survives`) no doubt of the disk, no failure and no test of reads is lost (`IsLater`)
 pub later : (old new : State) (Commits : Trees → Type 0) → Survives old new Commits → IsLater old new
 later old new Commits survives = record { clean = λ clean. omega (arith, survives.clean); counts = survives.counts; shield = survives.shield }
 

@@ -14,7 +14,7 @@ use Rattle.atl_campaign.specs.Campaign.{CampaignValue}
 use Rattle.atl_campaign.specs.Good.{HasNoStocks}
 use Rattle.atl_sql.specs.Inside.{Inside, HasTables, Carries, Both, Puts}
 use Rattle.atl_sql.specs.Rows.{campaign_row_of, rows_for, campaign_line, Holds, HoldsIn, MarketRowsOf}
-use Rattle.atl_sql.specs.Sets.{Is, IsKeyed, rows_in, put, visible}
+use Rattle.atl_sql.specs.Sets.{Is, AreKeyedByRowid, rows_in, put, visible}
 use Rattle.atl_sql.specs.Shown.{campaign_row, campaign_row_in}
 use Rattle.atl_sql.specs.Tables.{Part, Own, Markets, campaign_table, market_table, all_tables, all_indexes, creation_of, first_tables, parts_in, table_of}
 use Rattle.atl_store.specs.UpgradeSteps.{AddsMarkets, IsFirstFormat, WritesUpgrade}
@@ -37,7 +37,7 @@ new_schema = first_tables 10 4
 -- ---- the table of markets
 
 -- the rowids of a table without rows are different integers
-no_rows : IsKeyed []
+no_rows : AreKeyedByRowid []
 no_rows = record { apart = tt; ints = tt }
 
 -- the table `market` is made after just the tables of the first format
@@ -48,8 +48,8 @@ module _ (old new : Database) (is : IsFirstFormat old) (made : Creates old_schem
     begins = record { tables = []; indexes = []; is = made.schema_is; free = tt; plain = λ i none. absurd none };
     sound = record {
       keyed = λ t there. elim (has_either old_schema.tables (market_table ∷ []) t there) [
-        | inl was ↦ subst IsKeyed (sym (made.others t was)) (is.keyed t was)
-        | inr (inl same) ↦ subst (λ (u : Table). IsKeyed (new.trees u.tree)) (sym same) (subst IsKeyed (sym made.empty) no_rows)
+        | inl was ↦ subst AreKeyedByRowid (sym (made.others t was)) (is.keyed t was)
+        | inr (inl same) ↦ subst (λ (u : Table). AreKeyedByRowid (new.trees u.tree)) (sym same) (subst AreKeyedByRowid (sym made.empty) no_rows)
         | inr (inr none) ↦ absurd none
       ];
       listed = made.sound;

@@ -97,14 +97,14 @@ module _ {S : Type 0} (g : Ghosts S) (text : List ℕ) (old mid : Held S) (alone
         more = λ just. more (ap (λ (d : Database). d.schema) same.0 ∙ just);
       }
 
--- the connection after two calls is a later state of the one before them (`IsLater`)
+-- two calls (`Survives`), one after the other, lose no doubt of the disk, no failure and no test of reads (`IsLater`)
 pub later_both : (old mid new : State) (FirstMayLeave SecondMayLeave : Trees → Type 0) → Survives old mid FirstMayLeave → Survives mid new SecondMayLeave → IsLater old new
 later_both old mid new FirstMayLeave SecondMayLeave one two = record { clean = λ clean. omega (arith, one.clean, two.clean, clean); counts = omega (arith, one.counts, two.counts); shield = λ shielded. two.shield (one.shield shielded) }
 
 -- ---- before the transaction
 
 module _ {S : Type 0} (g : Ghosts S) (text : List ℕ) (old new : Held S) where
-  -- a fault of loading in the first format is a check that failed (`FailsCheck`)
+  -- an upgrade that ends with a fault of loading in the first format is one of which a check failed (`FailsCheck`)
   pub fails_to_load : (fault : LoadFault) → RefusesToLoadIn First g old fault → FailsCheck g text old new (first_fault fault)
   fails_to_load load.Store refused = inl refused
   fails_to_load (load.Damaged rule) refused = refused

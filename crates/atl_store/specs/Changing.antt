@@ -12,7 +12,7 @@ use Rattle.atl_sql.specs.Shown.{CampaignRowValue, campaign_row}
 use Rattle.atl_sql.specs.Marked.{is_marked}
 use Rattle.atl_sql.specs.Rows.{campaign_row_of, campaign_line, rows_for}
 
--- one of two propositions by a flag, such as whether a row is dirty: `Wanted` if it is true, else `Were`
+-- one of two propositions by a flag, such as whether a row is marked: `Wanted` if it is true, else `Were`
 abbrev pub Chosen : Bool → Type 0 → Type 0 → Type 0
 Chosen true Wanted Were = Wanted
 Chosen false Wanted Were = Were

@@ -27,7 +27,7 @@ use Rattle.atl_sql.specs.Errors.{is_memory}
 use Rattle.atl_store.specs.Loading.{HaveRows, AreOwnRow, IsOther, HasOtherType, KeepsOneRow, other_parts, other_selects, shows_rowids, tables_with_rowids, rows_read, AfterReads, AllSelectsShowTyped, RefusesOne}
 use Rattle.atl_sql.specs.Reading.{Selects, listing_of}
 use Rattle.atl_sql.specs.Statements.{selection}
-use Rattle.atl_sql.specs.Sets.{IsKeyed, rows_in}
+use Rattle.atl_sql.specs.Sets.{AreKeyedByRowid, rows_in}
 use Rattle.atl_sql.specs.Shown.{campaign_stored}
 use Rattle.atl_sql.specs.Stored.{Form}
 use Rattle.atl_sql.specs.Tables.{Part, all_parts, campaign_table, table_of, parts_in, HasTablesOf}
@@ -272,7 +272,7 @@ pub record Gathered (f : Format) {S : Type 0} (g : Ghosts S) (old : Held S) (w :
   -- if the tables are the format's, they have exactly the rows of `p`
   pub rows : HasTablesOf f old.schema → HaveRows f (state g old).now.trees text p
   -- if the tables are the format's, the rowids of those without an INTEGER PRIMARY KEY are integers, no two alike
-  pub keyed : HasTablesOf f old.schema → (table : Table) → Has (tables_with_rowids f) table → IsKeyed ((state g old).now.trees table.tree)
+  pub keyed : HasTablesOf f old.schema → (table : Table) → Has (tables_with_rowids f) table → AreKeyedByRowid ((state g old).now.trees table.tree)
 
 -- After the reads the tables are confirmed as those of the format.
 -- The old schema begins with the format's tables, the trees list and obey it (`IsSound`), and `new` is open.

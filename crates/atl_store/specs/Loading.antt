@@ -33,7 +33,7 @@ use Rattle.atl_sql.specs.Reading.{Selects, RefusesToSelect, listing_of}
 use Rattle.atl_sql.specs.Rows.{HoldsIn}
 use Rattle.atl_sql.specs.Shown.{int, campaign_row_stored, faction_stored, region_stored, unit_stored, structure_stored, mail_stored, report_stored, campaign_forms, faction_forms, region_forms, unit_forms, has_forms, structure_forms, mail_forms, report_forms, books_forms, market_forms}
 use Rattle.atl_sql.specs.Statements.{selection}
-use Rattle.atl_sql.specs.Sets.{rows_in, IsKeyed}
+use Rattle.atl_sql.specs.Sets.{rows_in, AreKeyedByRowid}
 use Rattle.atl_sql.specs.Stored.{Form, first_columns, AreTyped}
 use Rattle.atl_sql.specs.Tables.{Part, Own, Factions, Regions, Units, Goods, Structures, Mail, Reports, Books, Markets, campaign_table, table_of, parts_in, HasTablesOf}
 use Rattle.atl_store.specs.WorldText.{world_text}
@@ -147,11 +147,12 @@ pub record Stays (old new : State) : Type 0 where
   pub same : IsTrue new.is_open → (new.now ≡ old.now) × (new.committed ≡ old.committed)
 
 -- The connection after reads: it is in no transaction, and its tables are as they were, if the disk is clean (`Stays`).
--- A crash leaves only what it could have left before.
+-- What `Survives` says holds too, with nothing committed: a crash leaves only what it could have left before.
 pub record AfterReads {S : Type 0} (g : Ghosts S) (old new : Held S) : Type 0 where
   -- the tables are as they were, if the disk is clean
   pub stays : HasCleanDisk (state g new) → Stays (state g old) (state g new)
-  -- a crash leaves only what it could have left before
+  -- a disk in doubt stays so, no failure is forgotten, and shield and step limit stay; if the disk is clean, only a
+  -- failure closes the connection, and a crash leaves only what it could have left before (`Survives`)
   pub survives : Survives (state g old) (state g new) (λ _. ⊥)
   -- the connection is in no transaction
   pub idle : new.in_transaction ≡ false
@@ -245,7 +246,7 @@ module _ (f : Format) {S : Type 0} (g : Ghosts S) (old : Held S) where
     -- the schema begins with the tables of the format
     pub begins : HasTablesOf f old.schema
     -- the rowids of each table without an INTEGER PRIMARY KEY are integers, no two alike
-    pub keyed : (table : Table) → Has (tables_with_rowids f) table → IsKeyed ((state g old).now.trees table.tree)
+    pub keyed : (table : Table) → Has (tables_with_rowids f) table → AreKeyedByRowid ((state g old).now.trees table.tree)
 
   -- The tables are made as the format has them (`AreMade`), and `rule` is the first rule that their rows break.
   -- The world text reads as a world.
@@ -351,7 +352,7 @@ pub record StandsIn (f : Format) (s : State) (text : List ℕ) (c : CampaignValu
   -- the trees list the schema and obey it
   pub listed : IsSound s.now.schema s.now.trees
   -- in each table of the format the rowids are integers, no two alike
-  pub keyed : (table : Table) → Has (map table_of (parts_in f)) table → IsKeyed (s.now.trees table.tree)
+  pub keyed : (table : Table) → Has (map table_of (parts_in f)) table → AreKeyedByRowid (s.now.trees table.tree)
   -- the tables of the format hold exactly the rows of the text and the campaign
   pub rows : HoldsIn f s.now.trees text c
 
@@ -393,11 +394,12 @@ module _ {S : Type 0} (g : Ghosts S) (old : Held S) where
     pub unmarked : c.marks ≡ no_marks
 
   -- Whatever is answered, nothing is changed (`ChangesNothing`), if the disk is clean.
-  -- A crash leaves only what it could have left before, and the connection is in a transaction if it was in one.
+  -- What `Survives` says holds too, with nothing committed, and the connection is in a transaction if it was in one.
   pub record LeavesAlone (new : Held S) : Type 0 where
     -- nothing is changed, if the disk is clean
     pub spares : HasCleanDisk (state g new) → ChangesNothing (state g old) (state g new)
-    -- a crash leaves only what it could have left before
+    -- a disk in doubt stays so, no failure is forgotten, and shield and step limit stay; if the disk is clean, only a
+    -- failure closes the connection, and a crash leaves only what it could have left before (`Survives`)
     pub survives : Survives (state g old) (state g new) (λ _. ⊥)
     -- the connection is in a transaction exactly if it was in one
     pub mode : new.in_transaction ≡ old.in_transaction

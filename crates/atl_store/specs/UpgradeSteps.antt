@@ -8,7 +8,7 @@ use Rattle.atl_world.specs.declared.format.Format.TheVariants.{First}
 use Rattle.atl_campaign.specs.Campaign.{CampaignValue}
 use Rattle.atl_campaign.specs.Good.{HasNoStocks}
 use Rattle.atl_sql.specs.Rows.{Holds, HoldsIn}
-use Rattle.atl_sql.specs.Sets.{IsKeyed}
+use Rattle.atl_sql.specs.Sets.{AreKeyedByRowid}
 use Rattle.atl_sql.specs.Tables.{IsFirstFormatOnly, market_table, parts_in, table_of}
 
 -- The database has exactly the tables of the first format, and its trees list and obey the schema.
@@ -17,7 +17,7 @@ pub record IsFirstFormat (db : Database) : Type 0 where
   -- the schema is exactly the tables and indexes of the first format
   pub just : IsFirstFormatOnly db.schema
   -- in each table of the first format the rowids are integers, no two alike
-  pub keyed : (table : Table) → Has (map table_of (parts_in First)) table → IsKeyed (db.trees table.tree)
+  pub keyed : (table : Table) → Has (map table_of (parts_in First)) table → AreKeyedByRowid (db.trees table.tree)
   -- the trees list the schema and obey it
   pub listed : IsSound db.schema db.trees
 

@@ -16,7 +16,7 @@ use sqlite::{Alter, Connection};
 use std::alloc::Global;
 
 /// The rows of factions, regions, units, and the items and skills of units.
-type People = (
+type RowsToGoods = (
     Vec<StoredFaction>,
     (
         Vec<StoredRegion>,
@@ -25,7 +25,7 @@ type People = (
 );
 
 /// The rows of structures, mail, reports and the books.
-type Works = (
+type RowsFromStructures = (
     Vec<StoredStructure>,
     (
         Vec<StoredMail>,
@@ -34,7 +34,7 @@ type Works = (
 );
 
 /// The rows of the tables that both formats have.
-type FirstFormatRows = (People, Works);
+type FirstFormatRows = (RowsToGoods, RowsFromStructures);
 
 /// The rows of the table that only the second format has: `market`.
 type SecondFormatRows = Vec<RowWithId<StoredMarket>>;

@@ -8,7 +8,7 @@ use Rattle.atl_http.proofs.io.receive_in.Goals as goal
 pub progress_if_due-requires : goal.progress_if_due-requires
 progress_if_due-requires g c = laws.short_still c.deref.result.now c.loop-outcome.seen.items c.loop-outcome.lacking c.deref.ensures.value c.loop-outcome.invariant.short
 
--- the loop's invariant still holds after one more read
+-- after one more read, `seen` is what was read, and the request isn't whole with fewer than `lacking` further bytes
 pub loop-outcome-preserved : goal.loop-outcome-preserved
 loop-outcome-preserved g c =
     let lacks : ComesTo c.loop-outcome.seen.items (Lacks c.in-Lacks.count) = laws.lacks c.deref.result.now c.loop-outcome.seen.items c.in_ok-outcome.field-0 c.in-Lacks.count c.deref.ensures.value c.in-Lacks.is c.in_ok-outcome.ensures in

@@ -8,11 +8,17 @@ use Rattle.atl_http.proofs.io.receive_in.Given as goal
 -- bytes; the reads are within their limit, and the last one gave a piece or was interrupted
 abbrev pub invariant-loop-outcome : goal.invariant-loop-outcome
 invariant-loop-outcome g l = record {
+  -- the bytes that the reader has given are those of `seen`
   consumed : Consumes (g.R.Read.remaining l.fn.reader) (g.R.Read.remaining l.reader) l.seen.items;
+  -- no read was done after the request was whole or refused (`IsReadSoFar`)
   progress : IsReadSoFar l.seen.items;
+  -- with fewer than `lacking` further bytes the request isn't whole (`IsShortBy`)
   short : IsShortBy l.seen.items l.lacking;
+  -- the buffer of a read has the bytes that one read takes at most
   room : length l.room ≡ most_at_once;
+  -- the reads are within their limit
   few : l.reads.count ≤ most_reads;
+  -- the last read gave a piece or was interrupted, so that another may follow (`GoesOn`)
   goes_on : GoesOn l.reads.last;
 }
 

@@ -6,8 +6,11 @@ use Rattle.atl_http.proofs.io.send.Given as goal
 -- the first `sent` bytes were written, and fewer than `most_interrupted` writes were interrupted
 abbrev pub invariant-loop-sent : goal.invariant-loop-sent
 invariant-loop-sent g l = record {
+  -- at most all bytes were written
   within : l.sent ≤ length l.bytes;
+  -- fewer than `most_interrupted` writes were interrupted
   patient : l.writes.interrupted < most_interrupted;
+  -- the writer has taken the first `sent` bytes (`Appends`)
   written : Appends (g.W.Write.contents l.fn.writer) (g.W.Write.contents l.writer) (take l.sent l.bytes);
 }
 

@@ -6,7 +6,7 @@ use Rattle.atl_http.proofs.listening.serve_each.Goals.{in-Ok+in-Ok-serve_stream,
 pub returns-in-Err-serve_stream : goal.returns-in-Err-serve_stream
 returns-in-Err-serve_stream g c = laws.ended g.S.Store c.args.dice c.loop.counter c.args.count c.args.service.now c.loop.service c.serve_stream.new.service c.in-Err-serve_stream.fault c.loop-test.true c.loop.invariant c.in-Err-serve_stream.ensures
 
--- the loop's invariant still holds after one more connection, served or aborted by its peer
+-- after one more connection, served or aborted by its peer, still at most as many requests were served as were counted
 pub loop-preserved : goal.loop-preserved
 loop-preserved g c =
     elim c.match-accept.branch [

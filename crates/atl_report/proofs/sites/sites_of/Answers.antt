@@ -7,7 +7,7 @@ use Rattle.atl_report.specs.Sites.{with_site}
 use Rattle.atl_report.proofs.SiteLaws.{no_sites, site_goes_on}
 use Rattle.atl_report.proofs.sites.sites_of.Goals as goal
 
--- the invariant of the loop over the structures holds before the first one
+-- before the first structure each list is empty, and the numbers of all structures are still to come
 pub loop-number-init : goal.loop-number-init
 loop-number-init c =
     let what = c.args.campaign.now.value in
@@ -18,7 +18,7 @@ loop-number-init c =
           ∙ ap (numbers_among (λ (s : Structure). s.region == region)) is),
     )
 
--- the invariant of the loop over the structures holds after one more structure is added
+-- after one more structure is added, each region's list with its structures still to come is still that of the region
 pub loop-number-preserved : goal.loop-number-preserved
 loop-number-preserved c =
     let (_, _, rest) = c.loop-number.invariant in

@@ -1,6 +1,6 @@
 use Rattle.std.proofs.Common.{OnErr, IfErr, IfOk, sym, subst}
 use Rattle.atl_service.specs.declared.command.Command.{Command}
-use Rattle.atl_service.specs.Answering.{Answers, LeavesAfterFailure, of_write}
+use Rattle.atl_service.specs.Answering.{Answers, CommandLeavesAfterFault, of_write}
 use Rattle.atl_service.specs.Causes.{OfCommand, HasCause}
 use Rattle.atl_service.proofs.answering.answer_to.Goals as goal
 
@@ -9,25 +9,25 @@ pub returns-in-Join-clause-ok : goal.returns-in-Join-clause-ok
 returns-in-Join-clause-ok g c =
     subst (λ (command : Command). IfOk c.join.result (Answers g.S.Store c.args.world.now c.args.campaign.now.value c.args.conn.now command c.join.new.campaign.value c.join.new.conn)) (sym c.in-Join.is) c.join.ensures.ok
 
--- a command Join that ends in a fault leaves the tables as `LeavesAfterFailure` allows
+-- a command Join that ends in a fault leaves the tables as `CommandLeavesAfterFault` allows
 pub returns-in-Join-clause-err : goal.returns-in-Join-clause-err
 returns-in-Join-clause-err g c =
-    subst (λ (command : Command). OnErr c.join.result (LeavesAfterFailure g.S.Store c.args.world.now c.args.campaign.now.value c.args.conn.now command c.join.new.conn)) (sym c.in-Join.is) c.join.ensures.err
+    subst (λ (command : Command). OnErr c.join.result (CommandLeavesAfterFault g.S.Store c.args.world.now c.args.campaign.now.value c.args.conn.now command c.join.new.conn)) (sym c.in-Join.is) c.join.ensures.err
 
 -- a command Mail that ends without a fault is answered, and leaves campaign and tables, as `Answers` says
 pub returns-in-Mail-clause-ok : goal.returns-in-Mail-clause-ok
 returns-in-Mail-clause-ok g c =
     subst (λ (command : Command). IfOk c.mail.result (Answers g.S.Store c.args.world.now c.args.campaign.now.value c.args.conn.now command c.mail.new.campaign.value c.mail.new.conn)) (sym c.in-Mail.is) c.mail.ensures.ok
 
--- a command Mail that ends in a fault leaves the tables as `LeavesAfterFailure` allows
+-- a command Mail that ends in a fault leaves the tables as `CommandLeavesAfterFault` allows
 pub returns-in-Mail-clause-err : goal.returns-in-Mail-clause-err
 returns-in-Mail-clause-err g c =
-    subst (λ (command : Command). OnErr c.mail.result (LeavesAfterFailure g.S.Store c.args.world.now c.args.campaign.now.value c.args.conn.now command c.mail.new.conn)) (sym c.in-Mail.is) c.mail.ensures.err
+    subst (λ (command : Command). OnErr c.mail.result (CommandLeavesAfterFault g.S.Store c.args.world.now c.args.campaign.now.value c.args.conn.now command c.mail.new.conn)) (sym c.in-Mail.is) c.mail.ensures.err
 
--- a command Close that ends in a fault leaves the tables as `LeavesAfterFailure` allows
+-- a command Close that ends in a fault leaves the tables as `CommandLeavesAfterFault` allows
 pub returns-in-Close-clause-err : goal.returns-in-Close-clause-err
 returns-in-Close-clause-err g c =
-    subst (λ (command : Command). OnErr c.close.result (LeavesAfterFailure g.S.Store c.args.world.now c.args.campaign.now.value c.args.conn.now command c.close.new.conn)) (sym c.in-Close.is) c.close.ensures.err
+    subst (λ (command : Command). OnErr c.close.result (CommandLeavesAfterFault g.S.Store c.args.world.now c.args.campaign.now.value c.args.conn.now command c.close.new.conn)) (sym c.in-Close.is) c.close.ensures.err
 
 -- the fault of a command Join has its cause (`HasCause`)
 pub returns-in-Join-clause-cause : goal.returns-in-Join-clause-cause

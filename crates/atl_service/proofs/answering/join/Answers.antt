@@ -11,7 +11,7 @@ use Rattle.atl_service.specs.declared.command.Refusal.TheVariants as why
 use Rattle.atl_service.specs.Step.{reported, step}
 use Rattle.atl_service.specs.Causes.{OfCommand}
 use Rattle.atl_service.proofs.CauseLaws.{call_has_cause}
-use Rattle.atl_service.specs.Answering.{LeavesAfterFailure}
+use Rattle.atl_service.specs.Answering.{CommandLeavesAfterFault}
 use Rattle.atl_service.proofs.AnswerLaws.{is_refused}
 use Rattle.atl_campaign.proofs.GoodLaws.{IsGood-joined}
 use Rattle.atl_service.proofs.JoinStepLaws.{bad_name, bad_pass, is_taken, is_too_full, steps_on, joining_is, arrives}
@@ -64,9 +64,9 @@ returns-clause-ok g c =
       tables = λ clean text keeps. rw same (c.in_ok-write_join.ensures.ok clean text old keeps (rw done is_joining));
     }
 
--- if `write_join` fails, the tables are left as `LeavesAfterFailure` allows
+-- if `write_join` fails, the tables are left as `CommandLeavesAfterFault` allows
 pub returns-in_err-write_join-clause-err : goal.returns-in_err-write_join-clause-err
-returns-in_err-write_join-clause-err g c = on_err _ (LeavesAfterFailure g.S.Store c.args.world.now c.args.campaign.now.value c.args.conn.now (Join c.args.name.now c.args.pass.now c.args.word) c.write_join.new.conn) (λ clean text keeps.
+returns-in_err-write_join-clause-err g c = on_err _ (CommandLeavesAfterFault g.S.Store c.args.world.now c.args.campaign.now.value c.args.conn.now (Join c.args.name.now c.args.pass.now c.args.word) c.write_join.new.conn) (λ clean text keeps.
     let w = c.args.world.now in
     let old = c.args.campaign.now.value in
     let is = rw (c.as_slice-3.ensures, c.as_slice-4.ensures) at c.in-Ok.ensures.definition in

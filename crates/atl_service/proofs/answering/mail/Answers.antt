@@ -7,7 +7,7 @@ use Rattle.atl_store.specs.Keeps.{LeavesAfterFault}
 use Rattle.atl_store.specs.OwnStatements.{OfMail}
 use Rattle.atl_store.proofs.StayLaws.{on_err}
 use Rattle.atl_service.specs.declared.command.Command.TheVariants.{Mail}
-use Rattle.atl_service.specs.Answering.{LeavesAfterFailure}
+use Rattle.atl_service.specs.Answering.{CommandLeavesAfterFault}
 use Rattle.atl_campaign.proofs.GoodLaws.{IsGood-with_mail}
 use Rattle.atl_service.proofs.CauseLaws.{call_has_cause}
 use Rattle.atl_service.proofs.answering.mail.Goals as goal
@@ -25,9 +25,9 @@ returns-clause-ok g c =
       tables = λ clean text keeps. rw done (rw c.as_slice.ensures at (c.in_ok-write_mail.ensures.ok clean text old keeps));
     }
 
--- if `write_mail` fails, the tables are left as `LeavesAfterFailure` allows
+-- if `write_mail` fails, the tables are left as `CommandLeavesAfterFault` allows
 pub returns-in_err-write_mail-clause-err : goal.returns-in_err-write_mail-clause-err
-returns-in_err-write_mail-clause-err g c = on_err _ (LeavesAfterFailure g.S.Store c.args.world.now c.args.campaign.now.value c.args.conn.now (Mail c.args.faction c.args.pass.now c.args.text.now) c.write_mail.new.conn) (λ clean text keeps.
+returns-in_err-write_mail-clause-err g c = on_err _ (CommandLeavesAfterFault g.S.Store c.args.world.now c.args.campaign.now.value c.args.conn.now (Mail c.args.faction c.args.pass.now c.args.text.now) c.write_mail.new.conn) (λ clean text keeps.
     let old = c.args.campaign.now.value in
     let stops = rw c.as_slice.ensures at (c.in_err-write_mail.ensures.err clean text old keeps) in
     subst (λ (after : CampaignValue). LeavesAfterFault (state g.S.Store c.args.conn.now).faults (state g.S.Store c.write_mail.new.conn) text old after) (sym (ap (λ p. p.0) c.in-Ok.ensures.step)) stops)

@@ -8,7 +8,7 @@ use Rattle.atl_store.specs.Keeps.{LeavesAfterFault}
 use Rattle.atl_store.specs.OwnStatements.{OfChange}
 use Rattle.atl_store.proofs.StayLaws.{on_err}
 use Rattle.atl_service.specs.declared.command.Command.TheVariants.{Close}
-use Rattle.atl_service.specs.Answering.{LeavesAfterFailure}
+use Rattle.atl_service.specs.Answering.{CommandLeavesAfterFault}
 use Rattle.atl_service.specs.Causes.{OfCommand}
 use Rattle.atl_service.proofs.CauseLaws.{call_has_cause}
 use Rattle.atl_service.proofs.CloseLaws.{closed_after_reports, few_things}
@@ -22,9 +22,9 @@ write_changes-requires-clause-things g c =
     let done = closed_after_reports w c.args.campaign.now.value c.turn_month.new.campaign.value after c.as_slice.result.now c.in_ok-outcome.outcome c.in_ok-outcome.ensures.outcome c.in_ok-report_to_all.ensures.what c.in_ok-outcome.ensures.there c.in_ok-outcome.ensures.good in
     few_things w after c.in_default.ensures.ok.world done.1
 
--- if `write_changes` fails, the tables are left as `LeavesAfterFailure` allows
+-- if `write_changes` fails, the tables are left as `CommandLeavesAfterFault` allows
 pub returns-in_err-write_changes-clause-err : goal.returns-in_err-write_changes-clause-err
-returns-in_err-write_changes-clause-err g c = on_err _ (LeavesAfterFailure g.S.Store c.args.world.now c.args.campaign.now.value c.args.conn.now (Close c.args.month c.args.pass.now c.args.words.now) c.write_changes.new.conn) (λ clean text keeps.
+returns-in_err-write_changes-clause-err g c = on_err _ (CommandLeavesAfterFault g.S.Store c.args.world.now c.args.campaign.now.value c.args.conn.now (Close c.args.month c.args.pass.now c.args.words.now) c.write_changes.new.conn) (λ clean text keeps.
     let old = c.args.campaign.now.value in
     let after = c.report_to_all.new.campaign.value in
     let done = rw c.as_slice.ensures at (closed_after_reports c.args.world.now old c.turn_month.new.campaign.value after c.as_slice.result.now c.in_ok-outcome.outcome c.in_ok-outcome.ensures.outcome c.in_ok-report_to_all.ensures.what c.in_ok-outcome.ensures.there c.in_ok-outcome.ensures.good) in

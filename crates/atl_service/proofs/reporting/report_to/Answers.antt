@@ -10,7 +10,7 @@ returns-clause-what c =
     stored_own c.args.world.now c.args.campaign.now.value c.store_report_with.new.campaign.value c.args.faction (unwrap_or (get c.args.outcome.now.faults c.args.faction) []) c.list_of-faults.result.now c.args.outcome.now.events.items c.list_of-events.result.now
     c.store_report_with.result c.list_of-faults.ensures (c.list_of-events.ensures ∙ c.requires.sorted c.args.faction) c.store_report_with.ensures.ok
 
--- the dirty set has all changes, which are the stored report (`MarksChanges`)
+-- the stored report is all that changed, and is marked; no mark is lost (`MarksChanges`)
 pub returns-clause-marks : goal.returns-clause-marks
 returns-clause-marks c =
     stored_marked c.args.world.now c.args.campaign.now c.store_report_with.new.campaign c.args.faction c.list_of-faults.result.now c.list_of-events.result.now c.store_report_with.result c.store_report_with.ensures.ok c.store_report_with.ensures.marks

@@ -6,7 +6,7 @@ use Rattle.atl_service.specs.Months.{reported_to_all}
 use Rattle.atl_service.proofs.CloseLaws.{fold_further, sites_stay}
 use Rattle.atl_service.proofs.reporting.report_to_each.Goals as goal
 
--- the loop's invariant still holds after one more report is stored
+-- after one more report is stored, storing those that are left still makes the campaign with all reports
 pub loop-faction-preserved : goal.loop-faction-preserved
 loop-faction-preserved c =
     let (whole, marks, sites) = c.loop-faction.invariant in

@@ -7,8 +7,8 @@ use Rattle.atl_service.specs.Closing.{reported_to}
 use Rattle.atl_service.specs.Months.{reported_to_all}
 use Rattle.atl_service.proofs.reporting.report_to_each.Given as goal
 
--- storing the reports that are left makes the campaign with all reports, the dirty set has all changes, and `sites` has
--- the structures by region
+-- storing the reports that are left makes the campaign with all reports; no mark is lost and all that changed is marked
+-- (`MarksChanges`); and `sites` has the structures by region
 abbrev pub invariant-loop-faction : goal.invariant-loop-faction
 invariant-loop-faction l =
     (fold (reported_to l.world (λ n. unwrap_or (get l.outcome.faults n) []) l.outcome.events.items) l.campaign.value (drop l.faction-index l.faction-items) ≡ reported_to_all l.world l.initial.campaign.value l.outcome) ×

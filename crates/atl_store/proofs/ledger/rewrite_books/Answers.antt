@@ -11,14 +11,14 @@ use Rattle.atl_store.proofs.RewriteLaws.{none_nearer}
 use Rattle.atl_sql.proofs.WriteLaws.{begins, goes_on, stops_second, weaker}
 use Rattle.atl_store.proofs.ledger.rewrite_books.Goals as goal
 
--- before the first thing all dirty amounts are still to rewrite (`NearingThings`)
+-- before the first thing all marked amounts are still to rewrite (`NearingThings`)
 pub loop-number-init : goal.loop-number-init
 loop-number-init g c =
     let count = c.args.campaign.now.value.books.things in
     let whole : count - 0 ≡ count = omega arith in
     begins g.S.Store (none_nearer books_table _ _ _ (λ r. ap (λ n. of_amounts c.args.campaign.now.marks.books (is_among (map entry_index all_entries)) (is_among (range_with_len 0 n)) r) whole))
 
--- once a thing's dirty amounts are rewritten, only those of the later things are still to rewrite
+-- once a thing's marked amounts are rewritten, only those of the later things are still to rewrite
 pub loop-number-preserved : goal.loop-number-preserved
 loop-number-preserved g c =
     let campaign = c.args.campaign.now in
@@ -30,11 +30,11 @@ loop-number-preserved g c =
     (subst (λ t. Inside HasTables (RewritesAmounts campaign (is_among (map entry_index all_entries)) (is_number t)) mid new) place more))
     c.loop-number.invariant c.in_ok-rewrite_entries.ensures
 
--- if a thing's dirty amounts can't be rewritten, the write of the books ends with this error
+-- if a thing's marked amounts can't be rewritten, the write of the books ends with this error
 pub returns-in_err-rewrite_entries : goal.returns-in_err-rewrite_entries
 returns-in_err-rewrite_entries g c = stops_second g.S.Store c.loop-number.invariant c.in_err-rewrite_entries.ensures c.from_residual.ensures
 
--- when no thing is left, all dirty amounts of the books are rewritten (`RewritesBooks`)
+-- when no thing is left, all marked amounts of the books are rewritten (`RewritesBooks`)
 pub returns : goal.returns
 returns g c =
     let campaign = c.args.campaign.now in

@@ -4,7 +4,7 @@ use Rattle.atl_store.proofs.SingleLaws.{owner_nearer, owners_rewritten}
 use Rattle.atl_sql.proofs.WriteLaws.{begins, goes_on, stops_second, weaker}
 use Rattle.atl_store.proofs.singles.rewrite_singles.Goals as goal
 
--- before the first owner the single dirty amounts of all owners are still to rewrite (`NearingSingles`)
+-- before the first owner the single marked amounts of all owners are still to rewrite (`NearingSingles`)
 pub loop-owner-init : goal.loop-owner-init
 loop-owner-init g c = begins g.S.Store (none_nearer g.A.SingleAmounts.table _ _ _ (λ r. refl))
 
@@ -17,7 +17,7 @@ loop-owner-preserved g c =
 pub returns-in_err-rewrite_under : goal.returns-in_err-rewrite_under
 returns-in_err-rewrite_under g c = stops_second g.S.Store c.loop-owner.invariant c.in_err-rewrite_under.ensures c.from_residual.ensures
 
--- when no owner is left, all single dirty amounts are rewritten
+-- when no owner is left, all single marked amounts are rewritten
 pub returns : goal.returns
 returns g c =
     let all = c.into_iter-owner-iterator.ensures.into_iter_gives ∙ c.marked_singles-owner-items.ensures in

@@ -4,7 +4,7 @@ use Rattle.atl_store.proofs.SingleLaws.{NearingSingles, is_listed}
 use Rattle.atl_sql.proofs.WriteLaws.{SoFar}
 use Rattle.atl_store.proofs.singles.rewrite_singles.Given as goal
 
--- at each turn all single dirty amounts are rewritten but those of the owners that are left
+-- at each turn all single marked amounts are rewritten but those of the owners that are left
 abbrev pub invariant-loop-owner : goal.invariant-loop-owner
 invariant-loop-owner g l =
     SoFar g.S.Store (OfChange l.fn.campaign.value)
