@@ -19,7 +19,7 @@ use Rattle.atl_orders.specs.Operands.{number_at, alias_at}
 use Rattle.atl_orders.specs.Orders.{OrderValue, said_by}
 use Rattle.atl_orders.specs.Aliasing.{no_alias, with_alias}
 use Rattle.atl_orders.specs.Lines.{lines}
-use Rattle.atl_orders.specs.Reading.{is_plain, keyword_of, Effect, nothing, faulty, says, form_value, LineStep, target, effect_for, order_effect, unit_step, end_step, block_step, form_step, keyword_step, words_step, line_step}
+use Rattle.atl_orders.specs.Reading.{is_plain, keyword_of, Effect, nothing, faulty, says, form_value, LineStep, step, target, effect_for, order_effect, unit_step, end_step, block_step, form_step, keyword_step, words_step, line_step}
 use Rattle.atl_orders.specs.Mailing.{EntryValue, entry_of, effects, faction_of, HeaderValue, header_line, header_from, Reading, after_header, reading}
 use Rattle.atl_orders.proofs.OrderLaws.{Holds, Counted, Sound, count_holds, from_one, number_within, said_sound}
 use Rattle.atl_orders.specs.Bounds.{IsWithin, IsNumber, IsAlias, IsUnitRef, IsOrderOf, IsEntry, LinesRise, IsReading, ReadingsKeepBounds}
@@ -42,18 +42,16 @@ IsEffect world (says unit order_value) = IsUnitRef unit × IsOrderOf world order
 
 -- what a line gives (`IsEffect`), and the reader's state after it, have numbers, names and things in bounds
 abbrev IsStep : WorldValue → LineStep → Type 0
-IsStep world s = IsEffect world s.effect × IsStateInBounds s.place
+IsStep world s = IsEffect world s.effect × IsStateInBounds s.state
 
 module _ (world : WorldValue) (given : ℕ → Bool) where
   -- what a UNIT line gives and the state after it are in bounds (`IsStep`), if its number is from 1 to 999,999,999
   unit_sound : (r : Result Counted LineFault) → Holds (λ (x : Counted). IsNumber x.0) r → IsStep world (unit_step given r)
-  unfolding unit_step
   unit_sound (Ok n) h = (tt, h)
   unit_sound (Err fault) h = (tt, tt)
 
   -- what an END line gives and the state after it are in bounds (`IsStep`), if the state before it is
-  end_sound : (place : ReaderState) → IsStateInBounds place → IsStep world (end_step place given)
-  unfolding end_step
+  end_sound : (state : ReaderState) → IsStateInBounds state → IsStep world (end_step state given)
   end_sound Nowhere h = (tt, tt)
   end_sound (At n) h = (tt, h)
   end_sound (Forming parent alias) h = (tt, h.0)
@@ -62,19 +60,17 @@ module _ (world : WorldValue) (given : ℕ → Bool) where
 
   -- what a FORM line with an alias gives and the state after it are in bounds (`IsStep`), if unit and alias are, be the
   -- alias new or given before
-  given_sound : (t : Bool) (n alias : ℕ) → IsNumber n → IsAlias alias → IsStep world (cond t (record { effect = faulty BadAlias; place = Skipping (Some n); given = given }) (record { effect = says (Number n) (form_value alias); place = Forming n alias; given = with_alias given alias }))
+  given_sound : (t : Bool) (n alias : ℕ) → IsNumber n → IsAlias alias → IsStep world (cond t (step (faulty BadAlias) (Skipping (Some n)) given) (step (says (Number n) (form_value alias)) (Forming n alias) (with_alias given alias)))
   given_sound true n alias h k = (tt, h)
   given_sound false n alias h k = ((h, k), (h, k))
 
   -- what a FORM line outside of blocks gives and the state after it are in bounds (`IsStep`), if its unit and alias are
   block_sound : (n : ℕ) (r : Result Counted LineFault) → IsNumber n → Holds (λ (x : Counted). IsAlias x.0) r → IsStep world (block_step n given r)
-  unfolding block_step
   block_sound n (Ok a) h k = given_sound (given a.0) n a.0 h k
   block_sound n (Err fault) h k = (tt, h)
 
   -- what a FORM line gives and the state after it are in bounds (`IsStep`), if the state before it is
-  forming_sound : (place : ReaderState) (ws : List WordText) → IsStateInBounds place → IsStep world (form_step place given ws)
-  unfolding form_step
+  forming_sound : (state : ReaderState) (ws : List WordText) → IsStateInBounds state → IsStep world (form_step state given ws)
   forming_sound Nowhere ws h = (tt, tt)
   forming_sound (At n) ws h = block_sound n (alias_at ws) h (count_holds last_alias BadAlias ws)
   forming_sound (Forming parent alias) ws h = (tt, h)
@@ -86,37 +82,35 @@ module _ (world : WorldValue) (given : ℕ → Bool) where
   for_unit unit (Err fault) h k = tt
 
   -- what an order's line gives is in bounds (`IsEffect`), if the reader's state and the order are
-  order_sound : (place : ReaderState) (r : Result OrderValue LineFault) → IsStateInBounds place → Sound world r → IsEffect world (order_effect (target place) r)
+  order_sound : (state : ReaderState) (r : Result OrderValue LineFault) → IsStateInBounds state → Sound world r → IsEffect world (order_effect (target state) r)
   order_sound Nowhere r h k = tt
   order_sound (At n) r h k = for_unit (Number n) r h k
   order_sound (Forming parent alias) r h k = for_unit (Alias alias) r h.1 k
   order_sound (Skipping parent) r h k = tt
 
   -- what a line gives by its keyword and the state after it are in bounds (`IsStep`), if the state before it is
-  keyword_sound : (place : ReaderState) (k : Option Keyword) (ws : List WordText) → IsStateInBounds place → IsStep world (keyword_step world place given k ws)
-  unfolding keyword_step
-  keyword_sound place None ws h = (tt, h)
-  keyword_sound place (Some keywords.Unit) ws h = unit_sound (number_at ws) (count_holds most_number BadNumber ws)
-  keyword_sound place (Some keywords.End) ws h = end_sound place h
-  keyword_sound place (Some keywords.Form) ws h = forming_sound place ws h
-  keyword_sound place (Some (keywords.Order verb)) ws h = (order_sound place (said_by world verb ws) h (said_sound world verb ws), h)
+  keyword_sound : (state : ReaderState) (k : Option Keyword) (ws : List WordText) → IsStateInBounds state → IsStep world (keyword_step world state given k ws)
+  keyword_sound state None ws h = (tt, h)
+  keyword_sound state (Some keywords.Unit) ws h = unit_sound (number_at ws) (count_holds most_number BadNumber ws)
+  keyword_sound state (Some keywords.End) ws h = end_sound state h
+  keyword_sound state (Some keywords.Form) ws h = forming_sound state ws h
+  keyword_sound state (Some (keywords.Order verb)) ws h = (order_sound state (said_by world verb ws) h (said_sound world verb ws), h)
 
   -- what a line gives by its words and the state after it are in bounds (`IsStep`), if the state before it is
-  words_sound : (place : ReaderState) (ws : List WordText) → IsStateInBounds place → IsStep world (words_step world place given ws)
-  unfolding words_step
-  words_sound place [] h = (tt, h)
-  words_sound place (w ∷ ws) h = keyword_sound place (keyword_of w) ws h
+  words_sound : (state : ReaderState) (ws : List WordText) → IsStateInBounds state → IsStep world (words_step world state given ws)
+  words_sound state [] h = (tt, h)
+  words_sound state (w ∷ ws) h = keyword_sound state (keyword_of w) ws h
 
   -- what a line gives and the state after it are in bounds (`IsStep`), if the state before it is, whether the bytes of
   -- the line are allowed or not
-  tested_sound : (t : Bool) (place : ReaderState) (ws : List WordText) → IsStateInBounds place → IsStep world (cond t (words_step world place given ws) (record { effect = faulty BadByte; place = place; given = given }))
-  tested_sound true place ws h = words_sound place ws h
-  tested_sound false place ws h = (tt, h)
+  tested_sound : (t : Bool) (state : ReaderState) (ws : List WordText) → IsStateInBounds state → IsStep world (cond t (words_step world state given ws) (step (faulty BadByte) state given))
+  tested_sound true state ws h = words_sound state ws h
+  tested_sound false state ws h = (tt, h)
 
   -- what a line gives and the state after it are in bounds (`IsStep`), if the state before it is
-  line_sound : (place : ReaderState) (line : List ℕ) → IsStateInBounds place → IsStep world (line_step world place given line)
+  line_sound : (state : ReaderState) (line : List ℕ) → IsStateInBounds state → IsStep world (line_step world state given line)
   unfolding line_step
-  line_sound place line h = tested_sound (list_all is_plain line) place (words line) h
+  line_sound state line h = tested_sound (list_all is_plain line) state (words line) h
 
 -- ---- all lines, the header, and the whole text
 
@@ -134,13 +128,13 @@ module _ (world : WorldValue) where
   one_more false n effect more h k = All-append (IsEntry world) (entry_of (n, effect)) (flat_map entry_of more) (entry_sound n effect h) k
 
   -- the orders of all lines up to `#END` are in bounds, if the reader's state before the first line is
-  body_sound : (lines : List (List ℕ)) (n : ℕ) (place : ReaderState) (given : ℕ → Bool) → IsStateInBounds place → All (IsEntry world) (flat_map entry_of (effects world n place given lines))
+  body_sound : (lines : List (List ℕ)) (n : ℕ) (state : ReaderState) (given : ℕ → Bool) → IsStateInBounds state → All (IsEntry world) (flat_map entry_of (effects world n state given lines))
   unfolding effects
-  body_sound [] n place given h = All-nil (IsEntry world)
-  body_sound (line ∷ rest) n place given h =
-      let s = line_step world place given line in
-      let sound = line_sound world given place line h in
-      one_more (begins (codes "#END") (words line)) n s.effect (effects world (n + 1) s.place s.given rest) sound.0 (body_sound rest (n + 1) s.place s.given sound.1)
+  body_sound [] n state given h = All-nil (IsEntry world)
+  body_sound (line ∷ rest) n state given h =
+      let s = line_step world state given line in
+      let sound = line_sound world given state line h in
+      one_more (begins (codes "#END") (words line)) n s.effect (effects world (n + 1) s.state s.given rest) sound.0 (body_sound rest (n + 1) s.state s.given sound.1)
 
 -- the line numbers of orders stay strictly ascending with the order of line n in front of those of later lines
 rise_step : (world : WorldValue) (n m : ℕ) (effect : Effect) (rest : List EntryValue) → m < n → ((k : ℕ) → k < n + 1 → LinesRise k rest) → LinesRise m (entry_of (n, effect) ++ rest)
@@ -154,12 +148,12 @@ rise_test world true n m effect more h k = tt
 rise_test world false n m effect more h k = rise_step world n m effect (flat_map entry_of more) h k
 
 -- the line numbers of the orders of lines from n on are strictly ascending, and above each m below n
-body_rises : (world : WorldValue) (lines : List (List ℕ)) (n m : ℕ) (place : ReaderState) (given : ℕ → Bool) → m < n → LinesRise m (flat_map entry_of (effects world n place given lines))
+body_rises : (world : WorldValue) (lines : List (List ℕ)) (n m : ℕ) (state : ReaderState) (given : ℕ → Bool) → m < n → LinesRise m (flat_map entry_of (effects world n state given lines))
 unfolding effects
-body_rises world [] n m place given h = tt
-body_rises world (line ∷ rest) n m place given h =
-    let s = line_step world place given line in
-    rise_test world (begins (codes "#END") (words line)) n m s.effect (effects world (n + 1) s.place s.given rest) h (λ k l. body_rises world rest (n + 1) k s.place s.given l)
+body_rises world [] n m state given h = tt
+body_rises world (line ∷ rest) n m state given h =
+    let s = line_step world state given line in
+    rise_test world (begins (codes "#END") (words line)) n m s.effect (effects world (n + 1) s.state s.given rest) h (λ k l. body_rises world rest (n + 1) k s.state s.given l)
 
 -- P holds of the value of a result, if the result is no fault
 abbrev HoldsOf : {X : Type 0} → (X → Type 0) → Result X MailFault → Type 0

@@ -1,10 +1,11 @@
 -- The lines of a text: how the first is split off, and at which index of the text it ends.
 use Rattle.atl_orders.proofs.WordLaws.{ends_further}
 use Rattle.std.proofs.Common.{Option, Some, None, IfSome, ◌≡◌, ◌≢◌, ℕ, zero, suc, ◌+◌, ◌-◌, ◌<◌, ◌≤◌, Bool, true, false, not, cond, List, [], ◌∷◌, ◌++◌, length, get_or, take, drop, map, refl, sym, ap, ◌∙◌, arith}
-use Rattle.std.specs.List.{position_or_len}
+use Rattle.std.specs.List.{position, position_or_len}
 use Rattle.std.proofs.lemmas.List.{append-nil, take-append-drop, append_assoc, length-append}
-use Rattle.atl_orders.specs.Standing.{EndsWith, EndsAt, StartsWith}
+use Rattle.atl_orders.specs.Positions.{EndsWith, EndsAt, StartsWith}
 use Rattle.std.proofs.lemmas.Bool.{eq-eqb, ne_eqb}
+use Rattle.std.proofs.lemmas.Bool.Decides.{nat_tests}
 use Rattle.atl_orders.specs.Letters.{carriage_return}
 use Rattle.atl_orders.specs.Lines.{is_feed, with_front, pieces, without_return, lines}
 
@@ -33,13 +34,15 @@ unfolding pieces
 pieces-last [] h = refl
 pieces-last (b ∷ bs) h = last_step (is_feed b) b bs (position_or_len is_feed bs) h (pieces-last bs)
 
--- the lines of a text with a line feed are the line before the feed and the lines of the text after it
-pub lines-feed : (text : List ℕ) → position_or_len is_feed text < length text → lines text ≡ without_return (take (position_or_len is_feed text) text) ∷ lines (drop (position_or_len is_feed text + 1) text)
-lines-feed text h = ap (map without_return) (pieces-feed text h)
+-- the lines of a text with its first line feed at an index are the line before the feed and the lines after it
+pub lines_feed : (text : List ℕ) (end : ℕ) → position is_feed text ≡ Some end → lines text ≡ without_return (take end text) ∷ lines (drop (end + 1) text)
+lines_feed text end h =
+    let found : position_or_len is_feed text ≡ end = grind (arith, nat_tests) in
+    rw (← found) (ap (map without_return) (pieces-feed text (grind (arith, nat_tests))))
 
 -- a text without a line feed is one line
-pub lines-last : (text : List ℕ) → length text ≤ position_or_len is_feed text → lines text ≡ without_return text ∷ []
-lines-last text h = ap (map without_return) (pieces-last text h)
+pub lines_last : (text : List ℕ) → position is_feed text ≡ None → lines text ≡ without_return text ∷ []
+lines_last text h = ap (map without_return) (pieces-last text (grind (arith, nat_tests)))
 
 -- without_return cuts a carriage return off the end of a line
 pub return_cut : (line : List ℕ) (n : ℕ) → length line ≡ n + 1 → get_or line n 0 ≡ carriage_return → without_return line ≡ take n line
@@ -74,11 +77,11 @@ pub front_further : (text mid front : List ℕ) → StartsWith text mid → Star
 front_further text mid front a b = record { back = b.back ++ a.back; whole = a.whole ∙ ap (λ l. l ++ a.back) b.whole ∙ append_assoc front b.back a.back }
 
 -- a line at the start of the rest `left` of a text ends at the text's length, less that of `left`, plus the line's own
-pub line_place : (text left line : List ℕ) → EndsWith text left → StartsWith left line → EndsAt text (length text - length left + length line) line
-line_place text left line e s =
+pub line_ends_at : (text left line : List ℕ) → EndsWith text left → StartsWith left line → EndsAt text (length text - length left + length line) line
+line_ends_at text left line e s =
     let a : length text ≡ length e.front + length left = ap length e.whole ∙ length-append e.front left in
     let b : length (e.front ++ line) ≡ length e.front + length line = length-append e.front line in
-    record { front = e.front; back = s.back; whole = e.whole ∙ ap (λ l. e.front ++ l) s.whole; place_is = omega arith }
+    record { front = e.front; back = s.back; whole = e.whole ∙ ap (λ l. e.front ++ l) s.whole; end_is = omega arith }
 
 -- a start of a text is no longer than the text
 pub starts_shorter : (text front : List ℕ) → StartsWith text front → length front ≤ length text

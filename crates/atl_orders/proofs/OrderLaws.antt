@@ -23,7 +23,7 @@ use Rattle.atl_orders.specs.declared.order.Operands.TheVariants as operands
 use Rattle.atl_orders.specs.declared.verb.Shape.{Shape}
 use Rattle.atl_orders.specs.declared.verb.Shape.TheVariants as shapes
 use Rattle.atl_orders.specs.Verbs.{row_of}
-use Rattle.atl_orders.specs.Orders.{OperandsValue, OrderValue, kind_of_name, read_alias, read_flag, read_number, read_unit, read_units, read_unit_and_number, read_unit_and_goods, read_goods, read_name, read_direction, read_kind, read_skill, read_item, read_operands, said_by}
+use Rattle.atl_orders.specs.Orders.{OperandsValue, OrderValue, kind_of_name, read_flag, read_units, read_unit_and_number, read_unit_and_goods, read_name, read_kind, read_operands, said_by}
 use Rattle.atl_orders.specs.Bounds.{IsWithin, IsNumber, IsAlias, IsUnitRef, AreOperandsOf, IsOrderOf}
 
 -- P holds of the value of a result, if the result is no fault
@@ -130,15 +130,14 @@ units_hold (w ∷ v ∷ ws) =
 -- ---- things of the world
 
 -- the index of the thing that a word names is less than how many there are
-place_within : {A : Type 0} (title : A → List ℕ) (things : List A) (word : List ℕ) (quoted : Bool) (i : ℕ) → index_named title things word quoted ≡ Some i → i < length things
-place_within title [] word quoted i h = cc
-place_within title (x ∷ xs) word quoted i h = (position-Some (λ thing. str_eq_ignore_ascii_case (title thing) (name_of word quoted)) (x ∷ xs) i x h).0
+index_within : {A : Type 0} (title : A → List ℕ) (things : List A) (word : List ℕ) (quoted : Bool) (i : ℕ) → index_named title things word quoted ≡ Some i → i < length things
+index_within title [] word quoted i h = cc
+index_within title (x ∷ xs) word quoted i h = (position-Some (λ thing. str_eq_ignore_ascii_case (title thing) (name_of word quoted)) (x ∷ xs) i x h).0
 
 -- an item that is read is one of the world's items
 item_holds : (world : WorldValue) (ws : List WordText) → Holds (λ i. i < length world.items) (item_at world ws)
-unfolding item_at
 item_holds world [] = tt
-item_holds world (w ∷ ws) = found _ UnknownThing _ (λ i h. place_within _ world.items w.bytes w.quoted i h)
+item_holds world (w ∷ ws) = found _ UnknownThing _ (λ i h. index_within _ world.items w.bytes w.quoted i h)
 
 -- an amount, and the number of an item
 abbrev Goods : Type 0
@@ -146,22 +145,19 @@ Goods = ℕ × ℕ
 
 -- an amount that is read is from 1 to 999,999,999, and its item one of the world's items
 goods_hold : (world : WorldValue) (ws : List WordText) → Holds (λ (x : Goods). IsNumber x.0 × (x.1 < length world.items)) (amount_of_item_at world ws)
-unfolding amount_of_item_at
 goods_hold world ws =
     after (λ (x : Counted). IsNumber x.0) _ (number_at ws) _ (count_holds most_number BadNumber ws) (λ amount h.
     after (λ i. i < length world.items) _ (item_at world amount.1) _ (item_holds world amount.1) (λ item k. (h, k)))
 
 -- a skill that is read is one of the world's skills
 skill_holds : (world : WorldValue) (ws : List WordText) → Holds (λ i. i < length world.skills) (skill_at world ws)
-unfolding skill_at
 skill_holds world [] = tt
-skill_holds world (w ∷ ws) = found _ UnknownThing _ (λ i h. place_within _ world.skills w.bytes w.quoted i h)
+skill_holds world (w ∷ ws) = found _ UnknownThing _ (λ i h. index_within _ world.skills w.bytes w.quoted i h)
 
 -- a kind of structure that is read is one of the world's kinds
 kind_holds : (world : WorldValue) (ws : List WordText) → Holds (λ i. i < length world.kinds) (kind_at world ws)
-unfolding kind_at
 kind_holds world [] = tt
-kind_holds world (w ∷ ws) = found _ UnknownThing _ (λ i h. place_within _ world.kinds w.bytes w.quoted i h)
+kind_holds world (w ∷ ws) = found _ UnknownThing _ (λ i h. index_within _ world.kinds w.bytes w.quoted i h)
 
 -- ---- what the words after a verb name
 
@@ -174,27 +170,11 @@ abbrev pub Sound : WorldValue → Result OrderValue LineFault → Type 0
 Sound world r = Holds (IsOrderOf world) r
 
 module _ (world : WorldValue) where
-  -- if words are read as an alias, it is from 1 to 9,999 (`AreSound`)
-  alias_sound : (ws : List WordText) → AreSound world (read_alias ws)
-  unfolding read_alias
-  alias_sound ws = after _ (AreOperandsOf world) (alias_at ws) _ (count_holds last_alias BadAlias ws) (λ n h. h)
-
   -- if words are read as a flag, the operands are in bounds (`AreSound`), since a flag has no bound
   flag_sound : (ws : List WordText) → AreSound world (read_flag ws)
-  unfolding read_flag
   flag_sound ws =
       after _ (AreOperandsOf world) (word_at ws) _ (anything (word_at ws)) (λ w _.
       after _ (AreOperandsOf world) (or_fault BadNumber (number_of 1 w.0.bytes)) _ (anything (or_fault BadNumber (number_of 1 w.0.bytes))) (λ n _. tt))
-
-  -- if words are read as a number, it is from 1 to 999,999,999 (`AreSound`)
-  number_sound : (ws : List WordText) → AreSound world (read_number ws)
-  unfolding read_number
-  number_sound ws = after _ (AreOperandsOf world) (number_at ws) _ (count_holds most_number BadNumber ws) (λ n h. h)
-
-  -- if words are read as a unit, its number or alias is in range (`AreSound`)
-  unit_sound : (ws : List WordText) → AreSound world (read_unit ws)
-  unfolding read_unit
-  unit_sound ws = after _ (AreOperandsOf world) (unit_at ws) _ (unit_holds ws) (λ u h. h)
 
   -- a list has one unit or more, and all have their number or alias in range
   abbrev Units : List UnitRef → Type 0
@@ -206,7 +186,7 @@ module _ (world : WorldValue) where
 
   -- if the words up to the line's end are read as a list of units, it has one or more, all in range (`Units`)
   some_hold : (ws : List WordText) → Holds Units (some_units_at ws)
-  unfolding some_units_at units_of
+  unfolding units_of
   some_hold [] = tt
   some_hold (w ∷ []) = either Units (is_word (codes "NEW") w) _ _ tt (more_units (numbered w) (Ok []) (numbered_holds w) (All-nil IsUnitRef))
   some_hold (w ∷ v ∷ ws) =
@@ -216,27 +196,19 @@ module _ (world : WorldValue) where
 
   -- if words are read as a list of units, it has one unit or more, all in range (`AreSound`)
   units_sound : (ws : List WordText) → AreSound world (read_units ws)
-  unfolding read_units
   units_sound ws = after Units (AreOperandsOf world) (some_units_at ws) _ (some_hold ws) (λ us h. h)
 
   -- if words are read as a unit and a number, both are in range (`AreSound`)
   unit_and_number_sound : (ws : List WordText) → AreSound world (read_unit_and_number ws)
-  unfolding read_unit_and_number
   unit_and_number_sound ws =
       after _ (AreOperandsOf world) (unit_at ws) _ (unit_holds ws) (λ to h.
       after _ (AreOperandsOf world) (number_at to.1) _ (count_holds most_number BadNumber to.1) (λ n k. (h, k)))
 
   -- if words are read as a unit, an amount and an item, these are in range, and the world has the item (`AreSound`)
   unit_and_goods_sound : (ws : List WordText) → AreSound world (read_unit_and_goods world ws)
-  unfolding read_unit_and_goods
   unit_and_goods_sound ws =
       after _ (AreOperandsOf world) (unit_at ws) _ (unit_holds ws) (λ to h.
       after _ (AreOperandsOf world) (amount_of_item_at world to.1) _ (goods_hold world to.1) (λ goods k. (h, k.0, k.1)))
-
-  -- if words are read as an amount and an item, the amount is in range, and the world has the item (`AreSound`)
-  goods_sound : (ws : List WordText) → AreSound world (read_goods world ws)
-  unfolding read_goods
-  goods_sound ws = after _ (AreOperandsOf world) (amount_of_item_at world ws) _ (goods_hold world ws) (λ goods h. h)
 
   -- a new name that is read keeps the rule of names (`AreSound`), since one that breaks it is a fault
   named_sound : (t : Bool) (what : NameKind) (bytes : List ℕ) → name_ok bytes ≡ t → AreSound world (cond t (Ok (operands.Name what bytes)) (Err BadName))
@@ -245,50 +217,33 @@ module _ (world : WorldValue) where
 
   -- if words are read as what gets a new name, and the name, the name keeps the rule of names (`AreSound`)
   name_sound : (ws : List WordText) → AreSound world (read_name ws)
-  unfolding read_name
   name_sound ws =
       after _ (AreOperandsOf world) (word_at ws) _ (anything (word_at ws)) (λ w _.
       after _ (AreOperandsOf world) (or_fault UnknownThing (kind_of_name w.0)) _ (anything (or_fault UnknownThing (kind_of_name w.0))) (λ what _.
       after _ (AreOperandsOf world) (word_at w.1) _ (anything (word_at w.1)) (λ v _.
       named_sound (name_ok (name_of v.0.bytes v.0.quoted)) what (name_of v.0.bytes v.0.quoted) refl)))
 
-  -- if words are read as a direction, the operands are in bounds (`AreSound`), since a direction has no bound
-  direction_sound : (ws : List WordText) → AreSound world (read_direction ws)
-  unfolding read_direction
-  direction_sound ws = after _ (AreOperandsOf world) (direction_at ws) _ (anything (direction_at ws)) (λ d _. tt)
-
   -- if words are read as a kind of structure or none, the world has the kind (`AreSound`)
   kind_sound : (ws : List WordText) → AreSound world (read_kind world ws)
-  unfolding read_kind
   kind_sound [] = tt
   kind_sound (w ∷ ws) = after _ (AreOperandsOf world) (kind_at world (w ∷ ws)) _ (kind_holds world (w ∷ ws)) (λ kind h. h)
-
-  -- if words are read as a skill, the world has it (`AreSound`)
-  skill_sound : (ws : List WordText) → AreSound world (read_skill world ws)
-  unfolding read_skill
-  skill_sound ws = after _ (AreOperandsOf world) (skill_at world ws) _ (skill_holds world ws) (λ skill h. h)
-
-  -- if words are read as an item, the world has it (`AreSound`)
-  item_sound : (ws : List WordText) → AreSound world (read_item world ws)
-  unfolding read_item
-  item_sound ws = after _ (AreOperandsOf world) (item_at world ws) _ (item_holds world ws) (λ item h. h)
 
   -- the operands that the words after a verb give are in bounds (`AreSound`), whatever the shape in the order table
   operands_sound : (shape : Shape) (ws : List WordText) → AreSound world (read_operands world shape ws)
   operands_sound shapes.Nothing ws = tt
-  operands_sound shapes.Alias ws = alias_sound ws
+  operands_sound shapes.Alias ws = after _ (AreOperandsOf world) (alias_at ws) _ (count_holds last_alias BadAlias ws) (λ n h. h)
   operands_sound shapes.Flag ws = flag_sound ws
-  operands_sound shapes.Number ws = number_sound ws
-  operands_sound shapes.Unit ws = unit_sound ws
+  operands_sound shapes.Number ws = after _ (AreOperandsOf world) (number_at ws) _ (count_holds most_number BadNumber ws) (λ n h. h)
+  operands_sound shapes.Unit ws = after _ (AreOperandsOf world) (unit_at ws) _ (unit_holds ws) (λ u h. h)
   operands_sound shapes.Units ws = units_sound ws
   operands_sound shapes.UnitAndNumber ws = unit_and_number_sound ws
   operands_sound shapes.UnitAndGoods ws = unit_and_goods_sound ws
-  operands_sound shapes.Goods ws = goods_sound ws
+  operands_sound shapes.Goods ws = after _ (AreOperandsOf world) (amount_of_item_at world ws) _ (goods_hold world ws) (λ goods h. h)
   operands_sound shapes.Name ws = name_sound ws
-  operands_sound shapes.Direction ws = direction_sound ws
+  operands_sound shapes.Direction ws = after _ (AreOperandsOf world) (direction_at ws) _ (anything (direction_at ws)) (λ d _. tt)
   operands_sound shapes.Kind ws = kind_sound ws
-  operands_sound shapes.Skill ws = skill_sound ws
-  operands_sound shapes.Item ws = item_sound ws
+  operands_sound shapes.Skill ws = after _ (AreOperandsOf world) (skill_at world ws) _ (skill_holds world ws) (λ skill h. h)
+  operands_sound shapes.Item ws = after _ (AreOperandsOf world) (item_at world ws) _ (item_holds world ws) (λ item h. h)
 
   -- the order that a verb and the words after it give has its numbers, names and things in bounds (`Sound`)
   pub said_sound : (verb : Verb) (ws : List WordText) → Sound world (said_by world verb ws)

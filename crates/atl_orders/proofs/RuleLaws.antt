@@ -15,9 +15,9 @@ use Rattle.atl_orders.specs.declared.reading.ReaderState.TheVariants.{Nowhere, A
 use Rattle.atl_orders.specs.Words.{WordText, words, begins}
 use Rattle.atl_orders.specs.Operands.{number_at, alias_at}
 use Rattle.atl_orders.specs.Orders.{OrderValue, said_by}
-use Rattle.atl_orders.specs.Reading.{is_plain, outside, Effect, nothing, faulty, keyword_of, target, order_effect, LineStep, unit_step, end_step, block_step, form_step, keyword_step, words_step, line_step}
+use Rattle.atl_orders.specs.Reading.{is_plain, outside, Effect, nothing, faulty, keyword_of, target, order_effect, LineStep, step, unit_step, end_step, block_step, form_step, keyword_step, words_step, line_step}
 use Rattle.atl_orders.specs.Mailing.{EntryValue, entry_of, fault_of, effects}
-use Rattle.atl_orders.specs.Rules.{step, outer, WordsSay, unit_named, unit_faulty, block_closed, end_alone, form_nested, form_nowhere, form_faulty, form_again, form_new, order_nowhere, order_faulty, order_said, unknown, LineSays, bad_byte, no_word, some_words, BodySays, text_ended, orders_ended, one_line, entries_from, faults_from}
+use Rattle.atl_orders.specs.Rules.{outer, WordsSay, unit_named, unit_faulty, block_closed, end_alone, form_nested, form_nowhere, form_faulty, form_again, form_new, order_nowhere, order_faulty, order_said, unknown, LineSays, bad_byte, no_word, some_words, BodySays, text_ended, orders_ended, one_line, entries_from, faults_from}
 
 -- the result of reading a number, with the words after it
 abbrev Counted : Type 0
@@ -27,14 +27,12 @@ Counted = Result (ℕ × List WordText) LineFault
 
 module _ (world : WorldValue) (given : ℕ → Bool) (w : WordText) (ws : List WordText) where
   -- the rules (`WordsSay`) allow the step that `unit_step` gives a UNIT line
-  unit_fits : (place : ReaderState) (r : Counted) → keyword_of w ≡ Some keywords.Unit → number_at ws ≡ r → WordsSay world place given w ws (unit_step given r)
-  unfolding unit_step
-  unit_fits place (Ok n) k h = unit_named k n.0 n.1 h refl
-  unit_fits place (Err fault) k h = unit_faulty k fault h refl
+  unit_fits : (state : ReaderState) (r : Counted) → keyword_of w ≡ Some keywords.Unit → number_at ws ≡ r → WordsSay world state given w ws (unit_step given r)
+  unit_fits state (Ok n) k h = unit_named k n.0 n.1 h refl
+  unit_fits state (Err fault) k h = unit_faulty k fault h refl
 
   -- the rules (`WordsSay`) allow the step that `end_step` gives an END line
-  end_fits : (place : ReaderState) → keyword_of w ≡ Some keywords.End → WordsSay world place given w ws (end_step place given)
-  unfolding end_step
+  end_fits : (state : ReaderState) → keyword_of w ≡ Some keywords.End → WordsSay world state given w ws (end_step state given)
   end_fits Nowhere k = end_alone k refl refl
   end_fits (At n) k = end_alone k refl refl
   end_fits (Forming parent alias) k = block_closed k (At parent) refl refl
@@ -42,130 +40,121 @@ module _ (world : WorldValue) (given : ℕ → Bool) (w : WordText) (ws : List W
 
   -- the rules (`WordsSay`) allow the step that `block_step` gives a FORM line with an alias, be it new or given before
   given_fits : (n : ℕ) (alias : ℕ) (rest : List WordText) (t : Bool) → keyword_of w ≡ Some keywords.Form → alias_at ws ≡ Ok (alias, rest) → given alias ≡ t → WordsSay world (At n) given w ws (block_step n given (Ok (alias, rest)))
-  unfolding block_step
   given_fits n alias rest true k h g = rw g (form_again k n refl alias rest h g refl)
   given_fits n alias rest false k h g = rw g (form_new k n refl alias rest h g refl)
 
   -- the rules (`WordsSay`) allow the step that `block_step` gives a FORM line outside of blocks, if a unit is named
   block_fits : (n : ℕ) (r : Counted) → keyword_of w ≡ Some keywords.Form → alias_at ws ≡ r → WordsSay world (At n) given w ws (block_step n given r)
-  unfolding block_step
   block_fits n (Ok a) k h = given_fits n a.0 a.1 (given a.0) k h refl
   block_fits n (Err fault) k h = form_faulty k n refl fault h refl
 
   -- the rules (`WordsSay`) allow the step that `form_step` gives a FORM line
-  form_fits : (place : ReaderState) → keyword_of w ≡ Some keywords.Form → WordsSay world place given w ws (form_step place given ws)
-  unfolding form_step
+  form_fits : (state : ReaderState) → keyword_of w ≡ Some keywords.Form → WordsSay world state given w ws (form_step state given ws)
   form_fits Nowhere k = form_nowhere k refl refl
   form_fits (At n) k = block_fits n (alias_at ws) k refl
   form_fits (Forming parent alias) k = form_nested k (At parent) refl refl
   form_fits (Skipping parent) k = form_nested k _ refl refl
 
   -- the rules (`WordsSay`) allow the step with the effect that `order_effect` gives an order's line
-  order_fits : (place : ReaderState) (verb : Verb) (t : Option UnitRef) (r : Result OrderValue LineFault) → keyword_of w ≡ Some (keywords.Order verb) → target place ≡ t → said_by world verb ws ≡ r → WordsSay world place given w ws (step (order_effect t r) place given)
-  order_fits place verb None r k h e = order_nowhere verb k h refl
-  order_fits place verb (Some unit) (Ok order_value) k h e = order_said verb k unit h order_value e refl
-  order_fits place verb (Some unit) (Err fault) k h e = order_faulty verb k unit h fault e refl
+  order_fits : (state : ReaderState) (verb : Verb) (t : Option UnitRef) (r : Result OrderValue LineFault) → keyword_of w ≡ Some (keywords.Order verb) → target state ≡ t → said_by world verb ws ≡ r → WordsSay world state given w ws (step (order_effect t r) state given)
+  order_fits state verb None r k h e = order_nowhere verb k h refl
+  order_fits state verb (Some unit) (Ok order_value) k h e = order_said verb k unit h order_value e refl
+  order_fits state verb (Some unit) (Err fault) k h e = order_faulty verb k unit h fault e refl
 
   -- the rules (`WordsSay`) allow the step that `keyword_step` gives a line by its first word
-  words_fit : (place : ReaderState) (k : Option Keyword) → keyword_of w ≡ k → WordsSay world place given w ws (keyword_step world place given k ws)
-  unfolding keyword_step
-  words_fit place None h = unknown h refl
-  words_fit place (Some keywords.Unit) h = unit_fits place (number_at ws) h refl
-  words_fit place (Some keywords.End) h = end_fits place h
-  words_fit place (Some keywords.Form) h = form_fits place h
-  words_fit place (Some (keywords.Order verb)) h = order_fits place verb (target place) (said_by world verb ws) h refl refl
+  words_fit : (state : ReaderState) (k : Option Keyword) → keyword_of w ≡ k → WordsSay world state given w ws (keyword_step world state given k ws)
+  words_fit state None h = unknown h refl
+  words_fit state (Some keywords.Unit) h = unit_fits state (number_at ws) h refl
+  words_fit state (Some keywords.End) h = end_fits state h
+  words_fit state (Some keywords.Form) h = form_fits state h
+  words_fit state (Some (keywords.Order verb)) h = order_fits state verb (target state) (said_by world verb ws) h refl refl
 
 -- the rules (`LineSays`) allow the step that `line_step` gives a line, whether its bytes are allowed or not
-tested_fits : (t : Bool) (l : List WordText) (world : WorldValue) (place : ReaderState) (given : ℕ → Bool) (line : List ℕ) → list_all is_plain line ≡ t → words line ≡ l → LineSays world place given line (cond t (words_step world place given l) (step (faulty BadByte) place given))
-unfolding words_step
-tested_fits false l world place given line a b = bad_byte a refl
-tested_fits true [] world place given line a b = no_word a b refl
-tested_fits true (w ∷ ws) world place given line a b = some_words a w ws b (words_fit world given w ws place (keyword_of w) refl)
+tested_fits : (t : Bool) (l : List WordText) (world : WorldValue) (state : ReaderState) (given : ℕ → Bool) (line : List ℕ) → list_all is_plain line ≡ t → words line ≡ l → LineSays world state given line (cond t (words_step world state given l) (step (faulty BadByte) state given))
+tested_fits false l world state given line a b = bad_byte a refl
+tested_fits true [] world state given line a b = no_word a b refl
+tested_fits true (w ∷ ws) world state given line a b = some_words a w ws b (words_fit world given w ws state (keyword_of w) refl)
 
 -- the rules (`LineSays`) allow the step that the function `line_step` gives a line
-pub line_fits : (world : WorldValue) (place : ReaderState) (given : ℕ → Bool) (line : List ℕ) → LineSays world place given line (line_step world place given line)
+pub line_fits : (world : WorldValue) (state : ReaderState) (given : ℕ → Bool) (line : List ℕ) → LineSays world state given line (line_step world state given line)
 unfolding line_step
-line_fits world place given line = tested_fits (list_all is_plain line) (words line) world place given line refl refl
+line_fits world state given line = tested_fits (list_all is_plain line) (words line) world state given line refl refl
 
 -- ---- the rules allow nothing else
 
 module _ (given : ℕ → Bool) where
   -- for END in a block, the rule's step (the block is closed) is the one that `end_step` gives
-  closed : (place out : ReaderState) → outer place ≡ Some out → step nothing out given ≡ end_step place given
-  unfolding end_step
+  closed : (state out : ReaderState) → outer state ≡ Some out → step nothing out given ≡ end_step state given
   closed Nowhere out h = cc
   closed (At n) out h = cc
   closed (Forming parent alias) out h = let e : out ≡ At parent = cc in ap (λ p. step nothing p given) e
   closed (Skipping parent) out h = let e : out ≡ outside parent = cc in ap (λ p. step nothing p given) e
 
   -- for END outside of blocks, the rule's step (EndAlone) is the one that `end_step` gives
-  alone : (place : ReaderState) → outer place ≡ None → step (faulty EndAlone) place given ≡ end_step place given
-  unfolding end_step
+  alone : (state : ReaderState) → outer state ≡ None → step (faulty EndAlone) state given ≡ end_step state given
   alone Nowhere h = refl
   alone (At n) h = refl
   alone (Forming parent alias) h = cc
   alone (Skipping parent) h = cc
 
   -- for FORM in a block, the rule's step (NestedForm) is the one that `form_step` gives
-  nested : (place out : ReaderState) (ws : List WordText) → outer place ≡ Some out → step (faulty NestedForm) place given ≡ form_step place given ws
-  unfolding form_step
+  nested : (state out : ReaderState) (ws : List WordText) → outer state ≡ Some out → step (faulty NestedForm) state given ≡ form_step state given ws
   nested Nowhere out ws h = cc
   nested (At n) out ws h = cc
   nested (Forming parent alias) out ws h = refl
   nested (Skipping parent) out ws h = refl
 
 -- a step that the rules for a line with words (`WordsSay`) allow is the one that `keyword_step` gives
-words_only : (world : WorldValue) (place : ReaderState) (given : ℕ → Bool) (w : WordText) (ws : List WordText) (s : LineStep) → WordsSay world place given w ws s → s ≡ keyword_step world place given (keyword_of w) ws
-unfolding keyword_step unit_step form_step block_step
-words_only world place given w ws s (unit_named k n rest h e) = rw (k, h) e
-words_only world place given w ws s (unit_faulty k fault h e) = rw (k, h) e
-words_only world place given w ws s (block_closed k out o e) = rw k (e ∙ closed given place out o)
-words_only world place given w ws s (end_alone k o e) = rw k (e ∙ alone given place o)
-words_only world place given w ws s (form_nested k out o e) = rw k (e ∙ nested given place out ws o)
-words_only world place given w ws s (form_nowhere k p e) = rw (k, p) e
-words_only world place given w ws s (form_faulty k n p fault h e) = rw (k, p, h) e
-words_only world place given w ws s (form_again k n p alias rest h g e) = rw (k, p, h, g) e
-words_only world place given w ws s (form_new k n p alias rest h g e) = rw (k, p, h, g) e
-words_only world place given w ws s (order_nowhere verb k t e) = rw (k, t) e
-words_only world place given w ws s (order_faulty verb k unit t fault h e) = rw (k, t, h) e
-words_only world place given w ws s (order_said verb k unit t order_value h e) = rw (k, t, h) e
-words_only world place given w ws s (unknown k e) = rw k e
+words_only : (world : WorldValue) (state : ReaderState) (given : ℕ → Bool) (w : WordText) (ws : List WordText) (s : LineStep) → WordsSay world state given w ws s → s ≡ keyword_step world state given (keyword_of w) ws
+words_only world state given w ws s (unit_named k n rest h e) = rw (k, h) e
+words_only world state given w ws s (unit_faulty k fault h e) = rw (k, h) e
+words_only world state given w ws s (block_closed k out o e) = rw k (e ∙ closed given state out o)
+words_only world state given w ws s (end_alone k o e) = rw k (e ∙ alone given state o)
+words_only world state given w ws s (form_nested k out o e) = rw k (e ∙ nested given state out ws o)
+words_only world state given w ws s (form_nowhere k p e) = rw (k, p) e
+words_only world state given w ws s (form_faulty k n p fault h e) = rw (k, p, h) e
+words_only world state given w ws s (form_again k n p alias rest h g e) = rw (k, p, h, g) e
+words_only world state given w ws s (form_new k n p alias rest h g e) = rw (k, p, h, g) e
+words_only world state given w ws s (order_nowhere verb k t e) = rw (k, t) e
+words_only world state given w ws s (order_faulty verb k unit t fault h e) = rw (k, t, h) e
+words_only world state given w ws s (order_said verb k unit t order_value h e) = rw (k, t, h) e
+words_only world state given w ws s (unknown k e) = rw k e
 
 -- a step that the rules for a line (`LineSays`) allow is the one that `line_step` gives
-pub line_only : (world : WorldValue) (place : ReaderState) (given : ℕ → Bool) (line : List ℕ) (s : LineStep) → LineSays world place given line s → s ≡ line_step world place given line
-unfolding line_step words_step
-line_only world place given line s (bad_byte a e) = rw a e
-line_only world place given line s (no_word a b e) = rw (a, b) e
-line_only world place given line s (some_words a w ws b r) = rw (a, b) (words_only world place given w ws s r)
+pub line_only : (world : WorldValue) (state : ReaderState) (given : ℕ → Bool) (line : List ℕ) (s : LineStep) → LineSays world state given line s → s ≡ line_step world state given line
+unfolding line_step
+line_only world state given line s (bad_byte a e) = rw a e
+line_only world state given line s (no_word a b e) = rw (a, b) e
+line_only world state given line s (some_words a w ws b r) = rw (a, b) (words_only world state given w ws s r)
 
 -- ---- all lines
 
 -- the rules for lines (`BodySays`) allow what `effects` gives for a line and those after it, whether the line is `#END`
 -- or not
-body_test : (t : Bool) (world : WorldValue) (n : ℕ) (place : ReaderState) (given : ℕ → Bool) (line : List ℕ) (rest : List (List ℕ)) (s : LineStep) (more : List (ℕ × Effect)) → begins (codes "#END") (words line) ≡ t → LineSays world place given line s
-    → BodySays world (n + 1) s.place s.given rest (flat_map entry_of more) (flat_map fault_of more)
-    → BodySays world n place given (line ∷ rest) (flat_map entry_of (cond t [] ((n, s.effect) ∷ more))) (flat_map fault_of (cond t [] ((n, s.effect) ∷ more)))
-body_test true world n place given line rest s more h r b = orders_ended n place given line rest h
-body_test false world n place given line rest s more h r b = one_line n place given line rest h s r _ _ b
+body_test : (t : Bool) (world : WorldValue) (n : ℕ) (state : ReaderState) (given : ℕ → Bool) (line : List ℕ) (rest : List (List ℕ)) (s : LineStep) (more : List (ℕ × Effect)) → begins (codes "#END") (words line) ≡ t → LineSays world state given line s
+    → BodySays world (n + 1) s.state s.given rest (flat_map entry_of more) (flat_map fault_of more)
+    → BodySays world n state given (line ∷ rest) (flat_map entry_of (cond t [] ((n, s.effect) ∷ more))) (flat_map fault_of (cond t [] ((n, s.effect) ∷ more)))
+body_test true world n state given line rest s more h r b = orders_ended n state given line rest h
+body_test false world n state given line rest s more h r b = one_line n state given line rest h s r _ _ b
 
 -- the rules for lines (`BodySays`) allow the orders and faulty lines that the function `effects` gives
-pub body_fits : (world : WorldValue) (n : ℕ) (place : ReaderState) (given : ℕ → Bool) (lines : List (List ℕ)) → BodySays world n place given lines (entries_from world n place given lines) (faults_from world n place given lines)
+pub body_fits : (world : WorldValue) (n : ℕ) (state : ReaderState) (given : ℕ → Bool) (lines : List (List ℕ)) → BodySays world n state given lines (entries_from world n state given lines) (faults_from world n state given lines)
 unfolding effects
-body_fits world n place given [] = text_ended n place given
-body_fits world n place given (line ∷ rest) =
-    let s = line_step world place given line in
-    body_test (begins (codes "#END") (words line)) world n place given line rest s _ refl (line_fits world place given line) (body_fits world (n + 1) s.place s.given rest)
+body_fits world n state given [] = text_ended n state given
+body_fits world n state given (line ∷ rest) =
+    let s = line_step world state given line in
+    body_test (begins (codes "#END") (words line)) world n state given line rest s _ refl (line_fits world state given line) (body_fits world (n + 1) s.state s.given rest)
 
 -- orders and faulty lines that the rules for lines allow are those that `effects` gives; all but the world is implicit
-only_body : (world : WorldValue) {n : ℕ} {place : ReaderState} {given : ℕ → Bool} {lines : List (List ℕ)} {entries : List EntryValue} {faults : List FaultyLine} → BodySays world n place given lines entries faults → (entries ≡ entries_from world n place given lines) × (faults ≡ faults_from world n place given lines)
+only_body : (world : WorldValue) {n : ℕ} {state : ReaderState} {given : ℕ → Bool} {lines : List (List ℕ)} {entries : List EntryValue} {faults : List FaultyLine} → BodySays world n state given lines entries faults → (entries ≡ entries_from world n state given lines) × (faults ≡ faults_from world n state given lines)
 unfolding effects
-only_body world (text_ended n place given) = (refl, refl)
-only_body world (orders_ended n place given line rest h) = rw h (refl, refl)
-only_body world (one_line n place given line rest h s r entries faults b) =
-    let e : s ≡ line_step world place given line = line_only world place given line s r in
+only_body world (text_ended n state given) = (refl, refl)
+only_body world (orders_ended n state given line rest h) = rw h (refl, refl)
+only_body world (one_line n state given line rest h s r entries faults b) =
+    let e : s ≡ line_step world state given line = line_only world state given line s r in
     let more = only_body world b in
     rw (h, ← e) (ap (λ l. entry_of (n, s.effect) ++ l) more.0, ap (λ l. fault_of (n, s.effect) ++ l) more.1)
 
 -- orders and faulty lines that the rules for lines (`BodySays`) allow are those that the function `effects` gives
-pub body_only : (world : WorldValue) (n : ℕ) (place : ReaderState) (given : ℕ → Bool) (lines : List (List ℕ)) (entries : List EntryValue) (faults : List FaultyLine) → BodySays world n place given lines entries faults → (entries ≡ entries_from world n place given lines) × (faults ≡ faults_from world n place given lines)
-body_only world n place given lines entries faults b = only_body world b
+pub body_only : (world : WorldValue) (n : ℕ) (state : ReaderState) (given : ℕ → Bool) (lines : List (List ℕ)) (entries : List EntryValue) (faults : List FaultyLine) → BodySays world n state given lines entries faults → (entries ≡ entries_from world n state given lines) × (faults ≡ faults_from world n state given lines)
+body_only world n state given lines entries faults b = only_body world b

@@ -13,7 +13,7 @@ use Rattle.std.proofs.Math.Nat.{min_comm}
 use Rattle.atl_world.specs.Letters.{quote}
 use Rattle.atl_orders.specs.Letters.{semicolon}
 use Rattle.atl_orders.specs.Words.{is_blank, is_quote, ends_word, words_after, words}
-use Rattle.atl_orders.specs.Standing.{IsPartOf, EndsWith, EndsAt}
+use Rattle.atl_orders.specs.Positions.{IsPartOf, EndsWith, EndsAt}
 
 -- ---- the index of the first element that passes a test, or the length
 
@@ -136,17 +136,17 @@ part_shorter line bytes behind s =
     (omega (arith, s.behind_is), omega (arith, s.behind_is))
 
 -- if a line ends at an index of a text, anything that the line ends with ends at this index
-pub place_behind : (text : List ℕ) (place : ℕ) (line rest : List ℕ) → EndsAt text place line → EndsWith line rest → EndsAt text place rest
-place_behind text place line rest a e = record {
+pub ends_at_further : (text : List ℕ) (end : ℕ) (line rest : List ℕ) → EndsAt text end line → EndsWith line rest → EndsAt text end rest
+ends_at_further text end line rest a e = record {
   front = a.front ++ e.front;
   back = a.back;
   whole = a.whole ∙ ap (λ l. a.front ++ (l ++ a.back)) e.whole ∙ ap (λ l. a.front ++ l) (append_assoc e.front rest a.back) ∙ sym (append_assoc a.front e.front (rest ++ a.back));
-  place_is = ap length (append_assoc a.front e.front rest ∙ ap (λ l. a.front ++ l) (sym e.whole)) ∙ a.place_is;
+  end_is = ap length (append_assoc a.front e.front rest ∙ ap (λ l. a.front ++ l) (sym e.whole)) ∙ a.end_is;
 }
 
 -- the bytes of a word are those of its span in the text
-pub bytes_in_span : (text : List ℕ) (place : ℕ) (line bytes : List ℕ) (behind : ℕ) → EndsAt text place line → IsPartOf line bytes behind → slice_range text (place - behind) (place - behind + length bytes) ≡ bytes
-bytes_in_span text place line bytes behind a s =
+pub bytes_in_span : (text : List ℕ) (end : ℕ) (line bytes : List ℕ) (behind : ℕ) → EndsAt text end line → IsPartOf line bytes behind → slice_range text (end - behind) (end - behind + length bytes) ≡ bytes
+bytes_in_span text end line bytes behind a s =
     let whole : text ≡ (a.front ++ s.front) ++ (bytes ++ (s.back ++ a.back)) =
     a.whole ∙ ap (λ l. a.front ++ (l ++ a.back)) s.whole
     ∙ ap (λ l. a.front ++ l) (append_assoc s.front (bytes ++ s.back) a.back)
@@ -155,15 +155,15 @@ bytes_in_span text place line bytes behind a s =
     let ends : length (a.front ++ line) ≡ length a.front + length line = length-append a.front line in
     let parts : length line ≡ length s.front + length (bytes ++ s.back) = ap length s.whole ∙ length-append s.front (bytes ++ s.back) in
     let fronts : length (a.front ++ s.front) ≡ length a.front + length s.front = length-append a.front s.front in
-    let start : length (a.front ++ s.front) ≡ place - behind = omega (arith, a.place_is, s.behind_is) in
-    let count : place - behind + length bytes - (place - behind) ≡ length bytes = omega arith in
-    let here : drop (place - behind) text ≡ bytes ++ (s.back ++ a.back) = ap (drop (place - behind)) whole ∙ drop_at (a.front ++ s.front) (bytes ++ (s.back ++ a.back)) (place - behind) start in
-    ap (λ n. take n (drop (place - behind) text)) count ∙ ap (take (length bytes)) here ∙ take_at bytes (s.back ++ a.back) (length bytes) refl
+    let start : length (a.front ++ s.front) ≡ end - behind = omega (arith, a.end_is, s.behind_is) in
+    let count : end - behind + length bytes - (end - behind) ≡ length bytes = omega arith in
+    let here : drop (end - behind) text ≡ bytes ++ (s.back ++ a.back) = ap (drop (end - behind)) whole ∙ drop_at (a.front ++ s.front) (bytes ++ (s.back ++ a.back)) (end - behind) start in
+    ap (λ n. take n (drop (end - behind) text)) count ∙ ap (take (length bytes)) here ∙ take_at bytes (s.back ++ a.back) (length bytes) refl
 
 -- a text ends with itself
 pub ends_with_all : (text : List ℕ) → EndsWith text text
 ends_with_all text = record { front = []; whole = refl }
 
 -- a line that ends at an index of a text is no longer than that index
-pub place_fits : (text : List ℕ) (place : ℕ) (line : List ℕ) → EndsAt text place line → length line ≤ place
-place_fits text place line e = omega (arith, e.place_is, length-append e.front line)
+pub ends_at_fits : (text : List ℕ) (end : ℕ) (line : List ℕ) → EndsAt text end line → length line ≤ end
+ends_at_fits text end line e = omega (arith, e.end_is, length-append e.front line)

@@ -11,5 +11,5 @@ pub mod Reading
 pub mod Mailing
 pub mod Rules
 pub mod Bounds
-pub mod Standing
+pub mod Positions
 pub mod Views

@@ -29,11 +29,11 @@ pub record EntryValue : Type 0 where
 
 -- the effect of each line above the first `#END`, with the line's number; the first line has the number n
 unfoldable pub effects : WorldValue → ℕ → ReaderState → (ℕ → Bool) → List (List ℕ) → List (ℕ × Effect)
-effects world n place given [] = []
-effects world n place given (line ∷ rest) =
+effects world n state given [] = []
+effects world n state given (line ∷ rest) =
     if begins (codes "#END") (words line) then []
-    else (n, (line_step world place given line).effect)
-    ∷ effects world (n + 1) (line_step world place given line).place (line_step world place given line).given rest
+    else (n, (line_step world state given line).effect)
+    ∷ effects world (n + 1) (line_step world state given line).state (line_step world state given line).given rest
 
 -- the order that a line's effect gives, as a list of one entry, or of none if it gives no order
 abbrev pub entry_of : ℕ × Effect → List EntryValue

@@ -51,26 +51,26 @@ unit_at ws = do
       else (number_at ws >>= λ n. Ok (Number n.0, n.1))
 
 -- the next word as an item of the world, by number; else MissingWord or UnknownThing
-unfoldable pub item_at : WorldValue → List WordText → Result ℕ LineFault
+abbrev pub item_at : WorldValue → List WordText → Result ℕ LineFault
 item_at world ws = do
   w ← word_at ws
   or_fault UnknownThing (item_named world w.0.bytes w.0.quoted)
 
 -- an amount from 1 to 999,999,999, and then an item of the world; else MissingWord, BadNumber or UnknownThing
-unfoldable pub amount_of_item_at : WorldValue → List WordText → Result (ℕ × ℕ) LineFault
+abbrev pub amount_of_item_at : WorldValue → List WordText → Result (ℕ × ℕ) LineFault
 amount_of_item_at world ws = do
   amount ← number_at ws
   item ← item_at world amount.1
   Ok (amount.0, item)
 
 -- the next word as a skill of the world, by number; else MissingWord or UnknownThing
-unfoldable pub skill_at : WorldValue → List WordText → Result ℕ LineFault
+abbrev pub skill_at : WorldValue → List WordText → Result ℕ LineFault
 skill_at world ws = do
   w ← word_at ws
   or_fault UnknownThing (skill_named world w.0.bytes w.0.quoted)
 
 -- the next word as a kind of structure of the world, by number; else MissingWord or UnknownThing
-unfoldable pub kind_at : WorldValue → List WordText → Result ℕ LineFault
+abbrev pub kind_at : WorldValue → List WordText → Result ℕ LineFault
 kind_at world ws = do
   w ← word_at ws
   or_fault UnknownThing (kind_named world w.0.bytes w.0.quoted)
@@ -85,7 +85,7 @@ direction_of w =
     else None
 
 -- the next word as a direction; else MissingWord or BadDirection
-unfoldable pub direction_at : List WordText → Result Direction LineFault
+abbrev pub direction_at : List WordText → Result Direction LineFault
 direction_at ws = do
   w ← word_at ws
   or_fault BadDirection (direction_of w.0)
@@ -111,6 +111,6 @@ units_of (w ∷ []) = if is_word (codes "NEW") w then Err MissingWord else and_t
 units_of (w ∷ v ∷ ws) = if is_word (codes "NEW") w then and_then_units (new_unit_ref v) (units_of ws) else and_then_units (numbered w) (units_of (v ∷ ws))
 
 -- the units that all words up to the line's end name, one or more; else the first fault
-unfoldable pub some_units_at : List WordText → Result (List UnitRef) LineFault
+abbrev pub some_units_at : List WordText → Result (List UnitRef) LineFault
 some_units_at [] = Err MissingWord
 some_units_at (w ∷ ws) = units_of (w ∷ ws)

@@ -15,7 +15,6 @@ use Rattle.atl_orders.specs.declared.fault.LineFault.TheVariants.{BadNumber, Unk
 use Rattle.atl_orders.specs.declared.verb.Shape.{Shape}
 use Rattle.atl_orders.specs.declared.verb.Shape.TheVariants as shapes
 use Rattle.atl_orders.specs.declared.verb.Verb.{Verb}
-use Rattle.atl_orders.specs.declared.verb.Verb.TheVariants as verbs
 use Rattle.atl_orders.specs.Verbs.{row_of}
 use Rattle.atl_orders.specs.Words.{WordText, is_word, number_of}
 use Rattle.atl_world.specs.Steps.{◌>>=◌}
@@ -31,56 +30,32 @@ OperandsValue = Operands (List ℕ)
 
 -- ---- the words after a verb, one definition for each shape of the order table
 
--- the operands of a verb that takes an alias, read from the words after it; or their first fault
-unfoldable pub read_alias : List WordText → Result OperandsValue LineFault
-read_alias ws = do
-  alias ← alias_at ws
-  Ok (operands.Alias alias.0)
-
 -- the operands of a verb that takes a flag, 0 or 1, read from the words after it; or their first fault
-unfoldable pub read_flag : List WordText → Result OperandsValue LineFault
+abbrev pub read_flag : List WordText → Result OperandsValue LineFault
 read_flag ws = do
   w ← word_at ws
   n ← or_fault BadNumber (number_of 1 w.0.bytes)
   Ok (operands.Flag (n == 1))
 
--- the operands of a verb that takes a number, read from the words after it; or their first fault
-unfoldable pub read_number : List WordText → Result OperandsValue LineFault
-read_number ws = do
-  n ← number_at ws
-  Ok (operands.Number n.0)
-
--- the operands of a verb that takes a unit, read from the words after it; or their first fault
-unfoldable pub read_unit : List WordText → Result OperandsValue LineFault
-read_unit ws = do
-  unit ← unit_at ws
-  Ok (operands.Unit unit.0)
-
 -- the operands of a verb that takes one unit or more, read from all words up to the line's end; or their first fault
-unfoldable pub read_units : List WordText → Result OperandsValue LineFault
+abbrev pub read_units : List WordText → Result OperandsValue LineFault
 read_units ws = do
   units ← some_units_at ws
   Ok (operands.Units units)
 
 -- the operands of a verb that takes a unit and a number, read from the words after it; or their first fault
-unfoldable pub read_unit_and_number : List WordText → Result OperandsValue LineFault
+abbrev pub read_unit_and_number : List WordText → Result OperandsValue LineFault
 read_unit_and_number ws = do
   to ← unit_at ws
   number ← number_at to.1
   Ok (operands.UnitAndNumber to.0 number.0)
 
 -- the operands of a verb that takes a unit, an amount and an item, read from the words after it; or their first fault
-unfoldable pub read_unit_and_goods : WorldValue → List WordText → Result OperandsValue LineFault
+abbrev pub read_unit_and_goods : WorldValue → List WordText → Result OperandsValue LineFault
 read_unit_and_goods world ws = do
   to ← unit_at ws
   goods ← amount_of_item_at world to.1
   Ok (operands.UnitAndGoods to.0 goods.0 goods.1)
-
--- the operands of a verb that takes an amount and an item, read from the words after it; or their first fault
-unfoldable pub read_goods : WorldValue → List WordText → Result OperandsValue LineFault
-read_goods world ws = do
-  goods ← amount_of_item_at world ws
-  Ok (operands.Goods goods.0 goods.1)
 
 -- what gets a new name by the word after NAME: unit, faction, building or ship; None for another word
 abbrev pub kind_of_name : WordText → Option NameKind
@@ -96,54 +71,36 @@ abbrev pub name_by : NameKind → List ℕ → Result OperandsValue LineFault
 name_by what bytes = if name_ok bytes then Ok (operands.Name what bytes) else Err BadName
 
 -- the operands of NAME: what gets a new name, and the name, read from the words after it; or their first fault
-unfoldable pub read_name : List WordText → Result OperandsValue LineFault
+abbrev pub read_name : List WordText → Result OperandsValue LineFault
 read_name ws = do
   w ← word_at ws
   what ← or_fault UnknownThing (kind_of_name w.0)
   v ← word_at w.1
   name_by what (name_of v.0.bytes v.0.quoted)
 
--- the operands of a verb that takes a direction, read from the words after it; or their first fault
-unfoldable pub read_direction : List WordText → Result OperandsValue LineFault
-read_direction ws = do
-  d ← direction_at ws
-  Ok (operands.Direction d)
-
 -- the operands of a verb that takes a kind of structure or nothing, read from the words after it; or their first fault
-unfoldable pub read_kind : WorldValue → List WordText → Result OperandsValue LineFault
+abbrev pub read_kind : WorldValue → List WordText → Result OperandsValue LineFault
 read_kind world [] = Ok (operands.Kind None)
 read_kind world (w ∷ ws) = do
   kind ← kind_at world (w ∷ ws)
   Ok (operands.Kind (Some kind))
 
--- the operands of a verb that takes a skill, read from the words after it; or their first fault
-unfoldable pub read_skill : WorldValue → List WordText → Result OperandsValue LineFault
-read_skill world ws = do
-  skill ← skill_at world ws
-  Ok (operands.Skill skill)
-
--- the operands of a verb that takes an item, read from the words after it; or their first fault
-unfoldable pub read_item : WorldValue → List WordText → Result OperandsValue LineFault
-read_item world ws = do
-  item ← item_at world ws
-  Ok (operands.Item item)
-
 -- the operands of a verb, read from the words after it by the verb's shape in the order table; or their first fault
 abbrev pub read_operands : WorldValue → Shape → List WordText → Result OperandsValue LineFault
 read_operands world shapes.Nothing ws = Ok operands.Nothing
-read_operands world shapes.Alias ws = read_alias ws
+read_operands world shapes.Alias ws = alias_at ws >>= λ alias. Ok (operands.Alias alias.0)
 read_operands world shapes.Flag ws = read_flag ws
-read_operands world shapes.Number ws = read_number ws
-read_operands world shapes.Unit ws = read_unit ws
+read_operands world shapes.Number ws = number_at ws >>= λ n. Ok (operands.Number n.0)
+read_operands world shapes.Unit ws = unit_at ws >>= λ unit. Ok (operands.Unit unit.0)
 read_operands world shapes.Units ws = read_units ws
 read_operands world shapes.UnitAndNumber ws = read_unit_and_number ws
 read_operands world shapes.UnitAndGoods ws = read_unit_and_goods world ws
-read_operands world shapes.Goods ws = read_goods world ws
+read_operands world shapes.Goods ws = amount_of_item_at world ws >>= λ goods. Ok (operands.Goods goods.0 goods.1)
 read_operands world shapes.Name ws = read_name ws
-read_operands world shapes.Direction ws = read_direction ws
+read_operands world shapes.Direction ws = direction_at ws >>= λ d. Ok (operands.Direction d)
 read_operands world shapes.Kind ws = read_kind world ws
-read_operands world shapes.Skill ws = read_skill world ws
-read_operands world shapes.Item ws = read_item world ws
+read_operands world shapes.Skill ws = skill_at world ws >>= λ skill. Ok (operands.Skill skill)
+read_operands world shapes.Item ws = item_at world ws >>= λ item. Ok (operands.Item item)
 
 -- the order that has a verb and its operands
 abbrev pub order_of : Verb → OperandsValue → OrderValue

@@ -42,15 +42,19 @@ pub data Effect : Type 0 where
   -- an order, and the unit that it is for
   says : UnitRef → OrderValue → Effect
 
--- the step of a line: what reading it gives, which is its effect, the reader's state after it (`place`), and the
+-- the step of a line: what reading it gives, which is its effect, the reader's state after it (`state`), and the
 -- aliases given so far
 pub record LineStep : Type 0 where
   -- what the line gives: nothing, a fault, or an order for a unit
   pub effect : Effect
   -- the reader's state after the line
-  pub place : ReaderState
+  pub state : ReaderState
   -- the aliases that FORM lines have given so far, this line included
   pub given : ℕ → Bool
+
+-- the step of a line (`LineStep`) made of its effect, the reader's state after it, and the aliases given so far
+abbrev pub step : Effect → ReaderState → (ℕ → Bool) → LineStep
+step effect state given = record { effect = effect; state = state; given = given }
 
 -- the unit that an order is for, in a state of the reader; None if no unit is named, or in a skipped block
 abbrev pub target : ReaderState → Option UnitRef
@@ -65,35 +69,35 @@ outside None = Nowhere
 outside (Some n) = At n
 
 -- the step of a UNIT line: further orders are for its unit; on a fault they are for no unit
-unfoldable pub unit_step : (ℕ → Bool) → Result (ℕ × List WordText) LineFault → LineStep
-unit_step given (Ok n) = record { effect = nothing; place = At n.0; given = given }
-unit_step given (Err fault) = record { effect = faulty fault; place = Nowhere; given = given }
+abbrev pub unit_step : (ℕ → Bool) → Result (ℕ × List WordText) LineFault → LineStep
+unit_step given (Ok n) = step nothing (At n.0) given
+unit_step given (Err fault) = step (faulty fault) Nowhere given
 
 -- the step of an END line: the open block ends; the fault is EndAlone if no block is open
-unfoldable pub end_step : ReaderState → (ℕ → Bool) → LineStep
-end_step Nowhere given = record { effect = faulty EndAlone; place = Nowhere; given = given }
-end_step (At n) given = record { effect = faulty EndAlone; place = At n; given = given }
-end_step (Forming parent alias) given = record { effect = nothing; place = At parent; given = given }
-end_step (Skipping parent) given = record { effect = nothing; place = outside parent; given = given }
+abbrev pub end_step : ReaderState → (ℕ → Bool) → LineStep
+end_step Nowhere given = step (faulty EndAlone) Nowhere given
+end_step (At n) given = step (faulty EndAlone) (At n) given
+end_step (Forming parent alias) given = step nothing (At parent) given
+end_step (Skipping parent) given = step nothing (outside parent) given
 
 -- the order FORM with an alias
 abbrev pub form_value : ℕ → OrderValue
 form_value alias = order_of verbs.Form (operands.Alias alias)
 
 -- the step of a FORM line by the unit `parent`, outside blocks; on a fault the block that it opens is skipped
-unfoldable pub block_step : ℕ → (ℕ → Bool) → Result (ℕ × List WordText) LineFault → LineStep
+abbrev pub block_step : ℕ → (ℕ → Bool) → Result (ℕ × List WordText) LineFault → LineStep
 block_step parent given (Ok n) =
     if given n.0
-    then record { effect = faulty BadAlias; place = Skipping (Some parent); given = given }
-    else record { effect = says (Number parent) (form_value n.0); place = Forming parent n.0; given = with_alias given n.0 }
-block_step parent given (Err fault) = record { effect = faulty fault; place = Skipping (Some parent); given = given }
+    then step (faulty BadAlias) (Skipping (Some parent)) given
+    else step (says (Number parent) (form_value n.0)) (Forming parent n.0) (with_alias given n.0)
+block_step parent given (Err fault) = step (faulty fault) (Skipping (Some parent)) given
 
 -- the step of a FORM line: it opens a block; the fault is NestedForm inside a block, and NoUnit if no unit is named
-unfoldable pub form_step : ReaderState → (ℕ → Bool) → List WordText → LineStep
-form_step Nowhere given ws = record { effect = faulty NoUnit; place = Skipping None; given = given }
+abbrev pub form_step : ReaderState → (ℕ → Bool) → List WordText → LineStep
+form_step Nowhere given ws = step (faulty NoUnit) (Skipping None) given
 form_step (At n) given ws = block_step n given (alias_at ws)
-form_step (Forming parent alias) given ws = record { effect = faulty NestedForm; place = Forming parent alias; given = given }
-form_step (Skipping parent) given ws = record { effect = faulty NestedForm; place = Skipping parent; given = given }
+form_step (Forming parent alias) given ws = step (faulty NestedForm) (Forming parent alias) given
+form_step (Skipping parent) given ws = step (faulty NestedForm) (Skipping parent) given
 
 -- the effect of an order's line, given the unit that it is for: the order, or the fault of its words
 abbrev pub effect_for : UnitRef → Result OrderValue LineFault → Effect
@@ -106,20 +110,20 @@ order_effect None order_value = faulty NoUnit
 order_effect (Some unit) order_value = effect_for unit order_value
 
 -- the step of a line by its keyword and the words after it; the fault is UnknownOrder if there is no keyword
-unfoldable pub keyword_step : WorldValue → ReaderState → (ℕ → Bool) → Option Keyword → List WordText → LineStep
-keyword_step world place given None ws = record { effect = faulty UnknownOrder; place = place; given = given }
-keyword_step world place given (Some keywords.Unit) ws = unit_step given (number_at ws)
-keyword_step world place given (Some keywords.End) ws = end_step place given
-keyword_step world place given (Some keywords.Form) ws = form_step place given ws
-keyword_step world place given (Some (keywords.Order verb)) ws = record { effect = order_effect (target place) (said_by world verb ws); place = place; given = given }
+abbrev pub keyword_step : WorldValue → ReaderState → (ℕ → Bool) → Option Keyword → List WordText → LineStep
+keyword_step world state given None ws = step (faulty UnknownOrder) state given
+keyword_step world state given (Some keywords.Unit) ws = unit_step given (number_at ws)
+keyword_step world state given (Some keywords.End) ws = end_step state given
+keyword_step world state given (Some keywords.Form) ws = form_step state given ws
+keyword_step world state given (Some (keywords.Order verb)) ws = step (order_effect (target state) (said_by world verb ws)) state given
 
 -- the step of a line by its words; a line without words changes nothing
-unfoldable pub words_step : WorldValue → ReaderState → (ℕ → Bool) → List WordText → LineStep
-words_step world place given [] = record { effect = nothing; place = place; given = given }
-words_step world place given (w ∷ ws) = keyword_step world place given (keyword_of w) ws
+abbrev pub words_step : WorldValue → ReaderState → (ℕ → Bool) → List WordText → LineStep
+words_step world state given [] = step nothing state given
+words_step world state given (w ∷ ws) = keyword_step world state given (keyword_of w) ws
 
 -- the step of one line: its effect, the reader's state and the aliases after it; BadByte if a byte may not be in a line
 unfoldable pub line_step : WorldValue → ReaderState → (ℕ → Bool) → List ℕ → LineStep
-line_step world place given line =
-    if list_all is_plain line then words_step world place given (words line)
-    else record { effect = faulty BadByte; place = place; given = given }
+line_step world state given line =
+    if list_all is_plain line then words_step world state given (words line)
+    else step (faulty BadByte) state given

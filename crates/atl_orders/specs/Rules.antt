@@ -21,12 +21,8 @@ use Rattle.atl_orders.specs.Lines.{lines}
 use Rattle.atl_orders.specs.Words.{WordText, words, begins}
 use Rattle.atl_orders.specs.Operands.{number_at, alias_at}
 use Rattle.atl_orders.specs.Orders.{OrderValue, said_by}
-use Rattle.atl_orders.specs.Reading.{is_plain, keyword_of, Effect, nothing, faulty, says, form_value, target, outside, LineStep, line_step}
+use Rattle.atl_orders.specs.Reading.{is_plain, keyword_of, nothing, faulty, says, LineStep, step, form_value, target, outside, line_step}
 use Rattle.atl_orders.specs.Mailing.{EntryValue, entry_of, fault_of, effects, faction_of, Reading, reading}
-
--- the step of a line (`LineStep`) made of its effect, the reader's state after it, and the aliases given so far
-abbrev pub step : Effect → ReaderState → (ℕ → Bool) → LineStep
-step effect place given = record { effect = effect; place = place; given = given }
 
 -- the reader's state once the open block is closed, None if no block is open
 abbrev pub outer : ReaderState → Option ReaderState
@@ -40,77 +36,77 @@ abbrev pub Leads : WordText → Keyword → Type 0
 Leads w k = keyword_of w ≡ Some k
 
 -- the rules for a line with words, by the first word w: the line has the step s
-pub data WordsSay (world : WorldValue) (place : ReaderState) (given : ℕ → Bool) (w : WordText) (ws : List WordText) (s : LineStep) : Type 0 where
+pub data WordsSay (world : WorldValue) (state : ReaderState) (given : ℕ → Bool) (w : WordText) (ws : List WordText) (s : LineStep) : Type 0 where
   -- UNIT with a number: further orders are for the unit of this number, and an open block ends
   unit_named : Leads w keywords.Unit → (n : ℕ) (rest : List WordText) → number_at ws ≡ Ok (n, rest)
-      → s ≡ step nothing (At n) given → WordsSay world place given w ws s
+      → s ≡ step nothing (At n) given → WordsSay world state given w ws s
   -- UNIT with a faulty number: the line has this fault, further orders are for no unit, and an open block ends
   unit_faulty : Leads w keywords.Unit → (fault : LineFault) → number_at ws ≡ Err fault
-      → s ≡ step (faulty fault) Nowhere given → WordsSay world place given w ws s
+      → s ≡ step (faulty fault) Nowhere given → WordsSay world state given w ws s
   -- END in a block: the block is closed
-  block_closed : Leads w keywords.End → (out : ReaderState) → outer place ≡ Some out
-      → s ≡ step nothing out given → WordsSay world place given w ws s
+  block_closed : Leads w keywords.End → (out : ReaderState) → outer state ≡ Some out
+      → s ≡ step nothing out given → WordsSay world state given w ws s
   -- END outside of blocks: EndAlone
-  end_alone : Leads w keywords.End → outer place ≡ None
-      → s ≡ step (faulty EndAlone) place given → WordsSay world place given w ws s
+  end_alone : Leads w keywords.End → outer state ≡ None
+      → s ≡ step (faulty EndAlone) state given → WordsSay world state given w ws s
   -- FORM in a block: NestedForm, and the block stays open
-  form_nested : Leads w keywords.Form → (out : ReaderState) → outer place ≡ Some out
-      → s ≡ step (faulty NestedForm) place given → WordsSay world place given w ws s
+  form_nested : Leads w keywords.Form → (out : ReaderState) → outer state ≡ Some out
+      → s ≡ step (faulty NestedForm) state given → WordsSay world state given w ws s
   -- FORM where no unit is named: NoUnit, and a block opens that is skipped
-  form_nowhere : Leads w keywords.Form → place ≡ Nowhere
-      → s ≡ step (faulty NoUnit) (Skipping None) given → WordsSay world place given w ws s
+  form_nowhere : Leads w keywords.Form → state ≡ Nowhere
+      → s ≡ step (faulty NoUnit) (Skipping None) given → WordsSay world state given w ws s
   -- FORM with a faulty alias: the line has this fault, and a block opens that is skipped
-  form_faulty : Leads w keywords.Form → (n : ℕ) → place ≡ At n → (fault : LineFault) → alias_at ws ≡ Err fault
-      → s ≡ step (faulty fault) (Skipping (Some n)) given → WordsSay world place given w ws s
+  form_faulty : Leads w keywords.Form → (n : ℕ) → state ≡ At n → (fault : LineFault) → alias_at ws ≡ Err fault
+      → s ≡ step (faulty fault) (Skipping (Some n)) given → WordsSay world state given w ws s
   -- FORM with an alias that was given before: BadAlias, and a block opens that is skipped
-  form_again : Leads w keywords.Form → (n : ℕ) → place ≡ At n
+  form_again : Leads w keywords.Form → (n : ℕ) → state ≡ At n
       → (alias : ℕ) (rest : List WordText) → alias_at ws ≡ Ok (alias, rest) → given alias ≡ true
-      → s ≡ step (faulty BadAlias) (Skipping (Some n)) given → WordsSay world place given w ws s
+      → s ≡ step (faulty BadAlias) (Skipping (Some n)) given → WordsSay world state given w ws s
   -- FORM with a new alias: the order FORM for the named unit; the alias is given now, and the new unit's block opens
-  form_new : Leads w keywords.Form → (n : ℕ) → place ≡ At n
+  form_new : Leads w keywords.Form → (n : ℕ) → state ≡ At n
       → (alias : ℕ) (rest : List WordText) → alias_at ws ≡ Ok (alias, rest) → given alias ≡ false
-      → s ≡ step (says (Number n) (form_value alias)) (Forming n alias) (with_alias given alias) → WordsSay world place given w ws s
+      → s ≡ step (says (Number n) (form_value alias)) (Forming n alias) (with_alias given alias) → WordsSay world state given w ws s
   -- an order where no unit is named, or in a block that is skipped: NoUnit
-  order_nowhere : (verb : Verb) → Leads w (keywords.Order verb) → target place ≡ None
-      → s ≡ step (faulty NoUnit) place given → WordsSay world place given w ws s
+  order_nowhere : (verb : Verb) → Leads w (keywords.Order verb) → target state ≡ None
+      → s ≡ step (faulty NoUnit) state given → WordsSay world state given w ws s
   -- an order whose words have a fault: the line has this fault
-  order_faulty : (verb : Verb) → Leads w (keywords.Order verb) → (unit : UnitRef) → target place ≡ Some unit
+  order_faulty : (verb : Verb) → Leads w (keywords.Order verb) → (unit : UnitRef) → target state ≡ Some unit
       → (fault : LineFault) → said_by world verb ws ≡ Err fault
-      → s ≡ step (faulty fault) place given → WordsSay world place given w ws s
+      → s ≡ step (faulty fault) state given → WordsSay world state given w ws s
   -- an order whose words have no fault: it is for the named unit, or in a block for the new unit
-  order_said : (verb : Verb) → Leads w (keywords.Order verb) → (unit : UnitRef) → target place ≡ Some unit
+  order_said : (verb : Verb) → Leads w (keywords.Order verb) → (unit : UnitRef) → target state ≡ Some unit
       → (order_value : OrderValue) → said_by world verb ws ≡ Ok order_value
-      → s ≡ step (says unit order_value) place given → WordsSay world place given w ws s
+      → s ≡ step (says unit order_value) state given → WordsSay world state given w ws s
   -- any other first word: UnknownOrder
   unknown : keyword_of w ≡ None
-      → s ≡ step (faulty UnknownOrder) place given → WordsSay world place given w ws s
+      → s ≡ step (faulty UnknownOrder) state given → WordsSay world state given w ws s
 
 -- the rules for one line of a mailing: the line has the step s
-pub data LineSays (world : WorldValue) (place : ReaderState) (given : ℕ → Bool) (line : List ℕ) (s : LineStep) : Type 0 where
+pub data LineSays (world : WorldValue) (state : ReaderState) (given : ℕ → Bool) (line : List ℕ) (s : LineStep) : Type 0 where
   -- a line with a byte that no line may have: BadByte
   bad_byte : list_all is_plain line ≡ false
-      → s ≡ step (faulty BadByte) place given → LineSays world place given line s
+      → s ≡ step (faulty BadByte) state given → LineSays world state given line s
   -- a line without words, such as a comment: nothing
   no_word : list_all is_plain line ≡ true → words line ≡ []
-      → s ≡ step nothing place given → LineSays world place given line s
+      → s ≡ step nothing state given → LineSays world state given line s
   -- a line with words: what the rules for its words (`WordsSay`) say
   some_words : list_all is_plain line ≡ true → (w : WordText) (ws : List WordText) → words line ≡ w ∷ ws
-      → WordsSay world place given w ws s → LineSays world place given line s
+      → WordsSay world state given w ws s → LineSays world state given line s
 
 -- the rules for the lines after the header: which orders and which faulty lines they give; the first line's number,
 -- the reader's state and the given aliases come in front of the lines
 pub data BodySays (world : WorldValue) : ℕ → ReaderState → (ℕ → Bool) → List (List ℕ) → List EntryValue → List FaultyLine → Type 0 where
   -- where no line is left: no orders and no faulty lines
-  text_ended : (n : ℕ) (place : ReaderState) (given : ℕ → Bool) → BodySays world n place given [] [] []
+  text_ended : (n : ℕ) (state : ReaderState) (given : ℕ → Bool) → BodySays world n state given [] [] []
   -- a line that begins with `#END`: no orders and no faulty lines, from this line on
-  orders_ended : (n : ℕ) (place : ReaderState) (given : ℕ → Bool) (line : List ℕ) (rest : List (List ℕ))
-      → begins (codes "#END") (words line) ≡ true → BodySays world n place given (line ∷ rest) [] []
+  orders_ended : (n : ℕ) (state : ReaderState) (given : ℕ → Bool) (line : List ℕ) (rest : List (List ℕ))
+      → begins (codes "#END") (words line) ≡ true → BodySays world n state given (line ∷ rest) [] []
   -- any other line: its order or its fault, and then those of the lines after it
-  one_line : (n : ℕ) (place : ReaderState) (given : ℕ → Bool) (line : List ℕ) (rest : List (List ℕ))
+  one_line : (n : ℕ) (state : ReaderState) (given : ℕ → Bool) (line : List ℕ) (rest : List (List ℕ))
       → begins (codes "#END") (words line) ≡ false
-      → (s : LineStep) → LineSays world place given line s
-      → (entries : List EntryValue) (faults : List FaultyLine) → BodySays world (n + 1) s.place s.given rest entries faults
-      → BodySays world n place given (line ∷ rest) (entry_of (n, s.effect) ++ entries) (fault_of (n, s.effect) ++ faults)
+      → (s : LineStep) → LineSays world state given line s
+      → (entries : List EntryValue) (faults : List FaultyLine) → BodySays world (n + 1) s.state s.given rest entries faults
+      → BodySays world n state given (line ∷ rest) (entry_of (n, s.effect) ++ entries) (fault_of (n, s.effect) ++ faults)
 
 -- whether a line is a header: its first word is `#ATLANTIS`
 abbrev pub is_header : List ℕ → Bool
@@ -152,27 +148,27 @@ pub data TextSays (world : WorldValue) (text : List ℕ) (read : Result Reading 
 -- The step that the function `line_step` gives a line is the one that the rules `LineSays` allow, and no other.
 abbrev pub LineRules : Type 0
 LineRules =
-    ((world : WorldValue) (place : ReaderState) (given : ℕ → Bool) (line : List ℕ)
-    → LineSays world place given line (line_step world place given line))
-    × ((world : WorldValue) (place : ReaderState) (given : ℕ → Bool) (line : List ℕ) (s : LineStep)
-    → LineSays world place given line s → s ≡ line_step world place given line)
+    ((world : WorldValue) (state : ReaderState) (given : ℕ → Bool) (line : List ℕ)
+    → LineSays world state given line (line_step world state given line))
+    × ((world : WorldValue) (state : ReaderState) (given : ℕ → Bool) (line : List ℕ) (s : LineStep)
+    → LineSays world state given line s → s ≡ line_step world state given line)
 
 -- the orders that lines give by the function `effects`, where the first line has the number n
 abbrev pub entries_from : WorldValue → ℕ → ReaderState → (ℕ → Bool) → List (List ℕ) → List EntryValue
-entries_from world n place given lines = flat_map entry_of (effects world n place given lines)
+entries_from world n state given lines = flat_map entry_of (effects world n state given lines)
 
 -- the faulty lines among lines by the function `effects`, where the first line has the number n
 abbrev pub faults_from : WorldValue → ℕ → ReaderState → (ℕ → Bool) → List (List ℕ) → List FaultyLine
-faults_from world n place given lines = flat_map fault_of (effects world n place given lines)
+faults_from world n state given lines = flat_map fault_of (effects world n state given lines)
 
 -- The orders and faulty lines by the function `effects` are those that the rules `BodySays` allow, and no others.
 abbrev pub BodyRules : Type 0
 BodyRules =
-    ((world : WorldValue) (n : ℕ) (place : ReaderState) (given : ℕ → Bool) (lines : List (List ℕ))
-    → BodySays world n place given lines (entries_from world n place given lines) (faults_from world n place given lines))
-    × ((world : WorldValue) (n : ℕ) (place : ReaderState) (given : ℕ → Bool) (lines : List (List ℕ)) (entries : List EntryValue) (faults : List FaultyLine)
-    → BodySays world n place given lines entries faults
-    → (entries ≡ entries_from world n place given lines) × (faults ≡ faults_from world n place given lines))
+    ((world : WorldValue) (n : ℕ) (state : ReaderState) (given : ℕ → Bool) (lines : List (List ℕ))
+    → BodySays world n state given lines (entries_from world n state given lines) (faults_from world n state given lines))
+    × ((world : WorldValue) (n : ℕ) (state : ReaderState) (given : ℕ → Bool) (lines : List (List ℕ)) (entries : List EntryValue) (faults : List FaultyLine)
+    → BodySays world n state given lines entries faults
+    → (entries ≡ entries_from world n state given lines) × (faults ≡ faults_from world n state given lines))
 
 -- The result that the function `reading` gives a text is the one that the rules `TextSays` allow, and no other.
 abbrev pub TextRules : Type 0

@@ -1,19 +1,19 @@
 -- For proofs alone: values of the code (words, results, headers, orders) as values of the definitions.
-use Rattle.std.specs.Prelude.{◌≡◌, ℕ, ◌+◌, ◌++◌, Bool, false, List, [], map, length, Option, Some, None, Result, Ok, Err, slice_index_or}
+use Rattle.std.specs.Prelude.{◌≡◌, ℕ, ◌+◌, ◌++◌, Bool, false, List, [], length, Option, Some, None, Result, Ok, Err, slice_index_or}
 use Rattle.std.specs.Option.{option_copied}
 use Rattle.atl_orders.specs.declared.aliases.Aliases.{Aliases}
 use Rattle.atl_orders.specs.declared.fault.LineFault.{LineFault}
-use Rattle.atl_orders.specs.declared.mailing.Body.{Body}
 use Rattle.atl_orders.specs.declared.mailing.Header.{Header}
 use Rattle.atl_orders.specs.declared.order.UnitRef.{UnitRef}
 use Rattle.atl_orders.specs.declared.reading.LineResult.{LineResult}
 use Rattle.atl_orders.specs.declared.reading.LineResult.TheVariants as outcomes
+use Rattle.atl_orders.specs.declared.reading.ReaderState.{ReaderState}
 use Rattle.atl_orders.specs.declared.words.Word.{Word}
 use Rattle.atl_orders.specs.Lines.{lines}
-use Rattle.atl_orders.specs.Mailing.{EntryValue, entry_value, HeaderValue}
+use Rattle.atl_orders.specs.Mailing.{entry_of, fault_of, HeaderValue, Reading}
 use Rattle.atl_world.specs.Steps.{◌>>=◌}
 use Rattle.atl_orders.specs.Orders.{order_value}
-use Rattle.atl_orders.specs.Reading.{Effect, nothing, faulty, says}
+use Rattle.atl_orders.specs.Reading.{Effect, nothing, faulty, says, LineStep, step}
 use Rattle.atl_orders.specs.Words.{WordText}
 
 -- a word of the code as its bytes and whether it is in quotes
@@ -53,10 +53,14 @@ effect_of text outcomes.Nothing = nothing
 effect_of text (outcomes.Faulty fault) = faulty fault
 effect_of text (outcomes.Says unit order) = says unit (order_value text order)
 
+-- the step of a line by what the code returns for it, its result and the next state, and the aliases given so far
+abbrev pub step_of : List ℕ → LineResult × ReaderState → (ℕ → Bool) → LineStep
+step_of text r given = step (effect_of text r.0) r.1 given
+
 -- a header of the code, as its faction and the lines after it
 abbrev pub header_value : Header → HeaderValue
 header_value h = record { faction = h.faction; next = h.next; rest = lines_of_rest (option_copied h.rest) }
 
--- the orders that the code read from a mailing's body, with names as bytes
-abbrev pub body_entries : List ℕ → Body → List EntryValue
-body_entries text b = map (entry_value text) b.entries
+-- a reading with what one line more gives, by the line's number and effect
+abbrev pub with_line : Reading → ℕ × Effect → Reading
+with_line r line = record { faction = r.faction; entries = r.entries ++ entry_of line; faults = r.faults ++ fault_of line }

@@ -1,28 +1,20 @@
 //! Splits a text into its lines. See docs/RULES.md, "Reading a mailing".
 
-ghost use Rattle.std.specs.Prelude.{◌≡◌, ◌≤◌, ◌∷◌, length, IfSome};
-ghost use Rattle.std.specs.List.{position, position_or_len};
+ghost use Rattle.std.specs.Prelude.{◌≡◌, ◌≤◌, ◌<◌, ◌∷◌, length, IfSome};
+ghost use Rattle.std.specs.List.{position};
 ghost use Rattle.std.specs.Option.{option_copied};
 ghost use Rattle.atl_orders.specs.Lines.{is_feed, without_return, lines};
 ghost use Rattle.atl_orders.specs.Views.{lines_of_rest, rest_size};
-ghost use Rattle.atl_orders.specs.Standing.{StartsWith, EndsWith};
+ghost use Rattle.atl_orders.specs.Positions.{StartsWith, EndsWith};
 
 use crate::letters::{CARRIAGE_RETURN, LINE_FEED};
 
 /// The index of the first line feed in a text, `None` if it has none.
 fn first_feed(bytes: &[u8]) -> Option<usize>
-    ensures { result ≡ position is_feed bytes.now }
+    ensures value { result ≡ position is_feed bytes.now }
+    ensures within { IfSome result (λ i. i < length bytes.now) }
 {
     bytes.iter().position(|byte| *byte == LINE_FEED)
-}
-
-/// The index of the first line feed in a text, or the text's length if it has none.
-#[tactic(auto, using(crate::proofs::WordLaws::found_or_len, crate::proofs::WordLaws::found_within))]
-fn feed_at(bytes: &[u8]) -> usize
-    ensures value { result ≡ position_or_len is_feed bytes.now }
-    ensures within { result ≤ length bytes.now }
-{
-    first_feed(bytes).unwrap_or(bytes.len())
 }
 
 /// A line without the carriage return at its end, if there is one.
@@ -39,18 +31,15 @@ fn without_return(line: &[u8]) -> &[u8]
 }
 
 /// The first line of a text, and what follows its line feed, `None` if there is no line feed.
-#[tactic(auto, using(crate::proofs::LineLaws::front_further, crate::proofs::LineLaws::take_front, crate::proofs::WordLaws::ends_at))]
+#[tactic(auto, using(crate::proofs::LineLaws::lines_feed, crate::proofs::LineLaws::lines_last, crate::proofs::LineLaws::front_further, crate::proofs::LineLaws::take_front, crate::proofs::WordLaws::ends_at, std::proofs::lemmas::List::take_rest))]
 pub fn next_line(text: &[u8]) -> (&[u8], Option<&[u8]>)
     ensures lines { lines text.now ≡ result.0.now ∷ lines_of_rest (option_copied result.1) }
     ensures front { StartsWith text.now result.0.now }
     ensures rest { IfSome (option_copied result.1) (EndsWith text.now) }
     ensures shorter { rest_size (option_copied result.1) ≤ length text.now }
 {
-    let end = feed_at(text);
-    let line = without_return(&text[..end]);
-    if end < text.len() {
-        (line, Some(&text[end + 1..]))
-    } else {
-        (line, None)
+    match first_feed(text) {
+        Some(end) => (without_return(&text[..end]), Some(&text[end + 1..])),
+        None => (without_return(text), None),
     }
 }

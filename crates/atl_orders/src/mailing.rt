@@ -1,17 +1,14 @@
 //! Reads a mailing: finds its header and reads its lines. See docs/RULES.md, "Reading a mailing".
-ghost use Rattle.std.specs.Prelude.{List, ℕ, IfSome, ◌≡◌, ◌≢◌, ◌+◌, ◌<◌, ◌≤◌, ◌++◌, ◌^◌, length, IfOk, IfErr, OnOk, ◌↔◌, IsTrue};
-ghost use Rattle.std.specs.List.{flat_map, slice_range};
-ghost use Rattle.atl_world.specs.Lookup.{name_of};
+ghost use Rattle.std.specs.Prelude.{IfSome, ◌≡◌, ◌≢◌, ◌+◌, ◌<◌, ◌≤◌, ◌^◌, length, Ok, IfOk, IfErr, OnOk, ◌↔◌, IsTrue};
+ghost use Rattle.std.specs.List.{slice_range};
 ghost use Rattle.std.specs.Option.{option_copied};
 ghost use Rattle.atl_orders.specs.declared.fault.MailFault.TheVariants.{Memory};
-ghost use Rattle.atl_orders.specs.declared.reading.ReaderState.TheVariants.{Nowhere};
 ghost use Rattle.atl_orders.specs.Limits.{most_bytes};
-ghost use Rattle.atl_orders.specs.Aliasing.{no_alias};
 ghost use Rattle.atl_orders.specs.Words.{words};
-ghost use Rattle.atl_orders.specs.Standing.{EndsWith};
+ghost use Rattle.atl_orders.specs.Positions.{EndsWith};
 ghost use Rattle.atl_orders.specs.Lines.{lines};
-ghost use Rattle.atl_orders.specs.Views.{rest_size, effect_of, header_value, body_entries};
-ghost use Rattle.atl_orders.specs.Mailing.{faction_of, header_from, effects, entry_of, fault_of, reading, reading_of, IsMailingOf, IsReadWith, Reads};
+ghost use Rattle.atl_orders.specs.Views.{rest_size, effect_of, header_value, with_line};
+ghost use Rattle.atl_orders.specs.Mailing.{faction_of, header_from, after_header, reading, reading_of, IsMailingOf, IsReadWith, Reads};
 
 use crate::aliases::Aliases;
 use crate::fault::{FaultyLine, MailFault};
@@ -81,8 +78,30 @@ impl Mailing {
         ensures { IfOk result (λ bytes. bytes ≡ name_in self.now.text span) }
     {
         let bytes = part(self.text.as_slice(), span.start, span.end);
-        let letters = letters_of(alloc, bytes, span.quoted)?;
+        let letters = bytes
+            .iter()
+            .map(|byte| letter_of(*byte, span.quoted))
+            .collect(alloc)?;
         Ok(Sequence::from_vec(letters))
+    }
+
+    /// Appends what a line gives to the orders or the faulty lines. After AllocError the mailing is
+    /// not to be used.
+    fn note(&mut self, line: u32, outcome: LineResult) -> Result<(), AllocError>
+        ensures text { OnOk result (self.new.text ≡ self.old.text) }
+        ensures lines { OnOk result (reading_of self.new
+            ≡ with_line (reading_of self.old) (line, effect_of self.old.text outcome)) }
+    {
+        match outcome {
+            LineResult::Nothing => {}
+            LineResult::Faulty(fault) => self.faults.push(FaultyLine { line, fault })?,
+            LineResult::Says(target, order) => self.entries.push(Entry {
+                line,
+                target,
+                order,
+            })?,
+        }
+        Ok(())
     }
 }
 
@@ -95,16 +114,6 @@ fn part(text: &[u8], start: usize, end: usize) -> &[u8]
     &behind[..end.saturating_sub(start).min(behind.len())]
 }
 
-/// A copy of a word's bytes as the name that the word means: in one without quotes `_` is a space.
-fn letters_of(alloc: Global, bytes: &[u8], quoted: bool) -> Result<Vec<u8>, AllocError>
-    ensures { IfOk result (λ letters. letters.items ≡ name_of bytes.now quoted) }
-{
-    bytes
-        .iter()
-        .map(|byte| letter_of(*byte, quoted))
-        .collect(alloc)
-}
-
 /// The number of the faction that a header line names, from 1 to `LAST_FACTION`; `None` if it names
 /// none.
 fn faction_of(line: &[u8]) -> Option<u32>
@@ -112,10 +121,8 @@ fn faction_of(line: &[u8]) -> Option<u32>
 {
     let (_, rest) = next_word(line)?;
     let (word, _) = next_word(rest)?;
-    match number(word.bytes, LAST_FACTION) {
-        Some(faction) if faction != 0 => Some(faction),
-        _ => None,
-    }
+    let faction = number(word.bytes, LAST_FACTION)?;
+    (faction != 0).then_some(faction)
 }
 
 /// A header as read: its faction, and the lines after it.
@@ -139,21 +146,19 @@ fn find_header(text: &[u8]) -> Result<Header<'_>, MailFault>
     ensures sure { IfErr result (λ fault. fault ≢ Memory) }
 {
     let mut rest = Some(text);
-    let mut number = 1;
+    let mut next = 1;
     while let Some(left) = rest {
         let (line, after) = next_line(left);
-        if begins(line, b"#ATLANTIS") {
-            return match faction_of(line) {
-                None => Err(MailFault::BadHeader),
-                Some(faction) => Ok(Header {
-                    faction,
-                    next: number + 1,
-                    rest: after,
-                }),
-            };
-        }
         rest = after;
-        number += 1;
+        next += 1;
+        if begins(line, b"#ATLANTIS") {
+            let faction = faction_of(line).ok_or(MailFault::BadHeader)?;
+            return Ok(Header {
+                faction,
+                next,
+                rest,
+            });
+        }
     }
     Err(MailFault::NoHeader)
 }
@@ -163,107 +168,51 @@ fn find_header(text: &[u8]) -> Result<Header<'_>, MailFault>
 pub fn is_mailing_of(faction: u32, text: &[u8]) -> bool
     ensures { IsTrue result ↔ (IsMailingOf faction text.now) }
 {
-    if MOST_BYTES < text.len() {
-        return false;
-    }
-    match find_header(text) {
-        Ok(header) => header.faction == faction,
-        Err(_) => false,
-    }
+    text.len() <= MOST_BYTES && find_header(text).is_ok_and(|header| header.faction == faction)
 }
 
-/// The orders and the faulty lines that the lines after a header give.
-struct Body {
-    /// The orders, in the order of their lines.
-    entries: Sequence<Entry>,
-    /// The faulty lines, in their order.
-    faults: Sequence<FaultyLine>,
-}
-
-/// Drops the orders and the faulty lines.
-impl Drop for Body {
-    fn drop(self) {
-        let_go!(self: Body { entries, faults });
-    }
-}
-
-impl Body {
-    ghost use Rattle.atl_orders.specs.Views.{body_entries};
-
-    /// Makes a mailing of the body's orders and faulty lines, with its faction and its text.
-    fn into_mailing(self, faction: u32, text: Sequence<u8>) -> Mailing
-        ensures { result ≡ record
-            { faction = faction; text = text; entries = self.entries; faults = self.faults } }
-    {
-        let Body { entries, faults } = self;
-        Mailing {
-            faction,
-            text,
-            entries,
-            faults,
-        }
-    }
-
-    /// Appends what a line gives to the orders or the faulty lines. After AllocError the lists are
-    /// not to be used.
-    fn note(&mut self, line: u32, outcome: LineResult) -> Result<(), AllocError>
-        ensures entries { OnOk result ((text : List ℕ) → body_entries text self.new
-            ≡ body_entries text self.old ++ entry_of (line, effect_of text outcome)) }
-        ensures faults { OnOk result ((text : List ℕ) → self.new.faults
-            ≡ self.old.faults ++ fault_of (line, effect_of text outcome)) }
-    {
-        match outcome {
-            LineResult::Nothing => {}
-            LineResult::Faulty(fault) => self.faults.push(FaultyLine { line, fault })?,
-            LineResult::Says(target, order) => self.entries.push(Entry {
-                line,
-                target,
-                order,
-            })?,
-        }
-        Ok(())
-    }
-}
-
-/// The orders and faulty lines that the lines after a header give. They end at `#END` or at the end
-/// of the text.
-#[tactic(auto, using(crate::proofs::LineLaws::line_place, crate::proofs::WordLaws::ends_further, crate::proofs::LineLaws::starts_shorter, crate::proofs::WordLaws::ends_shorter), unfolding(crate::specs::Mailing::effects))]
-fn read_body(alloc: Global, world: &World, text: &[u8], header: Header) -> Result<Body, AllocError>
+/// The mailing that a text gives after its header, with a copy of the text. Its orders end at `#END`
+/// or at the end of the text.
+#[tactic(auto, using(crate::proofs::LineLaws::line_ends_at, crate::proofs::WordLaws::ends_further, crate::proofs::LineLaws::starts_shorter, crate::proofs::WordLaws::ends_shorter), unfolding(crate::specs::Mailing::effects))]
+fn read_body(
+    alloc: Global,
+    world: &World,
+    text: &[u8],
+    header: Header,
+) -> Result<Mailing, AllocError>
     requires small { header.next + rest_size (option_copied header.rest) < 2 ^ 32 }
     requires rest { IfSome (option_copied header.rest) (EndsWith text.now) }
-    ensures entries { IfOk result
-        (λ b. body_entries text.now b
-        ≡ flat_map entry_of (effects world.now header.entry.next Nowhere no_alias
-        (header_value header.entry).rest)) }
-    ensures faults { IfOk result
-        (λ b. b.faults ≡ flat_map fault_of
-        (effects world.now header.entry.next Nowhere no_alias (header_value header.entry).rest)) }
+    ensures reading { IfOk result (λ m.
+        after_header world.now (Ok (header_value header.entry)) ≡ Ok (reading_of m)) }
+    ensures kept { IfOk result (λ m. m.text ≡ text.now) }
 {
-    let mut body = Body {
+    let mut mailing = Mailing {
+        faction: header.faction,
+        text: Sequence::from_vec(Vec::from_slice(alloc, text)?),
         entries: Sequence::new(alloc),
         faults: Sequence::new(alloc),
     };
     let mut aliases = Aliases::new(alloc)?;
-    let mut place = ReaderState::Nowhere;
+    let mut state = ReaderState::Nowhere;
     let mut number = header.next;
     let mut rest = header.rest;
     while let Some(left) = rest {
         let (line, after) = next_line(left);
         if begins(line, b"#END") {
-            return Ok(body);
+            return Ok(mailing);
         }
         let line = Cursor {
             text,
             rest: line,
             end: text.len() - left.len() + line.len(),
         };
-        let (outcome, next) = read_line(alloc, world, place, &mut aliases, line)?;
-        body.note(number, outcome)?;
-        place = next;
+        let (outcome, next) = read_line(alloc, world, state, &mut aliases, line)?;
+        mailing.note(number, outcome)?;
+        state = next;
         rest = after;
         number += 1;
     }
-    Ok(body)
+    Ok(mailing)
 }
 
 /// Reads a text as a mailing: its faction, its orders and its faulty lines, or why it is none. The
@@ -282,7 +231,5 @@ pub fn read_mailing(alloc: Global, world: &World, text: &[u8]) -> Result<Mailing
         return Err(MailFault::TooLong);
     }
     let header = find_header(text)?;
-    let body = read_body(alloc, world, text, header)?;
-    let kept = Sequence::from_vec(Vec::from_slice(alloc, text)?);
-    Ok(body.into_mailing(header.faction, kept))
+    Ok(read_body(alloc, world, text, header)?)
 }

@@ -4,13 +4,13 @@ ghost use Rattle.std.specs.Prelude.{◌≡◌, ◌≤◌, IfOk};
 ghost use Rattle.atl_orders.specs.Limits.{most_number, last_alias};
 ghost use Rattle.atl_orders.specs.Words.{words};
 ghost use Rattle.atl_orders.specs.Views.{word_text, Gives};
-ghost use Rattle.atl_orders.specs.Standing.{IsPartOf, EndsWith};
+ghost use Rattle.atl_orders.specs.Positions.{IsPartOf, EndsWith};
 ghost use Rattle.atl_orders.specs.Operands.{word_at, count_at, number_at, alias_at, unit_at, item_at, amount_of_item_at, skill_at, kind_at, direction_of, direction_at, units_of};
 
 use crate::fault::LineFault;
 use crate::limits::{LAST_ALIAS, MOST_NUMBER};
 use crate::order::UnitRef;
-use crate::words::{Word, is_same, next_word, number};
+use crate::words::{Word, next_word, number};
 use atl_world::{Direction, Sequence, World};
 use std::alloc::{AllocError, Global};
 
@@ -63,7 +63,7 @@ pub fn unit_at(line: &[u8]) -> Result<(UnitRef, &[u8]), LineFault>
     ensures { Gives (λ x. (x.0, words x.1.now)) result (unit_at (words line.now)) }
 {
     let (word, rest) = word_at(line)?;
-    if is_same(word.bytes, b"NEW") {
+    if word.bytes.eq_ignore_ascii_case(b"NEW") {
         let (alias, rest) = alias_at(rest)?;
         return Ok((UnitRef::Alias(alias), rest));
     }
@@ -72,19 +72,16 @@ pub fn unit_at(line: &[u8]) -> Result<(UnitRef, &[u8]), LineFault>
 }
 
 /// The number of the item that the next word names, else MissingWord or UnknownThing.
-#[tactic(auto, unfolding(crate::specs::Operands::item_at))]
 pub fn item_at(world: &World, line: &[u8]) -> Result<u16, LineFault>
     ensures { Gives (λ x. x) result (item_at world.now (words line.now)) }
 {
     let (word, _) = word_at(line)?;
-    world
-        .item_named(word.bytes, word.quoted)
-        .ok_or(LineFault::UnknownThing)
+    let item = world.item_named(word.bytes, word.quoted);
+    item.ok_or(LineFault::UnknownThing)
 }
 
 /// The next words as an amount from 1 to 999,999,999 and the number of an item; else MissingWord,
 /// BadNumber or UnknownThing.
-#[tactic(auto, unfolding(crate::specs::Operands::amount_of_item_at))]
 pub fn amount_of_item_at(world: &World, line: &[u8]) -> Result<(u32, u16), LineFault>
     ensures { Gives (λ x. x) result (amount_of_item_at world.now (words line.now)) }
 {
@@ -94,38 +91,34 @@ pub fn amount_of_item_at(world: &World, line: &[u8]) -> Result<(u32, u16), LineF
 }
 
 /// The number of the skill that the next word names, else MissingWord or UnknownThing.
-#[tactic(auto, unfolding(crate::specs::Operands::skill_at))]
 pub fn skill_at(world: &World, line: &[u8]) -> Result<u16, LineFault>
     ensures { Gives (λ x. x) result (skill_at world.now (words line.now)) }
 {
     let (word, _) = word_at(line)?;
-    world
-        .skill_named(word.bytes, word.quoted)
-        .ok_or(LineFault::UnknownThing)
+    let skill = world.skill_named(word.bytes, word.quoted);
+    skill.ok_or(LineFault::UnknownThing)
 }
 
 /// The number of the kind of structure that the next word names, else MissingWord or UnknownThing.
-#[tactic(auto, unfolding(crate::specs::Operands::kind_at))]
 pub fn kind_at(world: &World, line: &[u8]) -> Result<u16, LineFault>
     ensures { Gives (λ x. x) result (kind_at world.now (words line.now)) }
 {
     let (word, _) = word_at(line)?;
-    world
-        .kind_named(word.bytes, word.quoted)
-        .ok_or(LineFault::UnknownThing)
+    let kind = world.kind_named(word.bytes, word.quoted);
+    kind.ok_or(LineFault::UnknownThing)
 }
 
 /// The direction that a word names, `None` if it names none.
 fn direction_of(word: Word) -> Option<Direction>
     ensures { result ≡ direction_of (word_text word.entry) }
 {
-    if is_same(word.bytes, b"NORTH") {
+    if word.bytes.eq_ignore_ascii_case(b"NORTH") {
         Some(Direction::North)
-    } else if is_same(word.bytes, b"SOUTH") {
+    } else if word.bytes.eq_ignore_ascii_case(b"SOUTH") {
         Some(Direction::South)
-    } else if is_same(word.bytes, b"EAST") {
+    } else if word.bytes.eq_ignore_ascii_case(b"EAST") {
         Some(Direction::East)
-    } else if is_same(word.bytes, b"WEST") {
+    } else if word.bytes.eq_ignore_ascii_case(b"WEST") {
         Some(Direction::West)
     } else {
         None
@@ -133,7 +126,6 @@ fn direction_of(word: Word) -> Option<Direction>
 }
 
 /// The direction that the next word names, else MissingWord or BadDirection.
-#[tactic(auto, unfolding(crate::specs::Operands::direction_at))]
 pub fn direction_at(line: &[u8]) -> Result<Direction, LineFault>
     ensures { Gives (λ x. x) result (direction_at (words line.now)) }
 {

@@ -3,8 +3,8 @@
 ghost use Rattle.std.specs.Prelude.{◌≡◌, IfOk};
 ghost use Rattle.atl_orders.specs.Words.{words};
 ghost use Rattle.atl_orders.specs.Views.{word_text, Gives};
-ghost use Rattle.atl_orders.specs.Standing.{IsCursor};
-ghost use Rattle.atl_orders.specs.Orders.{kind_of_name, named, order_value, said_by, read_alias, read_flag, read_number, read_unit, read_units, read_unit_and_number, read_unit_and_goods, read_goods, read_name, read_direction, read_kind, read_skill, read_item, read_operands};
+ghost use Rattle.atl_orders.specs.Positions.{IsCursor};
+ghost use Rattle.atl_orders.specs.Orders.{kind_of_name, named, order_value, said_by, read_flag, read_units, read_unit_and_number, read_unit_and_goods, read_name, read_kind, read_operands};
 
 use crate::fault::LineFault;
 use crate::operands::{
@@ -13,22 +13,11 @@ use crate::operands::{
 };
 use crate::order::{NameKind, Operands, Order, Span};
 use crate::verb::{Shape, Verb};
-use crate::words::{Cursor, Word, is_same, next_word, number};
+use crate::words::{Cursor, Word, next_word, number};
 use atl_world::{World, word_ok};
 use std::alloc::{AllocError, Global};
 
-/// Reads the operands of a verb that takes an alias, else MissingWord or BadAlias.
-#[tactic(auto, unfolding(crate::specs::Orders::read_alias))]
-fn read_alias(cursor: Cursor) -> Result<Operands, LineFault>
-    ensures { Gives (named cursor.entry.text.now) result
-        (read_alias (words cursor.entry.rest.now)) }
-{
-    let (alias, _) = alias_at(cursor.rest)?;
-    Ok(Operands::Alias(alias))
-}
-
 /// Reads the operands of a verb that takes a flag, 0 or 1, else MissingWord or BadNumber.
-#[tactic(auto, unfolding(crate::specs::Orders::read_flag))]
 fn read_flag(cursor: Cursor) -> Result<Operands, LineFault>
     ensures { Gives (named cursor.entry.text.now) result (read_flag (words cursor.entry.rest.now)) }
 {
@@ -37,28 +26,8 @@ fn read_flag(cursor: Cursor) -> Result<Operands, LineFault>
     Ok(Operands::Flag(flag == 1))
 }
 
-/// Reads the operands of a verb that takes a number, else MissingWord or BadNumber.
-#[tactic(auto, unfolding(crate::specs::Orders::read_number))]
-fn read_number(cursor: Cursor) -> Result<Operands, LineFault>
-    ensures { Gives (named cursor.entry.text.now) result
-        (read_number (words cursor.entry.rest.now)) }
-{
-    let (number, _) = number_at(cursor.rest)?;
-    Ok(Operands::Number(number))
-}
-
-/// Reads the operands of a verb that takes a unit, else MissingWord, BadNumber or BadAlias.
-#[tactic(auto, unfolding(crate::specs::Orders::read_unit))]
-fn read_unit(cursor: Cursor) -> Result<Operands, LineFault>
-    ensures { Gives (named cursor.entry.text.now) result (read_unit (words cursor.entry.rest.now)) }
-{
-    let (unit, _) = unit_at(cursor.rest)?;
-    Ok(Operands::Unit(unit))
-}
-
 /// Reads the operands of a verb that takes one unit or more, from all words up to the line's end;
 /// else MissingWord, BadNumber or BadAlias.
-#[tactic(auto, unfolding(crate::specs::Orders::read_units, crate::specs::Operands::some_units_at))]
 fn read_units(alloc: Global, cursor: Cursor) -> Result<Result<Operands, LineFault>, AllocError>
     ensures { IfOk result (λ read.
         Gives (named cursor.entry.text.now) read (read_units (words cursor.entry.rest.now))) }
@@ -74,7 +43,6 @@ fn read_units(alloc: Global, cursor: Cursor) -> Result<Result<Operands, LineFaul
 
 /// Reads the operands of a verb that takes a unit and a number; else MissingWord, BadNumber or
 /// BadAlias.
-#[tactic(auto, unfolding(crate::specs::Orders::read_unit_and_number))]
 fn read_unit_and_number(cursor: Cursor) -> Result<Operands, LineFault>
     ensures { Gives (named cursor.entry.text.now) result
         (read_unit_and_number (words cursor.entry.rest.now)) }
@@ -86,7 +54,6 @@ fn read_unit_and_number(cursor: Cursor) -> Result<Operands, LineFault>
 
 /// Reads the operands of a verb that takes a unit, an amount and an item; else MissingWord,
 /// BadNumber, BadAlias or UnknownThing.
-#[tactic(auto, unfolding(crate::specs::Orders::read_unit_and_goods))]
 fn read_unit_and_goods(world: &World, cursor: Cursor) -> Result<Operands, LineFault>
     ensures { Gives (named cursor.entry.text.now) result
         (read_unit_and_goods world.now (words cursor.entry.rest.now)) }
@@ -96,29 +63,18 @@ fn read_unit_and_goods(world: &World, cursor: Cursor) -> Result<Operands, LineFa
     Ok(Operands::UnitAndGoods { to, amount, item })
 }
 
-/// Reads the operands of a verb that takes an amount and an item; else MissingWord, BadNumber or
-/// UnknownThing.
-#[tactic(auto, unfolding(crate::specs::Orders::read_goods))]
-fn read_goods(world: &World, cursor: Cursor) -> Result<Operands, LineFault>
-    ensures { Gives (named cursor.entry.text.now) result
-        (read_goods world.now (words cursor.entry.rest.now)) }
-{
-    let (amount, item) = amount_of_item_at(world, cursor.rest)?;
-    Ok(Operands::Goods { amount, item })
-}
-
 /// What gets a new name by the word after NAME: unit, faction, building or ship; `None` for another
 /// word.
 fn kind_of_name(word: Word) -> Option<NameKind>
     ensures { result ≡ kind_of_name (word_text word.entry) }
 {
-    if is_same(word.bytes, b"UNIT") {
+    if word.bytes.eq_ignore_ascii_case(b"UNIT") {
         Some(NameKind::Unit)
-    } else if is_same(word.bytes, b"FACTION") {
+    } else if word.bytes.eq_ignore_ascii_case(b"FACTION") {
         Some(NameKind::Faction)
-    } else if is_same(word.bytes, b"BUILDING") {
+    } else if word.bytes.eq_ignore_ascii_case(b"BUILDING") {
         Some(NameKind::Building)
-    } else if is_same(word.bytes, b"SHIP") {
+    } else if word.bytes.eq_ignore_ascii_case(b"SHIP") {
         Some(NameKind::Ship)
     } else {
         None
@@ -127,7 +83,7 @@ fn kind_of_name(word: Word) -> Option<NameKind>
 
 /// Reads the operands of NAME: what gets a new name, and the name; else MissingWord, UnknownThing
 /// or BadName.
-#[tactic(auto, using(crate::proofs::WordLaws::place_fits, crate::proofs::WordLaws::place_behind, crate::proofs::WordLaws::part_shorter, crate::proofs::WordLaws::ends_shorter), unfolding(crate::specs::Orders::read_name))]
+#[tactic(auto, using(crate::proofs::WordLaws::ends_at_fits, crate::proofs::WordLaws::ends_at_further, crate::proofs::WordLaws::part_shorter, crate::proofs::WordLaws::ends_shorter))]
 fn read_name(cursor: Cursor) -> Result<Operands, LineFault>
     requires { IsCursor cursor }
     ensures { Gives (named cursor.entry.text.now) result (read_name (words cursor.entry.rest.now)) }
@@ -147,18 +103,7 @@ fn read_name(cursor: Cursor) -> Result<Operands, LineFault>
     Ok(Operands::Name { what, name })
 }
 
-/// Reads the operands of a verb that takes a direction, else MissingWord or BadDirection.
-#[tactic(auto, unfolding(crate::specs::Orders::read_direction))]
-fn read_direction(cursor: Cursor) -> Result<Operands, LineFault>
-    ensures { Gives (named cursor.entry.text.now) result
-        (read_direction (words cursor.entry.rest.now)) }
-{
-    let direction = direction_at(cursor.rest)?;
-    Ok(Operands::Direction(direction))
-}
-
 /// Reads the operands of a verb that takes a kind of structure or nothing, else UnknownThing.
-#[tactic(auto, unfolding(crate::specs::Orders::read_kind))]
 fn read_kind(world: &World, cursor: Cursor) -> Result<Operands, LineFault>
     ensures { Gives (named cursor.entry.text.now) result
         (read_kind world.now (words cursor.entry.rest.now)) }
@@ -168,26 +113,6 @@ fn read_kind(world: &World, cursor: Cursor) -> Result<Operands, LineFault>
     }
     let kind = kind_at(world, cursor.rest)?;
     Ok(Operands::Kind(Some(kind)))
-}
-
-/// Reads the operands of a verb that takes a skill, else MissingWord or UnknownThing.
-#[tactic(auto, unfolding(crate::specs::Orders::read_skill))]
-fn read_skill(world: &World, cursor: Cursor) -> Result<Operands, LineFault>
-    ensures { Gives (named cursor.entry.text.now) result
-        (read_skill world.now (words cursor.entry.rest.now)) }
-{
-    let skill = skill_at(world, cursor.rest)?;
-    Ok(Operands::Skill(skill))
-}
-
-/// Reads the operands of a verb that takes an item, else MissingWord or UnknownThing.
-#[tactic(auto, unfolding(crate::specs::Orders::read_item))]
-fn read_item(world: &World, cursor: Cursor) -> Result<Operands, LineFault>
-    ensures { Gives (named cursor.entry.text.now) result
-        (read_item world.now (words cursor.entry.rest.now)) }
-{
-    let item = item_at(world, cursor.rest)?;
-    Ok(Operands::Item(item))
 }
 
 /// Reads the words after a verb by the verb's shape in the order table, else gives their first
@@ -204,19 +129,22 @@ fn read_operands(
 {
     match shape {
         Shape::Nothing => Ok(Ok(Operands::Nothing)),
-        Shape::Alias => Ok(read_alias(cursor)),
+        Shape::Alias => Ok(alias_at(cursor.rest).map(|read| Operands::Alias(read.0))),
         Shape::Flag => Ok(read_flag(cursor)),
-        Shape::Number => Ok(read_number(cursor)),
-        Shape::Unit => Ok(read_unit(cursor)),
+        Shape::Number => Ok(number_at(cursor.rest).map(|read| Operands::Number(read.0))),
+        Shape::Unit => Ok(unit_at(cursor.rest).map(|read| Operands::Unit(read.0))),
         Shape::Units => read_units(alloc, cursor),
         Shape::UnitAndNumber => Ok(read_unit_and_number(cursor)),
         Shape::UnitAndGoods => Ok(read_unit_and_goods(world, cursor)),
-        Shape::Goods => Ok(read_goods(world, cursor)),
+        Shape::Goods => Ok(amount_of_item_at(world, cursor.rest).map(|(
+            amount,
+            item,
+        )| Operands::Goods { amount, item })),
         Shape::Name => Ok(read_name(cursor)),
-        Shape::Direction => Ok(read_direction(cursor)),
+        Shape::Direction => Ok(direction_at(cursor.rest).map(Operands::Direction)),
         Shape::Kind => Ok(read_kind(world, cursor)),
-        Shape::Skill => Ok(read_skill(world, cursor)),
-        Shape::Item => Ok(read_item(world, cursor)),
+        Shape::Skill => Ok(skill_at(world, cursor.rest).map(Operands::Skill)),
+        Shape::Item => Ok(item_at(world, cursor.rest).map(Operands::Item)),
     }
 }
 

@@ -1,9 +1,9 @@
 //! Reads one line of a mailing. See docs/RULES.md, "Reading a mailing".
 ghost use Rattle.std.specs.Prelude.{◌≡◌, ℕ, List, IfOk};
 ghost use Rattle.std.specs.List.{list_all};
-ghost use Rattle.atl_orders.specs.Views.{alias_set, word_text, effect_of};
+ghost use Rattle.atl_orders.specs.Views.{alias_set, word_text, effect_of, step_of};
 ghost use Rattle.atl_orders.specs.Words.{words};
-ghost use Rattle.atl_orders.specs.Standing.{IsCursor};
+ghost use Rattle.atl_orders.specs.Positions.{IsCursor};
 ghost use Rattle.atl_orders.specs.Operands.{number_at};
 ghost use Rattle.atl_orders.specs.Orders.{said_by};
 ghost use Rattle.atl_orders.specs.Reading.{is_plain, keyword_of, unit_step, end_step, form_step, target, order_effect, line_step};
@@ -15,7 +15,9 @@ use crate::operands::{alias_at, number_at};
 use crate::order::{Operands, Order, UnitRef};
 use crate::orders::order_at;
 use crate::verb::Verb;
-use crate::words::{Cursor, Word, is_same, next_word};
+use crate::words::{Cursor, Word, next_word};
+use LineResult::{Faulty, Nothing, Says};
+use ReaderState::{At, Forming, Nowhere, Skipping};
 use atl_world::World;
 use atl_world::letters::{SPACE, TILDE};
 use std::alloc::{AllocError, Global};
@@ -64,11 +66,11 @@ fn keyword_of(word: Word) -> Option<Keyword>
     ensures { result ≡ keyword_of (word_text word.entry) }
 {
     let bytes = word.bytes;
-    if is_same(bytes, b"UNIT") {
+    if bytes.eq_ignore_ascii_case(b"UNIT") {
         Some(Keyword::Unit)
-    } else if is_same(bytes, b"END") {
+    } else if bytes.eq_ignore_ascii_case(b"END") {
         Some(Keyword::End)
-    } else if is_same(bytes, b"FORM") {
+    } else if bytes.eq_ignore_ascii_case(b"FORM") {
         Some(Keyword::Form)
     } else {
         Verb::of_word(word).map(Keyword::Order)
@@ -77,72 +79,51 @@ fn keyword_of(word: Word) -> Option<Keyword>
 
 /// What a UNIT line gives, and the reader's next state, by the words after UNIT: the unit is
 /// named, or after a fault none.
-#[tactic(auto, unfolding(crate::specs::Reading::unit_step))]
 fn unit_line(line: &[u8]) -> (LineResult, ReaderState)
-    ensures { (given : _) (text : List ℕ) → unit_step given (number_at (words line.now))
-        ≡ record { effect = effect_of text result.0; place = result.1; given = given } }
+    ensures { (given : _) (text : List ℕ)
+        → unit_step given (number_at (words line.now)) ≡ step_of text result given }
 {
     match number_at(line) {
-        Ok((number, _)) => (LineResult::Nothing, ReaderState::At(number)),
-        Err(fault) => (LineResult::Faulty(fault), ReaderState::Nowhere),
+        Ok((number, _)) => (Nothing, At(number)),
+        Err(fault) => (Faulty(fault), Nowhere),
     }
 }
 
 /// What an END line gives, and the reader's next state: the open block ends, else EndAlone.
-#[tactic(auto, unfolding(crate::specs::Reading::end_step))]
-fn end_line(place: ReaderState) -> (LineResult, ReaderState)
-    ensures { (given : _) (text : List ℕ) → end_step place given
-        ≡ record { effect = effect_of text result.0; place = result.1; given = given } }
+fn end_line(state: ReaderState) -> (LineResult, ReaderState)
+    ensures { (given : _) (text : List ℕ) → end_step state given ≡ step_of text result given }
 {
-    match place {
-        ReaderState::Nowhere | ReaderState::At(_) => (
-            LineResult::Faulty(LineFault::EndAlone),
-            place,
-        ),
-        ReaderState::Forming { parent, alias: _ } => (LineResult::Nothing, ReaderState::At(parent)),
-        ReaderState::Skipping(Some(parent)) => (LineResult::Nothing, ReaderState::At(parent)),
-        ReaderState::Skipping(None) => (LineResult::Nothing, ReaderState::Nowhere),
+    match state {
+        Nowhere | At(_) => (Faulty(LineFault::EndAlone), state),
+        Forming { parent, alias: _ } | Skipping(Some(parent)) => (Nothing, At(parent)),
+        Skipping(None) => (Nothing, Nowhere),
     }
 }
 
 /// What a FORM line gives, its order or a fault, and the reader's next state, by the words after
 /// FORM. A FORM without fault adds its alias to `aliases`.
-#[tactic(auto, unfolding(crate::specs::Reading::form_step, crate::specs::Reading::block_step))]
-fn form_line(place: ReaderState, aliases: &mut Aliases, line: &[u8]) -> (LineResult, ReaderState)
-    ensures { (text : List ℕ)
-        → form_step place (alias_set aliases.old) (words line.now)
-        ≡ record {
-          effect = effect_of text result.0;
-          place = result.1;
-          given = alias_set
-              aliases.new;
-        } }
+fn form_line(state: ReaderState, aliases: &mut Aliases, line: &[u8]) -> (LineResult, ReaderState)
+    ensures { (text : List ℕ) → form_step state (alias_set aliases.old) (words line.now)
+        ≡ step_of text result (alias_set aliases.new) }
 {
-    let parent = match place {
-        ReaderState::Nowhere => return (
-            LineResult::Faulty(LineFault::NoUnit),
-            ReaderState::Skipping(None),
-        ),
-        ReaderState::Forming { .. } | ReaderState::Skipping(_) => {
-            return (LineResult::Faulty(LineFault::NestedForm), place);
-        }
-        ReaderState::At(parent) => parent,
+    let parent = match state {
+        Nowhere => return (Faulty(LineFault::NoUnit), Skipping(None)),
+        Forming { .. } | Skipping(_) => return (Faulty(LineFault::NestedForm), state),
+        At(parent) => parent,
     };
-    let skipping = ReaderState::Skipping(Some(parent));
+    let skipping = Skipping(Some(parent));
     match alias_at(line) {
-        Err(fault) => (LineResult::Faulty(fault), skipping),
+        Err(fault) => (Faulty(fault), skipping),
+        Ok((alias, _)) if aliases.contains(alias) => (Faulty(LineFault::BadAlias), skipping),
         Ok((alias, _)) => {
-            if aliases.contains(alias) {
-                return (LineResult::Faulty(LineFault::BadAlias), skipping);
-            }
             aliases.add(alias);
             let order = Order {
                 verb: Verb::Form,
                 operands: Operands::Alias(alias),
             };
             (
-                LineResult::Says(UnitRef::Number(parent), order),
-                ReaderState::Forming { parent, alias },
+                Says(UnitRef::Number(parent), order),
+                Forming { parent, alias },
             )
         }
     }
@@ -150,13 +131,13 @@ fn form_line(place: ReaderState, aliases: &mut Aliases, line: &[u8]) -> (LineRes
 
 /// The unit that an order is for, in a state of the reader; `None` if no unit is named, or in a
 /// skipped block.
-fn target(place: ReaderState) -> Option<UnitRef>
-    ensures { result ≡ target place }
+fn target(state: ReaderState) -> Option<UnitRef>
+    ensures { result ≡ target state }
 {
-    match place {
-        ReaderState::Nowhere | ReaderState::Skipping(_) => None,
-        ReaderState::At(number) => Some(UnitRef::Number(number)),
-        ReaderState::Forming { parent: _, alias } => Some(UnitRef::Alias(alias)),
+    match state {
+        Nowhere | Skipping(_) => None,
+        At(number) => Some(UnitRef::Number(number)),
+        Forming { parent: _, alias } => Some(UnitRef::Alias(alias)),
     }
 }
 
@@ -165,57 +146,52 @@ fn target(place: ReaderState) -> Option<UnitRef>
 fn order_line(
     alloc: Global,
     world: &World,
-    place: ReaderState,
+    state: ReaderState,
     verb: Verb,
     cursor: Cursor,
 ) -> Result<LineResult, AllocError>
     requires { IsCursor cursor }
     ensures { IfOk result (λ outcome. effect_of cursor.entry.text.now outcome
-        ≡ order_effect (target place) (said_by world.now verb (words cursor.entry.rest.now))) }
+        ≡ order_effect (target state) (said_by world.now verb (words cursor.entry.rest.now))) }
 {
-    let Some(unit) = target(place) else {
-        return Ok(LineResult::Faulty(LineFault::NoUnit));
+    let Some(unit) = target(state) else {
+        return Ok(Faulty(LineFault::NoUnit));
     };
     match order_at(alloc, world, verb, cursor)? {
-        Ok(order) => Ok(LineResult::Says(unit, order)),
-        Err(fault) => Ok(LineResult::Faulty(fault)),
+        Ok(order) => Ok(Says(unit, order)),
+        Err(fault) => Ok(Faulty(fault)),
     }
 }
 
 /// What a line of a mailing gives, and the reader's next state. A FORM without fault adds its alias
 /// to `aliases`.
-#[tactic(auto, using(crate::proofs::WordLaws::place_behind, crate::proofs::WordLaws::ends_shorter), unfolding(crate::specs::Reading::line_step, crate::specs::Reading::words_step, crate::specs::Reading::keyword_step))]
+#[tactic(auto, using(crate::proofs::WordLaws::ends_at_further, crate::proofs::WordLaws::ends_shorter), unfolding(crate::specs::Reading::line_step))]
 pub fn read_line(
     alloc: Global,
     world: &World,
-    place: ReaderState,
+    state: ReaderState,
     aliases: &mut Aliases,
     line: Cursor,
 ) -> Result<(LineResult, ReaderState), AllocError>
     requires { IsCursor line }
     ensures { IfOk result (λ r.
-        line_step world.now place (alias_set aliases.old) line.entry.rest.now
-        ≡ record {
-          effect = effect_of line.entry.text.now r.0;
-          place = r.1;
-          given = alias_set
-              aliases.new;
-        }) }
+        line_step world.now state (alias_set aliases.old) line.entry.rest.now
+        ≡ step_of line.entry.text.now r (alias_set aliases.new)) }
 {
     if !is_plain(line.rest) {
-        return Ok((LineResult::Faulty(LineFault::BadByte), place));
+        return Ok((Faulty(LineFault::BadByte), state));
     }
     let Some((word, rest)) = next_word(line.rest) else {
-        return Ok((LineResult::Nothing, place));
+        return Ok((Nothing, state));
     };
     match keyword_of(word) {
-        None => Ok((LineResult::Faulty(LineFault::UnknownOrder), place)),
+        None => Ok((Faulty(LineFault::UnknownOrder), state)),
         Some(Keyword::Unit) => Ok(unit_line(rest)),
-        Some(Keyword::End) => Ok(end_line(place)),
-        Some(Keyword::Form) => Ok(form_line(place, aliases, rest)),
+        Some(Keyword::End) => Ok(end_line(state)),
+        Some(Keyword::Form) => Ok(form_line(state, aliases, rest)),
         Some(Keyword::Order(verb)) => {
-            let outcome = order_line(alloc, world, place, verb, Cursor { rest, ..line })?;
-            Ok((outcome, place))
+            let outcome = order_line(alloc, world, state, verb, Cursor { rest, ..line })?;
+            Ok((outcome, state))
         }
     }
 }

@@ -5,7 +5,7 @@ ghost use Rattle.atl_orders.specs.Words.{is_word};
 ghost use Rattle.atl_orders.specs.Views.{word_text};
 ghost use Rattle.atl_orders.specs.Verbs.{row, row_value};
 
-use crate::words::{Word, is_same};
+use crate::words::Word;
 use atl_world::variants;
 
 /// The verb of an order, one for each row of the order table.
@@ -154,10 +154,8 @@ impl Verb {
     fn listed(word: Word) -> Option<Verb>
         ensures { result ≡ find (λ verb. is_word (keyword verb) (word_text word.entry)) listed }
     {
-        LISTED
-            .iter()
-            .copied()
-            .find(|verb| is_same(word.bytes, verb.keyword().as_bytes()))
+        let bytes = word.bytes;
+        LISTED.iter().copied().find(|verb| bytes.eq_ignore_ascii_case(verb.keyword().as_bytes()))
     }
 
     /// The verb whose keyword a word is, in any case, and ENTER for BOARD; `None` for other words.
@@ -165,7 +163,7 @@ impl Verb {
     pub fn of_word(word: Word) -> Option<Verb>
         ensures { result ≡ verb_of (word_text word.entry) }
     {
-        if is_same(word.bytes, b"BOARD") {
+        if word.bytes.eq_ignore_ascii_case(b"BOARD") {
             return Some(Verb::Enter);
         }
         Verb::listed(word)

@@ -1,13 +1,12 @@
 //! Splits a line into its words. See docs/RULES.md, "Reading a mailing".
 
 ghost use Rattle.std.specs.Prelude.{◌≡◌, ◌≤◌, ◌<◌, ◌∷◌, [], MatchOption, IfSome, length, slice_index, false};
-ghost use Rattle.std.specs.List.{position, position_or_len};
-ghost use Rattle.std.specs.Str.{str_eq_ignore_ascii_case};
+ghost use Rattle.std.specs.List.{position};
 ghost use Rattle.atl_world.specs.Letters.{quote};
 ghost use Rattle.atl_orders.specs.Limits.{most_number};
 ghost use Rattle.atl_orders.specs.Words.{is_quote, is_blank, ends_word, words, begins, number_of};
 ghost use Rattle.atl_orders.specs.Views.{word_text};
-ghost use Rattle.atl_orders.specs.Standing.{IsPartOf, EndsWith};
+ghost use Rattle.atl_orders.specs.Positions.{IsPartOf, EndsWith};
 
 use crate::letters::{SEMICOLON, TAB};
 use atl_world::letters::{QUOTE, SPACE};
@@ -34,34 +33,11 @@ pub struct Cursor<'a> {
     pub end: usize,
 }
 
-/// Whether a word is the keyword `name`, ignoring ASCII case.
-pub fn is_same(word: &[u8], name: &[u8]) -> bool
-    ensures { result ≡ str_eq_ignore_ascii_case word.now name.now }
-{
-    word.eq_ignore_ascii_case(name)
-}
-
-/// Whether a byte is a quotation mark.
-fn is_quote(byte: u8) -> bool
-    ensures { result ≡ is_quote byte }
-{
-    byte == QUOTE
-}
-
 /// The index of the first quotation mark in a line, `None` if it has none.
 fn first_quote(bytes: &[u8]) -> Option<usize>
     ensures { result ≡ position is_quote bytes.now }
 {
-    bytes.iter().position(|byte| is_quote(*byte))
-}
-
-/// The index of the first quotation mark in a line, or the line's length if it has none.
-#[tactic(auto, using(crate::proofs::WordLaws::found_or_len, crate::proofs::WordLaws::found_within))]
-fn quote_at(bytes: &[u8]) -> usize
-    ensures value { result ≡ position_or_len is_quote bytes.now }
-    ensures within { result ≤ length bytes.now }
-{
-    first_quote(bytes).unwrap_or(bytes.len())
+    bytes.iter().position(|byte| *byte == QUOTE)
 }
 
 /// Whether a byte separates words: space or tab.
@@ -75,7 +51,7 @@ pub fn is_blank(byte: u8) -> bool
 fn ends_word(byte: u8) -> bool
     ensures { result ≡ ends_word byte }
 {
-    is_blank(byte) || is_quote(byte) || byte == SEMICOLON
+    is_blank(byte) || byte == QUOTE || byte == SEMICOLON
 }
 
 /// The index of the first byte that ends a word without quotes, `None` if there is none.
@@ -85,22 +61,15 @@ fn first_end(bytes: &[u8]) -> Option<usize>
     bytes.iter().position(|byte| ends_word(*byte))
 }
 
-/// The index of the first byte that ends a word without quotes, or the length if there is none.
-#[tactic(auto, using(crate::proofs::WordLaws::found_or_len, crate::proofs::WordLaws::found_within))]
-fn end_at(bytes: &[u8]) -> usize
-    ensures value { result ≡ position_or_len ends_word bytes.now }
-    ensures within { result ≤ length bytes.now }
-{
-    first_end(bytes).unwrap_or(bytes.len())
-}
-
 /// The word after an opening quotation mark, and what follows the closing one, if there is one.
+#[tactic(auto, using(crate::proofs::WordLaws::found_or_len, crate::proofs::WordLaws::found_within))]
 fn quoted_word(after: &[u8]) -> (Word<'_>, &[u8])
     ensures words { words (quote ∷ after.now) ≡ word_text result.0 ∷ words result.1.now }
     ensures stands { IsPartOf after.now result.0.bytes.now result.0.behind }
     ensures rest { EndsWith after.now result.1.now }
 {
-    let (bytes, behind) = after.split_at(quote_at(after));
+    let end = first_quote(after).unwrap_or(after.len());
+    let (bytes, behind) = after.split_at(end);
     let closing = behind.len().min(1);
     let word = Word {
         bytes,
@@ -111,6 +80,7 @@ fn quoted_word(after: &[u8]) -> (Word<'_>, &[u8])
 }
 
 /// The word without quotes that a line begins with, and what follows it.
+#[tactic(auto, using(crate::proofs::WordLaws::found_or_len, crate::proofs::WordLaws::found_within))]
 fn bare_word(line: &[u8]) -> (Word<'_>, &[u8])
     requires some { 0 < length line.now }
     requires bare { ends_word (slice_index line.now 0) ≡ false }
@@ -118,7 +88,8 @@ fn bare_word(line: &[u8]) -> (Word<'_>, &[u8])
     ensures stands { IsPartOf line.now result.0.bytes.now result.0.behind }
     ensures rest { EndsWith line.now result.1.now }
 {
-    let (bytes, behind) = line.split_at(end_at(line));
+    let end = first_end(line).unwrap_or(line.len());
+    let (bytes, behind) = line.split_at(end);
     let word = Word {
         bytes,
         quoted: false,
@@ -153,10 +124,7 @@ pub fn next_word(line: &[u8]) -> Option<(Word<'_>, &[u8])>
 pub fn begins(line: &[u8], name: &[u8]) -> bool
     ensures { result ≡ begins name.now (words line.now) }
 {
-    match next_word(line) {
-        None => false,
-        Some((word, _)) => is_same(word.bytes, name),
-    }
+    next_word(line).is_some_and(|(word, _)| word.bytes.eq_ignore_ascii_case(name))
 }
 
 /// The number that a word writes in digits, if it is at most `most`; `None` for any other word.
@@ -172,8 +140,5 @@ pub fn number(bytes: &[u8], most: u32) -> Option<u32>
         }
         value = (10 * value + u64::from(*byte - b'0')).min(most + 1);
     }
-    if bytes.is_empty() || most < value {
-        return None;
-    }
-    Some(value as u32)
+    (!bytes.is_empty() && value <= most).then_some(value as u32)
 }

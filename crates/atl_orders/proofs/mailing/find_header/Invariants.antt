@@ -1,6 +1,6 @@
 use Rattle.std.proofs.Common.{IfSome, ◌≡◌, ◌+◌, ◌≤◌, length}
 use Rattle.std.specs.Option.{option_copied}
-use Rattle.atl_orders.specs.Standing.{EndsWith}
+use Rattle.atl_orders.specs.Positions.{EndsWith}
 use Rattle.atl_orders.specs.Lines.{lines}
 use Rattle.atl_orders.specs.Views.{lines_of_rest, rest_size}
 use Rattle.atl_orders.specs.Mailing.{header_from}
@@ -11,8 +11,8 @@ use Rattle.atl_orders.proofs.mailing.find_header.Given as goal
 abbrev pub invariant-loop-rest : goal.invariant-loop-rest
 invariant-loop-rest l = record {
   ends : IfSome (option_copied l.rest) (EndsWith l.text);
-  same : header_from l.number (lines_of_rest (option_copied l.rest)) ≡ header_from 1 (lines l.text);
-  small : l.number + rest_size (option_copied l.rest) ≤ length l.text + 2;
+  same : header_from l.next (lines_of_rest (option_copied l.rest)) ≡ header_from 1 (lines l.text);
+  small : l.next + rest_size (option_copied l.rest) ≤ length l.text + 2;
 }
 
 -- how much of the text is left to read, less after each turn, so the loop ends

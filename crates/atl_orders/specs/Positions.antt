@@ -27,16 +27,16 @@ pub record EndsWith (line rest : List ℕ) : Type 0 where
   -- the line is `front` and then `rest`
   pub whole : line ≡ front ++ rest
 
--- `rest` is a part of a text, and ends at the index `place` of the text
-pub record EndsAt (text : List ℕ) (place : ℕ) (rest : List ℕ) : Type 0 where
+-- `rest` is a part of a text, and ends at the index `end` of the text
+pub record EndsAt (text : List ℕ) (end : ℕ) (rest : List ℕ) : Type 0 where
   -- the bytes of the text before `rest`
   pub front : List ℕ
   -- the bytes of the text after `rest`
   pub back : List ℕ
   -- the text is `front`, then `rest`, then `back`
   pub whole : text ≡ front ++ (rest ++ back)
-  -- `place` is the number of bytes up to the end of `rest`
-  pub place_is : length (front ++ rest) ≡ place
+  -- `end` is the number of bytes up to the end of `rest`
+  pub end_is : length (front ++ rest) ≡ end
 
 -- the rest of a cursor's line is a part of its text, and ends at the index `end`
 abbrev pub IsCursor : Cursor → Type 0
