@@ -1,5 +1,6 @@
 -- The function `reading` gives for a whole text what the rules allow, and the rules allow nothing else.
 use Rattle.std.proofs.Common.{◌≡◌, ℕ, suc, ◌+◌, ◌<◌, ◌≤◌, ◌++◌, Bool, true, false, cond, List, [], ◌∷◌, length, Option, Some, None, Result, Err, nat_lt, refl, sym, ap, ◌∙◌, arith}
+use Rattle.std.proofs.lemmas.Bool.{cond_both}
 use Rattle.std.proofs.lemmas.Bool.Decides.{nat_tests}
 use Rattle.std.proofs.lemmas.List.Elements.{All-nil, All-cons, All-head, All-tail}
 use Rattle.atl_world.specs.Worlds.{WorldValue}
@@ -85,15 +86,10 @@ module _ (world : WorldValue) (text : List ℕ) where
   found_fits s (none a e) = rw e (no_header s a refl)
   found_fits s (one before header behind is e) = rw e (headed_fits (faction_of (words header)) s before header behind is refl)
 
-  -- the rules (`TextSays`) allow the result for a text, whether it has more than most_bytes bytes or not
-  sized_fits : (t : Bool) → nat_lt most_bytes (length text) ≡ t → TextSays world text (cond t (Err TooLong) (after_header world (header_from 1 (lines text))))
-  sized_fits true h = too_long (grind (arith, nat_tests)) refl
-  sized_fits false h = found_fits (grind (arith, nat_tests)) (found 1 (lines text))
-
   -- the rules (`TextSays`) allow the result that the function `reading` gives for a text
   pub text_fits : TextSays world text (reading world text)
   unfolding reading
-  text_fits = sized_fits (nat_lt most_bytes (length text)) refl
+  text_fits = cond_both (nat_lt most_bytes (length text)) _ _ (TextSays world text) (λ h. too_long (grind (arith, nat_tests)) refl) (λ h. found_fits (grind (arith, nat_tests)) (found 1 (lines text)))
 
   -- the test for more than most_bytes bytes is true of a text that has more
   long_is : most_bytes < length text → nat_lt most_bytes (length text) ≡ true
@@ -114,5 +110,5 @@ module _ (world : WorldValue) (text : List ℕ) where
   text_only read (no_header s a e) = rw (short_is s, no_one 1 (lines text) a) e
   text_only read (bad_header s before header behind is f e) = rw (short_is s, first_is before header behind is, f) e
   text_only read (mailing s before header behind is faction f entries faults b e) =
-      let only = body_only world (length before + 2) Nowhere no_alias behind entries faults b in
+      let only = body_only world b in
       rw (short_is s, first_is before header behind is, f, numbered (length before)) (e ∙ rw (only.0, only.1) refl)

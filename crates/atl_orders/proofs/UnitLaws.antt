@@ -9,6 +9,7 @@ use Rattle.atl_orders.specs.Words.{WordText, is_word, number_of}
 use Rattle.atl_world.specs.Steps.{◌>>=◌}
 use Rattle.atl_orders.specs.Operands.{or_fault, not_zero, count_at, unit_at, units_of, and_then_units}
 use Rattle.atl_orders.specs.Views.{with_units}
+use Rattle.std.proofs.lemmas.Bool.{cond_both}
 use Rattle.std.proofs.lemmas.List.{append_assoc, append-nil}
 
 -- the result of reading a number, with the words after it
@@ -79,26 +80,16 @@ read_rest : (o : Option ℕ) (f : LineFault) (c : ℕ → UnitRef) (left : List 
 read_rest None f c left u rest h = cc
 read_rest (Some k) f c left u rest h = let here : UnitRef × List WordText = (c k, left) in let there : UnitRef × List WordText = (u, rest) in let e : here ≡ there = cc in omega (arith, ap (λ (p : UnitRef × List WordText). length p.1) e)
 
--- a bound on how many words are left holds of a choice of two results, if it holds of both
-chosen : (t : Bool) (a b : Result (UnitRef × List WordText) LineFault) (u : UnitRef) (rest : List WordText) (n : ℕ) → (a ≡ found u rest → length rest ≤ n) → (b ≡ found u rest → length rest ≤ n) → cond t a b ≡ found u rest → length rest ≤ n
-chosen true a b u rest n p q h = p h
-chosen false a b u rest n p q h = q h
-
--- the result of reading a unit where its word is missing
-abbrev missing : Result (UnitRef × List WordText) LineFault
-missing = Err MissingWord
-
--- no unit is read if the word is missing, so any bound on the words left holds
-no_unit : (rest : List WordText) (u : UnitRef) (n : ℕ) → missing ≡ found u rest → length rest ≤ n
-no_unit rest u n h = cc
-
 -- the words after a unit that was read are fewer than the words before it was read
 pub rest_shorter : (ws : List WordText) (u : UnitRef) (rest : List WordText) → unit_at ws ≡ found u rest → length rest < length ws
 unfolding unit_at count_at
 rest_shorter [] u rest h = cc
-rest_shorter (w ∷ []) u rest h = let few : length rest ≤ 0 = chosen (is_word (codes "NEW") w) _ _ u rest 0 (no_unit rest u 0) (read_rest (not_zero (number_of most_number w.bytes)) BadNumber Number [] u rest) h in omega arith
+rest_shorter (w ∷ []) u rest h =
+    let few : length rest ≤ 0 = cond_both (is_word (codes "NEW") w) _ _ (λ (r : Result (UnitRef × List WordText) LineFault). r ≡ found u rest → length rest ≤ 0)
+    (λ _ e. cc) (λ _ e. read_rest (not_zero (number_of most_number w.bytes)) BadNumber Number [] u rest e) h in
+    omega arith
 rest_shorter (w ∷ v ∷ ws) u rest h =
-    let few : length rest ≤ length ws + 1 = chosen (is_word (codes "NEW") w) _ _ u rest (length ws + 1)
-    (λ e. omega (arith, read_rest (not_zero (number_of last_alias v.bytes)) BadAlias Alias ws u rest e))
-    (λ e. omega (arith, read_rest (not_zero (number_of most_number w.bytes)) BadNumber Number (v ∷ ws) u rest e)) h in
+    let few : length rest ≤ length ws + 1 = cond_both (is_word (codes "NEW") w) _ _ (λ (r : Result (UnitRef × List WordText) LineFault). r ≡ found u rest → length rest ≤ length ws + 1)
+    (λ _ e. omega (arith, read_rest (not_zero (number_of last_alias v.bytes)) BadAlias Alias ws u rest e))
+    (λ _ e. omega (arith, read_rest (not_zero (number_of most_number w.bytes)) BadNumber Number (v ∷ ws) u rest e)) h in
     omega arith
