@@ -1,5 +1,5 @@
 -- Every mailing that is read has its faction, its orders and its line numbers in bounds.
-use Rattle.std.proofs.Common.{◌≡◌, ℕ, ◌+◌, ◌<◌, Bool, true, false, cond, List, [], ◌∷◌, ◌++◌, length, codes, Option, Some, None, Result, Ok, Err, nat_lt, refl, subst, arith}
+use Rattle.std.proofs.Common.{◌≡◌, ℕ, ◌+◌, ◌<◌, Bool, List, [], ◌∷◌, ◌++◌, length, codes, Option, Some, None, Result, Ok, Err, nat_lt, refl, subst, arith}
 use Rattle.std.specs.List.{All, list_all, flat_map}
 use Rattle.std.proofs.lemmas.Bool.{cond_both}
 use Rattle.std.proofs.lemmas.List.Elements.{All-nil, All-cons, All-append}
@@ -8,9 +8,8 @@ use Rattle.atl_world.specs.Worlds.{WorldValue}
 use Rattle.atl_orders.specs.declared.order.UnitRef.{UnitRef}
 use Rattle.atl_orders.specs.declared.order.UnitRef.TheVariants.{Number, Alias}
 use Rattle.atl_orders.specs.declared.fault.LineFault.{LineFault}
-use Rattle.atl_orders.specs.declared.fault.LineFault.TheVariants.{BadNumber, BadByte, BadAlias}
+use Rattle.atl_orders.specs.declared.fault.LineFault.TheVariants.{BadNumber, BadAlias}
 use Rattle.atl_orders.specs.declared.fault.MailFault.{MailFault}
-use Rattle.atl_orders.specs.declared.fault.MailFault.TheVariants.{TooLong}
 use Rattle.atl_orders.specs.declared.reading.Keyword.{Keyword}
 use Rattle.atl_orders.specs.declared.reading.Keyword.TheVariants as keywords
 use Rattle.atl_orders.specs.declared.reading.ReaderState.{ReaderState}
@@ -18,10 +17,10 @@ use Rattle.atl_orders.specs.declared.reading.ReaderState.TheVariants.{Nowhere, A
 use Rattle.atl_orders.specs.Words.{WordText, words, begins, number_of}
 use Rattle.atl_orders.specs.Operands.{number_at, alias_at}
 use Rattle.atl_orders.specs.Orders.{OrderValue, said_by}
-use Rattle.atl_orders.specs.Aliasing.{no_alias, with_alias}
+use Rattle.atl_orders.specs.Aliasing.{no_alias}
 use Rattle.atl_orders.specs.Lines.{lines}
-use Rattle.atl_orders.specs.Reading.{is_plain, keyword_of, Effect, nothing, faulty, says, form_value, LineStep, step, target, effect_for, order_effect, unit_step, end_step, block_step, form_step, keyword_step, words_step, line_step}
-use Rattle.atl_orders.specs.Mailing.{EntryValue, entry_of, effects, faction_of, HeaderValue, header_line, header_from, Reading, after_header, reading}
+use Rattle.atl_orders.specs.Reading.{is_plain, keyword_of, Effect, nothing, faulty, says, LineStep, target, effect_for, order_effect, unit_step, end_step, block_step, form_step, keyword_step, words_step, line_step}
+use Rattle.atl_orders.specs.Mailing.{EntryValue, entry_of, effects, faction_of, HeaderValue, header_line, header_from, after_header, reading}
 use Rattle.atl_orders.proofs.OrderLaws.{Holds, Counted, Sound, count_holds, from_one, number_within, said_sound}
 use Rattle.atl_orders.specs.Bounds.{IsWithin, IsNumber, IsAlias, IsUnitRef, IsOrderOf, IsEntry, LinesRise, IsReading, ReadingsKeepBounds}
 
@@ -159,14 +158,14 @@ header_sound (line ∷ rest) n =
     (λ _. line_headed n rest (faction_of (words line)) (faction_within (words line))) (λ _. header_sound rest (n + 1))
 
 -- what the lines after a header give is in bounds (`IsReading`), if the header's faction is from 1 to 9,999
-behind_sound : (world : WorldValue) (r : Result HeaderValue MailFault) → Holds IsHeaded r → Holds (IsReading world) (after_header world r)
-behind_sound world (Err fault) h = tt
-behind_sound world (Ok head) h = record { faction = h.0; entries = body_sound world head.rest head.next Nowhere no_alias tt; lines = body_rises world head.rest head.next 0 Nowhere no_alias h.1 }
+after_header_sound : (world : WorldValue) (r : Result HeaderValue MailFault) → Holds IsHeaded r → Holds (IsReading world) (after_header world r)
+after_header_sound world (Err fault) h = tt
+after_header_sound world (Ok head) h = record { faction = h.0; entries = body_sound world head.rest head.next Nowhere no_alias tt; lines = body_rises world head.rest head.next 0 Nowhere no_alias h.1 }
 
 -- what a text is read as, if no fault, has its faction, its orders and its line numbers in bounds (`IsReading`)
 reading_sound : (world : WorldValue) (text : List ℕ) → Holds (IsReading world) (reading world text)
 unfolding reading
-reading_sound world text = cond_both (nat_lt most_bytes (length text)) _ _ (Holds (IsReading world)) (λ _. tt) (λ _. behind_sound world (header_from 1 (lines text)) (header_sound (lines text) 1))
+reading_sound world text = cond_both (nat_lt most_bytes (length text)) _ _ (Holds (IsReading world)) (λ _. tt) (λ _. after_header_sound world (header_from 1 (lines text)) (header_sound (lines text) 1))
 
 -- whatever mailing a text gives is in bounds: its faction, its orders and its line numbers
 pub readings_keep_bounds : ReadingsKeepBounds

@@ -1,13 +1,13 @@
 -- The functions for one line (`line_step`) and for all lines after a header (`effects`) give what the rules allow, and
 -- the rules allow nothing else.
-use Rattle.std.proofs.Common.{◌≡◌, ℕ, ◌+◌, ◌++◌, Bool, true, false, cond, List, [], ◌∷◌, codes, Option, Some, None, Result, Ok, Err, refl, ap, ◌∙◌}
+use Rattle.std.proofs.Common.{◌≡◌, ℕ, ◌+◌, ◌++◌, Bool, true, List, [], ◌∷◌, codes, Option, Some, None, Result, Ok, Err, refl, ap, ◌∙◌}
 use Rattle.std.specs.List.{list_all, flat_map}
 use Rattle.std.proofs.lemmas.Bool.{cond_both}
 use Rattle.atl_world.specs.Worlds.{WorldValue}
 use Rattle.atl_orders.specs.declared.order.UnitRef.{UnitRef}
 use Rattle.atl_orders.specs.declared.fault.FaultyLine.{FaultyLine}
 use Rattle.atl_orders.specs.declared.fault.LineFault.{LineFault}
-use Rattle.atl_orders.specs.declared.fault.LineFault.TheVariants.{BadByte, EndAlone, NestedForm}
+use Rattle.atl_orders.specs.declared.fault.LineFault.TheVariants.{EndAlone, NestedForm}
 use Rattle.atl_orders.specs.declared.verb.Verb.{Verb}
 use Rattle.atl_orders.specs.declared.reading.Keyword.{Keyword}
 use Rattle.atl_orders.specs.declared.reading.Keyword.TheVariants as keywords
