@@ -1,15 +1,15 @@
 -- Every mailing that is read has its faction, its orders and its line numbers in bounds.
-use Rattle.std.proofs.Common.{◌≡◌, ℕ, ◌+◌, ◌<◌, Bool, true, false, cond, List, [], ◌∷◌, ◌++◌, length, codes, Option, Some, None, Result, Ok, Err, nat_lt, refl, subst, arith}
+use Rattle.std.proofs.Common.{◌≡◌, ℕ, ◌+◌, ◌<◌, Bool, List, [], ◌∷◌, ◌++◌, length, codes, Option, Some, None, Result, Ok, Err, nat_lt, refl, subst, arith}
 use Rattle.std.specs.List.{All, list_all, flat_map}
+use Rattle.std.proofs.lemmas.Bool.{cond_both}
 use Rattle.std.proofs.lemmas.List.Elements.{All-nil, All-cons, All-append}
 use Rattle.atl_orders.specs.Limits.{most_bytes, most_number, last_alias, last_faction}
 use Rattle.atl_world.specs.Worlds.{WorldValue}
 use Rattle.atl_orders.specs.declared.order.UnitRef.{UnitRef}
 use Rattle.atl_orders.specs.declared.order.UnitRef.TheVariants.{Number, Alias}
 use Rattle.atl_orders.specs.declared.fault.LineFault.{LineFault}
-use Rattle.atl_orders.specs.declared.fault.LineFault.TheVariants.{BadNumber, BadByte, BadAlias}
+use Rattle.atl_orders.specs.declared.fault.LineFault.TheVariants.{BadNumber, BadAlias}
 use Rattle.atl_orders.specs.declared.fault.MailFault.{MailFault}
-use Rattle.atl_orders.specs.declared.fault.MailFault.TheVariants.{TooLong}
 use Rattle.atl_orders.specs.declared.reading.Keyword.{Keyword}
 use Rattle.atl_orders.specs.declared.reading.Keyword.TheVariants as keywords
 use Rattle.atl_orders.specs.declared.reading.ReaderState.{ReaderState}
@@ -17,10 +17,10 @@ use Rattle.atl_orders.specs.declared.reading.ReaderState.TheVariants.{Nowhere, A
 use Rattle.atl_orders.specs.Words.{WordText, words, begins, number_of}
 use Rattle.atl_orders.specs.Operands.{number_at, alias_at}
 use Rattle.atl_orders.specs.Orders.{OrderValue, said_by}
-use Rattle.atl_orders.specs.Aliasing.{no_alias, with_alias}
+use Rattle.atl_orders.specs.Aliasing.{no_alias}
 use Rattle.atl_orders.specs.Lines.{lines}
-use Rattle.atl_orders.specs.Reading.{is_plain, keyword_of, Effect, nothing, faulty, says, form_value, LineStep, step, target, effect_for, order_effect, unit_step, end_step, block_step, form_step, keyword_step, words_step, line_step}
-use Rattle.atl_orders.specs.Mailing.{EntryValue, entry_of, effects, faction_of, HeaderValue, header_line, header_from, Reading, after_header, reading}
+use Rattle.atl_orders.specs.Reading.{is_plain, keyword_of, Effect, nothing, faulty, says, LineStep, target, effect_for, order_effect, unit_step, end_step, block_step, form_step, keyword_step, words_step, line_step}
+use Rattle.atl_orders.specs.Mailing.{EntryValue, entry_of, effects, faction_of, HeaderValue, header_line, header_from, after_header, reading}
 use Rattle.atl_orders.proofs.OrderLaws.{Holds, Counted, Sound, count_holds, from_one, number_within, said_sound}
 use Rattle.atl_orders.specs.Bounds.{IsWithin, IsNumber, IsAlias, IsUnitRef, IsOrderOf, IsEntry, LinesRise, IsReading, ReadingsKeepBounds}
 
@@ -58,15 +58,9 @@ module _ (world : WorldValue) (given : ℕ → Bool) where
   end_sound (Skipping None) h = (tt, tt)
   end_sound (Skipping (Some n)) h = (tt, h)
 
-  -- what a FORM line with an alias gives and the state after it are in bounds (`IsStep`), if unit and alias are, be the
-  -- alias new or given before
-  given_sound : (t : Bool) (n alias : ℕ) → IsNumber n → IsAlias alias → IsStep world (cond t (step (faulty BadAlias) (Skipping (Some n)) given) (step (says (Number n) (form_value alias)) (Forming n alias) (with_alias given alias)))
-  given_sound true n alias h k = (tt, h)
-  given_sound false n alias h k = ((h, k), (h, k))
-
   -- what a FORM line outside of blocks gives and the state after it are in bounds (`IsStep`), if its unit and alias are
   block_sound : (n : ℕ) (r : Result Counted LineFault) → IsNumber n → Holds (λ (x : Counted). IsAlias x.0) r → IsStep world (block_step n given r)
-  block_sound n (Ok a) h k = given_sound (given a.0) n a.0 h k
+  block_sound n (Ok a) h k = cond_both (given a.0) _ _ (IsStep world) (λ _. (tt, h)) (λ _. ((h, k), (h, k)))
   block_sound n (Err fault) h k = (tt, h)
 
   -- what a FORM line gives and the state after it are in bounds (`IsStep`), if the state before it is
@@ -101,16 +95,10 @@ module _ (world : WorldValue) (given : ℕ → Bool) where
   words_sound state [] h = (tt, h)
   words_sound state (w ∷ ws) h = keyword_sound state (keyword_of w) ws h
 
-  -- what a line gives and the state after it are in bounds (`IsStep`), if the state before it is, whether the bytes of
-  -- the line are allowed or not
-  tested_sound : (t : Bool) (state : ReaderState) (ws : List WordText) → IsStateInBounds state → IsStep world (cond t (words_step world state given ws) (step (faulty BadByte) state given))
-  tested_sound true state ws h = words_sound state ws h
-  tested_sound false state ws h = (tt, h)
-
   -- what a line gives and the state after it are in bounds (`IsStep`), if the state before it is
   line_sound : (state : ReaderState) (line : List ℕ) → IsStateInBounds state → IsStep world (line_step world state given line)
   unfolding line_step
-  line_sound state line h = tested_sound (list_all is_plain line) state (words line) h
+  line_sound state line h = cond_both (list_all is_plain line) _ _ (IsStep world) (λ _. words_sound state (words line) h) (λ _. (tt, h))
 
 -- ---- all lines, the header, and the whole text
 
@@ -121,12 +109,6 @@ module _ (world : WorldValue) where
   entry_sound n (faulty fault) h = All-nil (IsEntry world)
   entry_sound n (says unit order_value) h = All-cons (IsEntry world) _ [] (record { target = h.0; order = h.1 }) (All-nil (IsEntry world))
 
-  -- the orders of a line and of the lines after it are in bounds (`IsEntry`), if what these lines give is; there are no
-  -- orders from `#END` on
-  one_more : (t : Bool) (n : ℕ) (effect : Effect) (more : List (ℕ × Effect)) → IsEffect world effect → All (IsEntry world) (flat_map entry_of more) → All (IsEntry world) (flat_map entry_of (cond t [] ((n, effect) ∷ more)))
-  one_more true n effect more h k = All-nil (IsEntry world)
-  one_more false n effect more h k = All-append (IsEntry world) (entry_of (n, effect)) (flat_map entry_of more) (entry_sound n effect h) k
-
   -- the orders of all lines up to `#END` are in bounds, if the reader's state before the first line is
   body_sound : (lines : List (List ℕ)) (n : ℕ) (state : ReaderState) (given : ℕ → Bool) → IsStateInBounds state → All (IsEntry world) (flat_map entry_of (effects world n state given lines))
   unfolding effects
@@ -134,7 +116,8 @@ module _ (world : WorldValue) where
   body_sound (line ∷ rest) n state given h =
       let s = line_step world state given line in
       let sound = line_sound world given state line h in
-      one_more (begins (codes "#END") (words line)) n s.effect (effects world (n + 1) s.state s.given rest) sound.0 (body_sound rest (n + 1) s.state s.given sound.1)
+      cond_both (begins (codes "#END") (words line)) _ _ (λ (es : List (ℕ × Effect)). All (IsEntry world) (flat_map entry_of es)) (λ _. All-nil (IsEntry world))
+      (λ _. All-append (IsEntry world) (entry_of (n, s.effect)) _ (entry_sound n s.effect sound.0) (body_sound rest (n + 1) s.state s.given sound.1))
 
 -- the line numbers of orders stay strictly ascending with the order of line n in front of those of later lines
 rise_step : (world : WorldValue) (n m : ℕ) (effect : Effect) (rest : List EntryValue) → m < n → ((k : ℕ) → k < n + 1 → LinesRise k rest) → LinesRise m (entry_of (n, effect) ++ rest)
@@ -142,23 +125,14 @@ rise_step world n m nothing rest h k = k m (omega arith)
 rise_step world n m (faulty fault) rest h k = k m (omega arith)
 rise_step world n m (says unit order_value) rest h k = (h, k n (omega arith))
 
--- the line numbers of the orders of line n and the later ones are strictly ascending, whether line n is `#END` or not
-rise_test : (world : WorldValue) (t : Bool) (n m : ℕ) (effect : Effect) (more : List (ℕ × Effect)) → m < n → ((k : ℕ) → k < n + 1 → LinesRise k (flat_map entry_of more)) → LinesRise m (flat_map entry_of (cond t [] ((n, effect) ∷ more)))
-rise_test world true n m effect more h k = tt
-rise_test world false n m effect more h k = rise_step world n m effect (flat_map entry_of more) h k
-
 -- the line numbers of the orders of lines from n on are strictly ascending, and above each m below n
 body_rises : (world : WorldValue) (lines : List (List ℕ)) (n m : ℕ) (state : ReaderState) (given : ℕ → Bool) → m < n → LinesRise m (flat_map entry_of (effects world n state given lines))
 unfolding effects
 body_rises world [] n m state given h = tt
 body_rises world (line ∷ rest) n m state given h =
     let s = line_step world state given line in
-    rise_test world (begins (codes "#END") (words line)) n m s.effect (effects world (n + 1) s.state s.given rest) h (λ k l. body_rises world rest (n + 1) k s.state s.given l)
-
--- P holds of the value of a result, if the result is no fault
-abbrev HoldsOf : {X : Type 0} → (X → Type 0) → Result X MailFault → Type 0
-HoldsOf P (Ok x) = P x
-HoldsOf P (Err e) = Unit {0}
+    cond_both (begins (codes "#END") (words line)) _ _ (λ (es : List (ℕ × Effect)). LinesRise m (flat_map entry_of es)) (λ _. tt)
+    (λ _. rise_step world n m s.effect _ h (λ k l. body_rises world rest (n + 1) k s.state s.given l))
 
 -- the faction of a header is from 1 to 9,999, and the next line has a number above 0
 abbrev IsHeaded : HeaderValue → Type 0
@@ -171,36 +145,28 @@ faction_within (w ∷ []) n h = cc
 faction_within (w ∷ v ∷ ws) n h = from_one last_faction (number_of last_faction v.bytes) n (number_within last_faction v.bytes) h
 
 -- what a header line gives, if no fault, has a faction from 1 to 9,999 (`IsHeaded`), if the faction that it names is so
-line_headed : (n : ℕ) (rest : List (List ℕ)) (f : Option ℕ) → ((k : ℕ) → f ≡ Some k → IsWithin last_faction k) → HoldsOf IsHeaded (header_line n rest f)
+line_headed : (n : ℕ) (rest : List (List ℕ)) (f : Option ℕ) → ((k : ℕ) → f ≡ Some k → IsWithin last_faction k) → Holds IsHeaded (header_line n rest f)
 line_headed n rest None h = tt
 line_headed n rest (Some k) h = (h k refl, omega arith)
 
--- a choice of two results for a header has a faction from 1 to 9,999 (`IsHeaded`) or a fault, if both results have
-test_headed : (t : Bool) (a b : Result HeaderValue MailFault) → HoldsOf IsHeaded a → HoldsOf IsHeaded b → HoldsOf IsHeaded (cond t a b)
-test_headed true a b h k = h
-test_headed false a b h k = k
-
 -- what the first header of lines gives, if no fault, has a faction from 1 to 9,999 (`IsHeaded`)
-header_sound : (lines : List (List ℕ)) (n : ℕ) → HoldsOf IsHeaded (header_from n lines)
+header_sound : (lines : List (List ℕ)) (n : ℕ) → Holds IsHeaded (header_from n lines)
 unfolding header_from
 header_sound [] n = tt
-header_sound (line ∷ rest) n = test_headed (begins (codes "#ATLANTIS") (words line)) _ _ (line_headed n rest (faction_of (words line)) (faction_within (words line))) (header_sound rest (n + 1))
+header_sound (line ∷ rest) n =
+    cond_both (begins (codes "#ATLANTIS") (words line)) _ _ (Holds IsHeaded)
+    (λ _. line_headed n rest (faction_of (words line)) (faction_within (words line))) (λ _. header_sound rest (n + 1))
 
 -- what the lines after a header give is in bounds (`IsReading`), if the header's faction is from 1 to 9,999
-behind_sound : (world : WorldValue) (r : Result HeaderValue MailFault) → HoldsOf IsHeaded r → HoldsOf (IsReading world) (after_header world r)
-behind_sound world (Err fault) h = tt
-behind_sound world (Ok head) h = record { faction = h.0; entries = body_sound world head.rest head.next Nowhere no_alias tt; lines = body_rises world head.rest head.next 0 Nowhere no_alias h.1 }
-
--- the reading of a text is in bounds (`IsReading`), if what its lines give is, whether the text is too long or not
-test_sound : (world : WorldValue) (t : Bool) (r : Result Reading MailFault) → HoldsOf (IsReading world) r → HoldsOf (IsReading world) (cond t (Err TooLong) r)
-test_sound world true r h = tt
-test_sound world false r h = h
+after_header_sound : (world : WorldValue) (r : Result HeaderValue MailFault) → Holds IsHeaded r → Holds (IsReading world) (after_header world r)
+after_header_sound world (Err fault) h = tt
+after_header_sound world (Ok head) h = record { faction = h.0; entries = body_sound world head.rest head.next Nowhere no_alias tt; lines = body_rises world head.rest head.next 0 Nowhere no_alias h.1 }
 
 -- what a text is read as, if no fault, has its faction, its orders and its line numbers in bounds (`IsReading`)
-reading_sound : (world : WorldValue) (text : List ℕ) → HoldsOf (IsReading world) (reading world text)
+reading_sound : (world : WorldValue) (text : List ℕ) → Holds (IsReading world) (reading world text)
 unfolding reading
-reading_sound world text = test_sound world (nat_lt most_bytes (length text)) _ (behind_sound world (header_from 1 (lines text)) (header_sound (lines text) 1))
+reading_sound world text = cond_both (nat_lt most_bytes (length text)) _ _ (Holds (IsReading world)) (λ _. tt) (λ _. after_header_sound world (header_from 1 (lines text)) (header_sound (lines text) 1))
 
 -- whatever mailing a text gives is in bounds: its faction, its orders and its line numbers
 pub readings_keep_bounds : ReadingsKeepBounds
-readings_keep_bounds world text r e = subst (HoldsOf (IsReading world)) e (reading_sound world text)
+readings_keep_bounds world text r e = subst (Holds (IsReading world)) e (reading_sound world text)

@@ -1,9 +1,8 @@
 -- Every order that is read is in bounds: numbers in range, names by the rule, and things of the world.
-use Rattle.std.proofs.Common.{◌≡◌, ℕ, ◌<◌, ◌≤◌, ◌&&◌, Bool, true, false, cond, eqb, List, [], ◌∷◌, length, codes, Option, Some, None, Result, Ok, Err, nat_le, nat_lt, refl, arith}
-use Rattle.std.specs.List.{All, list_all}
-use Rattle.std.specs.Char.{is_ascii_digit}
+use Rattle.std.proofs.Common.{◌≡◌, ℕ, ◌<◌, ◌≤◌, Bool, List, [], ◌∷◌, length, codes, Option, Some, None, Result, Ok, Err, refl, arith}
+use Rattle.std.specs.List.{All}
 use Rattle.std.specs.Str.{str_eq_ignore_ascii_case}
-use Rattle.std.specs.Str.Parse.{digits_value}
+use Rattle.std.proofs.lemmas.Bool.{cond_both}
 use Rattle.std.proofs.lemmas.Bool.Decides.{nat_tests}
 use Rattle.std.proofs.lemmas.List.Elements.{All-nil, All-cons}
 use Rattle.std.proofs.lemmas.List.Quantifiers.{position-Some}
@@ -12,14 +11,12 @@ use Rattle.atl_world.specs.Names.{name_ok}
 use Rattle.atl_world.specs.Worlds.{WorldValue}
 use Rattle.atl_world.specs.Lookup.{index_named, name_of}
 use Rattle.atl_orders.specs.declared.order.UnitRef.{UnitRef}
-use Rattle.atl_orders.specs.declared.order.NameKind.{NameKind}
 use Rattle.atl_orders.specs.declared.fault.LineFault.{LineFault}
-use Rattle.atl_orders.specs.declared.fault.LineFault.TheVariants.{BadNumber, UnknownThing, BadAlias, BadName}
+use Rattle.atl_orders.specs.declared.fault.LineFault.TheVariants.{BadNumber, UnknownThing, BadAlias}
 use Rattle.atl_orders.specs.declared.verb.Verb.{Verb}
 use Rattle.atl_orders.specs.Words.{WordText, is_word, number_of}
 use Rattle.atl_world.specs.Steps.{◌>>=◌}
 use Rattle.atl_orders.specs.Operands.{or_fault, not_zero, word_at, count_at, number_at, alias_at, unit_at, item_at, amount_of_item_at, skill_at, kind_at, direction_at, numbered, new_unit_ref, and_then_units, units_of, some_units_at}
-use Rattle.atl_orders.specs.declared.order.Operands.TheVariants as operands
 use Rattle.atl_orders.specs.declared.verb.Shape.{Shape}
 use Rattle.atl_orders.specs.declared.verb.Shape.TheVariants as shapes
 use Rattle.atl_orders.specs.Verbs.{row_of}
@@ -27,7 +24,7 @@ use Rattle.atl_orders.specs.Orders.{OperandsValue, OrderValue, kind_of_name, rea
 use Rattle.atl_orders.specs.Bounds.{IsWithin, IsNumber, IsAlias, IsUnitRef, AreOperandsOf, IsOrderOf}
 
 -- P holds of the value of a result, if the result is no fault
-abbrev pub Holds : {X : Type 0} → (X → Type 0) → Result X LineFault → Type 0
+abbrev pub Holds : {X E : Type 0} → (X → Type 0) → Result X E → Type 0
 Holds P (Ok x) = P x
 Holds P (Err e) = Unit {0}
 
@@ -41,11 +38,6 @@ found : {X : Type 0} (P : X → Type 0) (fault : LineFault) (o : Option X) → (
 found P fault None g = tt
 found P fault (Some x) g = g x refl
 
--- if P holds of two results, P holds of a choice of them
-either : {X : Type 0} (P : X → Type 0) (t : Bool) (a b : Result X LineFault) → Holds P a → Holds P b → Holds P (cond t a b)
-either P true a b h k = h
-either P false a b h k = k
-
 -- a condition that every value meets holds of every result
 anything : {X : Type 0} (r : Result X LineFault) → Holds (λ _. Unit {0}) r
 anything (Ok x) = tt
@@ -53,28 +45,14 @@ anything (Err e) = tt
 
 -- ---- numbers
 
--- if v is at most `most` where a test holds, the n that is v where the test holds, and else is None, is at most `most`
-chosen : (t : Bool) (v n most : ℕ) → (t ≡ true → v ≤ most) → cond t (Some v) None ≡ Some n → n ≤ most
-chosen true v n most f h = let e : v ≡ n = cc in omega (arith, f refl)
-chosen false v n most f h = cc
-
--- if three tests hold, and the last one is that v is at most `most`, then v is at most `most`
-last_test : (a b : Bool) (v most : ℕ) → (a && b && nat_le v most) ≡ true → v ≤ most
-last_test a b v most h = grind (arith, nat_tests)
-
 -- a number that `number_of` gives with the limit `most` is at most `most`
 pub number_within : (most : ℕ) (bytes : List ℕ) (n : ℕ) → number_of most bytes ≡ Some n → n ≤ most
-number_within most bytes n h = chosen (nat_lt 0 (length bytes) && list_all is_ascii_digit bytes && nat_le (digits_value 10 bytes) most) (digits_value 10 bytes) n most (last_test (nat_lt 0 (length bytes)) (list_all is_ascii_digit bytes) (digits_value 10 bytes) most) h
-
--- the number of an option that is None if k is 0, else Some k, is k, and at least 1
-positive : (t : Bool) (k n : ℕ) → eqb k 0 ≡ t → cond t None (Some k) ≡ Some n → (1 ≤ n) × (k ≡ n)
-positive true k n e h = cc
-positive false k n e h = let same : k ≡ n = cc in let some : 1 ≤ k = grind (arith, nat_tests) in (omega arith, same)
+number_within most bytes n h = grind (arith, nat_tests)
 
 -- a number that is at most `most` and not 0 is from 1 to `most`
 pub from_one : (most : ℕ) (o : Option ℕ) (n : ℕ) → ((k : ℕ) → o ≡ Some k → k ≤ most) → not_zero o ≡ Some n → IsWithin most n
 from_one most None n f h = cc
-from_one most (Some k) n f h = let p = positive (eqb k 0) k n refl h in let m : k ≤ most = f k refl in let e : k ≡ n = p.1 in (p.0, omega arith)
+from_one most (Some k) n f h = let m : k ≤ most = f k refl in (grind (arith, nat_tests), grind (arith, nat_tests))
 
 -- a number that a word writes, if it is at most `most` and not 0, is from 1 to `most`
 word_number : (most : ℕ) (fault : LineFault) (w : WordText) → Holds (IsWithin most) (or_fault fault (not_zero (number_of most w.bytes)))
@@ -101,9 +79,9 @@ unit_holds : (ws : List WordText) → Holds (λ (x : UnitRead). IsUnitRef x.0) (
 unfolding unit_at
 unit_holds [] = tt
 unit_holds (w ∷ ws) =
-    either _ (is_word (codes "NEW") w) _ _
-    (after (λ (x : Counted). IsAlias x.0) _ (alias_at ws) _ (count_holds last_alias BadAlias ws) (λ n h. h))
-    (after (λ (x : Counted). IsNumber x.0) _ (number_at (w ∷ ws)) _ (count_holds most_number BadNumber (w ∷ ws)) (λ n h. h))
+    cond_both (is_word (codes "NEW") w) _ _ (Holds (λ (x : UnitRead). IsUnitRef x.0))
+    (λ _. after (λ (x : Counted). IsAlias x.0) _ (alias_at ws) _ (count_holds last_alias BadAlias ws) (λ n h. h))
+    (λ _. after (λ (x : Counted). IsNumber x.0) _ (number_at (w ∷ ws)) _ (count_holds most_number BadNumber (w ∷ ws)) (λ n h. h))
 
 -- a unit that was read, in front of units that were read, gives units in range, if all of these are
 and_then : (unit : Result UnitRef LineFault) (units : Result (List UnitRef) LineFault) → Holds IsUnitRef unit → Holds (All IsUnitRef) units → Holds (All IsUnitRef) (and_then_units unit units)
@@ -121,11 +99,11 @@ named_holds w = after IsAlias _ (or_fault BadAlias (not_zero (number_of last_ali
 units_hold : (ws : List WordText) → Holds (All IsUnitRef) (units_of ws)
 unfolding units_of
 units_hold [] = All-nil IsUnitRef
-units_hold (w ∷ []) = either _ (is_word (codes "NEW") w) _ _ tt (and_then (numbered w) (Ok []) (numbered_holds w) (All-nil IsUnitRef))
+units_hold (w ∷ []) = cond_both (is_word (codes "NEW") w) _ _ (Holds (All IsUnitRef)) (λ _. tt) (λ _. and_then (numbered w) (Ok []) (numbered_holds w) (All-nil IsUnitRef))
 units_hold (w ∷ v ∷ ws) =
-    either _ (is_word (codes "NEW") w) _ _
-    (and_then (new_unit_ref v) (units_of ws) (named_holds v) (units_hold ws))
-    (and_then (numbered w) (units_of (v ∷ ws)) (numbered_holds w) (units_hold (v ∷ ws)))
+    cond_both (is_word (codes "NEW") w) _ _ (Holds (All IsUnitRef))
+    (λ _. and_then (new_unit_ref v) (units_of ws) (named_holds v) (units_hold ws))
+    (λ _. and_then (numbered w) (units_of (v ∷ ws)) (numbered_holds w) (units_hold (v ∷ ws)))
 
 -- ---- things of the world
 
@@ -188,11 +166,11 @@ module _ (world : WorldValue) where
   some_hold : (ws : List WordText) → Holds Units (some_units_at ws)
   unfolding units_of
   some_hold [] = tt
-  some_hold (w ∷ []) = either Units (is_word (codes "NEW") w) _ _ tt (more_units (numbered w) (Ok []) (numbered_holds w) (All-nil IsUnitRef))
+  some_hold (w ∷ []) = cond_both (is_word (codes "NEW") w) _ _ (Holds Units) (λ _. tt) (λ _. more_units (numbered w) (Ok []) (numbered_holds w) (All-nil IsUnitRef))
   some_hold (w ∷ v ∷ ws) =
-      either Units (is_word (codes "NEW") w) _ _
-      (more_units (new_unit_ref v) (units_of ws) (named_holds v) (units_hold ws))
-      (more_units (numbered w) (units_of (v ∷ ws)) (numbered_holds w) (units_hold (v ∷ ws)))
+      cond_both (is_word (codes "NEW") w) _ _ (Holds Units)
+      (λ _. more_units (new_unit_ref v) (units_of ws) (named_holds v) (units_hold ws))
+      (λ _. more_units (numbered w) (units_of (v ∷ ws)) (numbered_holds w) (units_hold (v ∷ ws)))
 
   -- if words are read as a list of units, it has one unit or more, all in range (`AreSound`)
   units_sound : (ws : List WordText) → AreSound world (read_units ws)
@@ -210,18 +188,13 @@ module _ (world : WorldValue) where
       after _ (AreOperandsOf world) (unit_at ws) _ (unit_holds ws) (λ to h.
       after _ (AreOperandsOf world) (amount_of_item_at world to.1) _ (goods_hold world to.1) (λ goods k. (h, k.0, k.1)))
 
-  -- a new name that is read keeps the rule of names (`AreSound`), since one that breaks it is a fault
-  named_sound : (t : Bool) (what : NameKind) (bytes : List ℕ) → name_ok bytes ≡ t → AreSound world (cond t (Ok (operands.Name what bytes)) (Err BadName))
-  named_sound true what bytes h = h
-  named_sound false what bytes h = tt
-
   -- if words are read as what gets a new name, and the name, the name keeps the rule of names (`AreSound`)
   name_sound : (ws : List WordText) → AreSound world (read_name ws)
   name_sound ws =
       after _ (AreOperandsOf world) (word_at ws) _ (anything (word_at ws)) (λ w _.
       after _ (AreOperandsOf world) (or_fault UnknownThing (kind_of_name w.0)) _ (anything (or_fault UnknownThing (kind_of_name w.0))) (λ what _.
       after _ (AreOperandsOf world) (word_at w.1) _ (anything (word_at w.1)) (λ v _.
-      named_sound (name_ok (name_of v.0.bytes v.0.quoted)) what (name_of v.0.bytes v.0.quoted) refl)))
+      cond_both (name_ok (name_of v.0.bytes v.0.quoted)) _ _ (AreSound world) (λ h. h) (λ _. tt))))
 
   -- if words are read as a kind of structure or none, the world has the kind (`AreSound`)
   kind_sound : (ws : List WordText) → AreSound world (read_kind world ws)

@@ -1,12 +1,13 @@
 -- The functions for one line (`line_step`) and for all lines after a header (`effects`) give what the rules allow, and
 -- the rules allow nothing else.
-use Rattle.std.proofs.Common.{◌≡◌, ℕ, ◌+◌, ◌++◌, Bool, true, false, cond, List, [], ◌∷◌, codes, Option, Some, None, Result, Ok, Err, refl, ap, ◌∙◌}
+use Rattle.std.proofs.Common.{◌≡◌, ℕ, ◌+◌, ◌++◌, Bool, true, List, [], ◌∷◌, codes, Option, Some, None, Result, Ok, Err, refl, ap, ◌∙◌}
 use Rattle.std.specs.List.{list_all, flat_map}
+use Rattle.std.proofs.lemmas.Bool.{cond_both}
 use Rattle.atl_world.specs.Worlds.{WorldValue}
 use Rattle.atl_orders.specs.declared.order.UnitRef.{UnitRef}
 use Rattle.atl_orders.specs.declared.fault.FaultyLine.{FaultyLine}
 use Rattle.atl_orders.specs.declared.fault.LineFault.{LineFault}
-use Rattle.atl_orders.specs.declared.fault.LineFault.TheVariants.{BadByte, EndAlone, NestedForm}
+use Rattle.atl_orders.specs.declared.fault.LineFault.TheVariants.{EndAlone, NestedForm}
 use Rattle.atl_orders.specs.declared.verb.Verb.{Verb}
 use Rattle.atl_orders.specs.declared.reading.Keyword.{Keyword}
 use Rattle.atl_orders.specs.declared.reading.Keyword.TheVariants as keywords
@@ -38,14 +39,9 @@ module _ (world : WorldValue) (given : ℕ → Bool) (w : WordText) (ws : List W
   end_fits (Forming parent alias) k = block_closed k (At parent) refl refl
   end_fits (Skipping parent) k = block_closed k _ refl refl
 
-  -- the rules (`WordsSay`) allow the step that `block_step` gives a FORM line with an alias, be it new or given before
-  given_fits : (n : ℕ) (alias : ℕ) (rest : List WordText) (t : Bool) → keyword_of w ≡ Some keywords.Form → alias_at ws ≡ Ok (alias, rest) → given alias ≡ t → WordsSay world (At n) given w ws (block_step n given (Ok (alias, rest)))
-  given_fits n alias rest true k h g = rw g (form_again k n refl alias rest h g refl)
-  given_fits n alias rest false k h g = rw g (form_new k n refl alias rest h g refl)
-
   -- the rules (`WordsSay`) allow the step that `block_step` gives a FORM line outside of blocks, if a unit is named
   block_fits : (n : ℕ) (r : Counted) → keyword_of w ≡ Some keywords.Form → alias_at ws ≡ r → WordsSay world (At n) given w ws (block_step n given r)
-  block_fits n (Ok a) k h = given_fits n a.0 a.1 (given a.0) k h refl
+  block_fits n (Ok a) k h = cond_both (given a.0) _ _ (WordsSay world (At n) given w ws) (λ g. form_again k n refl a.0 a.1 h g refl) (λ g. form_new k n refl a.0 a.1 h g refl)
   block_fits n (Err fault) k h = form_faulty k n refl fault h refl
 
   -- the rules (`WordsSay`) allow the step that `form_step` gives a FORM line
@@ -69,16 +65,15 @@ module _ (world : WorldValue) (given : ℕ → Bool) (w : WordText) (ws : List W
   words_fit state (Some keywords.Form) h = form_fits state h
   words_fit state (Some (keywords.Order verb)) h = order_fits state verb (target state) (said_by world verb ws) h refl refl
 
--- the rules (`LineSays`) allow the step that `line_step` gives a line, whether its bytes are allowed or not
-tested_fits : (t : Bool) (l : List WordText) (world : WorldValue) (state : ReaderState) (given : ℕ → Bool) (line : List ℕ) → list_all is_plain line ≡ t → words line ≡ l → LineSays world state given line (cond t (words_step world state given l) (step (faulty BadByte) state given))
-tested_fits false l world state given line a b = bad_byte a refl
-tested_fits true [] world state given line a b = no_word a b refl
-tested_fits true (w ∷ ws) world state given line a b = some_words a w ws b (words_fit world given w ws state (keyword_of w) refl)
+-- the rules (`LineSays`) allow the step that `words_step` gives a line whose bytes are allowed
+plain_fits : (l : List WordText) (world : WorldValue) (state : ReaderState) (given : ℕ → Bool) (line : List ℕ) → list_all is_plain line ≡ true → words line ≡ l → LineSays world state given line (words_step world state given l)
+plain_fits [] world state given line a b = no_word a b refl
+plain_fits (w ∷ ws) world state given line a b = some_words a w ws b (words_fit world given w ws state (keyword_of w) refl)
 
 -- the rules (`LineSays`) allow the step that the function `line_step` gives a line
 pub line_fits : (world : WorldValue) (state : ReaderState) (given : ℕ → Bool) (line : List ℕ) → LineSays world state given line (line_step world state given line)
 unfolding line_step
-line_fits world state given line = tested_fits (list_all is_plain line) (words line) world state given line refl refl
+line_fits world state given line = cond_both (list_all is_plain line) _ _ (LineSays world state given line) (λ a. plain_fits (words line) world state given line a refl) (λ a. bad_byte a refl)
 
 -- ---- the rules allow nothing else
 
@@ -129,32 +124,21 @@ line_only world state given line s (some_words a w ws b r) = rw (a, b) (words_on
 
 -- ---- all lines
 
--- the rules for lines (`BodySays`) allow what `effects` gives for a line and those after it, whether the line is `#END`
--- or not
-body_test : (t : Bool) (world : WorldValue) (n : ℕ) (state : ReaderState) (given : ℕ → Bool) (line : List ℕ) (rest : List (List ℕ)) (s : LineStep) (more : List (ℕ × Effect)) → begins (codes "#END") (words line) ≡ t → LineSays world state given line s
-    → BodySays world (n + 1) s.state s.given rest (flat_map entry_of more) (flat_map fault_of more)
-    → BodySays world n state given (line ∷ rest) (flat_map entry_of (cond t [] ((n, s.effect) ∷ more))) (flat_map fault_of (cond t [] ((n, s.effect) ∷ more)))
-body_test true world n state given line rest s more h r b = orders_ended n state given line rest h
-body_test false world n state given line rest s more h r b = one_line n state given line rest h s r _ _ b
-
 -- the rules for lines (`BodySays`) allow the orders and faulty lines that the function `effects` gives
 pub body_fits : (world : WorldValue) (n : ℕ) (state : ReaderState) (given : ℕ → Bool) (lines : List (List ℕ)) → BodySays world n state given lines (entries_from world n state given lines) (faults_from world n state given lines)
 unfolding effects
 body_fits world n state given [] = text_ended n state given
 body_fits world n state given (line ∷ rest) =
     let s = line_step world state given line in
-    body_test (begins (codes "#END") (words line)) world n state given line rest s _ refl (line_fits world state given line) (body_fits world (n + 1) s.state s.given rest)
+    cond_both (begins (codes "#END") (words line)) _ _ (λ (es : List (ℕ × Effect)). BodySays world n state given (line ∷ rest) (flat_map entry_of es) (flat_map fault_of es)) (λ h. orders_ended n state given line rest h)
+    (λ h. one_line n state given line rest h s (line_fits world state given line) _ _ (body_fits world (n + 1) s.state s.given rest))
 
 -- orders and faulty lines that the rules for lines allow are those that `effects` gives; all but the world is implicit
-only_body : (world : WorldValue) {n : ℕ} {state : ReaderState} {given : ℕ → Bool} {lines : List (List ℕ)} {entries : List EntryValue} {faults : List FaultyLine} → BodySays world n state given lines entries faults → (entries ≡ entries_from world n state given lines) × (faults ≡ faults_from world n state given lines)
+pub body_only : (world : WorldValue) {n : ℕ} {state : ReaderState} {given : ℕ → Bool} {lines : List (List ℕ)} {entries : List EntryValue} {faults : List FaultyLine} → BodySays world n state given lines entries faults → (entries ≡ entries_from world n state given lines) × (faults ≡ faults_from world n state given lines)
 unfolding effects
-only_body world (text_ended n state given) = (refl, refl)
-only_body world (orders_ended n state given line rest h) = rw h (refl, refl)
-only_body world (one_line n state given line rest h s r entries faults b) =
+body_only world (text_ended n state given) = (refl, refl)
+body_only world (orders_ended n state given line rest h) = rw h (refl, refl)
+body_only world (one_line n state given line rest h s r entries faults b) =
     let e : s ≡ line_step world state given line = line_only world state given line s r in
-    let more = only_body world b in
+    let more = body_only world b in
     rw (h, ← e) (ap (λ l. entry_of (n, s.effect) ++ l) more.0, ap (λ l. fault_of (n, s.effect) ++ l) more.1)
-
--- orders and faulty lines that the rules for lines (`BodySays`) allow are those that the function `effects` gives
-pub body_only : (world : WorldValue) (n : ℕ) (state : ReaderState) (given : ℕ → Bool) (lines : List (List ℕ)) (entries : List EntryValue) (faults : List FaultyLine) → BodySays world n state given lines entries faults → (entries ≡ entries_from world n state given lines) × (faults ≡ faults_from world n state given lines)
-body_only world n state given lines entries faults b = only_body world b

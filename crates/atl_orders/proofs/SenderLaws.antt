@@ -1,10 +1,10 @@
 -- A text that is read as a mailing is one of the faction that its header names.
-use Rattle.std.proofs.Common.{◌≡◌, ◌≤◌, Bool, true, false, cond, List, ℕ, length, Result, Ok, Err, nat_lt, refl, ap, ◌∙◌, arith}
+use Rattle.std.proofs.Common.{◌≡◌, ◌≤◌, List, ℕ, length, Result, Ok, Err, nat_lt, refl, ap, ◌∙◌, arith}
+use Rattle.std.proofs.lemmas.Bool.{cond_both}
 use Rattle.std.proofs.lemmas.Bool.Decides.{nat_tests}
 use Rattle.atl_orders.specs.Limits.{most_bytes}
 use Rattle.atl_world.specs.Worlds.{WorldValue}
 use Rattle.atl_orders.specs.declared.fault.MailFault.{MailFault}
-use Rattle.atl_orders.specs.declared.fault.MailFault.TheVariants.{TooLong}
 use Rattle.atl_orders.specs.Lines.{lines}
 use Rattle.atl_orders.specs.Mailing.{HeaderValue, header_from, Reading, after_header, reading, IsMailingOf}
 
@@ -18,12 +18,7 @@ module _ (world : WorldValue) (text : List ℕ) (r : Reading) where
   sent (Ok h) is short e = record { short = short; header = (h.next, h.rest, is ∙ ap (λ n. Ok (record { faction = n; next = h.next; rest = h.rest })) (ap (λ (x : Reading). x.faction) (one_reading _ r e))) }
   sent (Err fault) is short e = cc
 
-  -- a text that is read as r is a mailing of r's faction, whether the test for its length is true or false
-  tested : (long : Bool) → nat_lt most_bytes (length text) ≡ long → cond long (Err TooLong) (after_header world (header_from 1 (lines text))) ≡ Ok r → IsMailingOf r.faction text
-  tested true is e = cc
-  tested false is e = sent (header_from 1 (lines text)) refl (grind (arith, nat_tests)) e
-
   -- a text that is read as r is a mailing of r's faction
   pub read_is_mailing : reading world text ≡ Ok r → IsMailingOf r.faction text
   unfolding reading
-  read_is_mailing e = tested (nat_lt most_bytes (length text)) refl e
+  read_is_mailing e = cond_both (nat_lt most_bytes (length text)) _ _ (λ (x : Result Reading MailFault). x ≡ Ok r → IsMailingOf r.faction text) (λ _ long. cc) (λ is fits. sent (header_from 1 (lines text)) refl (grind (arith, nat_tests)) fits) e

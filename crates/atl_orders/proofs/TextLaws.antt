@@ -1,10 +1,11 @@
 -- The function `reading` gives for a whole text what the rules allow, and the rules allow nothing else.
 use Rattle.std.proofs.Common.{◌≡◌, ℕ, suc, ◌+◌, ◌<◌, ◌≤◌, ◌++◌, Bool, true, false, cond, List, [], ◌∷◌, length, Option, Some, None, Result, Err, nat_lt, refl, sym, ap, ◌∙◌, arith}
+use Rattle.std.proofs.lemmas.Bool.{cond_both}
 use Rattle.std.proofs.lemmas.Bool.Decides.{nat_tests}
 use Rattle.std.proofs.lemmas.List.Elements.{All-nil, All-cons, All-head, All-tail}
 use Rattle.atl_world.specs.Worlds.{WorldValue}
 use Rattle.atl_orders.specs.declared.fault.MailFault.{MailFault}
-use Rattle.atl_orders.specs.declared.fault.MailFault.TheVariants.{TooLong, NoHeader}
+use Rattle.atl_orders.specs.declared.fault.MailFault.TheVariants.{NoHeader}
 use Rattle.atl_orders.specs.declared.reading.ReaderState.TheVariants.{Nowhere}
 use Rattle.atl_orders.specs.Limits.{most_bytes}
 use Rattle.atl_orders.specs.Aliasing.{no_alias}
@@ -26,8 +27,8 @@ data Found (n : ℕ) (all : List (List ℕ)) : Type 0 where
   -- the lines have no header, and `header_from` gives NoHeader
   none : HaveNoHeader all → header_from n all ≡ Err NoHeader → Found n all
   -- the lines have a first header, and `header_from` gives what this header gives
-  one : (before : List (List ℕ)) (header : List ℕ) (behind : List (List ℕ)) → HaveHeader all before header behind
-      → header_from n all ≡ header_line (length before + n) behind (faction_of (words header)) → Found n all
+  one : (above : List (List ℕ)) (header : List ℕ) (below : List (List ℕ)) → HaveHeader all above header below
+      → header_from n all ≡ header_line (length above + n) below (faction_of (words header)) → Found n all
 
 -- k + (n + 1) is (k + 1) + n: k lines after line n + 1 is k + 1 lines after line n
 later : (n k : ℕ) → k + (n + 1) ≡ suc k + n
@@ -40,9 +41,9 @@ from_none n = omega arith
 -- if a line that is no header is put in front of lines, their first header stays the first
 more : (n : ℕ) (line : List ℕ) (rest : List (List ℕ)) → IsOutside line → header_from n (line ∷ rest) ≡ header_from (n + 1) rest → Found (n + 1) rest → Found n (line ∷ rest)
 more n line rest h e (none a f) = none (All-cons IsOutside line rest h a) (e ∙ f)
-more n line rest h e (one before header behind is f) =
-    one (line ∷ before) header behind (record { whole = ap (λ l. line ∷ l) is.whole; leads = is.leads; first = All-cons IsOutside line before h is.first })
-    (e ∙ f ∙ ap (λ k. header_line k behind (faction_of (words header))) (later n (length before)))
+more n line rest h e (one above header below is f) =
+    one (line ∷ above) header below (record { whole = ap (λ l. line ∷ l) is.whole; leads = is.leads; first = All-cons IsOutside line above h is.first })
+    (e ∙ f ∙ ap (λ k. header_line k below (faction_of (words header))) (later n (length above)))
 
 -- lines have no header or a first one (`Found`), whether their first line is one or not, if this holds of the rest
 tested : (t : Bool) (n : ℕ) (line : List ℕ) (rest : List (List ℕ)) → is_header line ≡ t → header_from n (line ∷ rest) ≡ cond t (header_line n rest (faction_of (words line))) (header_from (n + 1) rest) → Found (n + 1) rest → Found n (line ∷ rest)
@@ -62,10 +63,10 @@ no_one n [] a = refl
 no_one n (line ∷ rest) a = rw (All-head IsOutside line rest a) (no_one (n + 1) rest (All-tail IsOutside line rest a))
 
 -- `header_from` gives for lines with a header what their first header gives
-first_one : (n : ℕ) (before : List (List ℕ)) (header : List ℕ) (behind : List (List ℕ)) → HaveNoHeader before → is_header header ≡ true → header_from n (before ++ header ∷ behind) ≡ header_line (length before + n) behind (faction_of (words header))
+first_one : (n : ℕ) (above : List (List ℕ)) (header : List ℕ) (below : List (List ℕ)) → HaveNoHeader above → is_header header ≡ true → header_from n (above ++ header ∷ below) ≡ header_line (length above + n) below (faction_of (words header))
 unfolding header_from
-first_one n [] header behind a h = rw h (ap (λ k. header_line k behind (faction_of (words header))) (sym (from_none n)))
-first_one n (line ∷ before) header behind a h = rw (All-head IsOutside line before a) (first_one (n + 1) before header behind (All-tail IsOutside line before a) h ∙ ap (λ k. header_line k behind (faction_of (words header))) (later n (length before)))
+first_one n [] header below a h = rw h (ap (λ k. header_line k below (faction_of (words header))) (sym (from_none n)))
+first_one n (line ∷ above) header below a h = rw (All-head IsOutside line above a) (first_one (n + 1) above header below (All-tail IsOutside line above a) h ∙ ap (λ k. header_line k below (faction_of (words header))) (later n (length above)))
 
 -- ---- a whole text
 
@@ -75,25 +76,20 @@ numbered k = omega arith
 
 module _ (world : WorldValue) (text : List ℕ) where
   -- the rules (`TextSays`) allow the result for a text with a header, whether the header names a faction or not
-  headed_fits : (o : Option ℕ) → length text ≤ most_bytes → (before : List (List ℕ)) (header : List ℕ) (behind : List (List ℕ)) → HaveHeader (lines text) before header behind → faction_of (words header) ≡ o → TextSays world text (after_header world (header_line (length before + 1) behind o))
-  headed_fits None s before header behind is f = bad_header s before header behind is f refl
-  headed_fits (Some faction) s before header behind is f =
-      rw (numbered (length before)) (mailing s before header behind is faction f _ _ (body_fits world (length before + 2) Nowhere no_alias behind) refl)
+  headed_fits : (o : Option ℕ) → length text ≤ most_bytes → (above : List (List ℕ)) (header : List ℕ) (below : List (List ℕ)) → HaveHeader (lines text) above header below → faction_of (words header) ≡ o → TextSays world text (after_header world (header_line (length above + 1) below o))
+  headed_fits None s above header below is f = bad_header s above header below is f refl
+  headed_fits (Some faction) s above header below is f =
+      rw (numbered (length above)) (mailing s above header below is faction f _ _ (body_fits world (length above + 2) Nowhere no_alias below) refl)
 
   -- the rules (`TextSays`) allow the result for a text of at most most_bytes bytes, whether it has a header or not
   found_fits : length text ≤ most_bytes → Found 1 (lines text) → TextSays world text (after_header world (header_from 1 (lines text)))
   found_fits s (none a e) = rw e (no_header s a refl)
-  found_fits s (one before header behind is e) = rw e (headed_fits (faction_of (words header)) s before header behind is refl)
-
-  -- the rules (`TextSays`) allow the result for a text, whether it has more than most_bytes bytes or not
-  sized_fits : (t : Bool) → nat_lt most_bytes (length text) ≡ t → TextSays world text (cond t (Err TooLong) (after_header world (header_from 1 (lines text))))
-  sized_fits true h = too_long (grind (arith, nat_tests)) refl
-  sized_fits false h = found_fits (grind (arith, nat_tests)) (found 1 (lines text))
+  found_fits s (one above header below is e) = rw e (headed_fits (faction_of (words header)) s above header below is refl)
 
   -- the rules (`TextSays`) allow the result that the function `reading` gives for a text
   pub text_fits : TextSays world text (reading world text)
   unfolding reading
-  text_fits = sized_fits (nat_lt most_bytes (length text)) refl
+  text_fits = cond_both (nat_lt most_bytes (length text)) _ _ (TextSays world text) (λ h. too_long (grind (arith, nat_tests)) refl) (λ h. found_fits (grind (arith, nat_tests)) (found 1 (lines text)))
 
   -- the test for more than most_bytes bytes is true of a text that has more
   long_is : most_bytes < length text → nat_lt most_bytes (length text) ≡ true
@@ -104,15 +100,15 @@ module _ (world : WorldValue) (text : List ℕ) where
   short_is h = grind (arith, nat_tests)
 
   -- `header_from` gives for the lines of a text with a header what its first header gives
-  first_is : (before : List (List ℕ)) (header : List ℕ) (behind : List (List ℕ)) → HaveHeader (lines text) before header behind → header_from 1 (lines text) ≡ header_line (length before + 1) behind (faction_of (words header))
-  first_is before header behind is = ap (header_from 1) is.whole ∙ first_one 1 before header behind is.first is.leads
+  first_is : (above : List (List ℕ)) (header : List ℕ) (below : List (List ℕ)) → HaveHeader (lines text) above header below → header_from 1 (lines text) ≡ header_line (length above + 1) below (faction_of (words header))
+  first_is above header below is = ap (header_from 1) is.whole ∙ first_one 1 above header below is.first is.leads
 
   -- a result that the rules (`TextSays`) allow for a text is the one that the function `reading` gives
   pub text_only : (read : Result Reading MailFault) → TextSays world text read → read ≡ reading world text
   unfolding reading
   text_only read (too_long h e) = rw (long_is h) e
   text_only read (no_header s a e) = rw (short_is s, no_one 1 (lines text) a) e
-  text_only read (bad_header s before header behind is f e) = rw (short_is s, first_is before header behind is, f) e
-  text_only read (mailing s before header behind is faction f entries faults b e) =
-      let only = body_only world (length before + 2) Nowhere no_alias behind entries faults b in
-      rw (short_is s, first_is before header behind is, f, numbered (length before)) (e ∙ rw (only.0, only.1) refl)
+  text_only read (bad_header s above header below is f e) = rw (short_is s, first_is above header below is, f) e
+  text_only read (mailing s above header below is faction f entries faults b e) =
+      let only = body_only world b in
+      rw (short_is s, first_is above header below is, f, numbered (length above)) (e ∙ rw (only.0, only.1) refl)

@@ -4,11 +4,12 @@ use Rattle.atl_orders.specs.Limits.{last_alias, most_number}
 use Rattle.atl_orders.specs.declared.order.UnitRef.{UnitRef}
 use Rattle.atl_orders.specs.declared.order.UnitRef.TheVariants.{Number, Alias}
 use Rattle.atl_orders.specs.declared.fault.LineFault.{LineFault}
-use Rattle.atl_orders.specs.declared.fault.LineFault.TheVariants.{BadNumber, MissingWord, BadAlias}
+use Rattle.atl_orders.specs.declared.fault.LineFault.TheVariants.{BadNumber, BadAlias}
 use Rattle.atl_orders.specs.Words.{WordText, is_word, number_of}
 use Rattle.atl_world.specs.Steps.{◌>>=◌}
 use Rattle.atl_orders.specs.Operands.{or_fault, not_zero, count_at, unit_at, units_of, and_then_units}
 use Rattle.atl_orders.specs.Views.{with_units}
+use Rattle.std.proofs.lemmas.Bool.{cond_both}
 use Rattle.std.proofs.lemmas.List.{append_assoc, append-nil}
 
 -- the result of reading a number, with the words after it
@@ -23,24 +24,14 @@ as_unit c n = Ok (c n.0, n.1)
 abbrev found : UnitRef → List WordText → Result (UnitRef × List WordText) LineFault
 found u rest = Ok (u, rest)
 
--- no unit is read from an empty list of words
-none : (u : UnitRef) (rest : List WordText) → unit_at [] ≡ found u rest → ⊥
-unfolding unit_at
-none u rest h = cc
-
 -- a unit that was read, in front of the units that the words after it name; or their fault
 abbrev pub then_units : UnitRef × List WordText → Result (List UnitRef) LineFault
 then_units x = units_of x.1 >>= λ us. Ok (x.0 ∷ us)
 
--- reading a unit by its number in front of further units gives what reading the unit and then these units gives
-number_step : (o : Option ℕ) (ws : List WordText) → and_then_units (or_fault BadNumber o >>= λ n. Ok (Number n)) (units_of ws) ≡ (or_fault BadNumber o >>= paired ws >>= as_unit Number) >>= then_units
-number_step None ws = refl
-number_step (Some n) ws = refl
-
--- reading a unit by its alias in front of further units gives what reading the unit and then these units gives
-alias_step : (o : Option ℕ) (ws : List WordText) → and_then_units (or_fault BadAlias o >>= λ n. Ok (Alias n)) (units_of ws) ≡ (or_fault BadAlias o >>= paired ws >>= as_unit Alias) >>= then_units
-alias_step None ws = refl
-alias_step (Some n) ws = refl
+-- reading a unit by its number or its alias in front of further units gives what reading the unit and then these units gives
+ref_step : (o : Option ℕ) (f : LineFault) (c : ℕ → UnitRef) (ws : List WordText) → and_then_units (or_fault f o >>= λ n. Ok (c n)) (units_of ws) ≡ (or_fault f o >>= paired ws >>= as_unit c) >>= then_units
+ref_step None f c ws = refl
+ref_step (Some n) f c ws = refl
 
 -- a choice of two results, each followed by `then_units`, is the choice followed by `then_units`
 choose : (t : Bool) (a b : Result (List UnitRef) LineFault) (c d : Result (UnitRef × List WordText) LineFault) → a ≡ c >>= then_units → b ≡ d >>= then_units → cond t a b ≡ cond t c d >>= then_units
@@ -50,8 +41,8 @@ choose false a b c d p q = q
 -- the units that words name are the first unit and then the others
 pub units_step : (w : WordText) (ws : List WordText) → units_of (w ∷ ws) ≡ unit_at (w ∷ ws) >>= then_units
 unfolding units_of unit_at count_at
-units_step w [] = choose (is_word (codes "NEW") w) _ _ _ _ refl (number_step (not_zero (number_of most_number w.bytes)) [])
-units_step w (v ∷ ws) = choose (is_word (codes "NEW") w) _ _ _ _ (alias_step (not_zero (number_of last_alias v.bytes)) ws) (number_step (not_zero (number_of most_number w.bytes)) (v ∷ ws))
+units_step w [] = choose (is_word (codes "NEW") w) _ _ _ _ refl (ref_step (not_zero (number_of most_number w.bytes)) BadNumber Number [])
+units_step w (v ∷ ws) = choose (is_word (codes "NEW") w) _ _ _ _ (ref_step (not_zero (number_of last_alias v.bytes)) BadAlias Alias ws) (ref_step (not_zero (number_of most_number w.bytes)) BadNumber Number (v ∷ ws))
 
 -- u at the end of the units read so far, or in front of the further units, gives the same list of units
 started : (units : Result (List UnitRef) LineFault) (front : List UnitRef) (u : UnitRef) → with_units (front ++ u ∷ []) units ≡ with_units front (units >>= λ us. Ok (u ∷ us))
@@ -60,7 +51,8 @@ started (Err f) front u = refl
 
 -- if the words left begin with the unit u, the units read so far with u and the units of the rest give the same list
 pub one_more : (front : List UnitRef) (ws : List WordText) (u : UnitRef) (rest : List WordText) → unit_at ws ≡ found u rest → with_units (front ++ u ∷ []) (units_of rest) ≡ with_units front (units_of ws)
-one_more front [] u rest h = absurd (none u rest h)
+unfolding unit_at
+one_more front [] u rest h = cc
 one_more front (w ∷ ws) u rest h = started (units_of rest) front u ∙ ap (with_units front) (sym (units_step w ws ∙ ap (λ r. r >>= then_units) h))
 
 -- if reading the next unit gives a fault, the words left give this fault, whatever units were read before
@@ -74,31 +66,21 @@ unfolding units_of
 no_more front [] h = ap (λ l. Ok l) (append-nil front)
 no_more front (w ∷ ws) h = cc
 
--- after a unit is read from a word, with the words `left` behind it, no more words than these are left
+-- after a unit is read from a word, with the words `left` after it, no more words than these are left
 read_rest : (o : Option ℕ) (f : LineFault) (c : ℕ → UnitRef) (left : List WordText) (u : UnitRef) (rest : List WordText) → (or_fault f o >>= paired left >>= as_unit c) ≡ found u rest → length rest ≤ length left
 read_rest None f c left u rest h = cc
 read_rest (Some k) f c left u rest h = let here : UnitRef × List WordText = (c k, left) in let there : UnitRef × List WordText = (u, rest) in let e : here ≡ there = cc in omega (arith, ap (λ (p : UnitRef × List WordText). length p.1) e)
-
--- a bound on how many words are left holds of a choice of two results, if it holds of both
-chosen : (t : Bool) (a b : Result (UnitRef × List WordText) LineFault) (u : UnitRef) (rest : List WordText) (n : ℕ) → (a ≡ found u rest → length rest ≤ n) → (b ≡ found u rest → length rest ≤ n) → cond t a b ≡ found u rest → length rest ≤ n
-chosen true a b u rest n p q h = p h
-chosen false a b u rest n p q h = q h
-
--- the result of reading a unit where its word is missing
-abbrev missing : Result (UnitRef × List WordText) LineFault
-missing = Err MissingWord
-
--- no unit is read if the word is missing, so any bound on the words left holds
-no_unit : (rest : List WordText) (u : UnitRef) (n : ℕ) → missing ≡ found u rest → length rest ≤ n
-no_unit rest u n h = cc
 
 -- the words after a unit that was read are fewer than the words before it was read
 pub rest_shorter : (ws : List WordText) (u : UnitRef) (rest : List WordText) → unit_at ws ≡ found u rest → length rest < length ws
 unfolding unit_at count_at
 rest_shorter [] u rest h = cc
-rest_shorter (w ∷ []) u rest h = let few : length rest ≤ 0 = chosen (is_word (codes "NEW") w) _ _ u rest 0 (no_unit rest u 0) (read_rest (not_zero (number_of most_number w.bytes)) BadNumber Number [] u rest) h in omega arith
+rest_shorter (w ∷ []) u rest h =
+    let few : length rest ≤ 0 = cond_both (is_word (codes "NEW") w) _ _ (λ (r : Result (UnitRef × List WordText) LineFault). r ≡ found u rest → length rest ≤ 0)
+    (λ _ e. cc) (λ _ e. read_rest (not_zero (number_of most_number w.bytes)) BadNumber Number [] u rest e) h in
+    omega arith
 rest_shorter (w ∷ v ∷ ws) u rest h =
-    let few : length rest ≤ length ws + 1 = chosen (is_word (codes "NEW") w) _ _ u rest (length ws + 1)
-    (λ e. omega (arith, read_rest (not_zero (number_of last_alias v.bytes)) BadAlias Alias ws u rest e))
-    (λ e. omega (arith, read_rest (not_zero (number_of most_number w.bytes)) BadNumber Number (v ∷ ws) u rest e)) h in
+    let few : length rest ≤ length ws + 1 = cond_both (is_word (codes "NEW") w) _ _ (λ (r : Result (UnitRef × List WordText) LineFault). r ≡ found u rest → length rest ≤ length ws + 1)
+    (λ _ e. omega (arith, read_rest (not_zero (number_of last_alias v.bytes)) BadAlias Alias ws u rest e))
+    (λ _ e. omega (arith, read_rest (not_zero (number_of most_number w.bytes)) BadNumber Number (v ∷ ws) u rest e)) h in
     omega arith

@@ -82,8 +82,8 @@ words-bare_line [] p h = absurd (omega arith)
 words-bare_line (b ∷ bs) p h = words-bare b bs h
 
 -- the rest of a line after a closing quote, if it is there, is the rest from the quote on without its first byte
-pub behind_closing : (bs : List ℕ) (closing : ℕ) → closing ≡ min (length bs) 1 → take (length bs - closing) (drop closing bs) ≡ drop 1 bs
-behind_closing bs closing e = take_rest bs closing ∙ ap (λ n. drop n bs) (e ∙ min_comm (length bs) 1) ∙ drop_min 1 bs
+pub after_closing : (bs : List ℕ) (closing : ℕ) → closing ≡ min (length bs) 1 → take (length bs - closing) (drop closing bs) ≡ drop 1 bs
+after_closing bs closing e = take_rest bs closing ∙ ap (λ n. drop n bs) (e ∙ min_comm (length bs) 1) ∙ drop_min 1 bs
 
 -- the value of an ASCII digit is its byte less 48
 digit_value_of : (b : ℕ) → is_ascii_digit b ≡ true → digit_value b ≡ b - 48
@@ -108,32 +108,32 @@ end_of_words line i h = at_drop_all words line i h ∙ words-nil
 -- ---- where words are in a line and a text
 
 -- a line ends with what is left after its first n bytes
-pub ends_behind : (line : List ℕ) (n : ℕ) → EndsWith line (drop n line)
-ends_behind line n = record { front = take n line; whole = sym (take-append-drop n line) }
+pub ends_after : (line : List ℕ) (n : ℕ) → EndsWith line (drop n line)
+ends_after line n = record { front = take n line; whole = sym (take-append-drop n line) }
 
 -- what an end of a line ends with, the line ends with
 pub ends_further : (line mid rest : List ℕ) → EndsWith line mid → EndsWith mid rest → EndsWith line rest
 ends_further line mid rest a b = record { front = a.front ++ b.front; whole = a.whole ∙ ap (λ l. a.front ++ l) b.whole ∙ sym (append_assoc a.front b.front rest) }
 
 -- a part of an end of a line is a part of the line
-pub part_further : (line mid bytes : List ℕ) (behind : ℕ) → EndsWith line mid → IsPartOf mid bytes behind → IsPartOf line bytes behind
-part_further line mid bytes behind a b =
-    record { front = a.front ++ b.front; back = b.back; whole = a.whole ∙ ap (λ l. a.front ++ l) b.whole ∙ sym (append_assoc a.front b.front (bytes ++ b.back)); behind_is = b.behind_is }
+pub part_further : (line mid bytes : List ℕ) (to_end : ℕ) → EndsWith line mid → IsPartOf mid bytes to_end → IsPartOf line bytes to_end
+part_further line mid bytes to_end a b =
+    record { front = a.front ++ b.front; back = b.back; whole = a.whole ∙ ap (λ l. a.front ++ l) b.whole ∙ sym (append_assoc a.front b.front (bytes ++ b.back)); to_end_is = b.to_end_is }
 
 -- a line ends with its part `&line[n..]`
 pub ends_at : (line : List ℕ) (n : ℕ) → EndsWith line (take (length line - n) (drop n line))
-ends_at line n = rw (take_rest line n) (ends_behind line n)
+ends_at line n = rw (take_rest line n) (ends_after line n)
 
 -- a line is at least as long as anything that it ends with
 pub ends_shorter : (line rest : List ℕ) → EndsWith line rest → length rest ≤ length line
 ends_shorter line rest e = omega (arith, ap length e.whole, length-append e.front rest)
 
 -- a part of a line is no longer than the line from the part's first byte on, and that is no longer than the line
-pub part_shorter : (line bytes : List ℕ) (behind : ℕ) → IsPartOf line bytes behind → (length bytes ≤ behind) × (behind ≤ length line)
-part_shorter line bytes behind s =
+pub part_shorter : (line bytes : List ℕ) (to_end : ℕ) → IsPartOf line bytes to_end → (length bytes ≤ to_end) × (to_end ≤ length line)
+part_shorter line bytes to_end s =
     let a : length line ≡ length s.front + length (bytes ++ s.back) = ap length s.whole ∙ length-append s.front (bytes ++ s.back) in
     let b : length (bytes ++ s.back) ≡ length bytes + length s.back = length-append bytes s.back in
-    (omega (arith, s.behind_is), omega (arith, s.behind_is))
+    (omega (arith, s.to_end_is), omega (arith, s.to_end_is))
 
 -- if a line ends at an index of a text, anything that the line ends with ends at this index
 pub ends_at_further : (text : List ℕ) (end : ℕ) (line rest : List ℕ) → EndsAt text end line → EndsWith line rest → EndsAt text end rest
@@ -145,8 +145,8 @@ ends_at_further text end line rest a e = record {
 }
 
 -- the bytes of a word are those of its span in the text
-pub bytes_in_span : (text : List ℕ) (end : ℕ) (line bytes : List ℕ) (behind : ℕ) → EndsAt text end line → IsPartOf line bytes behind → slice_range text (end - behind) (end - behind + length bytes) ≡ bytes
-bytes_in_span text end line bytes behind a s =
+pub bytes_in_span : (text : List ℕ) (end : ℕ) (line bytes : List ℕ) (to_end : ℕ) → EndsAt text end line → IsPartOf line bytes to_end → slice_range text (end - to_end) (end - to_end + length bytes) ≡ bytes
+bytes_in_span text end line bytes to_end a s =
     let whole : text ≡ (a.front ++ s.front) ++ (bytes ++ (s.back ++ a.back)) =
     a.whole ∙ ap (λ l. a.front ++ (l ++ a.back)) s.whole
     ∙ ap (λ l. a.front ++ l) (append_assoc s.front (bytes ++ s.back) a.back)
@@ -155,10 +155,10 @@ bytes_in_span text end line bytes behind a s =
     let ends : length (a.front ++ line) ≡ length a.front + length line = length-append a.front line in
     let parts : length line ≡ length s.front + length (bytes ++ s.back) = ap length s.whole ∙ length-append s.front (bytes ++ s.back) in
     let fronts : length (a.front ++ s.front) ≡ length a.front + length s.front = length-append a.front s.front in
-    let start : length (a.front ++ s.front) ≡ end - behind = omega (arith, a.end_is, s.behind_is) in
-    let count : end - behind + length bytes - (end - behind) ≡ length bytes = omega arith in
-    let here : drop (end - behind) text ≡ bytes ++ (s.back ++ a.back) = ap (drop (end - behind)) whole ∙ drop_at (a.front ++ s.front) (bytes ++ (s.back ++ a.back)) (end - behind) start in
-    ap (λ n. take n (drop (end - behind) text)) count ∙ ap (take (length bytes)) here ∙ take_at bytes (s.back ++ a.back) (length bytes) refl
+    let start : length (a.front ++ s.front) ≡ end - to_end = omega (arith, a.end_is, s.to_end_is) in
+    let count : end - to_end + length bytes - (end - to_end) ≡ length bytes = omega arith in
+    let here : drop (end - to_end) text ≡ bytes ++ (s.back ++ a.back) = ap (drop (end - to_end)) whole ∙ drop_at (a.front ++ s.front) (bytes ++ (s.back ++ a.back)) (end - to_end) start in
+    ap (λ n. take n (drop (end - to_end) text)) count ∙ ap (take (length bytes)) here ∙ take_at bytes (s.back ++ a.back) (length bytes) refl
 
 -- a text ends with itself
 pub ends_with_all : (text : List ℕ) → EndsWith text text

@@ -9,16 +9,16 @@ pub record StartsWith (text front : List ℕ) : Type 0 where
   -- the text is `front` and then `back`
   pub whole : text ≡ front ++ back
 
--- bytes are a part of a line, and from their first byte on the line has `behind` bytes
-pub record IsPartOf (line bytes : List ℕ) (behind : ℕ) : Type 0 where
+-- bytes are a part of a line, and from their first byte to its end the line has `to_end` bytes
+pub record IsPartOf (line bytes : List ℕ) (to_end : ℕ) : Type 0 where
   -- the bytes of the line before the part
   pub front : List ℕ
   -- the bytes of the line after the part
   pub back : List ℕ
   -- the line is `front`, then the part, then `back`
   pub whole : line ≡ front ++ (bytes ++ back)
-  -- `behind` is the number of bytes from the first byte of the part to the end of the line
-  pub behind_is : length (bytes ++ back) ≡ behind
+  -- `to_end` is the number of bytes from the first byte of the part to the end of the line
+  pub to_end_is : length (bytes ++ back) ≡ to_end
 
 -- a line ends with `rest`
 pub record EndsWith (line rest : List ℕ) : Type 0 where

@@ -58,7 +58,7 @@ pub data WordsSay (world : WorldValue) (state : ReaderState) (given : ℕ → Bo
   -- FORM with a faulty alias: the line has this fault, and a block opens that is skipped
   form_faulty : Leads w keywords.Form → (n : ℕ) → state ≡ At n → (fault : LineFault) → alias_at ws ≡ Err fault
       → s ≡ step (faulty fault) (Skipping (Some n)) given → WordsSay world state given w ws s
-  -- FORM with an alias that was given before: BadAlias, and a block opens that is skipped
+  -- FORM with an alias that an earlier FORM gave: BadAlias, and a block opens that is skipped
   form_again : Leads w keywords.Form → (n : ℕ) → state ≡ At n
       → (alias : ℕ) (rest : List WordText) → alias_at ws ≡ Ok (alias, rest) → given alias ≡ true
       → s ≡ step (faulty BadAlias) (Skipping (Some n)) given → WordsSay world state given w ws s
@@ -116,14 +116,14 @@ is_header line = begins (codes "#ATLANTIS") (words line)
 abbrev pub HaveNoHeader : List (List ℕ) → Type 0
 HaveNoHeader lines = All (λ line. is_header line ≡ false) lines
 
--- `header` is the first header in a list of lines, with the lines `before` above it and the lines `behind` below it
-pub record HaveHeader (lines before : List (List ℕ)) (header : List ℕ) (behind : List (List ℕ)) : Type 0 where
+-- `header` is the first header in a list of lines: `above` are the lines above it, and `below` those below it
+pub record HaveHeader (lines above : List (List ℕ)) (header : List ℕ) (below : List (List ℕ)) : Type 0 where
   -- the lines are those above the header, the header, and those below it
-  pub whole : lines ≡ before ++ header ∷ behind
+  pub whole : lines ≡ above ++ header ∷ below
   -- `header` is a header
   pub leads : is_header header ≡ true
   -- no line above it is a header
-  pub first : HaveNoHeader before
+  pub first : HaveNoHeader above
 
 -- the rules for a whole text: it is read as `read`, a mailing or a fault
 pub data TextSays (world : WorldValue) (text : List ℕ) (read : Result Reading MailFault) : Type 0 where
@@ -135,14 +135,14 @@ pub data TextSays (world : WorldValue) (text : List ℕ) (read : Result Reading 
       → read ≡ Err NoHeader → TextSays world text read
   -- a text whose first header names no faction: BadHeader
   bad_header : length text ≤ most_bytes
-      → (before : List (List ℕ)) (header : List ℕ) (behind : List (List ℕ)) → HaveHeader (lines text) before header behind
+      → (above : List (List ℕ)) (header : List ℕ) (below : List (List ℕ)) → HaveHeader (lines text) above header below
       → faction_of (words header) ≡ None
       → read ≡ Err BadHeader → TextSays world text read
   -- a text whose first header names a faction: a mailing of this faction, with what the lines below the header give
   mailing : length text ≤ most_bytes
-      → (before : List (List ℕ)) (header : List ℕ) (behind : List (List ℕ)) → HaveHeader (lines text) before header behind
+      → (above : List (List ℕ)) (header : List ℕ) (below : List (List ℕ)) → HaveHeader (lines text) above header below
       → (faction : ℕ) → faction_of (words header) ≡ Some faction
-      → (entries : List EntryValue) (faults : List FaultyLine) → BodySays world (length before + 2) Nowhere no_alias behind entries faults
+      → (entries : List EntryValue) (faults : List FaultyLine) → BodySays world (length above + 2) Nowhere no_alias below entries faults
       → read ≡ Ok (record { faction = faction; entries = entries; faults = faults }) → TextSays world text read
 
 -- The step that the function `line_step` gives a line is the one that the rules `LineSays` allow, and no other.

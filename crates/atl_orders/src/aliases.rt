@@ -23,6 +23,7 @@ pub struct Aliases {
     ghost each: { vec_len given ≡ last_alias + 1 },
 }
 
+/// Makes the empty set, tells whether an alias is in a set, and adds one.
 impl Aliases {
     ghost use Rattle.atl_orders.specs.Aliasing.{no_alias, with_alias};
     ghost use Rattle.atl_orders.specs.Views.{alias_set};

@@ -4,7 +4,7 @@ ghost use Rattle.std.specs.Prelude.{◌≡◌};
 ghost use Rattle.atl_orders.specs.declared.fault.MailFault.TheVariants.{Memory};
 
 use atl_world::name_of;
-use std::alloc::{AllocError, AllocFailed};
+use std::alloc::AllocError;
 use std::error::Error;
 use std::fmt;
 
@@ -37,6 +37,7 @@ pub enum LineFault {
     BadName = 11,
 }
 
+/// The number and the name of a line fault.
 impl LineFault {
     ghost use Rattle.atl_orders.specs.Faulting.{fault_number, fault_name};
 
@@ -92,6 +93,7 @@ pub enum MailFault {
     Memory,
 }
 
+/// The number of a mail fault.
 impl MailFault {
     ghost use Rattle.atl_orders.specs.Faulting.{mail_fault_number};
 
@@ -126,15 +128,6 @@ impl From<AllocError> for MailFault {
     ghost from_gives = { λ _ e. e ≡ Memory };
 
     fn from(_error: AllocError) -> MailFault {
-        MailFault::Memory
-    }
-}
-
-/// A failed allocation, which gives back a value, becomes the fault `Memory`.
-impl<T: Drop> From<AllocFailed<T>> for MailFault {
-    ghost from_gives = { λ _ e. e ≡ Memory };
-
-    fn from(_error: AllocFailed<T>) -> MailFault {
         MailFault::Memory
     }
 }

@@ -53,6 +53,7 @@ impl Drop for Mailing {
     }
 }
 
+/// Takes a mailing apart, copies the names in its orders, and adds what its lines give.
 impl Mailing {
     ghost use Rattle.atl_orders.specs.Orders.{name_in};
 
@@ -110,8 +111,8 @@ impl Mailing {
 fn part(text: &[u8], start: usize, end: usize) -> &[u8]
     ensures { result.now ≡ slice_range text.now start end }
 {
-    let behind = &text[start.min(text.len())..];
-    &behind[..end.saturating_sub(start).min(behind.len())]
+    let rest = &text[start.min(text.len())..];
+    &rest[..end.saturating_sub(start).min(rest.len())]
 }
 
 /// The number of the faction that a header line names, from 1 to `LAST_FACTION`; `None` if it names

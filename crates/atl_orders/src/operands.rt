@@ -17,7 +17,7 @@ use std::alloc::{AllocError, Global};
 /// The next word of a line, and the rest of the line after it; else MissingWord.
 pub fn word_at(line: &[u8]) -> Result<(Word<'_>, &[u8]), LineFault>
     ensures word { Gives (λ x. (word_text x.0, words x.1.now)) result (word_at (words line.now)) }
-    ensures stands { IfOk result (λ x. IsPartOf line.now x.0.bytes.now x.0.behind) }
+    ensures part { IfOk result (λ x. IsPartOf line.now x.0.bytes.now x.0.to_end) }
     ensures rest { IfOk result (λ x. EndsWith line.now x.1.now) }
 {
     next_word(line).ok_or(LineFault::MissingWord)

@@ -35,10 +35,7 @@ fn read_units(alloc: Global, cursor: Cursor) -> Result<Result<Operands, LineFaul
     if next_word(cursor.rest).is_none() {
         return Ok(Err(LineFault::MissingWord));
     }
-    match units_of(alloc, cursor.rest)? {
-        Ok(units) => Ok(Ok(Operands::Units(units))),
-        Err(fault) => Ok(Err(fault)),
-    }
+    Ok(units_of(alloc, cursor.rest)?.map(Operands::Units))
 }
 
 /// Reads the operands of a verb that takes a unit and a number; else MissingWord, BadNumber or
@@ -94,7 +91,7 @@ fn read_name(cursor: Cursor) -> Result<Operands, LineFault>
     if !word_ok(word.bytes, word.quoted) {
         return Err(LineFault::BadName);
     }
-    let start = cursor.end - word.behind;
+    let start = cursor.end - word.to_end;
     let name = Span {
         start,
         end: start + word.bytes.len(),
@@ -161,8 +158,6 @@ pub fn order_at(
     ensures { IfOk result (λ read. Gives (order_value cursor.entry.text.now) read
         (said_by world.now verb (words cursor.entry.rest.now))) }
 {
-    match read_operands(alloc, world, verb.row().shape, cursor)? {
-        Ok(operands) => Ok(Ok(Order { verb, operands })),
-        Err(fault) => Ok(Err(fault)),
-    }
+    let operands = read_operands(alloc, world, verb.row().shape, cursor)?;
+    Ok(operands.map(|operands| Order { verb, operands }))
 }

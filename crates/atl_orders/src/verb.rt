@@ -111,6 +111,7 @@ const LISTED: [Verb; 20] = variants!(
     Study Produce Work
 );
 
+/// A verb's row of the order table and its keyword, and the verb that a word is.
 impl Verb {
     ghost use Rattle.atl_orders.specs.Verbs.{keyword, listed, row_of, row_value, verb_of};
 

@@ -18,8 +18,8 @@ pub struct Word<'a> {
     pub bytes: &'a [u8],
     /// Whether the word is in quotes.
     pub quoted: bool,
-    /// How many bytes the line has from the word's first byte on.
-    pub behind: usize,
+    /// How many bytes the line has from the word's first byte to the line's end.
+    pub to_end: usize,
 }
 
 /// The rest of a line that is left to read, and where it is in its text.
@@ -65,18 +65,18 @@ fn first_end(bytes: &[u8]) -> Option<usize>
 #[tactic(auto, using(crate::proofs::WordLaws::found_or_len, crate::proofs::WordLaws::found_within))]
 fn quoted_word(after: &[u8]) -> (Word<'_>, &[u8])
     ensures words { words (quote ∷ after.now) ≡ word_text result.0 ∷ words result.1.now }
-    ensures stands { IsPartOf after.now result.0.bytes.now result.0.behind }
+    ensures part { IsPartOf after.now result.0.bytes.now result.0.to_end }
     ensures rest { EndsWith after.now result.1.now }
 {
     let end = first_quote(after).unwrap_or(after.len());
-    let (bytes, behind) = after.split_at(end);
-    let closing = behind.len().min(1);
+    let (bytes, rest) = after.split_at(end);
+    let closing = rest.len().min(1);
     let word = Word {
         bytes,
         quoted: true,
-        behind: after.len(),
+        to_end: after.len(),
     };
-    (word, &behind[closing..])
+    (word, &rest[closing..])
 }
 
 /// The word without quotes that a line begins with, and what follows it.
@@ -85,17 +85,17 @@ fn bare_word(line: &[u8]) -> (Word<'_>, &[u8])
     requires some { 0 < length line.now }
     requires bare { ends_word (slice_index line.now 0) ≡ false }
     ensures words { words line.now ≡ word_text result.0 ∷ words result.1.now }
-    ensures stands { IsPartOf line.now result.0.bytes.now result.0.behind }
+    ensures part { IsPartOf line.now result.0.bytes.now result.0.to_end }
     ensures rest { EndsWith line.now result.1.now }
 {
     let end = first_end(line).unwrap_or(line.len());
-    let (bytes, behind) = line.split_at(end);
+    let (bytes, rest) = line.split_at(end);
     let word = Word {
         bytes,
         quoted: false,
-        behind: line.len(),
+        to_end: line.len(),
     };
-    (word, behind)
+    (word, rest)
 }
 
 /// The first word of a line, and what follows it; `None` if the line has no word.
@@ -103,7 +103,7 @@ fn bare_word(line: &[u8]) -> (Word<'_>, &[u8])
 pub fn next_word(line: &[u8]) -> Option<(Word<'_>, &[u8])>
     ensures words { MatchOption result (words line.now ≡ [])
         (λ found. words line.now ≡ word_text found.0 ∷ words found.1.now) }
-    ensures stands { IfSome result (λ found. IsPartOf line.now found.0.bytes.now found.0.behind) }
+    ensures part { IfSome result (λ found. IsPartOf line.now found.0.bytes.now found.0.to_end) }
     ensures rest { IfSome result (λ found. EndsWith line.now found.1.now) }
 {
     for (i, byte) in line.iter().enumerate() {

@@ -8,6 +8,6 @@ pub returns : goal.returns
 returns c =
     let word = c.in_ok-word.word in
     let end = ends_at_further c.args.cursor.text.now c.args.cursor.end c.args.cursor.rest.now c.in_ok-kind.rest.now c.requires c.in_ok-kind.ensures.rest in
-    let bytes : slice_range c.args.cursor.text.now (c.args.cursor.end - word.behind) (c.args.cursor.end - word.behind + length word.bytes.now) ≡ word.bytes.now =
-    bytes_in_span c.args.cursor.text.now c.args.cursor.end c.in_ok-kind.rest.now word.bytes.now word.behind end c.in_ok-word.ensures.stands in
+    let bytes : slice_range c.args.cursor.text.now (c.args.cursor.end - word.to_end) (c.args.cursor.end - word.to_end + length word.bytes.now) ≡ word.bytes.now =
+    bytes_in_span c.args.cursor.text.now c.args.cursor.end c.in_ok-kind.rest.now word.bytes.now word.to_end end c.in_ok-word.ensures.part in
     rw bytes (search rules)

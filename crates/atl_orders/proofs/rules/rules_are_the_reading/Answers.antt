@@ -8,7 +8,7 @@ returns-clause-lines c = (laws.line_fits, laws.line_only)
 
 -- the law that the rules allow of lines just the orders and faulty lines that `effects` gives (`BodyRules`)
 pub returns-clause-mailings : goal.returns-clause-mailings
-returns-clause-mailings c = (laws.body_fits, laws.body_only)
+returns-clause-mailings c = (laws.body_fits, λ world n state given lines entries faults b. laws.body_only world b)
 
 -- the law that the rules allow one result of a text, the one that `reading` gives (`TextRules`)
 pub returns-clause-texts : goal.returns-clause-texts
